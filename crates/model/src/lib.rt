@@ -1,0 +1,19 @@
+//! The plain types that every crate speaks of. What they mean, and what class files mean under a schedule,
+//! stands in `specs/`, in the terms of the Java Virtual Machine Specification (JVMS) and of chapter 17 of
+//! the Java Language Specification (JLS), both of Java SE 8.
+#![tactic(auto)]
+
+mod event;
+mod instr;
+mod limits;
+mod report;
+mod value;
+
+pub use event::Event;
+pub use instr::{
+    ArrayKind, Arithmetic, Comparison, Conversion, FieldAccess, Instr, Invocation, Kind, Returned,
+    StackMove,
+};
+pub use limits::Limits;
+pub use report::{EndState, Report};
+pub use value::Value;

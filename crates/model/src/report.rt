@@ -1,0 +1,29 @@
+//! What a run showed.
+
+/// How a thread stands when the run has ended.
+#[derive(Debug, Drop, PartialEq, Eq)]
+pub enum EndState {
+    /// It returned.
+    Ended,
+    /// It ended with an exception of the class with this name, in the form of a class file (`java/lang/Error`).
+    Threw(Vec<u8>),
+    /// Its next step needs a monitor that another thread owns.
+    Blocked,
+    /// It is in a wait set.
+    Waiting,
+    /// It is in a call of `Thread.join`.
+    Joining,
+    /// Its next step needs a class that another thread initialises.
+    Initialising,
+    /// It has a step that it can do.
+    Runnable,
+}
+
+/// The numbers that were printed, in order, the state of each thread by its number, and how many events were
+/// done.
+#[derive(Debug, Drop, PartialEq, Eq)]
+pub struct Report {
+    pub printed: Vec<i32>,
+    pub threads: Vec<EndState>,
+    pub events: u64,
+}
