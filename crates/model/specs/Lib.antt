@@ -1,1 +1,3 @@
 pub mod LimitRanges
+pub mod Tree
+pub mod Spelling
