@@ -1,0 +1,113 @@
+-- The verifier's types, and what an instruction wants of a word (JVMS 4.10.1.2, 4.10.1.4).
+use Rattle.std.specs.Prelude.{ℕ, List, Option, Some, None, Bool, true, false, ◌||◌, slice_get}
+use Rattle.model.specs.Names.{Name, name_eq}
+use Rattle.model.specs.Classes.{Program}
+use Rattle.model.specs.ReferenceTypes.{ReferenceType, ClassType, is_subtype}
+use Rattle.model.specs.declared.value.Value.{Value}
+use Rattle.model.specs.declared.value.Value.TheVariants as value
+
+pub data VerificationType : Type 0 where
+  -- of a local variable alone
+  Unusable : VerificationType
+  IntType : VerificationType
+  NullType : VerificationType
+  OfType : (type : ReferenceType) → VerificationType
+  -- what the `new` at an offset made, of the class that it names
+  Uninitialised : (at : ℕ) (class : Name) → VerificationType
+  -- the receiver of a constructor of a class, until another constructor was called on it
+  UninitialisedThis : (class : Name) → VerificationType
+
+-- what an instruction wants of a local variable or of a place of the operand stack
+pub data Want : Type 0 where
+  -- any word of the stack
+  AnyWord : Want
+  AnInt : Want
+  -- a reference that is only moved, initialised or not
+  AnyReference : Want
+  -- a reference of a type, or null
+  AReference : (type : ReferenceType) → Want
+  -- the receiver of a constructor of a class
+  AReceiver : (class : Name) → Want
+
+-- ---- over types
+
+abbrev pub is_usable : VerificationType → Bool
+is_usable Unusable = false
+is_usable IntType = true
+is_usable NullType = true
+is_usable (OfType t) = true
+is_usable (Uninitialised at c) = true
+is_usable (UninitialisedThis c) = true
+
+abbrev pub is_int : VerificationType → Bool
+is_int Unusable = false
+is_int IntType = true
+is_int NullType = false
+is_int (OfType t) = false
+is_int (Uninitialised at c) = false
+is_int (UninitialisedThis c) = false
+
+abbrev pub is_reference : VerificationType → Bool
+is_reference Unusable = false
+is_reference IntType = false
+is_reference NullType = true
+is_reference (OfType t) = true
+is_reference (Uninitialised at c) = true
+is_reference (UninitialisedThis c) = true
+
+abbrev pub is_of : Program → ReferenceType → VerificationType → Bool
+is_of files want Unusable = false
+is_of files want IntType = false
+is_of files want NullType = true
+is_of files want (OfType t) = is_subtype files t want
+is_of files want (Uninitialised at c) = false
+is_of files want (UninitialisedThis c) = false
+
+abbrev pub is_receiver : Name → VerificationType → Bool
+is_receiver class Unusable = false
+is_receiver class IntType = false
+is_receiver class NullType = false
+is_receiver class (OfType t) = false
+is_receiver class (Uninitialised at c) = name_eq c class
+is_receiver class (UninitialisedThis c) = name_eq c class
+
+-- a type is as wanted
+abbrev pub type_meets : Program → Want → VerificationType → Bool
+type_meets files AnyWord t = is_usable t
+type_meets files AnInt t = is_int t
+type_meets files AnyReference t = is_reference t
+type_meets files (AReference want) t = is_of files want t
+type_meets files (AReceiver class) t = is_receiver class t
+
+-- ---- over values
+
+abbrev pub is_int_value : Value → Bool
+is_int_value value.Unset = false
+is_int_value (value.Int bits) = true
+is_int_value value.Null = false
+is_int_value (value.Reference r) = false
+
+abbrev pub is_reference_value : Value → Bool
+is_reference_value value.Unset = false
+is_reference_value (value.Int bits) = false
+is_reference_value value.Null = true
+is_reference_value (value.Reference r) = true
+
+abbrev pub is_object_of : Program → ReferenceType → Option ReferenceType → Bool
+is_object_of files want None = false
+is_object_of files want (Some t) = is_subtype files t want
+
+-- null, or a reference to an object of a type, by the types of the objects
+abbrev pub is_value_of : Program → List ReferenceType → ReferenceType → Value → Bool
+is_value_of files objects want value.Unset = false
+is_value_of files objects want (value.Int bits) = false
+is_value_of files objects want value.Null = true
+is_value_of files objects want (value.Reference r) = is_object_of files want (slice_get objects r)
+
+-- a value is as wanted; a receiver of a constructor is of its class
+abbrev pub value_meets : Program → List ReferenceType → Want → Value → Bool
+value_meets files objects AnyWord v = true
+value_meets files objects AnInt v = is_int_value v
+value_meets files objects AnyReference v = is_reference_value v
+value_meets files objects (AReference want) v = is_value_of files objects want v
+value_meets files objects (AReceiver class) v = is_value_of files objects (ClassType class) v
