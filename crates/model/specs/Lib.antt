@@ -1,1 +1,4 @@
+pub mod Instruction
+pub mod InstructionStarts
 pub mod LimitRanges
+pub mod OpcodeTable
