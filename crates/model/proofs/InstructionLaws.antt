@@ -68,7 +68,7 @@ lookup_switch_fits code pc =
     word_then code pc 4 (operands_of pc + 4) _ (λ pairs _.
     split (IsWithin code pc) (ltb pairs (2 ^ 31)) _ _ (ending_fits code pc (operands_of pc + 8) (8 * pairs) _ (omega (arith, operands_later pc))) tt))
 
-made_fits : (form : Form) (code : List ℕ) (pc : ℕ) → pc < length code → AreWithin code pc (made_of form code pc)
+pub made_fits : (form : Form) (code : List ℕ) (pc : ℕ) → pc < length code → AreWithin code pc (made_of form code pc)
 made_fits (Plain i) code pc here = (omega arith, omega (arith, here))
 made_fits (Byte make) code pc here = word_then code pc 1 (pc + 1) _ (λ n h. (omega arith, omega (arith, h)))
 made_fits (Short make) code pc here = word_then code pc 2 (pc + 1) _ (λ n h. (omega arith, omega (arith, h)))

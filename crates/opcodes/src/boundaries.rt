@@ -1,6 +1,7 @@
 //! The instruction boundaries of a method's code.
 
 ghost use Rattle.std.specs.Prelude.{◌≡◌, ◌+◌, ◌-◌, ◌<◌, ◌≤◌, ◌++◌, IfOk, length};
+ghost use Rattle.model.specs.Instruction.{HasBytes};
 ghost use Rattle.model.specs.InstructionStarts.{starts, starts_from, step_at};
 
 use crate::decoding::length_at;
@@ -8,7 +9,9 @@ use std::alloc::{AllocError, Global};
 
 /// How far the next boundary is.
 fn step_at(code: &[u8], pc: usize) -> usize
-    ensures { result ≡ step_at code.now pc }
+    requires { pc < length code.now }
+    ensures value { result ≡ step_at code.now pc }
+    ensures within { HasBytes code.now pc result }
 {
     length_at(code, pc).unwrap_or(1)
 }

@@ -1,8 +1,8 @@
 //! Reading an instruction, by the groups of JVMS 7.
 
-ghost use Rattle.std.specs.Prelude.{◌≡◌, ◌<◌, ◌+◌, length};
+ghost use Rattle.std.specs.Prelude.{IfSome, ◌≡◌, ◌<◌, ◌+◌, length};
 ghost use Rattle.model.specs.OpcodeTable.{form_in, constants_and_loads, stores_and_stack, math_and_conversions, comparisons, control, references, extended, low_form, high_form};
-ghost use Rattle.model.specs.Instruction.{made_of, sized_at, instr_at, length_at};
+ghost use Rattle.model.specs.Instruction.{HasBytes, made_of, sized_at, instr_at, length_at};
 
 use crate::bytes::{i1_at, i2_at, i4_at, u1_at, u2_at};
 use crate::families::{
@@ -250,7 +250,8 @@ fn high(code: &[u8], pc: usize, opcode: u8) -> Option<(Instr, usize)>
 
 /// The instruction at an offset, with its length in bytes. `None` where no whole instruction of the table begins.
 pub fn sized_at(code: &[u8], pc: usize) -> Option<(Instr, usize)>
-    ensures { result ≡ sized_at code.now pc }
+    ensures value { result ≡ sized_at code.now pc }
+    ensures within { IfSome result (λ found. HasBytes code.now pc found.1) }
 {
     let opcode = u1_at(code, pc)?;
     if opcode < 0x99 {
@@ -269,8 +270,10 @@ pub fn decode_at(code: &[u8], pc: usize) -> Option<Instr>
 }
 
 /// How many bytes the instruction at an offset has. `None` where no whole instruction of the table begins.
+#[tactic(auto, using(model::proofs::InstructionLaws::length_fits))]
 pub fn length_at(code: &[u8], pc: usize) -> Option<usize>
-    ensures { result ≡ length_at code.now pc }
+    ensures value { result ≡ length_at code.now pc }
+    ensures within { IfSome result (HasBytes code.now pc) }
 {
     let (_, length) = sized_at(code, pc)?;
     Some(length)
