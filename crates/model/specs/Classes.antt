@@ -1,5 +1,5 @@
 -- The classes of a program (JVMS 5.3): the built-in ones, and those of its files.
-use Rattle.std.specs.Prelude.{ℕ, zero, suc, List, [], ◌∷◌, ◌++◌, Option, Some, None, Bool, true, false, ◌&&◌, ◌||◌, find, is_some, length, unwrap_or}
+use Rattle.std.specs.Prelude.{ℕ, zero, suc, List, [], ◌∷◌, ◌++◌, Option, Some, None, Bool, false, ◌&&◌, ◌||◌, find, is_some, length, unwrap_or}
 use Rattle.std.specs.Option.{option_and_then, option_map, option_map_or}
 use Rattle.model.specs.Names.{Name, name_eq, spells, Member}
 use Rattle.model.specs.Tree.{Entry, FileTree, MethodTree, MethodPart, CodeTree, CodeOf, SkippedOfMethod}

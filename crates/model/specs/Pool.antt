@@ -1,5 +1,5 @@
 -- What the entries of a constant pool name (JVMS 4.4, 5.1).
-use Rattle.std.specs.Prelude.{ℕ, List, [], ◌∷◌, Option, Some, None, map}
+use Rattle.std.specs.Prelude.{ℕ, List, ◌∷◌, Option, Some, None, map}
 use Rattle.model.specs.Names.{Name, Member}
 use Rattle.model.specs.Tree.{Entry, Utf8, Integer, Class, Field, Method, InterfaceMethod, NameAndType}
 use Rattle.model.specs.Spelling.{entry_at}
