@@ -1,0 +1,1 @@
+//! Instructions that move words of the operand stack.
