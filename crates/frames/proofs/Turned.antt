@@ -20,3 +20,7 @@ drop_reverse n xs =
 -- with one more put in the place of the last
 pub replace_reverse : {A : Type 0} (n : ℕ) (xs : List A) (y : A) → reverse (take (length xs - n) xs ++ y ∷ []) ≡ y ∷ drop n (reverse xs)
 replace_reverse n xs y = reverse-append (take (length xs - n) xs) (y ∷ []) ∙ ap (λ ys. y ∷ ys) (sym (drop_reverse n xs))
+
+-- with others put in the place of the last
+pub put_reverse : {A : Type 0} (n : ℕ) (xs ys : List A) → reverse (take (length xs - n) xs ++ ys) ≡ reverse ys ++ drop n (reverse xs)
+put_reverse n xs ys = reverse-append (take (length xs - n) xs) ys ∙ ap (λ zs. reverse ys ++ zs) (sym (drop_reverse n xs))

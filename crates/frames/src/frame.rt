@@ -127,4 +127,18 @@ impl Frame {
         self.offset = to;
         Ok(())
     }
+
+    /// Puts these words in the place of so many, the last on top, and goes on.
+    #[tactic(auto, using(crate::proofs::Turned::put_reverse))]
+    pub fn put(&mut self, pops: usize, values: &[Value], to: usize) -> Result<(), AllocError>
+        ensures ok { OnOk result (self.new ≡ replaced self.old pops (reverse values.now) to) }
+        ensures err { OnErr result (self.new ≡ self.old) }
+    {
+        self.stack.reserve(values.len())?;
+        let n = self.stack.len();
+        self.stack.truncate(n.saturating_sub(pops));
+        self.stack.extend_from_slice(values).unwrap();
+        self.offset = to;
+        Ok(())
+    }
 }

@@ -6,6 +6,7 @@ mod frame;
 mod ints;
 mod local;
 mod stack;
+mod switches;
 
 pub use code::MethodCode;
 pub use frame::Frame;

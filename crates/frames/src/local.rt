@@ -3,15 +3,15 @@
 ghost use Rattle.std.specs.Prelude.{◌≡◌, ℕ, ℤ, ◌<◌, ◌^◌, ◌+◌, [], ◌∷◌, Some, None, pos};
 ghost use Rattle.model.specs.Types.{AnInt, value_meets};
 ghost use Rattle.model.specs.Ints.{bits_of};
-ghost use Rattle.model.specs.Rows.{Number, Copy, Null, plain, branch, first, second, target, want_of, constant_row, compute_row, increment_row, local_row};
+ghost use Rattle.model.specs.Rows.{Number, Copy, Null, plain, branch, first, second, target, want_of, constant_row, compute_row, increment_row, local_row, jump_row};
 ghost use Rattle.model.specs.Ints as spec;
 ghost use Rattle.frames.specs.Places.{Ran, RanLocal};
 
 use crate::code::MethodCode;
 use crate::frame::Frame;
 use crate::ints::{cannot_compute, computed, converted, holds, negated};
-
-
+use crate::stack::move_words;
+use crate::switches::{Lookup, Table, lookup_switch, table_switch};
 use model::{Arithmetic, Comparison, Conversion, Instr, Kind, Value};
 use std::alloc::AllocError;
 
@@ -38,7 +38,12 @@ fn go(frame: &mut Frame, to: usize, max_stack: u16) -> Result<LocalStep, AllocEr
     Ok(LocalStep::Done)
 }
 
-fn push_int(frame: &mut Frame, bits: u32, next: usize, max_stack: u16) -> Result<LocalStep, AllocError>
+fn push_int(
+    frame: &mut Frame,
+    bits: u32,
+    next: usize,
+    max_stack: u16,
+) -> Result<LocalStep, AllocError>
     ensures { Ran result (constant_row next bits) max_stack frame.old frame.new }
 {
     if !frame.has_room(0, 1, max_stack) {
@@ -69,7 +74,13 @@ fn is_of(kind: Kind, value: Value) -> bool
     }
 }
 
-fn load(frame: &mut Frame, kind: Kind, local: u16, next: usize, max_stack: u16) -> Result<LocalStep, AllocError>
+fn load(
+    frame: &mut Frame,
+    kind: Kind,
+    local: u16,
+    next: usize,
+    max_stack: u16,
+) -> Result<LocalStep, AllocError>
     ensures { Ran result (plain ((local, want_of kind) ∷ []) [] (Copy 0 ∷ []) [] next) max_stack frame.old frame.new }
 {
     let value = frame.local(local);
@@ -80,7 +91,13 @@ fn load(frame: &mut Frame, kind: Kind, local: u16, next: usize, max_stack: u16) 
     Ok(LocalStep::Done)
 }
 
-fn store(frame: &mut Frame, kind: Kind, local: u16, next: usize, max_stack: u16) -> Result<LocalStep, AllocError>
+fn store(
+    frame: &mut Frame,
+    kind: Kind,
+    local: u16,
+    next: usize,
+    max_stack: u16,
+) -> Result<LocalStep, AllocError>
     ensures { Ran result (plain [] (want_of kind ∷ []) [] ((local, Copy 0) ∷ []) next) max_stack frame.old frame.new }
 {
     match frame.operand(0) {
@@ -94,7 +111,12 @@ fn store(frame: &mut Frame, kind: Kind, local: u16, next: usize, max_stack: u16)
 }
 
 /// Two ints to one.
-fn compute(frame: &mut Frame, op: Arithmetic, next: usize, max_stack: u16) -> Result<LocalStep, AllocError>
+fn compute(
+    frame: &mut Frame,
+    op: Arithmetic,
+    next: usize,
+    max_stack: u16,
+) -> Result<LocalStep, AllocError>
     ensures { Ran result (compute_row op next) max_stack frame.old frame.new }
 {
     let (Some(b), Some(a)) = (frame.int(0), frame.int(1)) else {
@@ -122,7 +144,12 @@ fn negate(frame: &mut Frame, next: usize, max_stack: u16) -> Result<LocalStep, A
     }
 }
 
-fn convert(frame: &mut Frame, to: Conversion, next: usize, max_stack: u16) -> Result<LocalStep, AllocError>
+fn convert(
+    frame: &mut Frame,
+    to: Conversion,
+    next: usize,
+    max_stack: u16,
+) -> Result<LocalStep, AllocError>
     ensures { Ran result (plain [] (AnInt ∷ []) (Number (λ ns. spec.converted to (first ns)) ∷ []) [] next) max_stack frame.old frame.new }
 {
     match frame.int(0) {
@@ -134,7 +161,13 @@ fn convert(frame: &mut Frame, to: Conversion, next: usize, max_stack: u16) -> Re
     }
 }
 
-fn increment(frame: &mut Frame, local: u16, by: i16, next: usize, max_stack: u16) -> Result<LocalStep, AllocError>
+fn increment(
+    frame: &mut Frame,
+    local: u16,
+    by: i16,
+    next: usize,
+    max_stack: u16,
+) -> Result<LocalStep, AllocError>
     ensures { Ran result (increment_row local by next) max_stack frame.old frame.new }
 {
     match frame.local(local) {
@@ -161,7 +194,13 @@ pub(crate) fn target_of(offset: usize, by: i32) -> usize
     }
 }
 
-fn branch_on(frame: &mut Frame, comparison: Comparison, to: usize, next: usize, max_stack: u16) -> Result<LocalStep, AllocError>
+fn branch_on(
+    frame: &mut Frame,
+    comparison: Comparison,
+    to: usize,
+    next: usize,
+    max_stack: u16,
+) -> Result<LocalStep, AllocError>
     ensures { Ran result (branch (AnInt ∷ []) (λ ns. spec.holds comparison (first ns) 0) to next) max_stack frame.old frame.new }
 {
     match frame.int(0) {
@@ -174,7 +213,13 @@ fn branch_on(frame: &mut Frame, comparison: Comparison, to: usize, next: usize, 
     }
 }
 
-fn branch_on_two(frame: &mut Frame, comparison: Comparison, to: usize, next: usize, max_stack: u16) -> Result<LocalStep, AllocError>
+fn branch_on_two(
+    frame: &mut Frame,
+    comparison: Comparison,
+    to: usize,
+    next: usize,
+    max_stack: u16,
+) -> Result<LocalStep, AllocError>
     ensures { Ran result (branch (AnInt ∷ AnInt ∷ []) (λ ns. spec.holds comparison (second ns) (first ns)) to next) max_stack frame.old frame.new }
 {
     match (frame.int(0), frame.int(1)) {
@@ -184,5 +229,90 @@ fn branch_on_two(frame: &mut Frame, comparison: Comparison, to: usize, next: usi
             Ok(LocalStep::Done)
         }
         _ => Ok(LocalStep::WrongKind),
+    }
+}
+
+impl Frame {
+    /// Does an instruction of the code, whose next one begins at `next`.
+    pub fn local_step(
+        &mut self,
+        code: &MethodCode,
+        instr: Instr,
+        next: usize,
+    ) -> Result<LocalStep, AllocError>
+        requires { self.old.offset < 2 ^ 16 }
+        ensures { RanLocal result (local_row code.now.integers code.now.code self.old.offset next instr) code.now.max_stack self.old self.new }
+    {
+        let max_stack = code.max_stack();
+        match instr {
+            Instr::Nop => go(self, next, max_stack),
+            Instr::Null => push_null(self, next, max_stack),
+            Instr::Const(n) => push_int(self, n.cast_unsigned(), next, max_stack),
+            Instr::LoadConstant { index } => match code.integer(index) {
+                Some(bits) => push_int(self, bits, next, max_stack),
+                None => Ok(LocalStep::Elsewhere),
+            },
+            Instr::Load { kind, local } => load(self, kind, local, next, max_stack),
+            Instr::Store { kind, local } => store(self, kind, local, next, max_stack),
+            Instr::Move(how) => move_words(self, how, next, max_stack),
+            Instr::Compute(op) => compute(self, op, next, max_stack),
+            Instr::Negate => negate(self, next, max_stack),
+            Instr::Increment { local, by } => increment(self, local, by, next, max_stack),
+            Instr::Convert(to) => convert(self, to, next, max_stack),
+            _ => self.jump_step(code, instr, next),
+        }
+    }
+
+    fn jump_step(
+        &mut self,
+        code: &MethodCode,
+        instr: Instr,
+        next: usize,
+    ) -> Result<LocalStep, AllocError>
+        requires { self.old.offset < 2 ^ 16 }
+        ensures { RanLocal result (jump_row code.now.code self.old.offset next instr) code.now.max_stack self.old self.new }
+    {
+        let max_stack = code.max_stack();
+        let offset = self.offset();
+        match instr {
+            Instr::If { comparison, by } => branch_on(
+                self,
+                comparison,
+                target_of(offset, by),
+                next,
+                max_stack,
+            ),
+            Instr::IfInts { comparison, by } => branch_on_two(
+                self,
+                comparison,
+                target_of(offset, by),
+                next,
+                max_stack,
+            ),
+            Instr::Goto { by } => go(self, target_of(offset, by), max_stack),
+            Instr::TableSwitch {
+                default,
+                low,
+                high,
+                at,
+            } => table_switch(
+                self,
+                code.code(),
+                Table {
+                    default,
+                    low,
+                    high,
+                    at,
+                },
+                max_stack,
+            ),
+            Instr::LookupSwitch { default, pairs, at } => lookup_switch(
+                self,
+                code.code(),
+                Lookup { default, pairs, at },
+                max_stack,
+            ),
+            _ => Ok(LocalStep::Elsewhere),
+        }
     }
 }
