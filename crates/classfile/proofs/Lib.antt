@@ -1,0 +1,4 @@
+mod Places
+mod PoolLaws
+mod MemberLaws
+mod Whole
