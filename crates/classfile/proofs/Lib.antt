@@ -2,3 +2,4 @@ mod Places
 mod PoolLaws
 mod MemberLaws
 mod Whole
+mod Promises

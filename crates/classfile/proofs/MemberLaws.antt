@@ -1,18 +1,14 @@
 -- The laws of attributes, fields and methods.
-use Rattle.std.proofs.Common.{◌≡◌, ℕ, ◌+◌, ◌^◌, ◌<◌, Bool, true, false, cond, eqb, ltb, ◌&&◌, List, [], ◌∷◌, ◌++◌, length, Result, Ok, Err, refl, sym, ap, subst, ◌∙◌, append_assoc, arith, IsTrue, MatchBool, codes, lit<}
-use Rattle.std.specs.List.{flat_map, AllByRecursion}
+use Rattle.std.proofs.Common.{◌≡◌, ℕ, ◌^◌, ◌<◌, Bool, true, false, eqb, List, length, refl, sym, ap, subst, ◌∙◌, arith, IsTrue, MatchBool, lit<}
 use Rattle.std.proofs.lemmas.Bool.{eqb-true}
 use Rattle.std.proofs.lemmas.Bool.Decides.{nat_tests}
 use Rattle.byteorder.specs.Numbers.{length-bytes_high_first}
-use Rattle.reading.specs.declared.fault.Malformed.{Malformed}
 use Rattle.reading.specs.declared.fault.Cause.TheVariants as causes
-use Rattle.reading.specs.Input.{Input}
-use Rattle.reading.specs.Reading.{◌>>=◌, Read, number_at, sized_at, table_at, whole_at, filled_at}
 use Rattle.reading.proofs.Laws.{Laws, fits, last, made, either_laws, then, tested_laws}
 use Rattle.reading.proofs.Fields.{u2_laws, u4_laws, bytes_laws, sized_laws, table_laws, whole_laws, filled_laws}
 use Rattle.model.specs.declared.class_file.ExceptionEntry.{ExceptionEntry}
 use Rattle.model.specs.Tree.{Entry, SkippedTree, CodeTree, FieldPart, ConstantOf, SkippedOfField, MethodPart, CodeOf, SkippedOfMethod, FieldTree, MethodTree}
-use Rattle.model.specs.Spelling.{u2, u4, sized, table, exception, ExceptionFits, skipped, SkippedFits, code, CodeFits, is_code_length, names, is_code, is_static, is_constant_value, field_part_name, field_part_body, field_part, IsConstant, IsSkippedOfField, FieldPartFits, field, FieldFits, method_part_name, method_part_body, method_part, IsCode, IsSkippedOfMethod, MethodPartFits, method, MethodFits}
+use Rattle.model.specs.Spelling.{u2, sized, exception, ExceptionFits, skipped, SkippedFits, code, CodeFits, is_code_length, is_code, is_static, is_constant_value, field_part_name, field_part_body, field_part, IsConstant, IsSkippedOfField, FieldPartFits, field, FieldFits, method_part_name, method_part_body, method_part, IsCode, IsSkippedOfMethod, MethodPartFits, method, MethodFits}
 use Rattle.classfile.specs.declared.part.Owner.{Owner}
 use Rattle.classfile.specs.declared.part.Owner.TheVariants as owners
 use Rattle.classfile.specs.FileReading.{exception_at, attribute_at, skipped_at, code_bytes_at, code_at, constant_at, field_part_at, field_at, method_part_at, method_at}
@@ -126,7 +122,7 @@ unfolding constant_at
 constant_laws =
     fits (then _ (λ index. length (u2 index)) (tested_laws (λ n. eqb n 2) causes.Attribute refl u4_laws) (λ n _. u2_laws) (λ n index f r. two_bytes index ∙ sym (eqb-true n 2 f.1)))
     (λ index h. h.1)
-    (λ index h. ((rw (two_bytes index) (lit< tt), rw (two_bytes index) refl), h))
+    (λ index h. ((lit< tt, refl), h))
 
 MadeConstant : ℕ → FieldPart → Type 0
 MadeConstant name p = (index : ℕ) × ((index < 2 ^ 16) × (ConstantOf name index ≡ p))
@@ -139,7 +135,7 @@ IsFieldPart b p = (length (field_part_body p) < 2 ^ 32) × MatchBool b (IsConsta
 
 field_part_there : (b : Bool) (name : ℕ) (p : FieldPart) → MatchBool b (MadeConstant name p) (MadeOther name p) → IsFieldPart b p × (field_part_name p ≡ name)
 unfolding MadeConstant MadeOther IsFieldPart
-field_part_there true name p h = subst (λ (q : FieldPart). IsFieldPart true q × (field_part_name q ≡ name)) h.1.1 ((rw (two_bytes h.0) (lit< tt), h.1.0), refl)
+field_part_there true name p h = subst (λ (q : FieldPart). IsFieldPart true q × (field_part_name q ≡ name)) h.1.1 ((lit< tt, h.1.0), refl)
 field_part_there false name p h = subst (λ (q : FieldPart). IsFieldPart false q × (field_part_name q ≡ name)) h.1.1 ((h.1.0, tt), refl)
 
 field_part_back : (b : Bool) (p : FieldPart) → IsFieldPart b p → MatchBool b (MadeConstant (field_part_name p) p) (MadeOther (field_part_name p) p)

@@ -1,18 +1,17 @@
 -- The laws of the constant pool.
-use Rattle.std.proofs.Common.{◌≡◌, ℕ, ◌-◌, add-zero, zero, suc, ◌+◌, ◌*◌, ◌^◌, ◌<◌, ◌≤◌, Bool, true, false, not, ◌&&◌, cond, ltb, eqb, List, [], ◌∷◌, ◌++◌, length, Result, Ok, Err, refl, sym, ap, subst, ◌∙◌, append_assoc, arith, IsTrue, MatchBool, lit<, inl, inr}
-use Rattle.std.specs.List.{flat_map, AllByRecursion, list_all}
+use Rattle.std.proofs.Common.{◌≡◌, ℕ, ◌-◌, add-zero, zero, suc, ◌+◌, ◌^◌, ◌<◌, Bool, true, false, not, ◌&&◌, cond, ltb, eqb, List, [], ◌∷◌, ◌++◌, length, Result, Ok, Err, refl, sym, ap, subst, ◌∙◌, append_assoc, arith, IsTrue, MatchBool, lit<, inl, inr}
+use Rattle.std.specs.List.{list_all}
 use Rattle.std.proofs.lemmas.Bool.{eqb-true, ltb-true, lt-ltb}
 use Rattle.std.proofs.lemmas.List.{append-nil, length-append}
 use Rattle.std.proofs.lemmas.List.Concat.{flat_map-cons}
 use Rattle.reading.specs.declared.fault.Malformed.{Malformed}
 use Rattle.reading.specs.Input.{Input}
-use Rattle.reading.specs.declared.fault.Cause.{Cause}
 use Rattle.reading.specs.declared.fault.Cause.TheVariants as causes
-use Rattle.reading.specs.Reading.{◌>>=◌, Read, number_at, bytes_at, pair_at, tested, is_field_cause}
-use Rattle.reading.proofs.Laws.{IsBytes, bind_ok, bind_err, done, failed, never_stops, err_is, guard_err, guard_ok, ok_is, at_place, Takes, Takes-then, Takes-nothing, Laws, fits, then, tested_laws}
+use Rattle.reading.specs.Reading.{◌>>=◌, Read, number_at, tested, is_field_cause}
+use Rattle.reading.proofs.Laws.{IsBytes, bind_ok, bind_err, done, failed, never_stops, err_is, guard_err, ok_is, at_place, Takes, Takes-then, Takes-nothing, Laws, fits, then, tested_laws}
 use Rattle.reading.proofs.Fields.{u1_laws, u2_laws, u4_laws, u8_laws, pair_laws, bytes_laws}
 use Rattle.model.specs.Tree.{Entry, Utf8, Integer, Float, Long, Double, Class, String, Field, Method, InterfaceMethod, NameAndType, Unusable}
-use Rattle.model.specs.Spelling.{u1, u2, u4, u8, utf8, is_text_byte, entry, entries, EntryFits, ArePlaced, is_wide, pool, PoolFits}
+use Rattle.model.specs.Spelling.{u1, utf8, is_text_byte, entry, entries, EntryFits, ArePlaced, is_wide, pool, PoolFits}
 use Rattle.classfile.specs.FileReading.{utf8_at, is_wide_tag, body_at, entry_at, entries_at, pool_at}
 
 utf8_laws : Laws utf8_at utf8 (λ text. (length text < 2 ^ 16) × IsTrue (list_all is_text_byte text))

@@ -1,9 +1,7 @@
 -- The laws of the whole file.
-use Rattle.std.proofs.Common.{◌≡◌, ◌⊎◌, ◌×◌, ℕ, suc, ◌+◌, ◌^◌, ◌<◌, Bool, true, false, cond, eqb, ◌&&◌, List, [], ◌∷◌, ◌++◌, length, take, drop, Result, Ok, Err, refl, sym, ap, subst, ◌∙◌, append_assoc, arith, IsTrue, inl, inr, lit<}
-use Rattle.std.specs.Prelude.{IfOk, IfErr}
+use Rattle.std.proofs.Common.{◌≡◌, ◌⊎◌, ℕ, ◌+◌, Bool, true, false, cond, eqb, ◌&&◌, List, [], ◌++◌, length, take, drop, Result, Ok, Err, refl, sym, ap, subst, ◌∙◌, arith, IsTrue, inl, inr, lit<}
 use Rattle.std.proofs.lemmas.Bool.{eqb-true}
-use Rattle.std.proofs.lemmas.Bool.Decides.{nat_tests}
-use Rattle.std.proofs.lemmas.List.{append-nil, nil_from_length, take_at, drop_at, length-append}
+use Rattle.std.proofs.lemmas.List.{append-nil, nil_from_length, take_at, drop_at}
 use Rattle.reading.specs.declared.fault.Malformed.{Malformed}
 use Rattle.reading.specs.declared.fault.Cause.{Cause}
 use Rattle.reading.specs.declared.fault.Cause.TheVariants as causes
@@ -12,12 +10,10 @@ use Rattle.reading.specs.Reading.{◌>>=◌, Read, number_at, pair_at, tested, i
 use Rattle.reading.proofs.Laws.{IsBytes, bind_ok, bind_err, done, failed, ok_is, err_is, guard_passed, at_place, Takes, Takes-then, Laws, fits, last, then}
 use Rattle.reading.proofs.Fields.{u2_laws, u4_laws, pair_laws, table_laws}
 use Rattle.model.specs.Tree.{FileTree}
-use Rattle.model.specs.Spelling.{u2, u4, table, magic, version, parts, file, FileFits, Layout}
+use Rattle.model.specs.Spelling.{magic, version, parts, file, FileFits, Layout}
 use Rattle.classfile.specs.declared.part.Owner.TheVariants as owners
-use Rattle.classfile.specs.declared.tree.ClassFile.{ClassFile}
-use Rattle.classfile.specs.View.{file_of}
 use Rattle.classfile.specs.FileReading.{is_version, parts_at, file_at}
-use Rattle.classfile.specs.Decoding.{Answers, Decodes, BeginsWith}
+use Rattle.classfile.specs.Decoding.{BeginsWith}
 use Rattle.classfile.proofs.PoolLaws.{pool_laws}
 use Rattle.classfile.proofs.MemberLaws.{skipped_laws, field_laws, method_laws}
 
@@ -157,7 +153,7 @@ file_again bytes c l =
 -- ---- the faults of a file
 
 -- a fault of a field is another
-field_is : (cause other : Cause) → IsTrue (is_field_cause cause) → is_field_cause other ≡ false → cause ≡ other → ⊥
+pub field_is : (cause other : Cause) → IsTrue (is_field_cause cause) → is_field_cause other ≡ false → cause ≡ other → ⊥
 field_is cause other h out e = let k : is_field_cause other ≡ true = subst (λ (c : Cause). is_field_cause c ≡ true) e h in absurd cc
 
 -- the bytes up to the fault are a file, and others stand behind

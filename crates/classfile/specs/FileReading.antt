@@ -4,7 +4,7 @@ use Rattle.std.specs.List.{list_all}
 use Rattle.reading.specs.declared.fault.Cause.TheVariants as causes
 use Rattle.reading.specs.declared.fault.Malformed.{Malformed}
 use Rattle.reading.specs.Input.{Input}
-use Rattle.reading.specs.Reading.{◌>>=◌, Read, fault, number_at, bytes_at, tested, pair_at, sized_at, times_at, table_at, whole_at, filled_at}
+use Rattle.reading.specs.Reading.{◌>>=◌, Read, fault, number_at, bytes_at, tested, pair_at, sized_at, table_at, whole_at, filled_at}
 use Rattle.model.specs.declared.class_file.ExceptionEntry.{ExceptionEntry}
 use Rattle.model.specs.Tree.{Entry, Utf8, Integer, Float, Long, Double, Class, String, Field, Method, InterfaceMethod, NameAndType, Unusable, SkippedTree, CodeTree, FieldPart, ConstantOf, SkippedOfField, MethodPart, CodeOf, SkippedOfMethod, FieldTree, MethodTree, FileTree}
 use Rattle.model.specs.Spelling.{is_text_byte, is_wide, is_code_length, is_static, names, is_code}

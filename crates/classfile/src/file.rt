@@ -73,3 +73,23 @@ fn decoded(alloc: Global, bytes: &[u8]) -> Result<ClassFile, Malformed>
         }),
     }
 }
+
+/// The class file that the bytes are.
+///
+/// The first fault is answered in the order in which the fields stand, each at the offset where its field begins:
+/// `Truncated`, `Magic`, `Version` (at 4), `Tag`, `Utf8`, `Attribute` (a length that does not fit) and, behind the
+/// last field, `Trailing`. A constant_pool_count of 0 is `Truncated` there.
+pub fn decode(alloc: Global, bytes: &[u8]) -> Result<ClassFile, Malformed>
+    // What is answered is spelled so.
+    ensures found { IfOk result (λ c. Layout bytes.now (file_of c)) }
+    // What is spelled so is answered, unless memory runs out.
+    ensures only { (c : FileTree) → Layout bytes.now c → Answers result c }
+    // The first four bytes are others.
+    ensures magic { IfErr result (λ e. e.cause ≡ causes.Magic → (e.offset ≡ 0) × (BeginsWith magic bytes.now → ⊥)) }
+    // The bytes 4 to 7 are others.
+    ensures version { IfErr result (λ e. e.cause ≡ causes.Version → (e.offset ≡ 4) × (BeginsWith version (drop 4 bytes.now) → ⊥)) }
+    // The bytes before the offset are a class file.
+    ensures trailing { IfErr result (λ e. e.cause ≡ causes.Trailing → (c : FileTree) × Layout (take e.offset bytes.now) c) }
+{
+    decoded(alloc, bytes)
+}

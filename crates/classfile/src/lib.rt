@@ -7,6 +7,7 @@ mod part;
 mod pool;
 mod tree;
 
+pub use file::decode;
 pub use reading::{Cause, Malformed};
 pub use tree::{
     Attribute, ClassFile, Code, Constant, Field, FieldAttribute, Method, MethodAttribute,

@@ -49,11 +49,7 @@ fn read_sized(alloc: Global, reader: &mut Reader<'_>) -> Result<Vec<u8>, Stop>
 
 /// The bytes of an attribute. Inside of a Code they fit, or their length does not.
 #[tactic(auto, unfolding(reading::specs::Reading::whole_at))]
-fn read_attribute(
-    alloc: Global,
-    owner: Owner,
-    reader: &mut Reader<'_>,
-) -> Result<Vec<u8>, Stop>
+fn read_attribute(alloc: Global, owner: Owner, reader: &mut Reader<'_>) -> Result<Vec<u8>, Stop>
     ensures { Gives (λ x. (x.items, reader.new)) result (attribute_at owner reader.old) }
 {
     let start = reader.at();

@@ -93,11 +93,7 @@ fn read_body(
 
 /// An entry. The last place has no room for one that takes two.
 #[tactic(auto, unfolding(crate::specs::FileReading::entry_at))]
-fn read_constant(
-    alloc: Global,
-    is_last: bool,
-    reader: &mut Reader<'_>,
-) -> Result<Constant, Stop>
+fn read_constant(alloc: Global, is_last: bool, reader: &mut Reader<'_>) -> Result<Constant, Stop>
     ensures read { Gives (λ x. (entry_of x, reader.new)) result (entry_at is_last reader.old) }
     ensures wide { IfOk result (λ x. IsTrue (not (is_last && is_wide (entry_of x)))) }
 {

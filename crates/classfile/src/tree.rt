@@ -14,28 +14,12 @@ pub enum Constant {
     Long(u64),
     /// By its 64 bits.
     Double(u64),
-    Class {
-        name: u16,
-    },
-    String {
-        text: u16,
-    },
-    Field {
-        class: u16,
-        name_and_type: u16,
-    },
-    Method {
-        class: u16,
-        name_and_type: u16,
-    },
-    InterfaceMethod {
-        class: u16,
-        name_and_type: u16,
-    },
-    NameAndType {
-        name: u16,
-        descriptor: u16,
-    },
+    Class { name: u16 },
+    String { text: u16 },
+    Field { class: u16, name_and_type: u16 },
+    Method { class: u16, name_and_type: u16 },
+    InterfaceMethod { class: u16, name_and_type: u16 },
+    NameAndType { name: u16, descriptor: u16 },
     /// The second place of a `Long` or of a `Double`.
     Unusable,
 }
