@@ -11,6 +11,9 @@ use Rattle.classfile.specs.declared.tree.MethodAttribute.TheVariants as method_a
 use Rattle.classfile.specs.declared.tree.Field as declared_field
 use Rattle.classfile.specs.declared.tree.Method as declared_method
 use Rattle.classfile.specs.declared.tree.ClassFile.{ClassFile}
+use Rattle.classfile.specs.declared.lookup.NameAndDescriptor as declared_name
+use Rattle.classfile.specs.declared.lookup.Reference as declared_reference
+use Rattle.model.specs.Pool.{NameAndDescriptor, Reference}
 use Rattle.model.specs.Tree.{Entry, Utf8, Integer, Float, Long, Double, Class, String, Field, Method, InterfaceMethod, NameAndType, Unusable, SkippedTree, CodeTree, FieldPart, ConstantOf, SkippedOfField, MethodPart, CodeOf, SkippedOfMethod, FieldTree, MethodTree, FileTree}
 
 abbrev pub entry_of : Constant → Entry
@@ -52,3 +55,9 @@ method_of m = record { flags = m.flags; name = m.name; descriptor = m.descriptor
 
 abbrev pub file_of : ClassFile → FileTree
 file_of c = record { pool = entries_of c.pool.items; flags = c.flags; this_class = c.this_class; super_class = c.super_class; interfaces = c.interfaces.items; fields = map field_of c.fields.items; methods = map method_of c.methods.items; attributes = map skipped_of c.attributes.items }
+
+abbrev pub name_and_descriptor_of : declared_name.NameAndDescriptor → NameAndDescriptor
+name_and_descriptor_of n = record { name = n.name.now; descriptor = n.descriptor.now }
+
+abbrev pub reference_of : declared_reference.Reference → Reference
+reference_of r = record { class = r.class.now; name = r.name.now; descriptor = r.descriptor.now }

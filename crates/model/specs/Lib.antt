@@ -1,3 +1,4 @@
 pub mod LimitRanges
 pub mod Tree
 pub mod Spelling
+pub mod Pool
