@@ -6,9 +6,9 @@ use Rattle.opcodes.proofs.boundaries.starts.Goals.{then-inside-eq0+in_ok-push, e
 
 pub loop-pc-preserved : goal.loop-pc-preserved
 loop-pc-preserved c = elim c.if-inside-eq0.branch [
-    | then-inside-eq0+in_ok-push w ↦ more_first c.args.code.now c.loop-pc.marks.items c.if-inside-eq0.marks.items (starts c.args.code.now) c.loop-pc.pc c.loop-pc.inside c.if-inside-eq0.inside (search rules) (search rules) (search rules) (search rules) c.loop-pc.invariant
-    | else-inside-eq0+in_ok-push-2 w ↦ more_inside c.args.code.now c.loop-pc.marks.items c.if-inside-eq0.marks.items (starts c.args.code.now) c.loop-pc.pc c.loop-pc.inside c.if-inside-eq0.inside (search rules) (search rules) (search rules) (search rules) c.loop-pc.invariant
-  ]
+  | then-inside-eq0+in_ok-push w ↦ more_first c.args.code.now c.loop-pc.marks.items c.if-inside-eq0.marks.items (starts c.args.code.now) c.loop-pc.pc c.loop-pc.inside c.if-inside-eq0.inside (search rules) (search rules) (search rules) (search rules) c.loop-pc.invariant
+  | else-inside-eq0+in_ok-push-2 w ↦ more_inside c.args.code.now c.loop-pc.marks.items c.if-inside-eq0.marks.items (starts c.args.code.now) c.loop-pc.pc c.loop-pc.inside c.if-inside-eq0.inside (search rules) (search rules) (search rules) (search rules) c.loop-pc.invariant
+]
 
 pub returns : goal.returns
 returns c = all_marked c.args.code.now c.loop-pc.marks.items (starts c.args.code.now) c.loop-pc.pc c.loop-pc.inside (search rules) c.loop-pc.invariant
