@@ -1,6 +1,6 @@
 -- The instruction boundaries: 0 is one, and past the instruction of each comes the next.
 use Rattle.std.proofs.Common.{◌≡◌, ℕ, zero, suc, ◌+◌, ◌-◌, ◌<◌, true, false, List, ◌∷◌, length, get_or, Option, Some, None, refl, sym, ap, subst, arith}
-use Rattle.std.specs.Prelude.{IfSome, unwrap_or}
+use Rattle.std.specs.Prelude.{IsTrue, ◌↔◌, IfSome, unwrap_or}
 use Rattle.model.specs.Instruction.{HasBytes, length_at}
 use Rattle.model.specs.InstructionStarts.{step_at, IsStart, First, Next, starts_from, starts, is_start}
 use Rattle.model.proofs.InstructionLaws.{length_fits}
@@ -92,3 +92,6 @@ pub start_is_marked : (code : List ℕ) (pc : ℕ) → IsStart code pc → is_st
 start_is_marked code _ (First some) = first_start code some
 start_is_marked code _ (Next pc next before place within) =
     subst (λ (q : ℕ). is_start code q ≡ true) (sym place) (next_start code pc (start_is_marked code pc before) (subst (λ (q : ℕ). q < length code) place within))
+
+pub marks_are_starts : (code : List ℕ) (pc : ℕ) → IsTrue (is_start code pc) ↔ IsStart code pc
+marks_are_starts code pc = (marked_is_start code pc, start_is_marked code pc)

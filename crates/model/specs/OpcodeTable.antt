@@ -44,7 +44,7 @@ abbrev pub op : ℕ → List ℕ → Form → Row
 op opcode mnemonic form = record { first = opcode; last = opcode; mnemonic = λ _. mnemonic; form = λ _. form }
 
 -- the character of a decimal digit
-abbrev digit : ℕ → ℕ
+abbrev pub digit : ℕ → ℕ
 digit k = 48 + k
 
 -- a row whose mnemonics end in a digit from 0 on, as `iload_0` to `iload_3`
