@@ -1,13 +1,13 @@
 -- An instruction has at least one byte, and all its bytes are in the code.
-use Rattle.std.proofs.Common.{inl, inr, ◌^◌, ◌≡◌, ℕ, ◌+◌, ◌*◌, ◌<◌, ◌≤◌, ℤ, Bool, true, false, eqb, ltb, List, length, drop, Option, Some, None, refl, arith}
-use Rattle.std.specs.Prelude.{IfSome, if◌then◌else◌, option_map}
+use Rattle.std.proofs.Common.{ap, inl, inr, ◌^◌, ◌≡◌, ℕ, ◌+◌, ◌*◌, ◌<◌, ◌≤◌, ℤ, Bool, true, false, eqb, ltb, List, length, drop, Option, Some, None, refl, arith}
+use Rattle.std.specs.Prelude.{is_some, IfSome, if◌then◌else◌, option_map}
 use Rattle.std.specs.Int.{Width, w8, w16, w32, byte_len, cast_signed}
 use Rattle.std.proofs.lemmas.Bool.{ltb-false, le-ltb, lt-ltb, cases_lt}
 use Rattle.byteorder.specs.Endian.{big_number}
 use lib.Signed.{le_z}
 use Rattle.model.specs.declared.instr.Instr.{Instr}
 use Rattle.model.specs.OpcodeTable.{Form, Plain, Byte, Short, SignedByte, SignedShort, SignedWord, ByteAndSignedByte, ShortAndTwoBytes, TableSwitched, LookupSwitched, Widened, NoForm, form_of}
-use Rattle.model.specs.Instruction.{◌>>=◌, Sized, word_at, signed_at, wide_at, ending_at, table_switch_at, lookup_switch_at, made_of, HasBytes, sized_at, length_at, jump_count, operands_of}
+use Rattle.model.specs.Instruction.{instr_at, ◌>>=◌, Sized, word_at, signed_at, wide_at, ending_at, table_switch_at, lookup_switch_at, made_of, HasBytes, sized_at, length_at, jump_count, operands_of}
 
 abbrev pub IsWithin : List ℕ → ℕ → Sized → Type 0
 IsWithin code pc s = HasBytes code pc s.1
@@ -46,9 +46,9 @@ wide_fits code pc =
 
 ending_fits : (code : List ℕ) (pc at len : ℕ) (i : Instr) → pc < at → AreWithin code pc (ending_at code pc at len i)
 ending_fits code pc at len i later = elim (cases_lt (length code) (at + len)) [
-    | inl h ↦ rw (lt-ltb _ _ h) tt
-    | inr h ↦ rw (le-ltb _ _ h) (omega (arith, later), omega (arith, later, h))
-  ]
+  | inl h ↦ rw (lt-ltb _ _ h) tt
+  | inr h ↦ rw (le-ltb _ _ h) (omega (arith, later), omega (arith, later, h))
+]
 
 operands_later : (pc : ℕ) → pc < operands_of pc
 operands_later pc = omega arith
@@ -95,3 +95,15 @@ some_fits code pc (Some s) h = h
 -- an instruction has a byte, and ends in the code
 pub length_fits : (code : List ℕ) (pc : ℕ) → IfSome (length_at code pc) (HasBytes code pc)
 length_fits code pc = some_fits code pc (sized_at code pc) (sized_fits code pc)
+
+-- the two parts of what is found
+pub sized_parts : (code : List ℕ) (pc : ℕ) (s : Sized) → sized_at code pc ≡ Some s → (instr_at code pc ≡ Some s.0) × (length_at code pc ≡ Some s.1)
+sized_parts code pc s e = (ap (λ o. option_map (λ (t : Sized). t.0) o) e, ap (λ o. option_map (λ (t : Sized). t.1) o) e)
+
+both_some : (o : Option Sized) → is_some (option_map (λ (t : Sized). t.1) o) ≡ is_some (option_map (λ (t : Sized). t.0) o)
+both_some None = refl
+both_some (Some s) = refl
+
+-- an instruction has a length, and nothing else has
+pub length_is_some : (code : List ℕ) (pc : ℕ) → is_some (length_at code pc) ≡ is_some (instr_at code pc)
+length_is_some code pc = both_some (sized_at code pc)

@@ -1,6 +1,7 @@
 -- The instruction boundaries: 0 is one, and past the instruction of each comes the next.
-use Rattle.std.proofs.Common.{◌≡◌, ℕ, zero, suc, ◌+◌, ◌-◌, ◌<◌, true, false, List, ◌∷◌, length, get_or, Option, Some, None, refl, sym, ap, subst, arith}
-use Rattle.std.specs.Prelude.{IfSome, unwrap_or}
+use Rattle.std.proofs.Common.{◌⊎◌, inl, inr, ◌≡◌, ℕ, zero, suc, ◌+◌, ◌-◌, ◌<◌, true, false, List, ◌∷◌, length, get_or, Option, Some, None, refl, sym, ap, subst, arith}
+use Rattle.std.specs.Prelude.{IsTrue, ◌↔◌, IfSome, unwrap_or}
+use Rattle.std.proofs.lemmas.Bool.{cases_lt}
 use Rattle.model.specs.Instruction.{HasBytes, length_at}
 use Rattle.model.specs.InstructionStarts.{step_at, IsStart, First, Next, starts_from, starts, is_start}
 use Rattle.model.proofs.InstructionLaws.{length_fits}
@@ -92,3 +93,20 @@ pub start_is_marked : (code : List ℕ) (pc : ℕ) → IsStart code pc → is_st
 start_is_marked code _ (First some) = first_start code some
 start_is_marked code _ (Next pc next before place within) =
     subst (λ (q : ℕ). is_start code q ≡ true) (sym place) (next_start code pc (start_is_marked code pc before) (subst (λ (q : ℕ). q < length code) place within))
+
+pub marks_are_starts : (code : List ℕ) (pc : ℕ) → IsTrue (is_start code pc) ↔ IsStart code pc
+marks_are_starts code pc = (marked_is_start code pc, start_is_marked code pc)
+
+start_or_end : (code : List ℕ) (pc : ℕ) → is_start code pc ≡ true → (is_start code (pc + step_at code pc) ≡ true) ⊎ (pc + step_at code pc ≡ length code)
+start_or_end code pc h =
+    let fits = step_fits code pc (start_within code pc h) in
+    elim (cases_lt (pc + step_at code pc) (length code)) [
+      | inl more ↦ inl (next_start code pc h more)
+      | inr past ↦ inr (omega (arith, past, fits.1))
+    ]
+
+-- the offset past a boundary's instruction is a boundary or the code's end
+pub after_start : (code : List ℕ) (pc n : ℕ) → is_start code pc ≡ true → length_at code pc ≡ Some n → (is_start code (pc + n) ≡ true) ⊎ (pc + n ≡ length code)
+after_start code pc n h is =
+    let step : step_at code pc ≡ n = ap (λ o. unwrap_or o 1) is in
+    subst (λ (k : ℕ). (is_start code (pc + k) ≡ true) ⊎ (pc + k ≡ length code)) step (start_or_end code pc h)

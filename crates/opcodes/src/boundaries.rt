@@ -1,8 +1,8 @@
 //! The instruction boundaries of a method's code.
 
-ghost use Rattle.std.specs.Prelude.{◌≡◌, ◌+◌, ◌-◌, ◌<◌, ◌≤◌, ◌++◌, IfOk, length};
+ghost use Rattle.std.specs.Prelude.{◌≡◌, ◌<◌, ◌↔◌, ℕ, false, IfOk, IsTrue, length, slice_index_or};
 ghost use Rattle.model.specs.Instruction.{HasBytes};
-ghost use Rattle.model.specs.InstructionStarts.{starts, starts_from, step_at};
+ghost use Rattle.model.specs.InstructionStarts.{IsStart, starts, step_at};
 
 use crate::decoding::length_at;
 use std::alloc::{AllocError, Global};
@@ -19,7 +19,8 @@ fn step_at(code: &[u8], pc: usize) -> usize
 /// Whether each offset of the code is an instruction boundary: 0, and past each boundary's instruction the next.
 /// A byte that begins no whole instruction counts as one byte long.
 pub fn starts(alloc: Global, code: &[u8]) -> Result<Vec<bool>, AllocError>
-    ensures { IfOk result (λ v. v.items ≡ starts code.now) }
+    ensures marks { IfOk result (λ v. v.items ≡ starts code.now) }
+    ensures boundaries { IfOk result (λ v. (pc : ℕ) → IsTrue (slice_index_or v.items pc false) ↔ IsStart code.now pc) }
 {
     let mut marks = Vec::with_capacity(alloc, code.len())?;
     let mut inside = 0;

@@ -5,8 +5,12 @@ mod boundaries;
 mod bytes;
 mod decoding;
 mod families;
+mod mnemonics;
 mod switches;
+#[cfg(test)]
+mod tests;
 
 pub use boundaries::starts;
 pub use decoding::{decode_at, length_at, sized_at};
+pub use mnemonics::mnemonic;
 pub use switches::{lookup_pair, table_jump};

@@ -1,7 +1,7 @@
 //! `tableswitch` and `lookupswitch`.
 
 ghost use Rattle.std.specs.Prelude.{◌≡◌, ◌<◌, ◌≤◌, ◌+◌, ◌^◌, length};
-ghost use Rattle.model.specs.Instruction.{ending_at, jump_count, table_switch_at, lookup_switch_at, table_jump, lookup_pair};
+ghost use Rattle.model.specs.Instruction.{ending_at, operands_of, jump_count, table_switch_at, lookup_switch_at, table_jump, lookup_pair};
 
 use crate::bytes::{has, i4_at, u4_at};
 use model::Instr;
@@ -18,6 +18,14 @@ fn ending_at(code: &[u8], pc: usize, at: usize, len: usize, instr: Instr) -> Opt
     }
 }
 
+/// Where the operands of a switch begin.
+fn operands_of(pc: usize) -> usize
+    requires { pc < 2 ^ 63 }
+    ensures { result ≡ operands_of pc }
+{
+    pc + 4 - pc % 4
+}
+
 /// How many jumps a `tableswitch` has.
 fn jump_count(low: i32, high: i32) -> usize
     ensures value { result ≡ jump_count low high }
@@ -31,7 +39,7 @@ pub(crate) fn table_switch(code: &[u8], pc: usize) -> Option<(Instr, usize)>
     requires { pc < length code.now }
     ensures { result ≡ table_switch_at code.now pc }
 {
-    let at = pc + 4 - pc % 4;
+    let at = operands_of(pc);
     let default = i4_at(code, at)?;
     let low = i4_at(code, at + 4)?;
     let high = i4_at(code, at + 8)?;
@@ -53,7 +61,7 @@ pub(crate) fn lookup_switch(code: &[u8], pc: usize) -> Option<(Instr, usize)>
     requires { pc < length code.now }
     ensures { result ≡ lookup_switch_at code.now pc }
 {
-    let at = pc + 4 - pc % 4;
+    let at = operands_of(pc);
     let default = i4_at(code, at)?;
     let pairs = u4_at(code, at + 4)?;
     if pairs >= 0x8000_0000 {
