@@ -1,1 +1,3 @@
 pub mod LimitRanges
+pub mod Report
+pub mod Schedule

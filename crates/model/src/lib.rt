@@ -3,15 +3,17 @@
 //! the Java Language Specification (JLS), both of Java SE 8.
 #![tactic(auto)]
 
+mod end;
 mod event;
 mod instr;
 mod limits;
 mod report;
 mod value;
 
-pub use event::Event;
+pub use end::{End, RunCause};
+pub use event::{Event, ScheduleEntry};
 pub use instr::{
-    ArrayKind, Arithmetic, Comparison, Conversion, FieldAccess, Instr, Invocation, Kind, Returned,
+    Arithmetic, ArrayKind, Comparison, Conversion, FieldAccess, Instr, Invocation, Kind, Returned,
     StackMove,
 };
 pub use limits::Limits;
