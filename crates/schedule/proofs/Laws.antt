@@ -1,0 +1,1 @@
+-- A reader takes what a speller writes, and what is written is read again.
