@@ -1,5 +1,7 @@
 //! Why a run did no more events.
 
+use std::fmt;
+
 /// Why an enabled event was refused.
 #[derive(Clone, Copy, Debug, PartialEq, Eq)]
 pub enum RunCause {
@@ -21,6 +23,27 @@ pub enum RunCause {
     Throws,
 }
 
+/// The word of a report.
+impl fmt::Display for RunCause {
+    ghost use Rattle.std.specs.Prelude.{Some};
+    ghost use Rattle.model.specs.Report.{cause_word};
+
+    ghost output = { λ c. Some (cause_word c) };
+
+    fn fmt<W: fmt::Write>(&self, f: &mut fmt::Formatter<W>) -> fmt::Result {
+        f.write_str(match self {
+            RunCause::Monitors => "monitors",
+            RunCause::LockCount => "lockcount",
+            RunCause::Memory => "memory",
+            RunCause::Objects => "objects",
+            RunCause::Cells => "cells",
+            RunCause::Threads => "threads",
+            RunCause::WrongKind => "wrongkind",
+            RunCause::Throws => "throws",
+        })
+    }
+}
+
 /// Why no more events were done. A number is that of the events that were done.
 #[derive(Clone, Copy, Debug, PartialEq, Eq)]
 pub enum End {
@@ -34,4 +57,22 @@ pub enum End {
     Quiet,
     /// As many events were done as were allowed, and some thread has a step that it can do.
     Budget,
+}
+
+/// The words of a report.
+impl fmt::Display for End {
+    ghost use Rattle.std.specs.Prelude.{Some};
+    ghost use Rattle.model.specs.Report.{end_words};
+
+    ghost output = { λ e. Some (end_words e) };
+
+    fn fmt<W: fmt::Write>(&self, f: &mut fmt::Formatter<W>) -> fmt::Result {
+        match self {
+            End::Schedule => f.write_str("schedule"),
+            End::NotEnabled(done) => write!(f, "not enabled {done}"),
+            End::Refused(done, cause) => write!(f, "refused {done} {cause}"),
+            End::Quiet => f.write_str("quiet"),
+            End::Budget => f.write_str("budget"),
+        }
+    }
 }
