@@ -5,8 +5,10 @@ mod fault;
 mod read;
 mod reader;
 mod runs;
+mod write;
 
 pub use fault::ScheduleFault;
 pub use model::{Event, ScheduleEntry};
 pub use read::read_schedule;
 pub use runs::Schedule;
+pub use write::write_schedule;

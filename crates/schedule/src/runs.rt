@@ -1,7 +1,7 @@
 //! A list of events, as runs of equal ones.
 
 ghost use Rattle.std.specs.Prelude.{◌≡◌, ◌<◌, ◌^◌, List, length, Some, slice_get};
-ghost use Rattle.model.specs.Schedule.{EntryFits, AreEntries};
+ghost use Rattle.model.specs.Schedule.{EntryFits, AreEntries, events_of};
 
 use model::ScheduleEntry;
 use std::marker::Model;
@@ -42,6 +42,14 @@ impl Schedule {
         self.entries.len()
     }
 
+    /// The entries in order.
+    pub fn entries(&self) -> &[ScheduleEntry]
+        ensures are { result.now ≡ self.now }
+        ensures fit { AreEntries result.now }
+    {
+        self.entries.as_slice()
+    }
+
     /// The entry at a place, counted from 0.
     pub fn entry(&self, place: usize) -> ScheduleEntry
         requires { place < length self.now }
@@ -49,5 +57,16 @@ impl Schedule {
         ensures fits { EntryFits result }
     {
         self.entries[place]
+    }
+
+    /// How many events it has.
+    pub fn count(&self) -> u64
+        ensures { result ≡ length (events_of self.now) }
+    {
+        let mut count = 0u64;
+        'entries: for entry in self.entries() {
+            count += u64::from(entry.repeat);
+        }
+        count
     }
 }
