@@ -5,6 +5,8 @@ mod fault;
 mod read;
 mod reader;
 mod runs;
+#[cfg(test)]
+mod tests;
 mod write;
 
 pub use fault::ScheduleFault;
