@@ -1,0 +1,16 @@
+//! Schedules: which thread does the next step, as lists of events that are kept as runs of equal ones.
+#![tactic(auto)]
+
+mod fault;
+mod read;
+mod reader;
+mod runs;
+#[cfg(test)]
+mod tests;
+mod write;
+
+pub use fault::ScheduleFault;
+pub use model::{Event, ScheduleEntry};
+pub use read::read_schedule;
+pub use runs::Schedule;
+pub use write::write_schedule;
