@@ -17,7 +17,7 @@ fn step_at(code: &[u8], pc: usize) -> usize
 }
 
 /// Whether each offset of the code is an instruction boundary: 0, and past each boundary's instruction the next.
-/// A byte that begins no whole instruction counts as one byte long.
+/// A byte that begins no whole instruction counts as one byte long. `AllocError` for want of memory.
 pub fn starts(alloc: Global, code: &[u8]) -> Result<Vec<bool>, AllocError>
     ensures marks { IfOk result (λ v. v.items ≡ starts code.now) }
     ensures boundaries { IfOk result (λ v. (pc : ℕ) → IsTrue (slice_index_or v.items pc false) ↔ IsStart code.now pc) }
