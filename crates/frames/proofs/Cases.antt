@@ -1,9 +1,10 @@
 -- The cases of a switch, as a list.
-use Rattle.std.proofs.Common.{◌≡◌, ℕ, zero, suc, ◌+◌, ◌-◌, ◌<◌, ◌≤◌, List, [], ◌∷◌, length, map, get_or, Bool, true, false, cond, eqb, eq-eqb, add-one, refl, sym, ap, ◌∙◌, arith}
+use Rattle.std.proofs.Common.{◌≡◌, ℕ, zero, suc, ◌+◌, ◌-◌, ◌<◌, ◌≤◌, List, [], ◌∷◌, ℤ, length, map, get_or, Bool, true, false, cond, eqb, eq-eqb, add-one, subst, refl, sym, ap, ◌∙◌, arith}
 use Rattle.std.proofs.lemmas.Bool.{ne_eqb}
 use Rattle.model.specs.Ints.{bits_of}
-use Rattle.model.specs.Instruction.{lookup_pair}
-use Rattle.model.specs.Rows.{counting, pair_place}
+use Rattle.model.specs.Ints.{signed}
+use Rattle.model.specs.Instruction.{table_jump, lookup_pair, jump_count}
+use Rattle.model.specs.Rows.{counting, pair_place, table_place, target, row_target, table_switch_row}
 
 length_counting : {A : Type 0} (f : ℕ → A) (j n : ℕ) → length (map f (counting j n)) ≡ n
 length_counting f j zero = refl
@@ -38,3 +39,12 @@ place_next code at key k pairs lt ne = at_suc (pairs - k) (pairs - (k + 1)) (ome
   where
     at_suc : (n m : ℕ) → n ≡ suc m → pair_place code at key k n ≡ pair_place code at key (k + 1) m
     at_suc n m h = rw (h, ne_eqb _ _ ne, add-one) refl
+
+-- where a table leads
+pub table_within : (code : List ℕ) (pc : ℕ) (default low high : ℤ) (at index k r : ℕ) → k ≡ table_place low high (signed index) → k < jump_count low high → r ≡ target pc (table_jump code at k) → r ≡ row_target (table_switch_row code pc default low high at) (index ∷ [])
+table_within code pc default low high at index k r place lt is =
+    is ∙ sym (case_within (λ j. target pc (table_jump code at j)) (target pc default) (jump_count low high) k lt) ∙ ap (λ j. get_or (map (λ i. target pc (table_jump code at i)) (counting 0 (jump_count low high))) j (target pc default)) place
+
+pub table_past : (code : List ℕ) (pc : ℕ) (default low high : ℤ) (at index k r : ℕ) → k ≡ table_place low high (signed index) → jump_count low high ≤ k → r ≡ target pc default → r ≡ row_target (table_switch_row code pc default low high at) (index ∷ [])
+table_past code pc default low high at index k r place le is =
+    is ∙ sym (case_past (λ j. target pc (table_jump code at j)) (target pc default) (jump_count low high) k le) ∙ ap (λ j. get_or (map (λ i. target pc (table_jump code at i)) (counting 0 (jump_count low high))) j (target pc default)) place

@@ -1,8 +1,8 @@
 //! Switches (JVMS 6.5, tableswitch and lookupswitch).
 
-ghost use Rattle.std.specs.Prelude.{◌≡◌, ◌<◌, ◌^◌, unsigned_abs};
+ghost use Rattle.std.specs.Prelude.{◌≡◌, ◌<◌, ◌^◌, [], ◌∷◌, unsigned_abs};
 ghost use Rattle.model.specs.Instruction.{jump_count};
-ghost use Rattle.model.specs.Rows.{pair_place, table_place, table_switch_row, lookup_switch_row};
+ghost use Rattle.model.specs.Rows.{pair_place, table_place, row_target, table_switch_row, lookup_switch_row};
 ghost use Rattle.frames.specs.Places.{Ran};
 
 use crate::frame::Frame;
@@ -37,7 +37,20 @@ pub(crate) struct Table {
     pub(crate) at: usize,
 }
 
+/// Where a `tableswitch` at an offset leads.
 #[tactic(auto, using(crate::proofs::Cases::case_within, crate::proofs::Cases::case_past))]
+fn table_target(code: &[u8], offset: usize, table: Table, index: u32) -> usize
+    requires { offset < 2 ^ 16 }
+    ensures { result ≡ row_target (table_switch_row code.now offset table.default table.low table.high table.at) (index ∷ []) }
+{
+    let k = table_place_of(table.low, table.high, index.cast_signed());
+    if k < count_of(table.low, table.high) {
+        target_of(offset, table_jump(code, table.at, k))
+    } else {
+        target_of(offset, table.default)
+    }
+}
+
 pub(crate) fn table_switch(
     frame: &mut Frame,
     code: &[u8],
@@ -48,14 +61,8 @@ pub(crate) fn table_switch(
     ensures { Ran result (table_switch_row code.now frame.old.offset table.default table.low table.high table.at) max_stack frame.old frame.new }
 {
     match frame.int(0) {
-        Some(bits) if frame.has_room(1, 0, max_stack) => {
-            let k = table_place_of(table.low, table.high, bits.cast_signed());
-            let by = if k < count_of(table.low, table.high) {
-                table_jump(code, table.at, k)
-            } else {
-                table.default
-            };
-            let to = target_of(frame.offset(), by);
+        Some(index) if frame.has_room(1, 0, max_stack) => {
+            let to = table_target(code, frame.offset(), table, index);
             frame.drop_words(1, to);
             Ok(LocalStep::Done)
         }
@@ -84,7 +91,20 @@ pub(crate) struct Lookup {
     pub(crate) at: usize,
 }
 
+/// Where a `lookupswitch` at an offset leads.
 #[tactic(auto, using(crate::proofs::Cases::case_within, crate::proofs::Cases::case_past))]
+fn lookup_target(code: &[u8], offset: usize, lookup: Lookup, key: u32) -> usize
+    requires { offset < 2 ^ 16 }
+    ensures { result ≡ row_target (lookup_switch_row code.now offset lookup.default lookup.pairs lookup.at) (key ∷ []) }
+{
+    let k = place_of(code, lookup.at, key, lookup.pairs);
+    if k < lookup.pairs {
+        target_of(offset, lookup_pair(code, lookup.at, k as usize).1)
+    } else {
+        target_of(offset, lookup.default)
+    }
+}
+
 pub(crate) fn lookup_switch(
     frame: &mut Frame,
     code: &[u8],
@@ -95,14 +115,8 @@ pub(crate) fn lookup_switch(
     ensures { Ran result (lookup_switch_row code.now frame.old.offset lookup.default lookup.pairs lookup.at) max_stack frame.old frame.new }
 {
     match frame.int(0) {
-        Some(bits) if frame.has_room(1, 0, max_stack) => {
-            let k = place_of(code, lookup.at, bits, lookup.pairs);
-            let by = if k < lookup.pairs {
-                lookup_pair(code, lookup.at, k as usize).1
-            } else {
-                lookup.default
-            };
-            let to = target_of(frame.offset(), by);
+        Some(key) if frame.has_room(1, 0, max_stack) => {
+            let to = lookup_target(code, frame.offset(), lookup, key);
             frame.drop_words(1, to);
             Ok(LocalStep::Done)
         }

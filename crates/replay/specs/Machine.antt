@@ -1,5 +1,5 @@
 -- What a machine of one thread shows, and what its answers say.
-use Rattle.std.specs.Prelude.{◌≡◌, ℕ, ℤ, List, [], ◌∷◌, Option, Some, None, Bool, true, false, is_some}
+use Rattle.std.specs.Prelude.{◌≡◌, ℕ, ℤ, List, [], ◌∷◌, Option, Some, None, Bool, true, false, is_some, length}
 use Rattle.model.specs.declared.event.Event.{Event}
 use Rattle.model.specs.declared.limits.Limits.{Limits}
 use Rattle.model.specs.declared.value.Value.{Value}
@@ -19,7 +19,8 @@ use Rattle.replay.specs.declared.machine.Stepped.{Stepped}
 use Rattle.replay.specs.declared.machine.Stepped.TheVariants as steps
 use Rattle.replay.specs.declared.bytecode.FrameStep.{FrameStep}
 use Rattle.replay.specs.declared.bytecode.FrameStep.TheVariants as frame_steps
-use Rattle.replay.specs.Linking.{Linked, program_of, main_in}
+use Rattle.model.specs.Tree.{FileTree}
+use Rattle.replay.specs.Linking.{program_of, main_in, main_body}
 
 -- ---- the state of a program whose only thread has come so far
 
@@ -40,33 +41,33 @@ classes_of class stages.Runs = (class, Initialised) ∷ (class, InProgress 0) �
 classes_of class stages.Ended = (class, Initialised) ∷ (class, InProgress 0) ∷ []
 
 -- the frame of main at a place
-abbrev pub frame_of : Linked → Place → Frame
-frame_of l place = record { method = main_in l.file; place = place; entered = None }
+abbrev pub frame_of : FileTree → Place → Frame
+frame_of file place = record { method = main_in file; place = place; entered = None }
 
-abbrev pub stack_of : Linked → Stage → Place → StackOf Value
-stack_of l stages.New place = []
-stack_of l stages.Super place = Initialisation (name_of l.file) Super ∷ []
-stack_of l stages.End place = Initialisation (name_of l.file) End ∷ []
-stack_of l stages.Ready place = []
-stack_of l stages.Runs place = Invocation (frame_of l place) ∷ []
-stack_of l stages.Ended place = []
+abbrev pub stack_of : FileTree → Stage → Place → StackOf Value
+stack_of file stages.New place = []
+stack_of file stages.Super place = Initialisation (name_of file) Super ∷ []
+stack_of file stages.End place = Initialisation (name_of file) End ∷ []
+stack_of file stages.Ready place = []
+stack_of file stages.Runs place = Invocation (frame_of file place) ∷ []
+stack_of file stages.Ended place = []
 
-abbrev pub world_of : Linked → Stage → List ℤ → World
-world_of l stage printed =
+abbrev pub world_of : FileTree → Stage → List ℤ → World
+world_of file stage printed =
     record {
-      heap = opening_heap (program_of l);
+      heap = opening_heap (program_of file);
       statics = [];
-      classes = classes_of (name_of l.file) stage;
+      classes = classes_of (name_of file) stage;
       monitors = [];
       threads = thread_of stage ∷ [];
       printed = printed;
     }
 
-abbrev pub state_of : Linked → Stage → Place → List ℤ → State
-state_of l stage place printed = record { world = world_of l stage printed; stacks = stack_of l stage place ∷ [] }
+abbrev pub state_of : FileTree → Stage → Place → List ℤ → State
+state_of file stage place printed = record { world = world_of file stage printed; stacks = stack_of file stage place ∷ [] }
 
 pub record Machine : Type 0 where
-  pub linked : Linked
+  pub file : FileTree
   pub limits : Limits
   pub state : State
 
@@ -106,11 +107,11 @@ SaysOf (steps.Refused causes.Threads) t out old new = ⊥
 
 -- what becomes of an event in a state that the machine shows
 abbrev pub meets : Machine → State → Event → SteppedOf State
-meets m s event = stepped values (program_of m.linked) m.limits.frames s event
+meets m s event = stepped values (program_of m.file) m.limits.frames s event
 
 -- the same program and limits
 abbrev pub IsKept : Machine → Machine → Type 0
-IsKept old new = (new.linked ≡ old.linked) × (new.limits ≡ old.limits)
+IsKept old new = (new.file ≡ old.file) × (new.limits ≡ old.limits)
 
 -- ---- a bytecode of main
 
@@ -119,5 +120,25 @@ abbrev pub main_step : Event
 main_step = record { thread = 0; pick = 0 }
 
 -- what the instruction at a place makes of what all share and of the stack
-abbrev pub frame_event : Linked → ℕ → List ℤ → Place → ℕ → SteppedOf (PartOf Value)
-frame_event l frames printed place max_stack = NotEnabled
+abbrev pub frame_event : FileTree → ℕ → List ℤ → Place → SteppedOf (PartOf Value)
+frame_event file frames printed place =
+    bytecode_by values (program_of file) frames main_step (world_of file stages.Runs printed) (frame_of file place) [] (main_body file).code.max_stack (option_and_then (meaning_of values) (site_at (main_in file) (main_body file) place.offset))
+
+-- on at no cost, with no exception pending
+abbrev pub PartGoesOn : SteppedOf (PartOf Value) → (PartOf Value → Type 0) → Type 0
+PartGoesOn NotEnabled P = ⊥
+PartGoesOn WrongKind P = ⊥
+PartGoesOn (Next cost p) P = (cost ≡ Free) × (is_thrown 0 p.world ≡ false) × P p
+
+abbrev pub PartThrows : SteppedOf (PartOf Value) → Type 0
+PartThrows NotEnabled = ⊥
+PartThrows WrongKind = ⊥
+PartThrows (Next cost p) = (is_thrown 0 p.world ≡ true) × (length p.world.threads ≡ 1)
+
+-- what an answer says of an instruction of main
+abbrev pub FrameSays : FrameStep → SteppedOf (PartOf Value) → FileTree → List ℤ → List ℤ → Place → Place → Type 0
+FrameSays frame_steps.Done out file printed now old new = out ≡ Next Free (part (world_of file stages.Runs now) (Invocation (frame_of file new) ∷ []))
+FrameSays frame_steps.Returned out file printed now old new = (out ≡ Next Free (part (world_of file stages.Runs printed) [])) × (now ≡ printed) × (new ≡ old)
+FrameSays frame_steps.WrongKind out file printed now old new = (out ≡ WrongKind) × (now ≡ printed) × (new ≡ old)
+FrameSays frame_steps.Throws out file printed now old new = PartThrows out × (now ≡ printed) × (new ≡ old)
+FrameSays frame_steps.NoMemory out file printed now old new = PartGoesOn out (λ p. Unit {0}) × (now ≡ printed) × (new ≡ old)
