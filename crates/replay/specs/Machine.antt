@@ -1,16 +1,18 @@
 -- What a machine of one thread shows, and what its answers say.
-use Rattle.std.specs.Prelude.{◌≡◌, ℕ, ℤ, List, [], ◌∷◌, Option, Some, None, Bool, true, false, is_some, length}
+use Rattle.std.specs.Prelude.{◌≡◌, ℕ, ℤ, List, [], ◌∷◌, Option, Some, None, Bool, true, false, ◌==◌, is_some, length}
 use Rattle.model.specs.declared.event.Event.{Event}
 use Rattle.model.specs.declared.limits.Limits.{Limits}
 use Rattle.model.specs.declared.value.Value.{Value}
+use Rattle.model.specs.declared.value.Value.TheVariants as value
+use Rattle.model.specs.declared.instr.Instr.{Instr}
 use Rattle.model.specs.declared.end.RunCause.{RunCause}
 use Rattle.model.specs.declared.end.RunCause.TheVariants as causes
 use Rattle.model.specs.Names.{Name}
 use Rattle.model.specs.Classes.{name_of}
 use Rattle.model.specs.Operands.{values}
-use Rattle.model.specs.State.{ClassStatus, InProgress, Initialised, Running, Ended, Thread, Place, Frame, Super, End, Invocation, Initialisation, StackOf, World, State, opening_heap, main_thread_reference, new_thread}
+use Rattle.model.specs.State.{ClassStatus, InProgress, Initialised, Running, Ended, Thread, Place, Frame, Super, End, Invocation, Initialisation, print_stream_reference, StackOf, World, State, opening_heap, main_thread_reference, new_thread}
 use Rattle.model.specs.Outcomes.{Cost, Free}
-use Rattle.model.specs.Meanings.{meaning_of, site_at}
+use Rattle.model.specs.Meanings.{meaning_of, other_meaning, site_at}
 use Rattle.model.specs.Step.{SteppedOf, NotEnabled, WrongKind, Next, PartOf, part, thread_at, bytecode_by, stepped}
 use Rattle.std.specs.Option.{option_and_then}
 use Rattle.replay.specs.declared.machine.Stage.{Stage}
@@ -123,6 +125,18 @@ main_step = record { thread = 0; pick = 0 }
 abbrev pub frame_event : FileTree → ℕ → List ℤ → Place → SteppedOf (PartOf Value)
 frame_event file frames printed place =
     bytecode_by values (program_of file) frames main_step (world_of file stages.Runs printed) (frame_of file place) [] (main_body file).code.max_stack (option_and_then (meaning_of values) (site_at (main_in file) (main_body file) place.offset))
+
+-- the same of an instruction that is not local
+abbrev pub other_event : FileTree → ℕ → List ℤ → Place → Instr → ℕ → SteppedOf (PartOf Value)
+other_event file frames printed place instr next =
+    bytecode_by values (program_of file) frames main_step (world_of file stages.Runs printed) (frame_of file place) [] (main_body file).code.max_stack (other_meaning values (record { method = main_in file; body = main_body file; offset = place.offset; instr = instr; next = next }) instr)
+
+-- null, or the PrintStream of System.out
+abbrev pub is_print_stream : Value → Bool
+is_print_stream value.Unset = false
+is_print_stream (value.Int bits) = false
+is_print_stream value.Null = true
+is_print_stream (value.Reference r) = r == print_stream_reference
 
 -- on at no cost, with no exception pending
 abbrev pub PartGoesOn : SteppedOf (PartOf Value) → (PartOf Value → Type 0) → Type 0

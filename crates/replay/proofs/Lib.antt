@@ -1,0 +1,3 @@
+pub mod Locals
+pub mod Bytecodes
+pub mod Others
