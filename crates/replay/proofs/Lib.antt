@@ -1,3 +1,2 @@
-pub mod Locals
-pub mod Bytecodes
 pub mod Others
+pub mod Stages

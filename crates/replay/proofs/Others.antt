@@ -19,13 +19,16 @@ use Rattle.model.specs.Types.{AnInt, AReference, value_meets, is_value_of, is_ob
 use Rattle.model.specs.Operands.{values, pops_meet}
 use Rattle.model.specs.State.{Place, Instance, ObjectOf, types_of, type_of, Invocation, opening_heap}
 use Rattle.model.specs.Outcomes.{Free}
-use Rattle.model.specs.Meanings.{system_out_meaning, get_static_meaning, println_meaning, invoke_virtual_meaning, return_meaning}
+use Rattle.model.specs.Meanings.{MeaningOf, system_out_meaning, get_static_meaning, println_meaning, invoke_virtual_meaning, return_meaning}
 use Rattle.model.specs.Step.{SteppedOf, WrongKind, Next, PartOf, part, bytecode_by}
 use Rattle.frames.specs.Places.{has_room, replaced, int_in, int_at}
 use Rattle.replay.specs.declared.machine.Stage.TheVariants as stages
 use Rattle.replay.specs.Linking.{program_of, main_in, main_body, main_code, names}
 use Rattle.replay.specs.Machine.{frame_of, world_of, main_step, other_event, is_print_stream, PartThrows, PartGoesOn}
-use Rattle.replay.proofs.Bytecodes.{with_meaning}
+
+-- what main does at its place by a meaning
+abbrev pub with_meaning : FileTree → ℕ → List ℤ → Place → Option (MeaningOf Value) → SteppedOf (PartOf Value)
+with_meaning file frames printed place o = bytecode_by values (program_of file) frames main_step (world_of file stages.Runs printed) (frame_of file place) [] (main_code file).max_stack o
 
 -- ---- facts that compute
 
@@ -170,6 +173,9 @@ module _ (file : FileTree) (frames : ℕ) (printed : List ℤ) (place : Place) (
   pub getting_done : (new : Place) → names (field_at file.pool index) system_out ≡ true → has_room 0 1 (main_code file).max_stack place.slots.stack ≡ true → new ≡ replaced place 0 (value.Reference 0 ∷ []) next → getting ≡ Next Free (part (world_of file stages.Runs printed) (Invocation (frame_of file new) ∷ []))
   getting_done new h room e = static_some file frames printed place next (field_at file.pool index) h ∙ out_done file frames printed place next room ∙ ap (λ q. Next Free (part (world_of file stages.Runs printed) (Invocation (frame_of file q) ∷ []))) (sym e)
 
+  pub getting_goes : names (field_at file.pool index) system_out ≡ true → has_room 0 1 (main_code file).max_stack place.slots.stack ≡ true → PartGoesOn getting
+  getting_goes h room = rw (static_some file frames printed place next (field_at file.pool index) h ∙ out_done file frames printed place next room) (refl, refl, refl)
+
   pub invoking_receiver : (bits : ℕ) (v : Value) → names (method_at file.pool index) println_int ≡ true → is_print_stream v ≡ false → int_at place.slots.stack 0 ≡ Some bits → slice_get place.slots.stack 1 ≡ Some v → invoking ≡ WrongKind
   invoking_receiver bits v h other int receiver = println_some file frames printed place next (method_at file.pool index) h ∙ println_receiver file frames printed place next bits v other int receiver
 
@@ -189,5 +195,5 @@ module _ (file : FileTree) (frames : ℕ) (printed : List ℤ) (place : Place) (
         ∙ ap (λ q. Next Free (part (world_of file stages.Runs q) (Invocation (frame_of file (replaced place 2 [] next)) ∷ []))) (sym said)
         ∙ ap (λ q. Next Free (part (world_of file stages.Runs now) (Invocation (frame_of file q) ∷ []))) (sym e)
 
-  pub invoking_goes : (bits : ℕ) (v : Value) → names (method_at file.pool index) println_int ≡ true → is_print_stream v ≡ true → (v ≡ value.Null → ⊥) → has_room 2 0 (main_code file).max_stack place.slots.stack ≡ true → int_at place.slots.stack 0 ≡ Some bits → slice_get place.slots.stack 1 ≡ Some v → PartGoesOn invoking (λ p. Unit {0})
-  invoking_goes bits v h stream present room int receiver = rw (invoking_on bits v h stream present room int receiver) (refl, refl, tt)
+  pub invoking_goes : (bits : ℕ) (v : Value) → names (method_at file.pool index) println_int ≡ true → is_print_stream v ≡ true → (v ≡ value.Null → ⊥) → has_room 2 0 (main_code file).max_stack place.slots.stack ≡ true → int_at place.slots.stack 0 ≡ Some bits → slice_get place.slots.stack 1 ≡ Some v → PartGoesOn invoking
+  invoking_goes bits v h stream present room int receiver = rw (invoking_on bits v h stream present room int receiver) (refl, refl, refl)

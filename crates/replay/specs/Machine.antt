@@ -138,16 +138,17 @@ is_print_stream (value.Int bits) = false
 is_print_stream value.Null = true
 is_print_stream (value.Reference r) = r == print_stream_reference
 
--- on at no cost, with no exception pending
-abbrev pub PartGoesOn : SteppedOf (PartOf Value) → (PartOf Value → Type 0) → Type 0
-PartGoesOn NotEnabled P = ⊥
-PartGoesOn WrongKind P = ⊥
-PartGoesOn (Next cost p) P = (cost ≡ Free) × (is_thrown 0 p.world ≡ false) × P p
+-- on in the frame at no cost, with no exception pending
+abbrev pub PartGoesOn : SteppedOf (PartOf Value) → Type 0
+PartGoesOn NotEnabled = ⊥
+PartGoesOn WrongKind = ⊥
+PartGoesOn (Next cost p) = (cost ≡ Free) × (is_thrown 0 p.world ≡ false) × (length p.stack ≡ 1)
 
+-- an exception is pending in the frame
 abbrev pub PartThrows : SteppedOf (PartOf Value) → Type 0
 PartThrows NotEnabled = ⊥
 PartThrows WrongKind = ⊥
-PartThrows (Next cost p) = (is_thrown 0 p.world ≡ true) × (length p.world.threads ≡ 1)
+PartThrows (Next cost p) = (is_thrown 0 p.world ≡ true) × (length p.stack ≡ 1)
 
 -- what an answer says of an instruction of main
 abbrev pub FrameSays : FrameStep → SteppedOf (PartOf Value) → FileTree → List ℤ → List ℤ → Place → Place → Type 0
@@ -155,4 +156,4 @@ FrameSays frame_steps.Done out file printed now old new = out ≡ Next Free (par
 FrameSays frame_steps.Returned out file printed now old new = (out ≡ Next Free (part (world_of file stages.Runs printed) [])) × (now ≡ printed) × (new ≡ old)
 FrameSays frame_steps.WrongKind out file printed now old new = (out ≡ WrongKind) × (now ≡ printed) × (new ≡ old)
 FrameSays frame_steps.Throws out file printed now old new = PartThrows out × (now ≡ printed) × (new ≡ old)
-FrameSays frame_steps.NoMemory out file printed now old new = PartGoesOn out (λ p. Unit {0}) × (now ≡ printed) × (new ≡ old)
+FrameSays frame_steps.NoMemory out file printed now old new = PartGoesOn out × (now ≡ printed) × (new ≡ old)
