@@ -23,7 +23,7 @@ use Rattle.replay.specs.declared.machine.Stepped.TheVariants as steps
 use Rattle.replay.specs.declared.bytecode.FrameStep.{FrameStep}
 use Rattle.replay.specs.declared.bytecode.FrameStep.TheVariants as frame_steps
 use Rattle.model.specs.declared.end.RunCause.TheVariants as causes
-use Rattle.replay.specs.Machine.{FrameSays, PartGoesOn, PartThrows, Throws, Machine, Shows, GoesOn, SaysOf, meets, state_of, main_step, frame_event}
+use Rattle.replay.specs.Machine.{FrameSays, PartGoesOn, PartThrows, Throws, Machine, Shows, GoesOn, SaysOf, meets, state_in, state_of, main_step, frame_event}
 
 pub built_in_object : is_built_in java_lang_object ≡ true
 unfolding built_in_classes
@@ -61,20 +61,11 @@ module _ (file : FileTree) (frames : ℕ) (printed : List ℤ) (place : Place) (
 
 -- ---- what an answer says, from what the model's step is
 
-module _ (file : FileTree) (limits : Limits) (old new : State) where
-  abbrev pub machine_at : State → Machine
-  machine_at s = record { file = file; limits = limits; state = s }
+abbrev pub met : Machine → SteppedOf State
+met m = stepped values (program_of m.file) m.limits.frames (state_in m) main_step
 
-  pub done_says : (s : State) → Shows (machine_at old) s → GoesOn 0 (stepped values (program_of file) limits.frames old main_step) (λ next. next ≡ new) → SaysOf steps.Done 0 (meets (machine_at old) s main_step) (machine_at old) (machine_at new)
-  done_says s shows h = subst (λ z. SaysOf steps.Done 0 (meets (machine_at old) z main_step) (machine_at old) (machine_at new)) shows.state_is (shown (stepped values (program_of file) limits.frames old main_step) h)
-    where
-      shown : (out : SteppedOf State) → GoesOn 0 out (λ next. next ≡ new) → GoesOn 0 out (λ next. Shows (machine_at new) next)
-      shown NotEnabled h = h
-      shown WrongKind h = h
-      shown (Next cost next) h = (h.0, h.1, record { state_is = sym h.2 })
-
-  pub same_says : (answer : Stepped) (s : State) → Shows (machine_at old) s → SaysOf answer 0 (stepped values (program_of file) limits.frames old main_step) (machine_at old) (machine_at new) → SaysOf answer 0 (meets (machine_at old) s main_step) (machine_at old) (machine_at new)
-  same_says answer s shows h = subst (λ z. SaysOf answer 0 (meets (machine_at old) z main_step) (machine_at old) (machine_at new)) shows.state_is h
+pub says_met : (answer : Stepped) (old new : Machine) → SaysOf answer 0 (met old) old new → (s : State) → Shows old s → SaysOf answer 0 (meets old s main_step) old new
+says_met answer old new h s shows = subst (λ z. SaysOf answer 0 (meets old z main_step) old new) shows.state_is h
 
 -- ---- a bytecode of main
 
@@ -109,6 +100,9 @@ stage_after frame_steps.Throws = stages.Runs
 stage_after frame_steps.NoMemory = stages.Runs
 
 module _ (file : FileTree) (limits : Limits) (printed now : List ℤ) (place new : Place) (linked : IsLinked file) where
+  abbrev machine_at : Stage → Place → List ℤ → Machine
+  machine_at stage p ns = record { file = file; limits = limits; stage = stage; place = p; printed = ns }
+
   abbrev old_state : State
   old_state = state_of file stages.Runs place printed
 
@@ -118,9 +112,20 @@ module _ (file : FileTree) (limits : Limits) (printed now : List ℤ) (place new
   runs : out_of ≡ put_back old_state 0 (settled 0 (frame_event file limits.frames printed place))
   runs = runs_step file limits.frames printed place linked
 
-  pub bytecode_says : (answer : FrameStep) → FrameSays answer (frame_event file limits.frames printed place) file printed now place new → SaysOf (stepped_of answer) 0 out_of (record { file = file; limits = limits; state = old_state }) (record { file = file; limits = limits; state = state_of file (stage_after answer) new now })
+  pub bytecode_says : (answer : FrameStep) → FrameSays answer (frame_event file limits.frames printed place) file printed now place new → SaysOf (stepped_of answer) 0 out_of (machine_at stages.Runs place printed) (machine_at (stage_after answer) new now)
   bytecode_says frame_steps.Done h = rw (runs, h) (refl, refl, record { state_is = refl })
   bytecode_says frame_steps.Returned h = rw (runs, h.0) (refl, refl, record { state_is = rw h.1 refl })
   bytecode_says frame_steps.WrongKind h = (rw (runs, h.0) refl, rw (h.1, h.2) refl)
   bytecode_says frame_steps.Throws h = (rw runs (throws_back old_state (frame_event file limits.frames printed place) h.0), rw (h.1, h.2) refl)
   bytecode_says frame_steps.NoMemory h = (rw runs (goes_back old_state (frame_event file limits.frames printed place) h.0), rw (h.1, h.2) refl)
+
+pub super_says : (file : FileTree) (limits : Limits) (place : Place) (printed : List ℤ) → IsLinked file → (s : State) → Shows (record { file = file; limits = limits; stage = stages.Super; place = place; printed = printed }) s → SaysOf steps.Done 0 (meets (record { file = file; limits = limits; stage = stages.Super; place = place; printed = printed }) s main_step) (record { file = file; limits = limits; stage = stages.Super; place = place; printed = printed }) (record { file = file; limits = limits; stage = stages.End; place = place; printed = printed })
+super_says file limits place printed linked =
+    says_met steps.Done (record { file = file; limits = limits; stage = stages.Super; place = place; printed = printed }) (record { file = file; limits = limits; stage = stages.End; place = place; printed = printed })
+      (rw (super_step file limits.frames printed place linked) (refl, refl, record { state_is = refl }))
+
+-- an event of the main thread with no pick
+pub event_says : (e : Event) (answer : Stepped) (old new : Machine) → e.thread ≡ 0 → e.pick ≡ 0 → ((s : State) → Shows old s → SaysOf answer 0 (meets old s main_step) old new) → (s : State) → Shows old s → SaysOf answer e.thread (meets old s e) old new
+event_says e answer old new t p h =
+    let Q : ℕ → ℕ → Type 0 = λ u q. (s : State) → Shows old s → SaysOf answer u (meets old s (record { thread = u; pick = q })) old new in
+    subst (λ u. Q u e.pick) (sym t) (subst (λ q. Q 0 q) (sym p) h)

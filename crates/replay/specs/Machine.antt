@@ -71,11 +71,16 @@ state_of file stage place printed = record { world = world_of file stage printed
 pub record Machine : Type 0 where
   pub file : FileTree
   pub limits : Limits
-  pub state : State
+  pub stage : Stage
+  pub place : Place
+  pub printed : List ℤ
+
+abbrev pub state_in : Machine → State
+state_in m = state_of m.file m.stage m.place m.printed
 
 -- the machine shows the state
 pub record Shows (m : Machine) (s : State) : Type 0 where
-  pub state_is : m.state ≡ s
+  pub state_is : state_in m ≡ s
 
 -- ---- what an answer says of an event
 
