@@ -20,3 +20,4 @@ pub mod Step
 pub mod Run
 pub mod Report
 pub mod Schedule
+pub mod Meaning

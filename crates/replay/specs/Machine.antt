@@ -42,6 +42,15 @@ classes_of class stages.Ready = (class, Initialised) ∷ (class, InProgress 0) �
 classes_of class stages.Runs = (class, Initialised) ∷ (class, InProgress 0) ∷ []
 classes_of class stages.Ended = (class, Initialised) ∷ (class, InProgress 0) ∷ []
 
+-- whether the thread has not ended
+abbrev pub is_alive : Stage → Bool
+is_alive stages.New = true
+is_alive stages.Super = true
+is_alive stages.End = true
+is_alive stages.Ready = true
+is_alive stages.Runs = true
+is_alive stages.Ended = false
+
 -- the frame of main at a place
 abbrev pub frame_of : FileTree → Place → Frame
 frame_of file place = record { method = main_in file; place = place; entered = None }

@@ -5,7 +5,7 @@ ghost use Rattle.std.specs.Prelude.{◌≡◌, IfOk, ℕ};
 use crate::bytecode::{FrameStep, frame_step};
 use crate::linked::Linked;
 use frames::Frame;
-use model::{Event, Limits, RunCause, Value};
+use model::{EndState, Event, Limits, Report, RunCause, Value};
 use std::alloc::{AllocError, Global};
 use std::marker::Model;
 
@@ -23,6 +23,17 @@ pub(crate) enum Stage {
     /// Main runs.
     Runs,
     Ended,
+}
+
+impl Stage {
+    ghost use Rattle.replay.specs.Machine.{is_alive};
+
+    /// Whether the main thread has not ended.
+    fn is_alive(self) -> bool
+        ensures { result ≡ is_alive self }
+    {
+        !matches!(self, Stage::Ended)
+    }
 }
 
 /// What became of an event.
@@ -126,5 +137,49 @@ impl<'a> Machine<'a> {
             },
             Stage::Ended => Stepped::NotEnabled,
         }
+    }
+}
+
+impl<'a> Machine<'a> {
+    ghost use Rattle.model.specs.State.{State};
+    ghost use Rattle.model.specs.Run.{is_quiet};
+    ghost use Rattle.std.specs.Prelude.{[], ◌∷◌};
+    ghost use Rattle.model.specs.Report.{end_state_of};
+    ghost use Rattle.model.specs.Meaning.{thread_ends};
+    ghost use Rattle.replay.specs.Linking.{program_of};
+    ghost use Rattle.replay.specs.Machine.{Shows};
+    ghost use Rattle.replay.specs.Replay.{ReportsOn};
+
+    /// Whether no thread has a step that it can do.
+    pub(crate) fn is_quiet(&self) -> bool
+        ensures { (s : State) → Shows self.now s → result ≡ is_quiet (program_of self.now.file) self.now.limits.frames s }
+    {
+        let _ = self.linked.local();
+        !self.stage.is_alive()
+    }
+
+    /// How the main thread stands.
+    fn thread_end(&self) -> EndState
+        ensures { (s : State) → Shows self.now s → thread_ends (program_of self.now.file) self.now.limits.frames s ≡ end_state_of result ∷ [] }
+    {
+        let _ = self.linked.local();
+        if self.stage.is_alive() {
+            EndState::Runnable
+        } else {
+            EndState::Ended
+        }
+    }
+
+    /// What the run showed, after so many events.
+    pub(crate) fn report(&self, events: u64) -> Result<Report, AllocError>
+        ensures { IfOk result (λ r. (s : State) → Shows self.now s → ReportsOn (program_of self.now.file) self.now.limits.frames s events r) }
+    {
+        let mut threads = Vec::new(self.alloc);
+        threads.push(self.thread_end())?;
+        Ok(Report {
+            printed: Vec::from_slice(self.alloc, &self.printed)?,
+            threads,
+            events,
+        })
     }
 }
