@@ -1,5 +1,6 @@
 -- A run goes on by one event.
-use Rattle.std.proofs.Common.{◌≡◌, ℕ, ◌+◌, ◌<◌, List, [], ◌∷◌, ◌++◌, length, map, Option, Some, None, Bool, true, false, not, cond, refl, sym, ap, subst, ◌∙◌, arith, length-append, append-nil}
+use Rattle.std.proofs.Common.{◌≡◌, ℕ, ◌+◌, ◌<◌, List, [], ◌∷◌, ◌++◌, length, map, Option, Some, None, Bool, true, false, not, cond, refl, sym, ap, subst, ◌∙◌, replicate, arith, append_assoc, length-append, append-nil}
+use Rattle.std.proofs.lemmas.List.{replicate_more}
 use Rattle.std.specs.Prelude.{ℤ, option_map}
 use Rattle.std.specs.Option.{option_and_then}
 use Rattle.model.specs.declared.event.Event.{Event}
@@ -19,7 +20,7 @@ use Rattle.model.specs.Meaning.{meaning, thread_ends}
 use Rattle.replay.specs.declared.machine.Stepped.{Stepped}
 use Rattle.replay.specs.declared.machine.Stepped.TheVariants as steps
 use Rattle.replay.specs.Linking.{program_of}
-use Rattle.replay.specs.Machine.{Machine, Shows, GoesOn, Throws, SaysOf, IsKept, meets, is_thrown}
+use Rattle.replay.specs.Machine.{Machine, Shows, GoesOn, Throws, SaysOf, IsKept, meets, state_in, is_thrown}
 use Rattle.replay.specs.Replay.{if_plain, run_plainly, Stands, EndFits, text_of, IsReplay, ShowsRun, ReportsOn, StopsAt}
 
 -- ---- a plain run is a run
@@ -75,3 +76,36 @@ goes_on start m n es e run kept says =
       plainly = append_one (program_of start.file) start.limits.frames (opening (program_of start.file)) es e ∙ rw (run.plainly, ← same) w.1;
       shows = w.2;
     }
+
+-- ---- a stop
+
+same_at : (m n : Machine) (e : Event) (P : SteppedOf State → Type 0) → n ≡ m → ((s : State) → Shows m s → P (meets m s e)) → (s : State) → Shows n s → P (meets n s e)
+same_at m n e P same h = let Q : Machine → Type 0 = λ k. (s : State) → Shows k s → P (meets k s e) in subst Q (sym same) h
+
+shown : (m : Machine) → Shows m (state_in m)
+shown m = record { state_is = refl }
+
+pub stops : (answer : Stepped) (m n : Machine) (e : Event) → (answer ≡ steps.Done → ⊥) → ((s : State) → Shows m s → SaysOf answer e.thread (meets m s e) m n) → (n ≡ m) × StopsAt answer n e
+stops steps.Done m n e not says = absurd (not refl)
+stops steps.NotEnabled m n e not says =
+    let same = (says (state_in m) (shown m)).1 in (same, same_at m n e (λ out. out ≡ NotEnabled) same (λ s h. (says s h).0))
+stops (steps.Refused causes.WrongKind) m n e not says =
+    let same = (says (state_in m) (shown m)).1 in (same, same_at m n e (λ out. out ≡ WrongKind) same (λ s h. (says s h).0))
+stops (steps.Refused causes.Throws) m n e not says =
+    let same = (says (state_in m) (shown m)).1 in (same, same_at m n e (Throws e.thread) same (λ s h. (says s h).0))
+stops (steps.Refused causes.Memory) m n e not says =
+    let same = (says (state_in m) (shown m)).1 in (same, same_at m n e (λ out. GoesOn e.thread out (λ next. Unit {0})) same (λ s h. (says s h).0))
+stops (steps.Refused causes.Monitors) m n e not says = absurd (says (state_in m) (shown m))
+stops (steps.Refused causes.LockCount) m n e not says = absurd (says (state_in m) (shown m))
+stops (steps.Refused causes.Objects) m n e not says = absurd (says (state_in m) (shown m))
+stops (steps.Refused causes.Cells) m n e not says = absurd (says (state_in m) (shown m))
+stops (steps.Refused causes.Threads) m n e not says = absurd (says (state_in m) (shown m))
+
+-- ---- the events of an entry
+
+pub one_more : (start m n : Machine) (es : List Event) (e : Event) (k : ℕ) → ShowsRun start (es ++ replicate k e) m → IsKept m n → ((s : State) → Shows m s → SaysOf steps.Done e.thread (meets m s e) m n) → ShowsRun start (es ++ replicate (k + 1) e) n
+one_more start m n es e k run kept says =
+    subst (λ q. ShowsRun start q n) (append_assoc es (replicate k e) (e ∷ []) ∙ ap (λ q. es ++ q) (replicate_more k e)) (goes_on start m n (es ++ replicate k e) e run kept says)
+
+pub stays : (start m n : Machine) (es : List Event) → n ≡ m → ShowsRun start es m → ShowsRun start es n
+stays start m n es same run = subst (λ k. ShowsRun start es k) (sym same) run

@@ -5,4 +5,6 @@ mod bytecode;
 mod linked;
 mod machine;
 
+mod run;
+
 pub use linked::Linked;
