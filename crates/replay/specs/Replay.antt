@@ -112,3 +112,17 @@ abbrev pub RanEntry : Option (ℕ × Stepped) → Event → ℕ → Machine → 
 RanEntry None event repeat old new = (start : Machine) (es : List Event) → ShowsRun start es old → ShowsRun start (es ++ replicate repeat event) new
 RanEntry (Some stop) event repeat old new =
     (stop.0 < repeat) × ((start : Machine) (es : List Event) → ShowsRun start es old → ShowsRun start (es ++ replicate stop.0 event) new) × StopsAt stop.1 new event
+
+-- the end that the answer of a machine makes
+abbrev pub end_of : Stepped → ℕ → End
+end_of steps.Done done = ends.Schedule
+end_of steps.NotEnabled done = ends.NotEnabled done
+end_of (steps.Refused cause) done = ends.Refused done cause
+
+-- a report of the state that a machine shows
+abbrev pub Reports : Machine → ℕ → Report → Type 0
+Reports m done r = (s : State) → Shows m s → ReportsOn (program_of m.file) m.limits.frames s done r
+
+-- the end of a machine after the whole schedule
+abbrev pub Finishes : Machine → End → Type 0
+Finishes m end = (s : State) → Shows m s → end ≡ (if is_quiet (program_of m.file) m.limits.frames s then ends.Quiet else ends.Schedule)

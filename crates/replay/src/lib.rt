@@ -8,3 +8,4 @@ mod machine;
 mod run;
 
 pub use linked::Linked;
+pub use run::replay;
