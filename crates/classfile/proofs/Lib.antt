@@ -3,3 +3,4 @@ mod PoolLaws
 mod MemberLaws
 mod Whole
 mod Promises
+mod Both

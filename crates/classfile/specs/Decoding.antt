@@ -1,5 +1,6 @@
 -- What decoding promises.
-use Rattle.std.specs.Prelude.{◌≡◌, ◌⊎◌, ℕ, List, ◌++◌, Result, Ok, Err}
+use Rattle.std.specs.Prelude.{◌≡◌, ◌⊎◌, ℕ, List, ◌++◌, Bool, true, false, Result, Ok, Err}
+use Rattle.reading.specs.declared.fault.Cause.{Cause}
 use Rattle.reading.specs.declared.fault.Cause.TheVariants as causes
 use Rattle.reading.specs.declared.fault.Malformed.{Malformed}
 use Rattle.classfile.specs.declared.tree.ClassFile.{ClassFile}
@@ -18,3 +19,8 @@ Decodes (Err e) read = (e.cause ≡ causes.OutOfMemory) ⊎ (read ≡ Err e)
 
 abbrev pub BeginsWith : List ℕ → List ℕ → Type 0
 BeginsWith front bytes = (rest : List ℕ) × (bytes ≡ front ++ rest)
+
+-- a check passes where its condition is met, and else answers a fault of this cause
+abbrev pub Checks : {A : Type 0} → Cause → Result A Malformed → Bool → Type 0
+Checks cause (Ok x) is_met = is_met ≡ true
+Checks cause (Err e) is_met = (is_met ≡ false) × (e.cause ≡ cause)

@@ -1,7 +1,10 @@
 //! Class files (JVMS chapter 4) as bytes and as trees.
 #![tactic(auto)]
 
+mod check;
 mod file;
+mod index;
+mod length;
 mod lookup;
 mod member;
 mod part;

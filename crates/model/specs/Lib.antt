@@ -2,3 +2,4 @@ pub mod LimitRanges
 pub mod Tree
 pub mod Spelling
 pub mod Pool
+pub mod Conditions
