@@ -1,10 +1,11 @@
 -- What decoding promises.
-use Rattle.std.specs.Prelude.{◌≡◌, ◌⊎◌, ℕ, List, ◌++◌, Bool, true, false, Result, Ok, Err}
+use Rattle.std.specs.Prelude.{◌≡◌, ◌⊎◌, ℕ, List, ◌++◌, Bool, true, false, IsTrue, IsFalse, Result, Ok, Err}
 use Rattle.reading.specs.declared.fault.Cause.{Cause}
 use Rattle.reading.specs.declared.fault.Cause.TheVariants as causes
 use Rattle.reading.specs.declared.fault.Malformed.{Malformed}
 use Rattle.classfile.specs.declared.tree.ClassFile.{ClassFile}
 use Rattle.model.specs.Tree.{FileTree}
+use Rattle.model.specs.Conditions.{file_indices}
 use Rattle.classfile.specs.View.{file_of}
 
 -- this tree is answered, unless memory ran out
@@ -24,3 +25,24 @@ BeginsWith front bytes = (rest : List ℕ) × (bytes ≡ front ++ rest)
 abbrev pub Checks : {A : Type 0} → Cause → Result A Malformed → Bool → Type 0
 Checks cause (Ok x) is_met = is_met ≡ true
 Checks cause (Err e) is_met = (is_met ≡ false) × (e.cause ≡ cause)
+
+-- the conditions that decoding checks
+pub record IsChecked (c : FileTree) : Type 0 where
+  pub indices : IsTrue (file_indices c)
+
+-- the condition that a file does not meet where it has a fault of this cause
+abbrev pub Stands : Cause → FileTree → Type 0
+Stands causes.Index c = IsFalse (file_indices c)
+Stands cause c = ⊥
+
+-- the causes that are met while the fields are read
+abbrev pub is_reading_cause : Cause → Bool
+is_reading_cause causes.Truncated = true
+is_reading_cause causes.Magic = true
+is_reading_cause causes.Version = true
+is_reading_cause causes.Tag = true
+is_reading_cause causes.Utf8 = true
+is_reading_cause causes.Attribute = true
+is_reading_cause causes.Trailing = true
+is_reading_cause causes.OutOfMemory = true
+is_reading_cause cause = false

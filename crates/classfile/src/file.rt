@@ -1,14 +1,16 @@
 //! The whole file (JVMS 4.1).
 
-ghost use Rattle.std.specs.Prelude.{◌≡◌, List, take, drop, IfOk, IfErr};
+ghost use Rattle.std.specs.Prelude.{◌≡◌, List, take, drop, IfOk, IfErr, IsTrue, IsFalse};
 ghost use Rattle.model.specs.Tree.{FileTree};
 ghost use Rattle.model.specs.Spelling.{magic, version, Layout};
+ghost use Rattle.model.specs.Conditions.{file_indices};
 ghost use Rattle.reading.specs.declared.fault.Cause.TheVariants as causes;
 ghost use Rattle.reading.specs.Reading.{Gives};
 ghost use Rattle.classfile.specs.View.{file_of};
 ghost use Rattle.classfile.specs.FileReading.{parts_at, file_at};
-ghost use Rattle.classfile.specs.Decoding.{Answers, Decodes, BeginsWith};
+ghost use Rattle.classfile.specs.Decoding.{Answers, Decodes, BeginsWith, IsChecked, Stands, is_reading_cause};
 
+use crate::index::check_indices;
 use crate::part::{Owner, read_table};
 use crate::pool::read_pool;
 use crate::tree::ClassFile;
@@ -74,22 +76,47 @@ fn decoded(alloc: Global, bytes: &[u8]) -> Result<ClassFile, Malformed>
     }
 }
 
+/// The tree of the fields of the bytes.
+fn laid_out(alloc: Global, bytes: &[u8]) -> Result<ClassFile, Malformed>
+    ensures found { IfOk result (λ c. Layout bytes.now (file_of c)) }
+    ensures only { (c : FileTree) → Layout bytes.now c → Answers result c }
+    ensures cause { IfErr result (λ e. IsTrue (is_reading_cause e.cause)) }
+    ensures magic { IfErr result (λ e. e.cause ≡ causes.Magic → (e.offset ≡ 0) × (BeginsWith magic bytes.now → ⊥)) }
+    ensures version { IfErr result (λ e. e.cause ≡ causes.Version → (e.offset ≡ 4) × (BeginsWith version (drop 4 bytes.now) → ⊥)) }
+    ensures trailing { IfErr result (λ e. e.cause ≡ causes.Trailing → (c : FileTree) × Layout (take e.offset bytes.now) c) }
+{
+    decoded(alloc, bytes)
+}
+
+/// Checks the conditions on the tree of a file, one after the other, each over the whole file.
+fn check(file: &ClassFile) -> Result<(), Malformed>
+    ensures met { IfOk result (λ _. IsChecked (file_of file.now)) }
+    ensures stands { IfErr result (λ e. Stands e.cause (file_of file.now)) }
+{
+    check_indices(file)
+}
+
 /// The class file that the bytes are.
 ///
-/// The first fault is answered in the order in which the fields stand, each at the offset where its field begins:
-/// `Truncated`, `Magic`, `Version` (at 4), `Tag`, `Utf8`, `Attribute` (a length that does not fit) and, behind the
-/// last field, `Trailing`. A constant_pool_count of 0 is `Truncated` there.
+/// First all fields are read in the order of the file, and the first fault is answered, each at the offset where its
+/// field begins: `Truncated`, `Magic`, `Version` (at 4), `Tag`, `Utf8`, `Attribute` (a length that does not fit) and,
+/// behind the last field, `Trailing`. A constant_pool_count of 0 is `Truncated` there. Then the conditions follow, each
+/// over the whole file: `Index`, at the first index that names no entry of the kind that it has to name.
 pub fn decode(alloc: Global, bytes: &[u8]) -> Result<ClassFile, Malformed>
-    // What is answered is spelled so.
-    ensures found { IfOk result (λ c. Layout bytes.now (file_of c)) }
-    // What is spelled so is answered, unless memory runs out.
-    ensures only { (c : FileTree) → Layout bytes.now c → Answers result c }
+    // What is answered is spelled so, and meets the conditions.
+    ensures found { IfOk result (λ c. Layout bytes.now (file_of c) × IsChecked (file_of c)) }
+    // What is spelled so and meets the conditions is answered, unless memory runs out.
+    ensures only { (c : FileTree) → Layout bytes.now c → IsChecked c → Answers result c }
     // The first four bytes are others.
     ensures magic { IfErr result (λ e. e.cause ≡ causes.Magic → (e.offset ≡ 0) × (BeginsWith magic bytes.now → ⊥)) }
     // The bytes 4 to 7 are others.
     ensures version { IfErr result (λ e. e.cause ≡ causes.Version → (e.offset ≡ 4) × (BeginsWith version (drop 4 bytes.now) → ⊥)) }
-    // The bytes before the offset are a class file.
+    // The bytes before the offset have a layout.
     ensures trailing { IfErr result (λ e. e.cause ≡ causes.Trailing → (c : FileTree) × Layout (take e.offset bytes.now) c) }
+    // The bytes have a layout in which an index names no entry of its kind.
+    ensures index { IfErr result (λ e. e.cause ≡ causes.Index → (c : FileTree) × (Layout bytes.now c × IsFalse (file_indices c))) }
 {
-    decoded(alloc, bytes)
+    let file = laid_out(alloc, bytes)?;
+    check(&file)?;
+    Ok(file)
 }
