@@ -9,6 +9,8 @@ mod lookup;
 mod member;
 mod part;
 mod pool;
+#[cfg(test)]
+mod tests;
 mod tree;
 
 pub use file::decode;

@@ -1,0 +1,123 @@
+//! Whole files, and the offsets of their faults.
+
+use crate::decode;
+use reading::{Cause, Malformed};
+use std::alloc::Global;
+use std::test::Fail;
+
+/// The class A, whose `main` prints 7.
+const FILE: [u8; 241] = [
+    0xca, 0xfe, 0xba, 0xbe, 0x00, 0x00, 0x00, 0x31, 0x00, 0x14, 0x01, 0x00, 0x01, 0x41, 0x07, 0x00,
+    0x01, 0x01, 0x00, 0x10, 0x6a, 0x61, 0x76, 0x61, 0x2f, 0x6c, 0x61, 0x6e, 0x67, 0x2f, 0x4f, 0x62,
+    0x6a, 0x65, 0x63, 0x74, 0x07, 0x00, 0x03, 0x01, 0x00, 0x04, 0x6d, 0x61, 0x69, 0x6e, 0x01, 0x00,
+    0x16, 0x28, 0x5b, 0x4c, 0x6a, 0x61, 0x76, 0x61, 0x2f, 0x6c, 0x61, 0x6e, 0x67, 0x2f, 0x53, 0x74,
+    0x72, 0x69, 0x6e, 0x67, 0x3b, 0x29, 0x56, 0x01, 0x00, 0x04, 0x43, 0x6f, 0x64, 0x65, 0x01, 0x00,
+    0x10, 0x6a, 0x61, 0x76, 0x61, 0x2f, 0x6c, 0x61, 0x6e, 0x67, 0x2f, 0x53, 0x79, 0x73, 0x74, 0x65,
+    0x6d, 0x07, 0x00, 0x08, 0x01, 0x00, 0x03, 0x6f, 0x75, 0x74, 0x01, 0x00, 0x15, 0x4c, 0x6a, 0x61,
+    0x76, 0x61, 0x2f, 0x69, 0x6f, 0x2f, 0x50, 0x72, 0x69, 0x6e, 0x74, 0x53, 0x74, 0x72, 0x65, 0x61,
+    0x6d, 0x3b, 0x0c, 0x00, 0x0a, 0x00, 0x0b, 0x09, 0x00, 0x09, 0x00, 0x0c, 0x01, 0x00, 0x13, 0x6a,
+    0x61, 0x76, 0x61, 0x2f, 0x69, 0x6f, 0x2f, 0x50, 0x72, 0x69, 0x6e, 0x74, 0x53, 0x74, 0x72, 0x65,
+    0x61, 0x6d, 0x07, 0x00, 0x0e, 0x01, 0x00, 0x07, 0x70, 0x72, 0x69, 0x6e, 0x74, 0x6c, 0x6e, 0x01,
+    0x00, 0x04, 0x28, 0x49, 0x29, 0x56, 0x0c, 0x00, 0x10, 0x00, 0x11, 0x0a, 0x00, 0x0f, 0x00, 0x12,
+    0x00, 0x20, 0x00, 0x02, 0x00, 0x04, 0x00, 0x00, 0x00, 0x00, 0x00, 0x01, 0x00, 0x09, 0x00, 0x05,
+    0x00, 0x06, 0x00, 0x01, 0x00, 0x07, 0x00, 0x00, 0x00, 0x15, 0x00, 0x02, 0x00, 0x01, 0x00, 0x00,
+    0x00, 0x09, 0xb2, 0x00, 0x0d, 0x10, 0x07, 0xb6, 0x00, 0x13, 0xb1, 0x00, 0x00, 0x00, 0x00, 0x00,
+    0x00,
+];
+
+fn fault(alloc: Global, bytes: &[u8]) -> Option<Malformed> {
+    match decode(alloc, bytes) {
+        Ok(_) => None,
+        Err(fault) => Some(fault),
+    }
+}
+
+/// The fault of the file where one byte is another.
+fn fault_with(alloc: Global, at: usize, byte: u8) -> Result<Option<Malformed>, Fail> {
+    let mut bytes = Vec::from_slice(alloc, FILE.as_slice())?;
+    if let Some(place) = bytes.get_mut(at) {
+        *place = byte;
+    }
+    Ok(fault(alloc, &bytes))
+}
+
+fn at(cause: Cause, offset: usize) -> Option<Malformed> {
+    Some(Malformed { cause, offset })
+}
+
+#[test]
+fn the_file_is_read(rt: HostRuntime) -> Result<(), Fail> {
+    let file = decode(rt.alloc(), &FILE).ok().ok_or("the file is refused")?;
+    let this = file.class_name(file.this_class).ok_or("no this_class")?;
+    assert_eq!(rt; this, b"A".as_slice());
+    let super_class = file.class_name(file.super_class).ok_or("no super_class")?;
+    assert_eq!(rt; super_class, b"java/lang/Object".as_slice());
+    let out = file.field_reference(13).ok_or("no field")?;
+    assert_eq!(rt; out.class, b"java/lang/System".as_slice());
+    assert_eq!(rt; out.name, b"out".as_slice());
+    assert_eq!(rt; out.descriptor, b"Ljava/io/PrintStream;".as_slice());
+    let println = file.method_reference(19).ok_or("no method")?;
+    assert_eq!(rt; println.class, b"java/io/PrintStream".as_slice());
+    assert_eq!(rt; println.name, b"println".as_slice());
+    assert_eq!(rt; println.descriptor, b"(I)V".as_slice());
+    Ok(())
+}
+
+#[test]
+fn every_shorter_file_is_truncated(rt: HostRuntime) {
+    for len in 0..FILE.len() {
+        let found = fault(rt.alloc(), FILE.get(..len).unwrap_or(&[]));
+        assert_eq!(rt;
+            found.map(|fault| fault.cause),
+            Some(Cause::Truncated),
+            "{len} bytes"
+        );
+    }
+}
+
+#[test]
+fn faults_have_their_offsets(rt: HostRuntime) -> Result<(), Fail> {
+    // an offset, the byte that stands there in place of the file's, and the fault
+    let rows = [
+        (0, 0, at(Cause::Magic, 0)),
+        (5, 1, at(Cause::Version, 4)),
+        (7, 50, at(Cause::Version, 4)),
+        (14, 2, at(Cause::Tag, 14)),
+        // a Long in the last place
+        (187, 5, at(Cause::Tag, 187)),
+        (25, 0, at(Cause::Utf8, 20)),
+        (25, 0xf0, at(Cause::Utf8, 20)),
+        // the class of a Class, the descriptor of a NameAndType, both of a Methodref
+        (16, 2, at(Cause::Index, 15)),
+        (134, 2, at(Cause::Index, 133)),
+        (189, 1, at(Cause::Index, 188)),
+        (191, 1, at(Cause::Index, 190)),
+        // this_class, super_class, the name and the descriptor of the method
+        (195, 1, at(Cause::Index, 194)),
+        (197, 0, at(Cause::Index, 196)),
+        (207, 20, at(Cause::Index, 206)),
+        (209, 0, at(Cause::Index, 208)),
+        // the length of Code: past the end of the file, too short for the count of its attributes, too long
+        (217, 0xff, at(Cause::Truncated, 218)),
+        (217, 0x14, at(Cause::Attribute, 237)),
+        (217, 0x16, at(Cause::Attribute, 214)),
+        // code_length, the count of the exception table and that of the attributes
+        (225, 0, at(Cause::Attribute, 222)),
+        (225, 200, at(Cause::Attribute, 222)),
+        (236, 1, at(Cause::Attribute, 235)),
+        (238, 1, at(Cause::Attribute, 239)),
+    ];
+    for (place, byte, want) in rows {
+        let found = fault_with(rt.alloc(), place, byte)?;
+        assert_eq!(rt; found, want, "{byte} at {place}");
+    }
+    Ok(())
+}
+
+#[test]
+fn a_byte_behind_the_file_is_trailing(rt: HostRuntime) -> Result<(), Fail> {
+    let mut bytes = Vec::from_slice(rt.alloc(), FILE.as_slice())?;
+    bytes.push(0)?;
+    assert_eq!(rt; fault(rt.alloc(), &bytes), at(Cause::Trailing, 241));
+    Ok(())
+}
