@@ -1,6 +1,7 @@
 //! Class files (JVMS chapter 4) as bytes and as trees.
 #![tactic(auto)]
 
+mod attribute;
 mod check;
 mod file;
 mod index;

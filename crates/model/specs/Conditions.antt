@@ -1,9 +1,10 @@
 -- What a class file has to meet beyond its layout (JVMS 4.1, 4.2, 4.3, 4.4 to 4.7), each under its name.
-use Rattle.std.specs.Prelude.{ℕ, List, Bool, true, false, ◌&&◌, ◌||◌, ◌==◌}
-use Rattle.std.specs.List.{list_all}
+use Rattle.std.specs.Prelude.{ℕ, ◌/◌, ◌%◌, List, Bool, true, false, not, ◌&&◌, ◌||◌, ◌==◌, nat_le, if◌then◌else◌, codes}
+use Rattle.std.specs.Str.{bytes_eq}
+use Rattle.std.specs.List.{list_all, count_by}
 use Rattle.model.specs.declared.class_file.ExceptionEntry.{ExceptionEntry}
 use Rattle.model.specs.Tree.{Entry, Utf8, Integer, Float, Long, Double, Class, String, Field, Method, InterfaceMethod, NameAndType, Unusable, SkippedTree, CodeTree, FieldPart, ConstantOf, SkippedOfField, MethodPart, CodeOf, SkippedOfMethod, FieldTree, MethodTree, FileTree}
-use Rattle.model.specs.Spelling.{entry_at}
+use Rattle.model.specs.Spelling.{entry_at, text_of}
 
 -- ---- Index: each index names an entry of the kind that it has to name
 
@@ -85,3 +86,49 @@ file_indices c =
     && (names_class c.pool c.super_class
     && (list_all (names_class c.pool) c.interfaces
     && member_indices c)))
+
+-- ---- Attribute: each Code and each ConstantValue stands where it has to
+
+abbrev pub is_code_part : MethodPart → Bool
+is_code_part (CodeOf name c) = true
+is_code_part (SkippedOfMethod a) = false
+
+-- ACC_NATIVE and ACC_ABSTRACT (JVMS table 4.6-A)
+abbrev pub is_native : ℕ → Bool
+is_native flags = flags / 0x0100 % 2 == 1
+
+abbrev pub is_abstract : ℕ → Bool
+is_abstract flags = flags / 0x0400 % 2 == 1
+
+-- whether a method of these access flags has a Code (JVMS 4.7.3)
+abbrev pub has_code : ℕ → Bool
+has_code flags = not (is_native flags || is_abstract flags)
+
+-- a method has one Code, and a native or abstract one has none (JVMS 4.7.3)
+abbrev pub method_code : MethodTree → Bool
+method_code m = count_by is_code_part m.parts == (if has_code m.flags then 1 else 0)
+
+abbrev pub is_constant_part : FieldPart → Bool
+is_constant_part (ConstantOf name index) = true
+is_constant_part (SkippedOfField a) = false
+
+-- whether a field of this descriptor may have a constant of this kind (JVMS table 4.7.2-A)
+abbrev pub is_constant_of : List ℕ → Entry → Bool
+is_constant_of descriptor (Integer bits) =
+    bytes_eq descriptor (codes "I") || (bytes_eq descriptor (codes "S") || (bytes_eq descriptor (codes "C") || (bytes_eq descriptor (codes "B") || bytes_eq descriptor (codes "Z"))))
+is_constant_of descriptor (Float bits) = bytes_eq descriptor (codes "F")
+is_constant_of descriptor (Long bits) = bytes_eq descriptor (codes "J")
+is_constant_of descriptor (Double bits) = bytes_eq descriptor (codes "D")
+is_constant_of descriptor (String text) = bytes_eq descriptor (codes "Ljava/lang/String;")
+is_constant_of descriptor e = false
+
+abbrev pub constant_fits : List Entry → List ℕ → FieldPart → Bool
+constant_fits pool descriptor (ConstantOf name index) = is_constant_of descriptor (entry_at pool index)
+constant_fits pool descriptor (SkippedOfField a) = true
+
+-- a field has one ConstantValue at most, of a kind that its descriptor asks for (JVMS 4.7.2)
+abbrev pub field_constants : List Entry → FieldTree → Bool
+field_constants pool f = nat_le (count_by is_constant_part f.parts) 1 && list_all (constant_fits pool (text_of (entry_at pool f.descriptor))) f.parts
+
+abbrev pub file_attributes : FileTree → Bool
+file_attributes c = list_all (field_constants c.pool) c.fields && list_all method_code c.methods
