@@ -81,6 +81,7 @@ trailing_of bytes (Err e) small h = λ is. elim h [ inl k ↦ absurd cc | inr k 
 -- where a condition stands, not all are met
 pub stands_not : (cause : Cause) (c : FileTree) → Stands cause c → IsChecked c → ⊥
 stands_not causes.Index c h k = let clash : true ≡ false = sym k.indices ∙ h in absurd cc
+stands_not causes.Attribute c h k = let clash : true ≡ false = sym k.attributes ∙ h in absurd cc
 stands_not causes.Truncated c h k = h
 stands_not causes.Magic c h k = h
 stands_not causes.Version c h k = h
@@ -88,7 +89,6 @@ stands_not causes.Tag c h k = h
 stands_not causes.Utf8 c h k = h
 stands_not causes.Name c h k = h
 stands_not causes.Descriptor c h k = h
-stands_not causes.Attribute c h k = h
 stands_not causes.Trailing c h k = h
 stands_not causes.Duplicate c h k = h
 stands_not causes.OutOfMemory c h k = h

@@ -5,7 +5,7 @@ use Rattle.reading.specs.declared.fault.Cause.TheVariants as causes
 use Rattle.reading.specs.declared.fault.Malformed.{Malformed}
 use Rattle.classfile.specs.declared.tree.ClassFile.{ClassFile}
 use Rattle.model.specs.Tree.{FileTree}
-use Rattle.model.specs.Conditions.{file_indices}
+use Rattle.model.specs.Conditions.{file_indices, file_attributes}
 use Rattle.classfile.specs.View.{file_of}
 
 -- this tree is answered, unless memory ran out
@@ -29,10 +29,12 @@ Checks cause (Err e) is_met = (is_met ≡ false) × (e.cause ≡ cause)
 -- the conditions that decoding checks
 pub record IsChecked (c : FileTree) : Type 0 where
   pub indices : IsTrue (file_indices c)
+  pub attributes : IsTrue (file_attributes c)
 
 -- the condition that a file does not meet where it has a fault of this cause
 abbrev pub Stands : Cause → FileTree → Type 0
 Stands causes.Index c = IsFalse (file_indices c)
+Stands causes.Attribute c = IsFalse (file_attributes c)
 Stands cause c = ⊥
 
 -- the causes that are met while the fields are read

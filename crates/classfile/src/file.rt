@@ -10,7 +10,9 @@ ghost use Rattle.classfile.specs.View.{file_of};
 ghost use Rattle.classfile.specs.FileReading.{parts_at, file_at};
 ghost use Rattle.classfile.specs.Decoding.{Answers, Decodes, BeginsWith, IsChecked, Stands, is_reading_cause};
 
+use crate::attribute::check_attributes;
 use crate::index::check_indices;
+use crate::length::first_field;
 use crate::part::{Owner, read_table};
 use crate::pool::read_pool;
 use crate::tree::ClassFile;
@@ -93,7 +95,8 @@ fn check(file: &ClassFile) -> Result<(), Malformed>
     ensures met { IfOk result (λ _. IsChecked (file_of file.now)) }
     ensures stands { IfErr result (λ e. Stands e.cause (file_of file.now)) }
 {
-    check_indices(file)
+    check_indices(file)?;
+    check_attributes(file, first_field(file))
 }
 
 /// The class file that the bytes are.
@@ -101,7 +104,9 @@ fn check(file: &ClassFile) -> Result<(), Malformed>
 /// First all fields are read in the order of the file, and the first fault is answered, each at the offset where its
 /// field begins: `Truncated`, `Magic`, `Version` (at 4), `Tag`, `Utf8`, `Attribute` (a length that does not fit) and,
 /// behind the last field, `Trailing`. A constant_pool_count of 0 is `Truncated` there. Then the conditions follow, each
-/// over the whole file: `Index`, at the first index that names no entry of the kind that it has to name.
+/// over the whole file: `Index`, at the first index that names no entry of the kind that it has to name; `Attribute`, at
+/// the first method without its Code, or the name of a Code or a ConstantValue too many, or the index of a ConstantValue
+/// of another kind than the field's type.
 pub fn decode(alloc: Global, bytes: &[u8]) -> Result<ClassFile, Malformed>
     // What is answered is spelled so, and meets the conditions.
     ensures found { IfOk result (λ c. Layout bytes.now (file_of c) × IsChecked (file_of c)) }

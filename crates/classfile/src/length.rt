@@ -1,7 +1,9 @@
 //! How many bytes the parts of a class file have.
 
 use crate::check::Length;
-use crate::tree::{Attribute, Code, Constant, Field, FieldAttribute, Method, MethodAttribute};
+use crate::tree::{
+    Attribute, ClassFile, Code, Constant, Field, FieldAttribute, Method, MethodAttribute,
+};
 use model::ExceptionEntry;
 
 /// The length of the parts one after the other.
@@ -80,4 +82,11 @@ impl Length for Method {
     fn length(&self) -> usize {
         sum_of(&self.attributes).saturating_add(8)
     }
+}
+
+/// The offset of the first field, or of the count of the methods where there is none.
+pub(crate) fn first_field(file: &ClassFile) -> usize {
+    20usize
+        .saturating_add(sum_of(&file.pool))
+        .saturating_add(sum_of(&file.interfaces))
 }
