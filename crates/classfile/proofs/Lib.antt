@@ -4,3 +4,4 @@ mod MemberLaws
 mod Whole
 mod Promises
 mod Both
+mod Differ

@@ -4,14 +4,16 @@ use Rattle.std.specs.Prelude.{IfOk, IfErr}
 use Rattle.reading.specs.declared.fault.Malformed.{Malformed}
 use Rattle.reading.specs.declared.fault.Cause.{Cause}
 use Rattle.reading.specs.declared.fault.Cause.TheVariants as causes
-use Rattle.reading.specs.Reading.{is_field_cause}
+use Rattle.reading.specs.declared.fault.Stop.{Stop}
+use Rattle.reading.specs.declared.fault.Stop.TheVariants as stops
+use Rattle.reading.specs.Reading.{is_field_cause, malformed_of}
 use Rattle.reading.proofs.Laws.{IsBytes, done, failed, ok_is, at_place}
 use Rattle.model.specs.Tree.{FileTree}
 use Rattle.model.specs.Spelling.{magic, version, Layout}
 use Rattle.classfile.specs.declared.tree.ClassFile.{ClassFile}
 use Rattle.classfile.specs.View.{file_of}
 use Rattle.classfile.specs.FileReading.{file_at}
-use Rattle.classfile.specs.Decoding.{Answers, Decodes, BeginsWith, is_reading_cause, IsChecked, Stands}
+use Rattle.classfile.specs.Decoding.{Answers, Decodes, BeginsWith, is_reading_cause, IsChecked, Stands, StandsOrStops}
 use Rattle.classfile.proofs.Whole.{Fault, OfField, OfMagic, OfVersion, OfEnd, field_is, file_takes, file_again, fault_of}
 
 pub found_of : (bytes : List ℕ) (r : Result ClassFile Malformed) → IsBytes bytes → Decodes r (file_at (at_place 0 bytes)) → IfOk r (λ c. Layout bytes (file_of c))
@@ -82,6 +84,7 @@ trailing_of bytes (Err e) small h = λ is. elim h [ inl k ↦ absurd cc | inr k 
 pub stands_not : (cause : Cause) (c : FileTree) → Stands cause c → IsChecked c → ⊥
 stands_not causes.Index c h k = let clash : true ≡ false = sym k.indices ∙ h in absurd cc
 stands_not causes.Attribute c h k = let clash : true ≡ false = sym k.attributes ∙ h in absurd cc
+stands_not causes.Duplicate c h k = let clash : true ≡ false = sym k.members ∙ h in absurd cc
 stands_not causes.Truncated c h k = h
 stands_not causes.Magic c h k = h
 stands_not causes.Version c h k = h
@@ -90,6 +93,9 @@ stands_not causes.Utf8 c h k = h
 stands_not causes.Name c h k = h
 stands_not causes.Descriptor c h k = h
 stands_not causes.Trailing c h k = h
-stands_not causes.Duplicate c h k = h
 stands_not causes.OutOfMemory c h k = h
 stands_not causes.Code c h k = h
+
+pub stops_not : (stop : Stop) (c : FileTree) → StandsOrStops stop c → IsChecked c → (malformed_of stop).cause ≡ causes.OutOfMemory
+stops_not stops.Memory c h k = refl
+stops_not (stops.Fault e) c h k = absurd (stands_not e.cause c h k)

@@ -3,14 +3,15 @@
 ghost use Rattle.std.specs.Prelude.{◌≡◌, List, take, drop, IfOk, IfErr, IsTrue, IsFalse};
 ghost use Rattle.model.specs.Tree.{FileTree};
 ghost use Rattle.model.specs.Spelling.{magic, version, Layout};
-ghost use Rattle.model.specs.Conditions.{file_indices};
+ghost use Rattle.model.specs.Conditions.{file_indices, members_differ};
 ghost use Rattle.reading.specs.declared.fault.Cause.TheVariants as causes;
 ghost use Rattle.reading.specs.Reading.{Gives};
 ghost use Rattle.classfile.specs.View.{file_of};
 ghost use Rattle.classfile.specs.FileReading.{parts_at, file_at};
-ghost use Rattle.classfile.specs.Decoding.{Answers, Decodes, BeginsWith, IsChecked, Stands, is_reading_cause};
+ghost use Rattle.classfile.specs.Decoding.{Answers, Decodes, BeginsWith, IsChecked, StandsOrStops, is_reading_cause};
 
 use crate::attribute::check_attributes;
+use crate::duplicate::check_members_differ;
 use crate::index::check_indices;
 use crate::length::first_field;
 use crate::part::{Owner, read_table};
@@ -70,11 +71,7 @@ fn decoded(alloc: Global, bytes: &[u8]) -> Result<ClassFile, Malformed>
 {
     match read_file(alloc, &mut Reader::new(bytes)) {
         Ok(file) => Ok(file),
-        Err(Stop::Fault(fault)) => Err(fault),
-        Err(Stop::Memory) => Err(Malformed {
-            cause: Cause::OutOfMemory,
-            offset: 0,
-        }),
+        Err(stop) => Err(stop.malformed()),
     }
 }
 
@@ -91,12 +88,14 @@ fn laid_out(alloc: Global, bytes: &[u8]) -> Result<ClassFile, Malformed>
 }
 
 /// Checks the conditions on the tree of a file, one after the other, each over the whole file.
-fn check(file: &ClassFile) -> Result<(), Malformed>
+fn check(alloc: Global, file: &ClassFile) -> Result<(), Stop>
     ensures met { IfOk result (λ _. IsChecked (file_of file.now)) }
-    ensures stands { IfErr result (λ e. Stands e.cause (file_of file.now)) }
+    ensures stands { IfErr result (λ stop. StandsOrStops stop (file_of file.now)) }
 {
     check_indices(file)?;
-    check_attributes(file, first_field(file))
+    let fields = first_field(file);
+    check_attributes(file, fields)?;
+    check_members_differ(alloc, file, fields)
 }
 
 /// The class file that the bytes are.
@@ -106,7 +105,7 @@ fn check(file: &ClassFile) -> Result<(), Malformed>
 /// behind the last field, `Trailing`. A constant_pool_count of 0 is `Truncated` there. Then the conditions follow, each
 /// over the whole file: `Index`, at the first index that names no entry of the kind that it has to name; `Attribute`, at
 /// the first method without its Code, or the name of a Code or a ConstantValue too many, or the index of a ConstantValue
-/// of another kind than the field's type.
+/// of another kind than the field's type; `Duplicate`, at the second of two members of one name and one descriptor.
 pub fn decode(alloc: Global, bytes: &[u8]) -> Result<ClassFile, Malformed>
     // What is answered is spelled so, and meets the conditions.
     ensures found { IfOk result (λ c. Layout bytes.now (file_of c) × IsChecked (file_of c)) }
@@ -120,8 +119,12 @@ pub fn decode(alloc: Global, bytes: &[u8]) -> Result<ClassFile, Malformed>
     ensures trailing { IfErr result (λ e. e.cause ≡ causes.Trailing → (c : FileTree) × Layout (take e.offset bytes.now) c) }
     // The bytes have a layout in which an index names no entry of its kind.
     ensures index { IfErr result (λ e. e.cause ≡ causes.Index → (c : FileTree) × (Layout bytes.now c × IsFalse (file_indices c))) }
+    // The bytes have a layout in which two fields, or two methods, have one name and one descriptor.
+    ensures duplicate { IfErr result (λ e. e.cause ≡ causes.Duplicate → (c : FileTree) × (Layout bytes.now c × IsFalse (members_differ c))) }
 {
     let file = laid_out(alloc, bytes)?;
-    check(&file)?;
-    Ok(file)
+    match check(alloc, &file) {
+        Ok(()) => Ok(file),
+        Err(stop) => Err(stop.malformed()),
+    }
 }

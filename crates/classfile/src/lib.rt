@@ -3,6 +3,7 @@
 
 mod attribute;
 mod check;
+mod duplicate;
 mod file;
 mod index;
 mod length;

@@ -9,7 +9,7 @@ ghost use Rattle.classfile.specs.View.{entry_of, entries_of, name_and_descriptor
 use crate::tree::{ClassFile, Constant};
 
 /// A name and a descriptor.
-#[derive(Clone, Copy, Debug)]
+#[derive(Clone, Copy, Debug, PartialEq, Eq, Hash)]
 pub struct NameAndDescriptor<'a> {
     pub name: &'a [u8],
     pub descriptor: &'a [u8],

@@ -1,10 +1,11 @@
 -- What a class file has to meet beyond its layout (JVMS 4.1, 4.2, 4.3, 4.4 to 4.7), each under its name.
-use Rattle.std.specs.Prelude.{ℕ, ◌/◌, ◌%◌, List, Bool, true, false, not, ◌&&◌, ◌||◌, ◌==◌, nat_le, if◌then◌else◌, codes}
+use Rattle.std.specs.Prelude.{ℕ, ◌/◌, ◌%◌, List, [], ◌∷◌, map, Bool, true, false, not, ◌&&◌, ◌||◌, ◌==◌, nat_le, if◌then◌else◌, codes}
 use Rattle.std.specs.Str.{bytes_eq}
-use Rattle.std.specs.List.{list_all, count_by}
+use Rattle.std.specs.List.{list_all, list_any, count_by}
 use Rattle.model.specs.declared.class_file.ExceptionEntry.{ExceptionEntry}
 use Rattle.model.specs.Tree.{Entry, Utf8, Integer, Float, Long, Double, Class, String, Field, Method, InterfaceMethod, NameAndType, Unusable, SkippedTree, CodeTree, FieldPart, ConstantOf, SkippedOfField, MethodPart, CodeOf, SkippedOfMethod, FieldTree, MethodTree, FileTree}
 use Rattle.model.specs.Spelling.{entry_at, text_of}
+use Rattle.model.specs.Pool.{NameAndDescriptor}
 
 -- ---- Index: each index names an entry of the kind that it has to name
 
@@ -132,3 +133,25 @@ field_constants pool f = nat_le (count_by is_constant_part f.parts) 1 && list_al
 
 abbrev pub file_attributes : FileTree → Bool
 file_attributes c = list_all (field_constants c.pool) c.fields && list_all method_code c.methods
+
+-- ---- Duplicate: no two fields, and no two methods, have one name and one descriptor (JVMS 4.5, 4.6)
+
+abbrev pub name_and_descriptor_at : List Entry → ℕ → ℕ → NameAndDescriptor
+name_and_descriptor_at pool name descriptor = record { name = text_of (entry_at pool name); descriptor = text_of (entry_at pool descriptor) }
+
+abbrev pub is_same : NameAndDescriptor → NameAndDescriptor → Bool
+is_same a b = bytes_eq a.name b.name && bytes_eq a.descriptor b.descriptor
+
+-- whether none is the same as a later one
+abbrev pub differ : List NameAndDescriptor → Bool
+differ [] = true
+differ (x ∷ xs) = not (list_any (is_same x) xs) && differ xs
+
+abbrev pub fields_differ : FileTree → Bool
+fields_differ c = differ (map (λ f. name_and_descriptor_at c.pool f.name f.descriptor) c.fields)
+
+abbrev pub methods_differ : FileTree → Bool
+methods_differ c = differ (map (λ m. name_and_descriptor_at c.pool m.name m.descriptor) c.methods)
+
+abbrev pub members_differ : FileTree → Bool
+members_differ c = fields_differ c && methods_differ c
