@@ -101,6 +101,10 @@ fn faults_have_their_offsets(rt: HostRuntime) -> Result<(), Fail> {
         (217, 0xff, at(Cause::Truncated, 218)),
         (217, 0x14, at(Cause::Attribute, 237)),
         (217, 0x16, at(Cause::Attribute, 214)),
+        // another attribute than Code, an abstract and a native method with Code
+        (213, 5, at(Cause::Attribute, 204)),
+        (204, 4, at(Cause::Attribute, 212)),
+        (204, 1, at(Cause::Attribute, 212)),
         // code_length, the count of the exception table and that of the attributes
         (225, 0, at(Cause::Attribute, 222)),
         (225, 200, at(Cause::Attribute, 222)),
@@ -119,5 +123,103 @@ fn a_byte_behind_the_file_is_trailing(rt: HostRuntime) -> Result<(), Fail> {
     let mut bytes = Vec::from_slice(rt.alloc(), FILE.as_slice())?;
     bytes.push(0)?;
     assert_eq!(rt; fault(rt.alloc(), &bytes), at(Cause::Trailing, 241));
+    Ok(())
+}
+
+fn joined(alloc: Global, parts: &[&[u8]]) -> Result<Vec<u8>, Fail> {
+    let mut bytes = Vec::new(alloc);
+    for part in parts {
+        bytes.extend_from_slice(part)?;
+    }
+    Ok(bytes)
+}
+
+/// The bytes of the file from one offset to another.
+fn part(from: usize, to: usize) -> &'static [u8] {
+    FILE.get(from..to).unwrap_or(&[])
+}
+
+#[test]
+fn a_second_code_is_refused(rt: HostRuntime) -> Result<(), Fail> {
+    let code = part(212, 239);
+    let bytes = joined(
+        rt.alloc(),
+        &[part(0, 210), &[0, 2], code, code, part(239, 241)],
+    )?;
+    assert_eq!(rt; fault(rt.alloc(), &bytes), at(Cause::Attribute, 239));
+    Ok(())
+}
+
+#[test]
+fn a_second_method_of_one_name_and_descriptor_is_refused(rt: HostRuntime) -> Result<(), Fail> {
+    let method = part(204, 239);
+    let bytes = joined(
+        rt.alloc(),
+        &[part(0, 202), &[0, 2], method, method, part(239, 241)],
+    )?;
+    assert_eq!(rt; fault(rt.alloc(), &bytes), at(Cause::Duplicate, 239));
+    Ok(())
+}
+
+/// The file with `static int x` of these flags, whose attributes follow, from the offset 246 on. The indices 22 and 23
+/// name an Integer and a Long.
+fn with_field(alloc: Global, flags: u8, attributes: &[u8]) -> Result<Vec<u8>, Fail> {
+    let mut bytes = joined(
+        alloc,
+        &[
+            part(0, 8),
+            &[0, 26],
+            part(10, 192),
+            b"\x01\x00\x0dConstantValue\x01\x00\x01I\x03\x00\x00\x00\x07",
+            b"\x05\x00\x00\x00\x00\x00\x00\x00\x08\x01\x00\x01x",
+            part(192, 200),
+        ],
+    )?;
+    bytes.extend_from_slice(&[0, 1, 0, flags, 0, 25, 0, 21])?;
+    bytes.extend_from_slice(attributes)?;
+    bytes.extend_from_slice(part(202, 241))?;
+    Ok(bytes)
+}
+
+#[test]
+fn constants_of_fields_are_of_their_types(rt: HostRuntime) -> Result<(), Fail> {
+    let rows: [(u8, &[u8], Option<Malformed>); 7] = [
+        (8, &[0, 1, 0, 20, 0, 0, 0, 2, 0, 22], None),
+        (
+            8,
+            &[0, 1, 0, 20, 0, 0, 0, 2, 0, 23],
+            at(Cause::Attribute, 254),
+        ),
+        // the second place of the Long
+        (8, &[0, 1, 0, 20, 0, 0, 0, 2, 0, 24], at(Cause::Index, 254)),
+        (
+            8,
+            &[0, 1, 0, 20, 0, 0, 0, 3, 0, 22, 0],
+            at(Cause::Attribute, 250),
+        ),
+        (
+            8,
+            &[0, 2, 0, 20, 0, 0, 0, 2, 0, 22, 0, 20, 0, 0, 0, 2, 0, 22],
+            at(Cause::Attribute, 256),
+        ),
+        (8, &[0, 1, 0, 26, 0, 0, 0, 2, 0, 22], at(Cause::Index, 248)),
+        // the field of an object has no constant
+        (0, &[0, 1, 0, 20, 0, 0, 0, 2, 0, 23], None),
+    ];
+    for (flags, attributes, want) in rows {
+        let bytes = with_field(rt.alloc(), flags, attributes)?;
+        assert_eq!(rt; fault(rt.alloc(), &bytes), want);
+    }
+    Ok(())
+}
+
+#[test]
+fn a_second_field_of_one_name_and_descriptor_is_refused(rt: HostRuntime) -> Result<(), Fail> {
+    let fields = [0, 0, 0, 8, 0, 25, 0, 21, 0, 0];
+    let mut bytes = with_field(rt.alloc(), 8, &fields)?;
+    if let Some(count) = bytes.get_mut(239) {
+        *count = 2;
+    }
+    assert_eq!(rt; fault(rt.alloc(), &bytes), at(Cause::Duplicate, 248));
     Ok(())
 }
