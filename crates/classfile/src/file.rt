@@ -125,6 +125,6 @@ pub fn decode(alloc: Global, bytes: &[u8]) -> Result<ClassFile, Malformed>
     let file = laid_out(alloc, bytes)?;
     match check(alloc, &file) {
         Ok(()) => Ok(file),
-        Err(stop) => Err(stop.malformed()),
+        Err(fault) => Err(fault.malformed()),
     }
 }

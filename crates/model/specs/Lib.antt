@@ -3,3 +3,5 @@ pub mod Tree
 pub mod Spelling
 pub mod Pool
 pub mod Conditions
+pub mod Descriptors
+pub mod DescriptorScan

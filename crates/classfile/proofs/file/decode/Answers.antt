@@ -9,4 +9,4 @@ use Rattle.classfile.proofs.file.decode.Goals as goal
 pub returns-in-Err-clause-only : goal.returns-in-Err-clause-only
 returns-in-Err-clause-only c tree layout checked =
     let is : file_of c.in_ok-file.file ≡ tree = c.in_ok-file.ensures.only tree layout in
-    ap (λ (e : Malformed). e.cause) c.malformed.ensures ∙ stops_not c.in-Err.stop (file_of c.in_ok-file.file) c.in-Err.ensures.stands (subst (λ (t : FileTree). IsChecked t) (sym is) checked)
+    ap (λ (e : Malformed). e.cause) c.malformed.ensures ∙ stops_not c.in-Err.fault (file_of c.in_ok-file.file) c.in-Err.ensures.stands (subst (λ (t : FileTree). IsChecked t) (sym is) checked)
