@@ -1,10 +1,9 @@
 -- What is parsed is spelled so, and what is spelled so is parsed.
-use Rattle.std.proofs.Common.{◌≡◌, ℕ, add-one, zero, suc, ◌+◌, ◌≤◌, ◌<◌, Bool, true, false, cond, eqb, ltb, List, [], ◌∷◌, ◌++◌, length, take, drop, replicate, Option, Some, None, refl, sym, ap, subst, ◌∙◌, append_assoc, arith, IsTrue}
+use Rattle.std.proofs.Common.{◌≡◌, ℕ, add-one, zero, suc, ◌+◌, ◌≤◌, Bool, true, false, cond, eqb, ltb, List, [], ◌∷◌, ◌++◌, length, take, drop, replicate, Option, Some, None, refl, sym, ap, subst, ◌∙◌, append_assoc, IsTrue}
 use Rattle.std.specs.List.{list_all}
 use Rattle.std.specs.Prelude.{not, ◌==◌, ◌&&◌}
 use Rattle.std.proofs.lemmas.Bool.{eqb-true, ltb-false, le-ltb}
-use Rattle.std.proofs.lemmas.Bool.Decides.{nat_tests}
-use Rattle.std.proofs.lemmas.List.{append-nil, nil_from_length, take-append-drop, take_at, drop_at, length-replicate}
+use Rattle.std.proofs.lemmas.List.{append-nil, nil_from_length, take_at, drop_at, length-replicate}
 use Rattle.model.specs.Descriptors.{is_class_name, ElementType, Byte, Char, Double, Float, Int, Long, Object, Short, Boolean, FieldType, element, field, ElementFits, FieldTypeFits, IsField}
 use Rattle.model.specs.DescriptorScan.{◌>>=◌, name_length, dimensions_of, element_at, field_at, field_type}
 use Rattle.std.specs.Prelude.{IfSome, IsSomeAnd}
@@ -124,12 +123,12 @@ object_takes : (b : ℕ) (bytes : List ℕ) (r : Option ℕ) (x : ElementType ×
 object_takes b bytes None x is named eq = absurd cc
 object_takes b bytes (Some n) x is named eq =
     chosen (λ name found.
-      (let h = name_takes bytes n named in
-       let first : b ∷ bytes ≡ 76 ∷ bytes = ap (λ (k : ℕ). k ∷ bytes) (eqb-true b 76 is) in
-       let regrouped : take n bytes ++ (59 ∷ drop (n + 1) bytes) ≡ (take n bytes ++ 59 ∷ []) ++ drop (n + 1) bytes = sym (append_assoc (take n bytes) (59 ∷ []) (drop (n + 1) bytes)) in
-       subst (TakesElement (b ∷ bytes)) (given_is (Object (take n bytes), drop (n + 1) bytes) x found)
-         (record { parts = first ∙ ap (λ (l : List ℕ). 76 ∷ l) (h.parts ∙ regrouped); fits = name })))
-      (λ _ out. none_some {G = TakesElement (b ∷ bytes) x} x out) eq
+    (let h = name_takes bytes n named in
+    let first : b ∷ bytes ≡ 76 ∷ bytes = ap (λ (k : ℕ). k ∷ bytes) (eqb-true b 76 is) in
+    let regrouped : take n bytes ++ (59 ∷ drop (n + 1) bytes) ≡ (take n bytes ++ 59 ∷ []) ++ drop (n + 1) bytes = sym (append_assoc (take n bytes) (59 ∷ []) (drop (n + 1) bytes)) in
+    subst (TakesElement (b ∷ bytes)) (given_is (Object (take n bytes), drop (n + 1) bytes) x found)
+    (record { parts = first ∙ ap (λ (l : List ℕ). 76 ∷ l) (h.parts ∙ regrouped); fits = name })))
+    (λ _ out. none_some {G = TakesElement (b ∷ bytes) x} x out) eq
 
 element_takes : (bytes : List ℕ) (x : ElementType × List ℕ) → element_at bytes ≡ Some x → TakesElement bytes x
 unfolding element_at
@@ -166,7 +165,7 @@ parse_made bytes None f read = λ e. absurd cc
 parse_made bytes (Some x) f read =
     let h = field_takes bytes x read in
     chosen (λ is found. subst (IsField bytes) (given_is x.0 f found) (record { spelled = h.0 ∙ ap (λ (l : List ℕ). field x.0 ++ l) (nil_from_length x.1 (eqb-true _ _ is)) ∙ append-nil (field x.0); fits = h.1 }))
-      (λ _ out. none_some {G = IsField bytes f} f out)
+    (λ _ out. none_some {G = IsField bytes f} f out)
 
 pub parse_takes : (bytes : List ℕ) (f : FieldType) → field_type bytes ≡ Some f → IsField bytes f
 unfolding field_type
@@ -177,7 +176,6 @@ unfolding field_type
 parse_again bytes f h =
     let read : field_at bytes ≡ Some (f, []) = ap field_at (h.spelled ∙ sym (append-nil (field f))) ∙ field_again f [] h.fits in
     rw read refl
-
 
 -- ---- what parsing promises, from what reading gives
 

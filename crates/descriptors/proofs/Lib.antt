@@ -1,2 +1,3 @@
 mod NameLaws
 mod FieldLaws
+mod MethodLaws

@@ -1,5 +1,5 @@
 -- The types of `Rattle.model.specs.Descriptors` that the values of this crate are.
-use Rattle.std.specs.Prelude.{◌≡◌, ℕ, Bool, List, Option, Some, None, not, ◌&&◌, ◌==◌}
+use Rattle.std.specs.Prelude.{◌≡◌, Option, Some, None}
 use Rattle.descriptors.specs.declared.field.Element as declared_element
 use Rattle.descriptors.specs.declared.field.Element.TheVariants as elements
 use Rattle.descriptors.specs.declared.field.Field as declared_field
