@@ -9,11 +9,12 @@ use Rattle.reading.specs.declared.fault.Stop.TheVariants as stops
 use Rattle.reading.specs.Reading.{is_field_cause, malformed_of}
 use Rattle.reading.proofs.Laws.{IsBytes, done, failed, ok_is, at_place}
 use Rattle.model.specs.Tree.{FileTree}
+use Rattle.model.specs.Spells.{IsWhole}
 use Rattle.model.specs.Spelling.{magic, version, Layout}
 use Rattle.classfile.specs.declared.tree.ClassFile.{ClassFile}
 use Rattle.classfile.specs.View.{file_of}
 use Rattle.classfile.specs.FileReading.{file_at}
-use Rattle.classfile.specs.Decoding.{Answers, Decodes, BeginsWith, is_reading_cause, IsChecked, Stands, StandsOrStops}
+use Rattle.classfile.specs.Decoding.{Answers, Decodes, BeginsWith, is_reading_cause, Stands, StandsOrStops}
 use Rattle.classfile.proofs.Whole.{Fault, OfField, OfMagic, OfVersion, OfEnd, field_is, file_takes, file_again, fault_of}
 
 pub found_of : (bytes : List ℕ) (r : Result ClassFile Malformed) → IsBytes bytes → Decodes r (file_at (at_place 0 bytes)) → IfOk r (λ c. Layout bytes (file_of c))
@@ -81,8 +82,10 @@ trailing_of bytes (Ok x) small h = tt
 trailing_of bytes (Err e) small h = λ is. elim h [ inl k ↦ absurd cc | inr k ↦ trailing_fault bytes e (fault_of bytes e small k) is ]
 
 -- where a condition stands, not all are met
-pub stands_not : (cause : Cause) (c : FileTree) → Stands cause c → IsChecked c → ⊥
+pub stands_not : (cause : Cause) (c : FileTree) → Stands cause c → IsWhole c → ⊥
 stands_not causes.Index c h k = let clash : true ≡ false = sym k.indices ∙ h in absurd cc
+stands_not causes.Name c h k = let clash : true ≡ false = sym k.names ∙ h in absurd cc
+stands_not causes.Descriptor c h k = let clash : true ≡ false = sym k.descriptors ∙ h in absurd cc
 stands_not causes.Attribute c h k = let clash : true ≡ false = sym k.attributes ∙ h in absurd cc
 stands_not causes.Duplicate c h k = let clash : true ≡ false = sym k.members ∙ h in absurd cc
 stands_not causes.Truncated c h k = h
@@ -90,12 +93,10 @@ stands_not causes.Magic c h k = h
 stands_not causes.Version c h k = h
 stands_not causes.Tag c h k = h
 stands_not causes.Utf8 c h k = h
-stands_not causes.Name c h k = h
-stands_not causes.Descriptor c h k = h
 stands_not causes.Trailing c h k = h
 stands_not causes.OutOfMemory c h k = h
 stands_not causes.Code c h k = h
 
-pub stops_not : (stop : Stop) (c : FileTree) → StandsOrStops stop c → IsChecked c → (malformed_of stop).cause ≡ causes.OutOfMemory
+pub stops_not : (stop : Stop) (c : FileTree) → StandsOrStops stop c → IsWhole c → (malformed_of stop).cause ≡ causes.OutOfMemory
 stops_not stops.Memory c h k = refl
 stops_not (stops.Fault e) c h k = absurd (stands_not e.cause c h k)

@@ -1,5 +1,5 @@
 -- What decoding promises.
-use Rattle.std.specs.Prelude.{◌≡◌, ◌⊎◌, ℕ, List, ◌++◌, Bool, true, false, IsTrue, IsFalse, Result, Ok, Err}
+use Rattle.std.specs.Prelude.{◌≡◌, ◌⊎◌, ℕ, List, ◌++◌, Bool, true, false, IsFalse, Result, Ok, Err}
 use Rattle.reading.specs.declared.fault.Cause.{Cause}
 use Rattle.reading.specs.declared.fault.Cause.TheVariants as causes
 use Rattle.reading.specs.declared.fault.Malformed.{Malformed}
@@ -7,7 +7,7 @@ use Rattle.reading.specs.declared.fault.Stop.{Stop}
 use Rattle.reading.specs.declared.fault.Stop.TheVariants as stops
 use Rattle.classfile.specs.declared.tree.ClassFile.{ClassFile}
 use Rattle.model.specs.Tree.{FileTree}
-use Rattle.model.specs.Conditions.{file_indices, file_attributes, members_differ}
+use Rattle.model.specs.Conditions.{file_indices, file_names, file_descriptors, file_attributes, members_differ}
 use Rattle.classfile.specs.View.{file_of}
 
 -- this tree is answered, unless memory ran out
@@ -34,15 +34,11 @@ ChecksOrStops cause (Ok x) is_met = is_met ≡ true
 ChecksOrStops cause (Err stops.Memory) is_met = Unit {0}
 ChecksOrStops cause (Err (stops.Fault e)) is_met = (is_met ≡ false) × (e.cause ≡ cause)
 
--- the conditions that decoding checks
-pub record IsChecked (c : FileTree) : Type 0 where
-  pub indices : IsTrue (file_indices c)
-  pub attributes : IsTrue (file_attributes c)
-  pub members : IsTrue (members_differ c)
-
 -- the condition that a file does not meet where it has a fault of this cause
 abbrev pub Stands : Cause → FileTree → Type 0
 Stands causes.Index c = IsFalse (file_indices c)
+Stands causes.Name c = IsFalse (file_names c)
+Stands causes.Descriptor c = IsFalse (file_descriptors c)
 Stands causes.Attribute c = IsFalse (file_attributes c)
 Stands causes.Duplicate c = IsFalse (members_differ c)
 Stands cause c = ⊥

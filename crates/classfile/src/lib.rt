@@ -3,12 +3,14 @@
 
 mod attribute;
 mod check;
+mod descriptor;
 mod duplicate;
 mod file;
 mod index;
 mod length;
 mod lookup;
 mod member;
+mod names;
 mod part;
 mod pool;
 #[cfg(test)]

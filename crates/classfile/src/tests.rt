@@ -97,6 +97,20 @@ fn faults_have_their_offsets(rt: HostRuntime) -> Result<(), Fail> {
         (197, 0, at(Cause::Index, 196)),
         (207, 20, at(Cause::Index, 206)),
         (209, 0, at(Cause::Index, 208)),
+        // the names of a Class, of a field and of a method in a NameAndType, and of the method
+        (13, b'.', at(Cause::Name, 15)),
+        (13, b'[', at(Cause::Name, 15)),
+        (103, b'/', at(Cause::Name, 131)),
+        (103, b'<', None),
+        (168, b'<', at(Cause::Name, 183)),
+        (42, b'>', at(Cause::Name, 206)),
+        // the descriptors of a field and of a method in a NameAndType, and of the method
+        (129, b'x', at(Cause::Descriptor, 133)),
+        (181, b'Q', at(Cause::Descriptor, 185)),
+        (70, b'Q', at(Cause::Descriptor, 208)),
+        // a Fieldref of a method, and a Methodref of a field
+        (139, 18, at(Cause::Descriptor, 138)),
+        (191, 12, at(Cause::Descriptor, 190)),
         // the length of Code: past the end of the file, too short for the count of its attributes, too long
         (217, 0xff, at(Cause::Truncated, 218)),
         (217, 0x14, at(Cause::Attribute, 237)),
@@ -221,5 +235,43 @@ fn a_second_field_of_one_name_and_descriptor_is_refused(rt: HostRuntime) -> Resu
         *count = 2;
     }
     assert_eq!(rt; fault(rt.alloc(), &bytes), at(Cause::Duplicate, 248));
+    Ok(())
+}
+
+#[test]
+fn a_superclass_is_no_array(rt: HostRuntime) -> Result<(), Fail> {
+    let name = b"[[[[[[[[[[[[[[[I".as_slice();
+    let bytes = joined(rt.alloc(), &[part(0, 20), name, part(36, 241)])?;
+    assert_eq!(rt; fault(rt.alloc(), &bytes), at(Cause::Name, 196));
+    Ok(())
+}
+
+/// The file whose method has these flags, and so many parameters of the type `long` and then one of another.
+fn with_parameters(alloc: Global, flags: u8, longs: u8, last: u8) -> Result<Vec<u8>, Fail> {
+    let mut bytes = joined(alloc, &[part(0, 47), &[0, longs.saturating_add(4)], b"("])?;
+    for _ in 0..longs {
+        bytes.push(b'J')?;
+    }
+    bytes.push(last)?;
+    bytes.extend_from_slice(b")V")?;
+    bytes.extend_from_slice(part(71, 204))?;
+    bytes.extend_from_slice(&[0, flags])?;
+    bytes.extend_from_slice(part(206, 241))?;
+    Ok(bytes)
+}
+
+#[test]
+fn parameters_take_255_slots(rt: HostRuntime) -> Result<(), Fail> {
+    let rows = [
+        (9, 127, b'I', None),
+        (9, 127, b'J', at(Cause::Descriptor, 317)),
+        // the receiver takes one
+        (1, 127, b'I', at(Cause::Descriptor, 317)),
+        (1, 126, b'J', None),
+    ];
+    for (flags, longs, last, want) in rows {
+        let bytes = with_parameters(rt.alloc(), flags, longs, last)?;
+        assert_eq!(rt; fault(rt.alloc(), &bytes), want);
+    }
     Ok(())
 }

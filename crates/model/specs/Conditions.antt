@@ -1,11 +1,13 @@
 -- What a class file has to meet beyond its layout (JVMS 4.1, 4.2, 4.3, 4.4 to 4.7), each under its name.
-use Rattle.std.specs.Prelude.{ℕ, ◌/◌, ◌%◌, List, [], ◌∷◌, map, Bool, true, false, not, ◌&&◌, ◌||◌, ◌==◌, nat_le, if◌then◌else◌, codes}
+use Rattle.std.specs.Prelude.{ℕ, ◌+◌, ◌/◌, ◌%◌, List, [], ◌∷◌, map, Bool, true, false, not, ◌&&◌, ◌||◌, ◌==◌, nat_le, if◌then◌else◌, codes, Option, Some, None}
 use Rattle.std.specs.Str.{bytes_eq}
 use Rattle.std.specs.List.{list_all, list_any, count_by}
 use Rattle.model.specs.declared.class_file.ExceptionEntry.{ExceptionEntry}
 use Rattle.model.specs.Tree.{Entry, Utf8, Integer, Float, Long, Double, Class, String, Field, Method, InterfaceMethod, NameAndType, Unusable, SkippedTree, CodeTree, FieldPart, ConstantOf, SkippedOfField, MethodPart, CodeOf, SkippedOfMethod, FieldTree, MethodTree, FileTree}
-use Rattle.model.specs.Spelling.{entry_at, text_of}
+use Rattle.model.specs.Spelling.{entry_at, text_of, is_static}
 use Rattle.model.specs.Pool.{NameAndDescriptor}
+use Rattle.model.specs.Descriptors.{is_unqualified, is_class_name}
+use Rattle.model.specs.DescriptorScan.{is_field_descriptor, is_method_descriptor, method_slots}
 
 -- ---- Index: each index names an entry of the kind that it has to name
 
@@ -155,3 +157,94 @@ methods_differ c = differ (map (λ m. name_and_descriptor_at c.pool m.name m.des
 
 abbrev pub members_differ : FileTree → Bool
 members_differ c = fields_differ c && methods_differ c
+
+-- ---- Name: each name is one (JVMS 4.2)
+
+-- neither < nor >
+abbrev pub is_method_byte : ℕ → Bool
+is_method_byte b = not (b == 60 || b == 62)
+
+-- an unqualified name without < and >, or one of the two special ones (JVMS 4.2.2)
+abbrev pub is_method_name : List ℕ → Bool
+is_method_name name = bytes_eq name (codes "<init>") || (bytes_eq name (codes "<clinit>") || (is_unqualified name && list_all is_method_byte name))
+
+abbrev pub begins_with : ℕ → List ℕ → Bool
+begins_with b [] = false
+begins_with b (first ∷ rest) = first == b
+
+-- what a Class may name: a class, or an array by its descriptor (JVMS 4.4.1)
+abbrev pub is_class_or_array : List ℕ → Bool
+is_class_or_array text = is_class_name text || (begins_with 91 text && is_field_descriptor text)
+
+-- a name beside a descriptor that begins with ( is that of a method (own)
+abbrev pub is_member_name : List ℕ → List ℕ → Bool
+is_member_name name descriptor = if begins_with 40 descriptor then is_method_name name else is_unqualified name
+
+abbrev pub text_at : List Entry → ℕ → List ℕ
+text_at pool index = text_of (entry_at pool index)
+
+abbrev pub entry_names : List Entry → Entry → Bool
+entry_names pool (Class name) = is_class_or_array (text_at pool name)
+entry_names pool (NameAndType name descriptor) = is_member_name (text_at pool name) (text_at pool descriptor)
+entry_names pool e = true
+
+-- the name in a Class
+abbrev pub class_text : List Entry → Entry → List ℕ
+class_text pool (Class name) = text_at pool name
+class_text pool e = []
+
+-- this_class, super_class and the interfaces are no arrays (JVMS 4.1)
+abbrev pub names_no_array : List Entry → ℕ → Bool
+names_no_array pool index = is_class_name (class_text pool (entry_at pool index))
+
+abbrev pub field_name : List Entry → FieldTree → Bool
+field_name pool f = is_unqualified (text_at pool f.name)
+
+abbrev pub method_name : List Entry → MethodTree → Bool
+method_name pool m = is_method_name (text_at pool m.name)
+
+abbrev pub member_names : FileTree → Bool
+member_names c = list_all (field_name c.pool) c.fields && list_all (method_name c.pool) c.methods
+
+abbrev pub file_names : FileTree → Bool
+file_names c =
+    list_all (entry_names c.pool) c.pool
+    && (names_no_array c.pool c.this_class
+    && (names_no_array c.pool c.super_class
+    && (list_all (names_no_array c.pool) c.interfaces
+    && member_names c)))
+
+-- ---- Descriptor: each descriptor is one, of the kind that is asked for (JVMS 4.3)
+
+-- the descriptor in a NameAndType
+abbrev pub descriptor_text : List Entry → Entry → List ℕ
+descriptor_text pool (NameAndType name descriptor) = text_at pool descriptor
+descriptor_text pool e = []
+
+abbrev pub is_descriptor : List ℕ → Bool
+is_descriptor text = is_field_descriptor text || is_method_descriptor text
+
+-- a Fieldref is not of a method, and a reference to a method not of a field (JVMS 4.4.2)
+abbrev pub entry_descriptors : List Entry → Entry → Bool
+entry_descriptors pool (NameAndType name descriptor) = is_descriptor (text_at pool descriptor)
+entry_descriptors pool (Field class name_and_type) = not (is_method_descriptor (descriptor_text pool (entry_at pool name_and_type)))
+entry_descriptors pool (Method class name_and_type) = not (is_field_descriptor (descriptor_text pool (entry_at pool name_and_type)))
+entry_descriptors pool (InterfaceMethod class name_and_type) = not (is_field_descriptor (descriptor_text pool (entry_at pool name_and_type)))
+entry_descriptors pool e = true
+
+abbrev pub field_descriptor : List Entry → FieldTree → Bool
+field_descriptor pool f = is_field_descriptor (text_at pool f.descriptor)
+
+-- at most 255 slots, that of a receiver included (JVMS 4.3.3)
+abbrev pub slots_fit : ℕ → Option ℕ → Bool
+slots_fit flags None = false
+slots_fit flags (Some slots) = nat_le (if is_static flags then slots else slots + 1) 255
+
+abbrev pub method_descriptor : List Entry → MethodTree → Bool
+method_descriptor pool m = slots_fit m.flags (method_slots (text_at pool m.descriptor))
+
+abbrev pub member_descriptors : FileTree → Bool
+member_descriptors c = list_all (field_descriptor c.pool) c.fields && list_all (method_descriptor c.pool) c.methods
+
+abbrev pub file_descriptors : FileTree → Bool
+file_descriptors c = list_all (entry_descriptors c.pool) c.pool && member_descriptors c
