@@ -21,3 +21,7 @@ pub mod Run
 pub mod Report
 pub mod Schedule
 pub mod Meaning
+pub mod Descriptors
+pub mod DescriptorScan
+pub mod Conditions
+pub mod Spells
