@@ -1,71 +1,74 @@
--- A class A whose main prints 7: its bytes, their tree, and its runs.
-use Rattle.std.specs.Prelude.{◌≡◌, ℕ, pos, List, [], ◌∷◌, ◌++◌, Some, None, codes}
-use Rattle.model.specs.Names.{java_lang_object, java_lang_system, java_io_print_stream}
+-- A class A whose main prints 7: its bytes, their tree, and its run.
+use Rattle.std.specs.Prelude.{◌≡◌, ℕ, pos, List, [], ◌∷◌, ◌++◌, Option, Some, None, codes}
+use Rattle.std.specs.Option.{option_map}
+use Rattle.model.specs.Names.{Name, main_of, java_lang_object, java_lang_system, java_io_print_stream}
 use Rattle.model.specs.Tree.{Entry, Utf8, Class, NameAndType, Field, Method, FileTree}
-use Rattle.model.specs.Spelling.{Layout}
-use Rattle.model.specs.State.{Ended}
-use Rattle.model.specs.Run.{run}
+use Rattle.model.specs.State.{State, Invocation, Initialisation, Super, End, StackOf, ClassStatus, InProgress, Initialised}
 use Rattle.model.specs.Step.{NotEnabled}
+use Rattle.model.specs.declared.value.Value.{Value}
+use Rattle.model.specs.declared.value.Value.TheVariants as value
 use Rattle.examples.specs.Bytes.{hex}
-use Rattle.examples.specs.Runs.{events_of, Shows, frames, then_stepped, main_alone, bare_code}
+use Rattle.examples.specs.Runs.{event_of, after, then_stepped, numbers_in, Prints, with_main}
 
--- the file up to the access flags
-abbrev pub head_bytes : List ℕ
-head_bytes =
-    hex (codes "cafebabe00000031")
-    -- the constant pool
-    ++ hex (codes "0014")
-    ++ hex (codes "01000141")
-    ++ hex (codes "070001")
-    ++ hex (codes "0100106a6176612f6c616e672f4f626a656374")
-    ++ hex (codes "070003")
-    ++ hex (codes "0100046d61696e")
-    ++ hex (codes "010016285b4c6a6176612f6c616e672f537472696e673b2956")
-    ++ hex (codes "010004436f6465")
-    ++ hex (codes "0100106a6176612f6c616e672f53797374656d")
-    ++ hex (codes "070008")
-    ++ hex (codes "0100036f7574")
-    ++ hex (codes "0100154c6a6176612f696f2f5072696e7453747265616d3b")
-    ++ hex (codes "0c000a000b")
-    ++ hex (codes "090009000c")
-    ++ hex (codes "0100136a6176612f696f2f5072696e7453747265616d")
-    ++ hex (codes "07000e")
-    ++ hex (codes "0100077072696e746c6e")
-    ++ hex (codes "010004284929560c00100011")
-    ++ hex (codes "0a000f0012")
-
--- from the access flags on: the class, and main's Code of 21 bytes
 abbrev pub prints_seven_bytes : List ℕ
 prints_seven_bytes =
-    head_bytes
-    ++ hex (codes "00200002000400000000")
-    ++ hex (codes "00010009000500060001")
-    ++ hex (codes "00070000001500020001")
-    ++ hex (codes "00000009b2000d1007b60013b1")
-    ++ hex (codes "000000000000")
+    hex (codes "cafebabe 0000 0031 0014 010001 41 070001 010010 6a6176612f6c616e672f4f626a656374 070003 010004 6d61696e")
+    ++ hex (codes "010016 285b4c6a6176612f6c616e672f537472696e673b2956 010004 436f6465")
+    ++ hex (codes "010010 6a6176612f6c616e672f53797374656d 070008 010003 6f7574 010015 4c6a6176612f696f2f5072696e7453747265616d3b")
+    ++ hex (codes "0c000a000b 090009000c 010013 6a6176612f696f2f5072696e7453747265616d 07000e 010007 7072696e746c6e 010004 28492956")
+    ++ hex (codes "0c00100011 0a000f0012")
+    ++ hex (codes "0020 0002 0004 0000 0000 0001 0009 0005 0006 0001 0007 00000015 0002 0001 00000009 b2000d1007b60013b1 0000 0000 0000")
 
 abbrev pub pool : List Entry
 pool =
-    Utf8 (codes "A") ∷ Class 1
-    ∷ Utf8 java_lang_object ∷ Class 3
-    ∷ Utf8 (codes "main") ∷ Utf8 (codes "([Ljava/lang/String;)V") ∷ Utf8 (codes "Code")
-    ∷ Utf8 java_lang_system ∷ Class 8
-    ∷ Utf8 (codes "out") ∷ Utf8 (codes "Ljava/io/PrintStream;") ∷ NameAndType 10 11 ∷ Field 9 12
-    ∷ Utf8 java_io_print_stream ∷ Class 14
-    ∷ Utf8 (codes "println") ∷ Utf8 (codes "(I)V") ∷ NameAndType 16 17 ∷ Method 15 18
-    ∷ []
+    Utf8 (codes "A") ∷ Class 1 ∷ Utf8 java_lang_object ∷ Class 3 ∷ Utf8 (codes "main")
+    ∷ Utf8 (codes "([Ljava/lang/String;)V") ∷ Utf8 (codes "Code")
+    ∷ Utf8 java_lang_system ∷ Class 8 ∷ Utf8 (codes "out") ∷ Utf8 (codes "Ljava/io/PrintStream;")
+    ∷ NameAndType 10 11 ∷ Field 9 12 ∷ Utf8 java_io_print_stream ∷ Class 14 ∷ Utf8 (codes "println") ∷ Utf8 (codes "(I)V")
+    ∷ NameAndType 16 17 ∷ Method 15 18 ∷ []
 
+-- the class with another code, which may use two places of the stack and one local variable
 abbrev pub file_with : List ℕ → FileTree
-file_with code = main_alone pool 0x0020 2 4 0x0009 5 6 7 (bare_code 2 1 code)
+file_with code = record (with_main pool 2 4 5 6 7 2 1 code) { flags = 0x0020 }
 
 -- getstatic System.out, bipush 7, invokevirtual println, return
 abbrev pub prints_seven_file : FileTree
-prints_seven_file = file_with (hex (codes "b2000d1007b60013b1"))
+prints_seven_file = file_with (hex (codes "b2000d 1007 b60013 b1"))
 
--- Three events initialise the class, the fourth begins main, and four instructions follow.
+-- Three events initialise the class, the fourth begins main, and four instructions follow. After three events no event is
+-- enabled but that of thread 0 with pick 0.
 pub record PrintsSeven : Type 0 where
-  pub layout : Layout prints_seven_bytes prints_seven_file
-  pub prints : Shows (run (prints_seven_file ∷ []) frames (events_of 0 8)) (pos 7 ∷ []) (Ended None ∷ [])
-  pub ninth : then_stepped (prints_seven_file ∷ []) (run (prints_seven_file ∷ []) frames (events_of 0 8)) (record { thread = 0; pick = 0 }) ≡ Some NotEnabled
-  pub other_thread : then_stepped (prints_seven_file ∷ []) (run (prints_seven_file ∷ []) frames (events_of 0 3)) (record { thread = 1; pick = 0 }) ≡ Some NotEnabled
-  pub other_pick : then_stepped (prints_seven_file ∷ []) (run (prints_seven_file ∷ []) frames (events_of 0 3)) (record { thread = 0; pick = 1 }) ≡ Some NotEnabled
+  pub prints : Prints prints_seven_bytes prints_seven_file 8 (pos 7 ∷ [])
+  pub other_thread : then_stepped prints_seven_file (after prints_seven_file 3) (event_of 1) ≡ Some NotEnabled
+  pub other_pick : then_stepped prints_seven_file (after prints_seven_file 3) (record { thread = 0; pick = 1 }) ≡ Some NotEnabled
+
+abbrev pub stacks_in : Option State → Option (List (StackOf Value))
+stacks_in state = option_map (λ (s : State). s.stacks) state
+
+abbrev pub classes_in : Option State → Option (List (Name × ClassStatus))
+classes_in state = option_map (λ (s : State). s.world.classes) state
+
+-- a stack with the frame of main alone, which stands at an offset, with the arguments in its local variable
+abbrev pub main_at : ℕ → List Value → List (StackOf Value)
+main_at offset stack =
+    (Invocation (record {
+      method = main_of (codes "A");
+      place = record { offset = offset; slots = record { locals = value.Reference 1 ∷ []; stack = stack } };
+      entered = None;
+    }) ∷ [])
+    ∷ []
+
+-- the state after each event
+pub record EventByEvent : Type 0 where
+  pub opening : stacks_in (after prints_seven_file 0) ≡ Some ([] ∷ [])
+  pub class_begun : stacks_in (after prints_seven_file 1) ≡ Some ((Initialisation (codes "A") Super ∷ []) ∷ [])
+  pub superclass_first : stacks_in (after prints_seven_file 2) ≡ Some ((Initialisation (codes "A") End ∷ []) ∷ [])
+  pub class_done : stacks_in (after prints_seven_file 3) ≡ Some ([] ∷ [])
+  pub statuses : classes_in (after prints_seven_file 3) ≡ Some ((codes "A", Initialised) ∷ (codes "A", InProgress 0) ∷ [])
+  pub main_begun : stacks_in (after prints_seven_file 4) ≡ Some (main_at 0 [])
+  pub stream_pushed : stacks_in (after prints_seven_file 5) ≡ Some (main_at 3 (value.Reference 0 ∷ []))
+  pub seven_pushed : stacks_in (after prints_seven_file 6) ≡ Some (main_at 5 (value.Int 7 ∷ value.Reference 0 ∷ []))
+  pub not_yet : numbers_in (after prints_seven_file 6) ≡ Some []
+  pub printed : stacks_in (after prints_seven_file 7) ≡ Some (main_at 8 [])
+  pub seven : numbers_in (after prints_seven_file 7) ≡ Some (pos 7 ∷ [])
+  pub returned : stacks_in (after prints_seven_file 8) ≡ Some ([] ∷ [])

@@ -1,52 +1,62 @@
--- What the examples say of files and runs.
+-- What the examples say of files and of their runs.
 use Rattle.std.specs.Prelude.{◌≡◌, ℕ, ℤ, List, [], ◌∷◌, Option, Some, None, map, replicate}
+use Rattle.std.specs.Option.{option_map}
 use Rattle.model.specs.declared.event.Event.{Event}
-use Rattle.model.specs.Tree.{Entry, FileTree, CodeTree, CodeOf}
-use Rattle.model.specs.Classes.{Program}
+use Rattle.model.specs.Tree.{Entry, FileTree, CodeOf}
+use Rattle.model.specs.Spelling.{Layout}
 use Rattle.model.specs.Operands.{values}
-use Rattle.model.specs.State.{State, ThreadStatus, Thread}
-use Rattle.model.specs.Step.{SteppedOf, stepped}
-
--- n events of a thread, each with pick 0
-abbrev pub events_of : ℕ → ℕ → List Event
-events_of thread n = replicate n (record { thread = thread; pick = 0 })
-
-abbrev pub numbers_in : Option State → Option (List ℤ)
-numbers_in None = None
-numbers_in (Some state) = Some state.world.printed
-
-abbrev pub statuses_in : Option State → Option (List ThreadStatus)
-statuses_in None = None
-statuses_in (Some state) = Some (map (λ (t : Thread). t.status) state.world.threads)
-
--- the run is there; it printed these numbers, and its threads stand so
-pub record Shows (state : Option State) (printed : List ℤ) (statuses : List ThreadStatus) : Type 0 where
-  pub numbers : numbers_in state ≡ Some printed
-  pub threads : statuses_in state ≡ Some statuses
+use Rattle.model.specs.State.{State, ThreadStatus, Ended, Thread}
+use Rattle.model.specs.Run.{run}
+use Rattle.model.specs.Step.{SteppedOf, NotEnabled, stepped}
 
 -- how many frames a thread may have in the examples
 abbrev pub frames : ℕ
 frames = 1024
 
--- what becomes of an event after others
-abbrev pub then_stepped : Program → Option State → Event → Option (SteppedOf State)
-then_stepped files None event = None
-then_stepped files (Some state) event = Some (stepped values files frames state event)
+-- an event of a thread with pick 0
+abbrev pub event_of : ℕ → Event
+event_of thread = record { thread = thread; pick = 0 }
 
--- a class file with one method, main, with one attribute, its Code; the code has no handlers and no attributes
-abbrev pub main_alone : List Entry → ℕ → ℕ → ℕ → ℕ → ℕ → ℕ → ℕ → CodeTree → FileTree
-main_alone pool flags this_class super_class method_flags name descriptor code_name code =
+-- the state after n events of thread 0, where the file is the whole program
+abbrev pub after : FileTree → ℕ → Option State
+after file n = run (file ∷ []) frames (replicate n (event_of 0))
+
+-- what becomes of an event at a state
+abbrev pub then_stepped : FileTree → Option State → Event → Option (SteppedOf State)
+then_stepped file state event = option_map (λ s. stepped values (file ∷ []) frames s event) state
+
+abbrev pub numbers_in : Option State → Option (List ℤ)
+numbers_in state = option_map (λ (s : State). s.world.printed) state
+
+abbrev pub statuses_in : Option State → Option (List ThreadStatus)
+statuses_in state = option_map (λ (s : State). map (λ (t : Thread). t.status) s.world.threads) state
+
+-- The bytes are those of a file. After so many events of thread 0, and not before, main has ended with no exception,
+-- and these numbers were printed.
+pub record Prints (bytes : List ℕ) (file : FileTree) (events : ℕ) (printed : List ℤ) : Type 0 where
+  pub layout : Layout bytes file
+  pub numbers : numbers_in (after file events) ≡ Some printed
+  pub threads : statuses_in (after file events) ≡ Some (Ended None ∷ [])
+  pub then_over : then_stepped file (after file events) (event_of 0) ≡ Some NotEnabled
+
+-- A public class with a public static main alone, whose Code has no handlers and no attributes. `this_class`, `super_class`,
+-- and the names of main, its descriptor and Code are indices of the pool.
+abbrev pub with_main : List Entry → ℕ → ℕ → ℕ → ℕ → ℕ → ℕ → ℕ → List ℕ → FileTree
+with_main pool this_class super_class main descriptor code_name max_stack max_locals code =
     record {
       pool = pool;
-      flags = flags;
+      flags = 0x0021;
       this_class = this_class;
       super_class = super_class;
       interfaces = [];
       fields = [];
-      methods = record { flags = method_flags; name = name; descriptor = descriptor; parts = CodeOf code_name code ∷ [] } ∷ [];
+      methods =
+          record {
+            flags = 0x0009;
+            name = main;
+            descriptor = descriptor;
+            parts = CodeOf code_name (record { max_stack = max_stack; max_locals = max_locals; code = code; exceptions = []; attributes = [] }) ∷ [];
+          }
+          ∷ [];
       attributes = [];
     }
-
--- the bytes of a code with no handlers and no attributes
-abbrev pub bare_code : ℕ → ℕ → List ℕ → CodeTree
-bare_code max_stack max_locals code = record { max_stack = max_stack; max_locals = max_locals; code = code; exceptions = []; attributes = [] }

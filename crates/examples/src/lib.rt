@@ -2,9 +2,43 @@
 //! theorem, and does nothing.
 #![tactic(auto)]
 
-ghost use Rattle.examples.specs.PrintsSeven.{PrintsSeven};
+ghost use Rattle.examples.specs.IntArithmetic.{IntArithmetic};
+ghost use Rattle.examples.specs.Loops.{Loop, Switches};
+ghost use Rattle.examples.specs.OnlyReturns.{OnlyReturns};
+ghost use Rattle.examples.specs.PrintsSeven.{PrintsSeven, EventByEvent};
+ghost use Rattle.examples.specs.WideAndSwitch.{WideAndSwitch};
 
 /// A class file whose main prints 7, from its bytes to the end of its run.
 pub fn prints_seven()
     ensures holds { PrintsSeven }
+{}
+
+/// The same run, event by event.
+pub fn event_by_event()
+    ensures holds { EventByEvent }
+{}
+
+/// A class file whose main returns at once.
+pub fn only_returns()
+    ensures holds { OnlyReturns }
+{}
+
+/// The least int divided by -1, shifts by more than 31, and a sum that wraps.
+pub fn int_arithmetic()
+    ensures holds { IntArithmetic }
+{}
+
+/// A wide `iinc`, and a `lookupswitch` after no, one, two and three bytes of padding.
+pub fn wide_and_switch()
+    ensures holds { WideAndSwitch }
+{}
+
+/// A loop with `goto`, `if_icmplt` and `iinc`, then `dup`, `swap` and `pop`.
+pub fn sum_of_squares()
+    ensures holds { Loop }
+{}
+
+/// Both switches with negative keys and defaults, in a loop closed by `goto_w`.
+pub fn both_switches()
+    ensures holds { Switches }
 {}
