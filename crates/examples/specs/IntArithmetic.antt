@@ -33,14 +33,14 @@ int_arithmetic_code =
     ++ hex (codes "b20006 120e 04 60 b6000d")
     ++ hex (codes "b1")
 
-abbrev pub int_arithmetic_bytes : List ℕ
-int_arithmetic_bytes =
-    head_bytes
-    ++ hex (codes "0021 0010 0012 0000 0000 0001 0009 0013 0014 0001 0015 0000003f 0003 0001 00000033")
-    ++ hex (codes "b200061207026cb6000db2000612070270b6000db2000604102178b6000db2000602103c7cb6000db20006120e0460b6000db1 0000 0000 0000")
+-- the bytes with a code, where the attribute's length, max_stack, max_locals and the code's length stand before it
+abbrev pub bytes_with : List ℕ → List ℕ → List ℕ
+bytes_with sizes code = head_bytes ++ (hex (codes "0021 0010 0012 0000 0000 0001 0009 0013 0014 0001 0015") ++ (sizes ++ (code ++ hex (codes "0000 0000 0000"))))
 
-abbrev pub int_arithmetic_file : FileTree
-int_arithmetic_file = with_main pool 16 18 19 20 21 3 1 int_arithmetic_code
+-- the class with a code, which may use so many places of the stack and local variables
+abbrev pub file_with : ℕ → ℕ → List ℕ → FileTree
+file_with max_stack max_locals code = with_main pool 16 18 19 20 21 max_stack max_locals code
 
 abbrev pub IntArithmetic : Type 0
-IntArithmetic = Prints int_arithmetic_bytes int_arithmetic_file 30 (negsuc 2147483647 ∷ pos 0 ∷ pos 2 ∷ pos 15 ∷ negsuc 2147483647 ∷ [])
+IntArithmetic =
+    Prints (bytes_with (hex (codes "0000003f 0003 0001 00000033")) int_arithmetic_code) (file_with 3 1 int_arithmetic_code) 30 (negsuc 2147483647 ∷ pos 0 ∷ pos 2 ∷ pos 15 ∷ negsuc 2147483647 ∷ [])

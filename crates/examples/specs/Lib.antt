@@ -6,3 +6,8 @@ pub mod OnlyReturns
 pub mod IntArithmetic
 pub mod WideAndSwitch
 pub mod Loops
+pub mod Instructions
+pub mod WrongOperands
+pub mod Exceptions
+pub mod StackMoves
+pub mod IntValues

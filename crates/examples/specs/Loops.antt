@@ -1,16 +1,9 @@
 -- Jumps backwards and forwards: a sum of squares in a loop, and switches that are met for each int from -3 to 3.
 use Rattle.std.specs.Prelude.{ℕ, pos, negsuc, List, [], ◌∷◌, ◌++◌, codes}
-use Rattle.model.specs.Tree.{FileTree}
 use Rattle.examples.specs.Bytes.{hex}
-use Rattle.examples.specs.Runs.{Prints, with_main}
+use Rattle.examples.specs.Runs.{Prints}
 use Rattle.examples.specs.Printing as printing
 use Rattle.examples.specs.IntArithmetic as ints
-
-abbrev pub loop_bytes : List ℕ
-loop_bytes =
-    printing.head_bytes
-    ++ hex (codes "0021 000e 0010 0000 0000 0001 0009 0011 0012 0001 0013 00000036 0003 0003 0000002a")
-    ++ hex (codes "033c033da7000c1b1c5968603c8402011c08a1fff5b200061bb6000cb20006100a065f645957b6000cb1 0000 0000 0000")
 
 abbrev pub loop_code : List ℕ
 loop_code =
@@ -24,14 +17,6 @@ loop_code =
     ++ hex (codes "b20006 1b b6000c")
     -- 28 getstatic System.out, 31 bipush 10, 33 iconst_3, 34 swap, 35 isub, 36 dup, 37 pop, 38 invokevirtual println, 41 return
     ++ hex (codes "b20006 100a 06 5f 64 59 57 b6000c b1")
-
-abbrev pub switches_bytes : List ℕ
-switches_bytes =
-    ints.head_bytes
-    ++ hex (codes "0021 0010 0012 0000 0000 0001 0009 0013 0014 0001 0015 00000081 0002 0003 00000075")
-    ++ hex (codes "10fd3c1baa0000000000002effffffff000000010000001c0000002100000027100ba7003711fed4a7003113000e74a7002a1bab")
-    ++ hex (codes "0000002500000002fffffffd00000019000000020000001e1b92a7000b1100c891a7000402c4360002b20006c4150002b6000d")
-    ++ hex (codes "8401011b07a20008c8ffffff94b1 0000 0000 0000")
 
 abbrev pub switches_code : List ℕ
 switches_code =
@@ -50,16 +35,10 @@ switches_code =
     -- 103 iinc 1 1, 106 iload_1, 107 iconst_4, 108 if_icmpge 116, 111 goto_w 3, 116 return
     ++ hex (codes "840101 1b 07 a20008 c8ffffff94 b1")
 
-abbrev pub loop_file : FileTree
-loop_file = printing.file_with 3 3 loop_code
-
-abbrev pub switches_file : FileTree
-switches_file = with_main ints.pool 16 18 19 20 21 2 3 switches_code
-
 -- 0 + 1 + 4 + 9 + 16, and 3 - 10
 abbrev pub Loop : Type 0
-Loop = Prints loop_bytes loop_file 74 (pos 30 ∷ negsuc 6 ∷ [])
+Loop = Prints (printing.bytes_with (hex (codes "00000036 0003 0003 0000002a")) loop_code) (printing.file_with 3 3 loop_code) 74 (pos 30 ∷ negsuc 6 ∷ [])
 
 -- for -3 its low 16 bits; for -2 and 3 -1; for -1 11; for 0 -300; for 1 -2147483647; for 2 the low 8 bits of 200
 abbrev pub Switches : Type 0
-Switches = Prints switches_bytes switches_file 106 (pos 65533 ∷ negsuc 0 ∷ pos 11 ∷ negsuc 299 ∷ negsuc 2147483646 ∷ negsuc 55 ∷ negsuc 0 ∷ [])
+Switches = Prints (ints.bytes_with (hex (codes "00000081 0002 0003 00000075")) switches_code) (ints.file_with 2 3 switches_code) 106 (pos 65533 ∷ negsuc 0 ∷ pos 11 ∷ negsuc 299 ∷ negsuc 2147483646 ∷ negsuc 55 ∷ negsuc 0 ∷ [])

@@ -21,6 +21,10 @@ pool =
     ∷ Utf8 (codes "A") ∷ Class 13 ∷ Utf8 java_lang_object ∷ Class 15 ∷ Utf8 (codes "main")
     ∷ Utf8 (codes "([Ljava/lang/String;)V") ∷ Utf8 (codes "Code") ∷ []
 
+-- the bytes with a code, where the attribute's length, max_stack, max_locals and the code's length stand before it
+abbrev pub bytes_with : List ℕ → List ℕ → List ℕ
+bytes_with sizes code = head_bytes ++ (hex (codes "0021 000e 0010 0000 0000 0001 0009 0011 0012 0001 0013") ++ (sizes ++ (code ++ hex (codes "0000 0000 0000"))))
+
 -- the class with a code, which may use so many places of the stack and local variables
 abbrev pub file_with : ℕ → ℕ → List ℕ → FileTree
 file_with max_stack max_locals code = with_main pool 14 16 17 18 19 max_stack max_locals code

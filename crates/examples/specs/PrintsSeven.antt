@@ -8,7 +8,7 @@ use Rattle.model.specs.Step.{NotEnabled}
 use Rattle.model.specs.declared.value.Value.{Value}
 use Rattle.model.specs.declared.value.Value.TheVariants as value
 use Rattle.examples.specs.Bytes.{hex}
-use Rattle.examples.specs.Runs.{event_of, after, then_stepped, numbers_in, Prints, with_main}
+use Rattle.examples.specs.Runs.{event_of, after, then_stepped, numbers_in, stacks_in, Prints, with_main}
 
 abbrev pub prints_seven_bytes : List ℕ
 prints_seven_bytes =
@@ -41,9 +41,6 @@ pub record PrintsSeven : Type 0 where
   pub prints : Prints prints_seven_bytes prints_seven_file 8 (pos 7 ∷ [])
   pub other_thread : then_stepped prints_seven_file (after prints_seven_file 3) (event_of 1) ≡ Some NotEnabled
   pub other_pick : then_stepped prints_seven_file (after prints_seven_file 3) (record { thread = 0; pick = 1 }) ≡ Some NotEnabled
-
-abbrev pub stacks_in : Option State → Option (List (StackOf Value))
-stacks_in state = option_map (λ (s : State). s.stacks) state
 
 abbrev pub classes_in : Option State → Option (List (Name × ClassStatus))
 classes_in state = option_map (λ (s : State). s.world.classes) state

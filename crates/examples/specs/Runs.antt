@@ -2,10 +2,11 @@
 use Rattle.std.specs.Prelude.{◌≡◌, ℕ, ℤ, List, [], ◌∷◌, Option, Some, None, map, replicate}
 use Rattle.std.specs.Option.{option_map}
 use Rattle.model.specs.declared.event.Event.{Event}
+use Rattle.model.specs.declared.value.Value.{Value}
 use Rattle.model.specs.Tree.{Entry, FileTree, CodeOf}
 use Rattle.model.specs.Spelling.{Layout}
 use Rattle.model.specs.Operands.{values}
-use Rattle.model.specs.State.{State, ThreadStatus, Ended, Thread}
+use Rattle.model.specs.State.{State, StackOf, ThreadStatus, Ended, Thread}
 use Rattle.model.specs.Run.{run}
 use Rattle.model.specs.Step.{SteppedOf, NotEnabled, stepped}
 
@@ -30,6 +31,9 @@ numbers_in state = option_map (λ (s : State). s.world.printed) state
 
 abbrev pub statuses_in : Option State → Option (List ThreadStatus)
 statuses_in state = option_map (λ (s : State). map (λ (t : Thread). t.status) s.world.threads) state
+
+abbrev pub stacks_in : Option State → Option (List (StackOf Value))
+stacks_in state = option_map (λ (s : State). s.stacks) state
 
 -- The bytes are those of a file. After so many events of thread 0, and not before, main has ended with no exception,
 -- and these numbers were printed.

@@ -2,11 +2,16 @@
 //! theorem, and does nothing.
 #![tactic(auto)]
 
+ghost use Rattle.examples.specs.Exceptions.{Exceptions};
+ghost use Rattle.examples.specs.Instructions.{Instructions};
 ghost use Rattle.examples.specs.IntArithmetic.{IntArithmetic};
+ghost use Rattle.examples.specs.IntValues.{Compared, Computed, Converted};
 ghost use Rattle.examples.specs.Loops.{Loop, Switches};
 ghost use Rattle.examples.specs.OnlyReturns.{OnlyReturns};
 ghost use Rattle.examples.specs.PrintsSeven.{PrintsSeven, EventByEvent};
+ghost use Rattle.examples.specs.StackMoves.{StackMoves};
 ghost use Rattle.examples.specs.WideAndSwitch.{WideAndSwitch};
+ghost use Rattle.examples.specs.WrongOperands.{WrongOperands};
 
 /// A class file whose main prints 7, from its bytes to the end of its run.
 pub fn prints_seven()
@@ -41,4 +46,39 @@ pub fn sum_of_squares()
 /// Both switches with negative keys and defaults, in a loop closed by `goto_w`.
 pub fn both_switches()
     ensures holds { Switches }
+{}
+
+/// Instructions by their bytes, with their lengths, and bytes that begin none.
+pub fn instructions()
+    ensures holds { Instructions }
+{}
+
+/// Codes that find an instruction or an operand missing, or an operand of another kind.
+pub fn wrong_operands()
+    ensures holds { WrongOperands }
+{}
+
+/// A division by zero, and a call on null.
+pub fn exceptions()
+    ensures holds { Exceptions }
+{}
+
+/// `pop` to `swap`, on any values over any rest of the stack.
+pub fn stack_moves()
+    ensures holds { StackMoves }
+{}
+
+/// Int arithmetic, on ints at the edges.
+pub fn computed()
+    ensures holds { Computed }
+{}
+
+/// Comparisons of two ints.
+pub fn compared()
+    ensures holds { Compared }
+{}
+
+/// `ineg`, `i2b`, `i2c` and `i2s`.
+pub fn converted()
+    ensures holds { Converted }
 {}
