@@ -11,3 +11,5 @@ pub mod WrongOperands
 pub mod Exceptions
 pub mod StackMoves
 pub mod IntValues
+pub mod Branches
+pub mod Initialisations

@@ -1,14 +1,15 @@
 -- A class A whose main prints 7: its bytes, their tree, and its run.
-use Rattle.std.specs.Prelude.{◌≡◌, ℕ, pos, List, [], ◌∷◌, ◌++◌, Option, Some, None, codes}
-use Rattle.std.specs.Option.{option_map}
-use Rattle.model.specs.Names.{Name, main_of, java_lang_object, java_lang_system, java_io_print_stream}
+use Rattle.std.specs.Prelude.{◌≡◌, ℕ, pos, List, [], ◌∷◌, ◌++◌, Option, Some, None, map, replicate, codes}
+use Rattle.std.specs.Option.{option_map, option_and_then}
+use Rattle.model.specs.Names.{main_of, java_lang_object, java_lang_system, java_io_print_stream}
 use Rattle.model.specs.Tree.{Entry, Utf8, Class, NameAndType, Field, Method, FileTree}
-use Rattle.model.specs.State.{State, Invocation, Initialisation, Super, End, StackOf, ClassStatus, InProgress, Initialised}
-use Rattle.model.specs.Step.{NotEnabled}
+use Rattle.model.specs.State.{State, Invocation, Initialisation, Super, End, StackOf, ClassStatus, NotInitialised, InProgress, Initialised}
+use Rattle.model.specs.Step.{NotEnabled, status_of}
+use Rattle.model.specs.Outcomes.{Cost, Free}
 use Rattle.model.specs.declared.value.Value.{Value}
 use Rattle.model.specs.declared.value.Value.TheVariants as value
 use Rattle.examples.specs.Bytes.{hex}
-use Rattle.examples.specs.Runs.{event_of, after, then_stepped, numbers_in, stacks_in, Prints, with_main}
+use Rattle.examples.specs.Runs.{event_of, after, then_stepped, numbers_in, stacks_in, cost_of, Prints, with_main}
 
 abbrev pub prints_seven_bytes : List ℕ
 prints_seven_bytes =
@@ -42,8 +43,12 @@ pub record PrintsSeven : Type 0 where
   pub other_thread : then_stepped prints_seven_file (after prints_seven_file 3) (event_of 1) ≡ Some NotEnabled
   pub other_pick : then_stepped prints_seven_file (after prints_seven_file 3) (record { thread = 0; pick = 1 }) ≡ Some NotEnabled
 
-abbrev pub classes_in : Option State → Option (List (Name × ClassStatus))
-classes_in state = option_map (λ (s : State). s.world.classes) state
+abbrev pub status_in : Option State → Option ClassStatus
+status_in state = option_map (λ (s : State). status_of s.world (codes "A")) state
+
+-- what the event after so many takes that a limit may forbid
+abbrev pub cost_after : ℕ → Option Cost
+cost_after n = option_and_then cost_of (then_stepped prints_seven_file (after prints_seven_file n) (event_of 0))
 
 -- a stack with the frame of main alone, which stands at an offset, with the arguments in its local variable
 abbrev pub main_at : ℕ → List Value → List (StackOf Value)
@@ -61,7 +66,7 @@ pub record EventByEvent : Type 0 where
   pub class_begun : stacks_in (after prints_seven_file 1) ≡ Some ((Initialisation (codes "A") Super ∷ []) ∷ [])
   pub superclass_first : stacks_in (after prints_seven_file 2) ≡ Some ((Initialisation (codes "A") End ∷ []) ∷ [])
   pub class_done : stacks_in (after prints_seven_file 3) ≡ Some ([] ∷ [])
-  pub statuses : classes_in (after prints_seven_file 3) ≡ Some ((codes "A", Initialised) ∷ (codes "A", InProgress 0) ∷ [])
+  pub statuses : map (λ n. status_in (after prints_seven_file n)) (0 ∷ 1 ∷ 2 ∷ 3 ∷ []) ≡ Some NotInitialised ∷ Some (InProgress 0) ∷ Some (InProgress 0) ∷ Some Initialised ∷ []
   pub main_begun : stacks_in (after prints_seven_file 4) ≡ Some (main_at 0 [])
   pub stream_pushed : stacks_in (after prints_seven_file 5) ≡ Some (main_at 3 (value.Reference 0 ∷ []))
   pub seven_pushed : stacks_in (after prints_seven_file 6) ≡ Some (main_at 5 (value.Int 7 ∷ value.Reference 0 ∷ []))
@@ -69,3 +74,4 @@ pub record EventByEvent : Type 0 where
   pub printed : stacks_in (after prints_seven_file 7) ≡ Some (main_at 8 [])
   pub seven : numbers_in (after prints_seven_file 7) ≡ Some (pos 7 ∷ [])
   pub returned : stacks_in (after prints_seven_file 8) ≡ Some ([] ∷ [])
+  pub costs : map cost_after (0 ∷ 1 ∷ 2 ∷ 3 ∷ 4 ∷ 5 ∷ 6 ∷ 7 ∷ []) ≡ replicate 8 (Some Free)

@@ -7,8 +7,9 @@ use Rattle.model.specs.Tree.{Entry, FileTree, CodeOf}
 use Rattle.model.specs.Spelling.{Layout}
 use Rattle.model.specs.Operands.{values}
 use Rattle.model.specs.State.{State, StackOf, ThreadStatus, Ended, Thread}
+use Rattle.model.specs.Outcomes.{Cost}
 use Rattle.model.specs.Run.{run}
-use Rattle.model.specs.Step.{SteppedOf, NotEnabled, stepped}
+use Rattle.model.specs.Step.{SteppedOf, NotEnabled, WrongKind, Next, stepped}
 
 -- how many frames a thread may have in the examples
 abbrev pub frames : ℕ
@@ -34,6 +35,12 @@ statuses_in state = option_map (λ (s : State). map (λ (t : Thread). t.status) 
 
 abbrev pub stacks_in : Option State → Option (List (StackOf Value))
 stacks_in state = option_map (λ (s : State). s.stacks) state
+
+-- what an event takes that a limit may forbid, where it is done
+abbrev pub cost_of : SteppedOf State → Option Cost
+cost_of NotEnabled = None
+cost_of WrongKind = None
+cost_of (Next cost next) = Some cost
 
 -- The bytes are those of a file. After so many events of thread 0, and not before, main has ended with no exception,
 -- and these numbers were printed.

@@ -2,7 +2,9 @@
 //! theorem, and does nothing.
 #![tactic(auto)]
 
+ghost use Rattle.examples.specs.Branches.{Branches};
 ghost use Rattle.examples.specs.Exceptions.{Exceptions};
+ghost use Rattle.examples.specs.Initialisations.{ClassAtBegin, SuperclassFirst};
 ghost use Rattle.examples.specs.Instructions.{Instructions};
 ghost use Rattle.examples.specs.IntArithmetic.{IntArithmetic};
 ghost use Rattle.examples.specs.IntValues.{Compared, Computed, Converted};
@@ -81,4 +83,19 @@ pub fn compared()
 /// `ineg`, `i2b`, `i2c` and `i2s`.
 pub fn converted()
     ensures holds { Converted }
+{}
+
+/// Where jumps and switches lead.
+pub fn branches()
+    ensures holds { Branches }
+{}
+
+/// A class and its superclass are initialised, the superclass before the class.
+pub fn superclass_first()
+    ensures holds { SuperclassFirst }
+{}
+
+/// The first event of main's thread, where its class was begun already, and under limits of frames.
+pub fn class_at_begin()
+    ensures holds { ClassAtBegin }
 {}

@@ -1,8 +1,7 @@
 use Rattle.std.proofs.Common.{refl}
 use Rattle.model.specs.OpcodeTable.{low_form, high_form}
-use Rattle.model.specs.Instruction.{wide_at, table_switch_at, lookup_switch_at}
 use Rattle.examples.proofs.event_by_event.Goals as goal
 
 pub returns : goal.returns
-unfolding low_form high_form wide_at table_switch_at lookup_switch_at
-returns c = record { holds = record { opening = refl; class_begun = refl; superclass_first = refl; class_done = refl; statuses = refl; main_begun = refl; stream_pushed = refl; seven_pushed = refl; not_yet = refl; printed = refl; seven = refl; returned = refl } }
+unfolding low_form high_form
+returns c = record { holds = record { opening = refl; class_begun = refl; superclass_first = refl; class_done = refl; statuses = refl; main_begun = refl; stream_pushed = refl; seven_pushed = refl; not_yet = refl; printed = refl; seven = refl; returned = refl; costs = refl } }
