@@ -13,3 +13,4 @@ pub mod StackMoves
 pub mod IntValues
 pub mod Branches
 pub mod Initialisations
+pub mod Javac

@@ -1,14 +1,35 @@
 -- Codes that no verifier would take, and what becomes of the event at which they go wrong.
-use Rattle.std.specs.Prelude.{◌≡◌, ℕ, List, Some, codes}
-use Rattle.model.specs.Step.{WrongKind}
+use Rattle.std.specs.Prelude.{◌≡◌, ℕ, List, [], ◌∷◌, Some, None, codes}
+use Rattle.model.specs.Names.{java_lang_object}
+use Rattle.model.specs.Tree.{Utf8, Class, FileTree}
+use Rattle.model.specs.Operands.{values}
+use Rattle.model.specs.State.{State, Invocation, opening}
+use Rattle.model.specs.Step.{WrongKind, stepped}
 use Rattle.examples.specs.Bytes.{hex}
-use Rattle.examples.specs.Runs.{event_of, after, then_stepped}
+use Rattle.examples.specs.Runs.{frames, event_of, after, then_stepped, with_main}
 use Rattle.examples.specs.PrintsSeven.{file_with}
 
 -- after so many events of a main with this code, the next finds an instruction or an operand missing, or an operand of
 -- another kind
 abbrev pub GoesWrong : List ℕ → ℕ → Type 0
 GoesWrong code events = then_stepped (file_with code) (after (file_with code) events) (event_of 0) ≡ Some WrongKind
+
+-- a class A with a method f that returns an int, and a state in which it stands at its first instruction
+abbrev pub int_file : List ℕ → FileTree
+int_file code = with_main (Utf8 (codes "A") ∷ Class 1 ∷ Utf8 java_lang_object ∷ Class 3 ∷ Utf8 (codes "f") ∷ Utf8 (codes "()I") ∷ Utf8 (codes "Code") ∷ []) 2 4 5 6 7 1 0 code
+
+abbrev pub in_int : List ℕ → State
+in_int code =
+    let s : State = opening (int_file code ∷ []) in
+    record s {
+      stacks =
+          (Invocation (record {
+            method = record { class = codes "A"; name = codes "f"; descriptor = codes "()I" };
+            place = record { offset = 0; slots = record { locals = []; stack = [] } };
+            entered = None;
+          }) ∷ [])
+          ∷ [];
+    }
 
 pub record WrongOperands : Type 0 where
   -- iconst_0, iadd, return: one operand is missing
@@ -43,6 +64,8 @@ pub record WrongOperands : Type 0 where
   pub println_of_reference : GoesWrong (hex (codes "b2000d 2a b60013 b1")) 6
   -- iconst_0, ireturn: main returns nothing
   pub ireturn_in_void : GoesWrong (hex (codes "03 ac")) 5
+  -- return in a method that returns an int
+  pub return_in_int : stepped values (int_file (hex (codes "b1")) ∷ []) frames (in_int (hex (codes "b1"))) (event_of 0) ≡ WrongKind
   -- nop: no instruction follows
   pub past_the_end : GoesWrong (hex (codes "00")) 5
   -- bipush without its operand

@@ -8,6 +8,7 @@ ghost use Rattle.examples.specs.Initialisations.{ClassAtBegin, SuperclassFirst};
 ghost use Rattle.examples.specs.Instructions.{Instructions};
 ghost use Rattle.examples.specs.IntArithmetic.{IntArithmetic};
 ghost use Rattle.examples.specs.IntValues.{Compared, Computed, Converted};
+ghost use Rattle.examples.specs.Javac.{WrittenByJavac};
 ghost use Rattle.examples.specs.Loops.{Loop, Switches};
 ghost use Rattle.examples.specs.OnlyReturns.{OnlyReturns};
 ghost use Rattle.examples.specs.PrintsSeven.{PrintsSeven, EventByEvent};
@@ -98,4 +99,9 @@ pub fn superclass_first()
 /// The first event of main's thread, where its class was begun already, and under limits of frames.
 pub fn class_at_begin()
     ensures holds { ClassAtBegin }
+{}
+
+/// A class file that `javac` wrote, with constants of all kinds, fields, handlers and attributes.
+pub fn written_by_javac()
+    ensures holds { WrittenByJavac }
 {}
