@@ -1,5 +1,5 @@
 -- Where the jumps lead: to their target or on to the next instruction.
-use Rattle.std.specs.Prelude.{◌≡◌, ℕ, pos, negsuc, List, [], ◌∷◌, Option, Some, Bool, true, false, if◌then◌else◌, map, codes}
+use Rattle.std.specs.Prelude.{◌≡◌, ℕ, ℤ, pos, negsuc, List, [], ◌∷◌, Option, Some, Bool, true, false, if◌then◌else◌, map, codes}
 use Rattle.std.specs.Option.{option_map}
 use Rattle.model.specs.declared.instr.Comparison.TheVariants.{Equal, NotEqual, Less, GreaterOrEqual, Greater, LessOrEqual}
 use Rattle.model.specs.declared.instr.Instr.{Instr}
@@ -39,8 +39,8 @@ abbrev pub pairs : List ℕ
 pairs = hex (codes "80000000 0000000a ffffffff 00000014 00000007 fffffff6")
 
 -- where a switch leads for some ints
-abbrev pub Switches : List ℕ → Instr → List Value → List ℕ → Type 0
-Switches code instr keys targets = map (λ key. target_in code instr (key ∷ [])) keys ≡ map (λ to. Some to) targets
+abbrev pub Switches : List ℕ → Instr → List ℤ → List ℕ → Type 0
+Switches code instr keys targets = map (λ key. target_in code instr (Int (bits_of key) ∷ [])) keys ≡ map (λ to. Some to) targets
 
 pub record Branches : Type 0 where
   pub ifeq : Jumps (If Equal (pos 20)) single (false ∷ true ∷ false ∷ [])
@@ -62,6 +62,6 @@ pub record Branches : Type 0 where
   pub goto : Jumps (Goto (pos 20)) ([] ∷ []) (true ∷ [])
   pub backwards : target_in [] (Goto (negsuc 99)) [] ≡ Some 0
   -- from -1 to 1; for -3, -2, -1, 0, 1, 2 and the least and the greatest int
-  pub tableswitch : Switches jumps (TableSwitch (pos 50) (negsuc 0) (pos 1) 0) (map (λ n. Int (bits_of n)) (negsuc 2 ∷ negsuc 1 ∷ negsuc 0 ∷ pos 0 ∷ pos 1 ∷ pos 2 ∷ negsuc 2147483647 ∷ pos 2147483647 ∷ [])) (150 ∷ 150 ∷ 110 ∷ 120 ∷ 90 ∷ 150 ∷ 150 ∷ 150 ∷ [])
+  pub tableswitch : Switches jumps (TableSwitch (pos 50) (negsuc 0) (pos 1) 0) (negsuc 2 ∷ negsuc 1 ∷ negsuc 0 ∷ pos 0 ∷ pos 1 ∷ pos 2 ∷ negsuc 2147483647 ∷ pos 2147483647 ∷ []) (150 ∷ 150 ∷ 110 ∷ 120 ∷ 90 ∷ 150 ∷ 150 ∷ 150 ∷ [])
   -- of the least int, -1 and 7; for these, 0, 8 and the greatest int
-  pub lookupswitch : Switches pairs (LookupSwitch (pos 50) 3 0) (map (λ n. Int (bits_of n)) (negsuc 2147483647 ∷ negsuc 0 ∷ pos 7 ∷ pos 0 ∷ pos 8 ∷ pos 2147483647 ∷ [])) (110 ∷ 120 ∷ 90 ∷ 150 ∷ 150 ∷ 150 ∷ [])
+  pub lookupswitch : Switches pairs (LookupSwitch (pos 50) 3 0) (negsuc 2147483647 ∷ negsuc 0 ∷ pos 7 ∷ pos 0 ∷ pos 8 ∷ pos 2147483647 ∷ []) (110 ∷ 120 ∷ 90 ∷ 150 ∷ 150 ∷ 150 ∷ [])

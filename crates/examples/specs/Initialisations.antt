@@ -51,17 +51,29 @@ type_at types _ = None
 abbrev pub ended_with : Option State → Option ReferenceType
 ended_with state = option_and_then (λ (s : State). type_at (types_of s.world.heap) (thread_at s.world 0).status) state
 
--- the first event of main's thread, by how far its class is already
+abbrev pub only_returns : Program
+only_returns = only_returns_file ∷ []
+
+-- the opening state of a class A whose main returns at once, but that A has this status
+abbrev pub where_class_is : ClassStatus → State
+where_class_is status = opening_with only_returns ((codes "A", status) ∷ [])
+
+-- the state after n events from there
+abbrev pub after_with : ClassStatus → ℕ → Option State
+after_with status n = run_from only_returns frames (where_class_is status) (replicate n (event_of 0))
+
+-- the first event of main's thread, by how far its class is already, and by how many frames it may have
 pub record ClassAtBegin : Type 0 where
   -- another thread initialises it
-  pub held : stepped values (only_returns_file ∷ []) frames (opening_with (only_returns_file ∷ []) ((codes "A", InProgress 1) ∷ [])) (event_of 0) ≡ NotEnabled
+  pub held : stepped values only_returns frames (where_class_is (InProgress 1)) (event_of 0) ≡ NotEnabled
   -- main's thread does, or it is done: main begins, and returns by the next event
-  pub its_own : statuses_in (run_from (only_returns_file ∷ []) frames (opening_with (only_returns_file ∷ []) ((codes "A", InProgress 0) ∷ [])) (replicate 2 (event_of 0))) ≡ Some (Ended None ∷ [])
-  pub done : statuses_in (run_from (only_returns_file ∷ []) frames (opening_with (only_returns_file ∷ []) ((codes "A", Initialised) ∷ [])) (replicate 2 (event_of 0))) ≡ Some (Ended None ∷ [])
-  -- it is erroneous: the thread ends in this event
-  pub erroneous : ended_with (run_from (only_returns_file ∷ []) frames (opening_with (only_returns_file ∷ []) ((codes "A", Erroneous) ∷ [])) (replicate 1 (event_of 0))) ≡ Some (ClassType (codes "java/lang/NoClassDefFoundError"))
+  pub its_own : statuses_in (after_with (InProgress 0) 2) ≡ Some (Ended None ∷ [])
+  pub done : statuses_in (after_with Initialised 2) ≡ Some (Ended None ∷ [])
+  -- it is erroneous: the thread ends in this event, with an exception that is no longer pending
+  pub erroneous : ended_with (after_with Erroneous 1) ≡ Some (ClassType (codes "java/lang/NoClassDefFoundError"))
+  pub none_pending : option_map (λ (s : State). (thread_at s.world 0).pending) (after_with Erroneous 1) ≡ Some None
   -- the superclass is held by another thread, while this one initialises A
-  pub superclass_held : option_map (λ s. stepped values two_classes frames s (event_of 0)) (run_from two_classes frames (opening_with two_classes ((codes "B", InProgress 1) ∷ [])) (replicate 1 (event_of 0))) ≡ Some NotEnabled
+  pub superclass_held : option_map (λ s. stepped values two_classes frames s (event_of 0)) (run_from two_classes frames (opening_with two_classes ((codes "B", InProgress 1) ∷ [])) (event_of 0 ∷ [])) ≡ Some NotEnabled
   -- one frame suffices, and where none may be the thread ends
-  pub one_frame : statuses_in (run (only_returns_file ∷ []) 1 (replicate 5 (event_of 0))) ≡ Some (Ended None ∷ [])
-  pub no_frame : ended_with (run (only_returns_file ∷ []) 0 (replicate 4 (event_of 0))) ≡ Some (ClassType (codes "java/lang/StackOverflowError"))
+  pub one_frame : statuses_in (run only_returns 1 (replicate 5 (event_of 0))) ≡ Some (Ended None ∷ [])
+  pub no_frame : ended_with (run only_returns 0 (replicate 4 (event_of 0))) ≡ Some (ClassType (codes "java/lang/StackOverflowError"))

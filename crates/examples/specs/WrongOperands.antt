@@ -1,10 +1,11 @@
 -- Codes that no verifier would take, and what becomes of the event at which they go wrong.
-use Rattle.std.specs.Prelude.{◌≡◌, ℕ, List, [], ◌∷◌, Some, None, codes}
+use Rattle.std.specs.Prelude.{◌≡◌, ℕ, List, [], ◌∷◌, Some, None, true, false, codes}
+use Rattle.std.specs.Option.{option_map}
 use Rattle.model.specs.Names.{java_lang_object}
 use Rattle.model.specs.Tree.{Utf8, Class, FileTree}
 use Rattle.model.specs.Operands.{values}
 use Rattle.model.specs.State.{State, Invocation, opening}
-use Rattle.model.specs.Step.{WrongKind, stepped}
+use Rattle.model.specs.Step.{WrongKind, stepped, is_enabled}
 use Rattle.examples.specs.Bytes.{hex}
 use Rattle.examples.specs.Runs.{frames, event_of, after, then_stepped, with_main}
 use Rattle.examples.specs.PrintsSeven.{file_with}
@@ -64,6 +65,10 @@ pub record WrongOperands : Type 0 where
   pub println_of_reference : GoesWrong (hex (codes "b2000d 2a b60013 b1")) 6
   -- iconst_0, ireturn: main returns nothing
   pub ireturn_in_void : GoesWrong (hex (codes "03 ac")) 5
+  -- such a thread counts as enabled, but for other picks, and has no step
+  pub counts_as_enabled : option_map (λ state. is_enabled (file_with (hex (codes "57 b1")) ∷ []) frames state (event_of 0)) (after (file_with (hex (codes "57 b1"))) 4) ≡ Some true
+  pub other_pick : option_map (λ state. is_enabled (file_with (hex (codes "57 b1")) ∷ []) frames state (record { thread = 0; pick = 1 })) (after (file_with (hex (codes "57 b1"))) 4) ≡ Some false
+  pub no_step : after (file_with (hex (codes "57 b1"))) 5 ≡ None
   -- return in a method that returns an int
   pub return_in_int : stepped values (int_file (hex (codes "b1")) ∷ []) frames (in_int (hex (codes "b1"))) (event_of 0) ≡ WrongKind
   -- nop: no instruction follows

@@ -5,7 +5,7 @@
 ghost use Rattle.examples.specs.Branches.{Branches};
 ghost use Rattle.examples.specs.Exceptions.{Exceptions};
 ghost use Rattle.examples.specs.Initialisations.{ClassAtBegin, SuperclassFirst};
-ghost use Rattle.examples.specs.Instructions.{Instructions};
+ghost use Rattle.examples.specs.Instructions.{Instructions, Opcodes};
 ghost use Rattle.examples.specs.IntArithmetic.{IntArithmetic};
 ghost use Rattle.examples.specs.IntValues.{Compared, Computed, Converted};
 ghost use Rattle.examples.specs.Javac.{WrittenByJavac};
@@ -54,6 +54,11 @@ pub fn both_switches()
 /// Instructions by their bytes, with their lengths, and bytes that begin none.
 pub fn instructions()
     ensures holds { Instructions }
+{}
+
+/// The opcodes by families and by lengths, and those that are left out.
+pub fn opcodes()
+    ensures holds { Opcodes }
 {}
 
 /// Codes that find an instruction or an operand missing, or an operand of another kind.

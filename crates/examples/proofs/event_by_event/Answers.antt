@@ -4,4 +4,21 @@ use Rattle.examples.proofs.event_by_event.Goals as goal
 
 pub returns : goal.returns
 unfolding low_form high_form
-returns c = record { holds = record { opening = refl; class_begun = refl; superclass_first = refl; class_done = refl; statuses = refl; main_begun = refl; stream_pushed = refl; seven_pushed = refl; not_yet = refl; printed = refl; seven = refl; returned = refl; costs = refl } }
+returns c =
+    record {
+      holds = record {
+        opening = refl;
+        class_begun = refl;
+        superclass_first = refl;
+        class_done = refl;
+        statuses = refl;
+        main_begun = refl;
+        stream_pushed = refl;
+        seven_pushed = refl;
+        not_yet = refl;
+        printed = refl;
+        seven = refl;
+        returned = refl;
+        costs = refl;
+      };
+    }

@@ -4,4 +4,11 @@ use Rattle.examples.proofs.exceptions.Goals as goal
 
 pub returns : goal.returns
 unfolding low_form high_form
-returns c = record { holds = record { idiv_by_zero = record { not_yet = refl; pending = refl; stays = refl; costs = refl; silent = refl }; irem_by_zero = record { not_yet = refl; pending = refl; stays = refl; costs = refl; silent = refl }; println_at_null = record { not_yet = refl; pending = refl; stays = refl; costs = refl; silent = refl } } }
+returns c =
+    record {
+      holds = record {
+        idiv_by_zero = record { not_yet = refl; pending = refl; stays = refl; costs = refl; silent = refl };
+        irem_by_zero = record { not_yet = refl; pending = refl; stays = refl; costs = refl; silent = refl };
+        println_at_null = record { not_yet = refl; pending = refl; stays = refl; costs = refl; silent = refl };
+      };
+    }

@@ -6,4 +6,11 @@ use Rattle.examples.proofs.prints_seven.Goals as goal
 
 pub returns : goal.returns
 unfolding low_form high_form wide_at table_switch_at lookup_switch_at
-returns c = record { holds = record { prints = record { layout = record { spelled = refl; fits = fits _ tt }; numbers = refl; threads = refl; then_over = refl }; other_thread = refl; other_pick = refl } }
+returns c =
+    record {
+      holds = record {
+        prints = record { layout = record { spelled = refl; fits = fits _ tt }; numbers = refl; threads = refl; then_over = refl };
+        other_thread = refl;
+        other_pick = refl;
+      };
+    }

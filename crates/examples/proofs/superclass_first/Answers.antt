@@ -4,4 +4,17 @@ use Rattle.examples.proofs.superclass_first.Goals as goal
 
 pub returns : goal.returns
 unfolding low_form high_form
-returns c = record { holds = record { begun = refl; superclass_begun = refl; both_begun = refl; its_superclass = refl; superclass_done = refl; again = refl; goes_on = refl; done = refl; ended = refl } }
+returns c =
+    record {
+      holds = record {
+        begun = refl;
+        superclass_begun = refl;
+        both_begun = refl;
+        its_superclass = refl;
+        superclass_done = refl;
+        again = refl;
+        goes_on = refl;
+        done = refl;
+        ended = refl;
+      };
+    }

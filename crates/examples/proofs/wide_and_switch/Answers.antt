@@ -6,4 +6,13 @@ use Rattle.examples.proofs.wide_and_switch.Goals as goal
 
 pub returns : goal.returns
 unfolding low_form high_form wide_at table_switch_at lookup_switch_at
-returns c = record { holds = record { wide = record { layout = record { spelled = refl; fits = fits _ tt }; numbers = refl; threads = refl; then_over = refl }; after_0 = record { layout = record { spelled = refl; fits = fits _ tt }; numbers = refl; threads = refl; then_over = refl }; after_1 = record { layout = record { spelled = refl; fits = fits _ tt }; numbers = refl; threads = refl; then_over = refl }; after_2 = record { layout = record { spelled = refl; fits = fits _ tt }; numbers = refl; threads = refl; then_over = refl }; after_3 = record { layout = record { spelled = refl; fits = fits _ tt }; numbers = refl; threads = refl; then_over = refl } } }
+returns c =
+    record {
+      holds = record {
+        wide = record { layout = record { spelled = refl; fits = fits _ tt }; numbers = refl; threads = refl; then_over = refl };
+        after_0 = record { layout = record { spelled = refl; fits = fits _ tt }; numbers = refl; threads = refl; then_over = refl };
+        after_1 = record { layout = record { spelled = refl; fits = fits _ tt }; numbers = refl; threads = refl; then_over = refl };
+        after_2 = record { layout = record { spelled = refl; fits = fits _ tt }; numbers = refl; threads = refl; then_over = refl };
+        after_3 = record { layout = record { spelled = refl; fits = fits _ tt }; numbers = refl; threads = refl; then_over = refl };
+      };
+    }

@@ -6,4 +6,12 @@ use Rattle.examples.proofs.written_by_javac.Goals as goal
 
 pub returns : goal.returns
 unfolding low_form high_form wide_at table_switch_at lookup_switch_at
-returns c = record { holds = record { layout = record { spelled = refl; fits = fits _ tt }; numbers = refl; threads = refl; then_over = refl } }
+returns c =
+    record {
+      holds = record {
+        layout = record { spelled = refl; fits = fits _ tt };
+        numbers = refl;
+        threads = refl;
+        then_over = refl;
+      };
+    }
