@@ -259,3 +259,6 @@ fits c h =
       methods = table (method_fits c.pool) (MethodFits c.pool) (method c.pool) c.methods last.0;
       attributes = table skipped_fits SkippedFits skipped c.attributes last.1;
     }
+
+pub all_fit : (files : List FileTree) → Holds (list_all file_fits files) → AllByRecursion FileFits files
+all_fit files h = all file_fits FileFits fits files h

@@ -14,3 +14,4 @@ pub mod IntValues
 pub mod Branches
 pub mod Initialisations
 pub mod Javac
+pub mod BuiltInClasses

@@ -3,6 +3,7 @@
 #![tactic(auto)]
 
 ghost use Rattle.examples.specs.Branches.{Branches};
+ghost use Rattle.examples.specs.BuiltInClasses.{BuiltInClasses, OpeningObjects};
 ghost use Rattle.examples.specs.Exceptions.{Exceptions};
 ghost use Rattle.examples.specs.Initialisations.{ClassAtBegin, SuperclassFirst};
 ghost use Rattle.examples.specs.Instructions.{Instructions, Opcodes};
@@ -109,4 +110,14 @@ pub fn class_at_begin()
 /// A class file that `javac` wrote, with constants of all kinds, fields, handlers and attributes.
 pub fn written_by_javac()
     ensures holds { WrittenByJavac }
+{}
+
+/// The built-in classes, their superclasses, and subtypes among them and arrays.
+pub fn built_in_classes()
+    ensures holds { BuiltInClasses }
+{}
+
+/// The objects that stand before any event.
+pub fn opening_objects()
+    ensures holds { OpeningObjects }
 {}
