@@ -1,15 +1,15 @@
 -- A class A whose main prints 7: its bytes, their tree, and its run.
-use Rattle.std.specs.Prelude.{◌≡◌, ℕ, pos, List, [], ◌∷◌, ◌++◌, Option, Some, None, map, replicate, codes}
+use Rattle.std.specs.Prelude.{◌≡◌, ℕ, suc, true, pos, List, [], ◌∷◌, ◌++◌, Option, Some, None, map, replicate, codes}
 use Rattle.std.specs.Option.{option_map, option_and_then}
 use Rattle.model.specs.Names.{main_of, java_lang_object, java_lang_system, java_io_print_stream}
 use Rattle.model.specs.Tree.{Entry, Utf8, Class, NameAndType, Field, Method, FileTree}
 use Rattle.model.specs.State.{State, Invocation, Initialisation, Super, End, StackOf, ClassStatus, NotInitialised, InProgress, Initialised}
-use Rattle.model.specs.Step.{NotEnabled, status_of}
+use Rattle.model.specs.Step.{NotEnabled, is_enabled, status_of}
 use Rattle.model.specs.Outcomes.{Cost, Free}
 use Rattle.model.specs.declared.value.Value.{Value}
 use Rattle.model.specs.declared.value.Value.TheVariants as value
 use Rattle.examples.specs.Bytes.{hex}
-use Rattle.examples.specs.Runs.{event_of, after, then_stepped, numbers_in, stacks_in, cost_of, Prints, with_main}
+use Rattle.examples.specs.Runs.{frames, event_of, after, then_stepped, numbers_in, stacks_in, cost_of, Prints, with_main}
 
 abbrev pub prints_seven_bytes : List ℕ
 prints_seven_bytes =
@@ -36,12 +36,13 @@ file_with code = record (with_main pool 2 4 5 6 7 2 1 code) { flags = 0x0020 }
 abbrev pub prints_seven_file : FileTree
 prints_seven_file = file_with (hex (codes "b2000d 1007 b60013 b1"))
 
--- Three events initialise the class, the fourth begins main, and four instructions follow. After three events no event is
--- enabled but that of thread 0 with pick 0.
+-- Three events initialise the class, the fourth begins main, and four instructions follow. After three events the one event
+-- that is enabled is that of thread 0 with pick 0.
 pub record PrintsSeven : Type 0 where
   pub prints : Prints prints_seven_bytes prints_seven_file 8 (pos 7 ∷ [])
-  pub other_thread : then_stepped prints_seven_file (after prints_seven_file 3) (event_of 1) ≡ Some NotEnabled
-  pub other_pick : then_stepped prints_seven_file (after prints_seven_file 3) (record { thread = 0; pick = 1 }) ≡ Some NotEnabled
+  pub other_thread : (thread pick : ℕ) → then_stepped prints_seven_file (after prints_seven_file 3) (record { thread = suc thread; pick = pick }) ≡ Some NotEnabled
+  pub other_pick : (pick : ℕ) → then_stepped prints_seven_file (after prints_seven_file 3) (record { thread = 0; pick = suc pick }) ≡ Some NotEnabled
+  pub this_one : option_map (λ state. is_enabled (prints_seven_file ∷ []) frames state (event_of 0)) (after prints_seven_file 3) ≡ Some true
 
 abbrev pub status_in : Option State → Option ClassStatus
 status_in state = option_map (λ (s : State). status_of s.world (codes "A")) state

@@ -1,7 +1,10 @@
 use Rattle.std.proofs.Common.{refl}
 use Rattle.model.specs.OpcodeTable.{low_form, high_form}
 use Rattle.model.specs.Instruction.{wide_at, table_switch_at, lookup_switch_at}
+use Rattle.examples.specs.PrintsSeven.{prints_seven_file}
+use Rattle.examples.specs.Runs.{after}
 use Rattle.examples.proofs.Fits.{fits}
+use Rattle.examples.proofs.Picks.{other_picks}
 use Rattle.examples.proofs.prints_seven.Goals as goal
 
 pub returns : goal.returns
@@ -10,7 +13,8 @@ returns c =
     record {
       holds = record {
         prints = record { layout = record { spelled = refl; fits = fits _ tt }; numbers = refl; threads = refl; then_over = refl };
-        other_thread = refl;
-        other_pick = refl;
+        other_thread = λ thread pick. refl;
+        other_pick = λ pick. other_picks prints_seven_file (after prints_seven_file 3) pick;
+        this_one = refl;
       };
     }
