@@ -1,5 +1,5 @@
 -- The built-in classes (own): part of each program, and initialised from the start.
-use Rattle.std.specs.Prelude.{ℕ, ◌+◌, ◌*◌, List, [], ◌∷◌, ◌++◌, codes}
+use Rattle.std.specs.Prelude.{ℕ, List, [], ◌∷◌, codes}
 use Rattle.model.specs.Names.{Name, java_lang_object, java_lang_class, java_lang_string, java_lang_system, java_lang_thread, java_io_print_stream}
 use Rattle.model.specs.Tree.{Utf8, Class, FileTree}
 
@@ -62,7 +62,7 @@ throwables =
     ∷ below (codes "java/lang/IndexOutOfBoundsException") (codes "java/lang/ArrayIndexOutOfBoundsException")
     ∷ []
 
-abbrev pub built_in_classes : List FileTree
+unfoldable pub built_in_classes : List FileTree
 built_in_classes =
     object_class
     ∷ built_in 0x0601 (codes "java/lang/Runnable") java_lang_object

@@ -1,9 +1,9 @@
 -- The classes of a program (JVMS 5.3): the built-in ones, and those of its files.
-use Rattle.std.specs.Prelude.{ℕ, zero, suc, List, [], ◌∷◌, ◌++◌, Option, Some, None, Bool, true, false, ◌&&◌, ◌||◌, find, is_some, length, unwrap_or}
+use Rattle.std.specs.Prelude.{ℕ, zero, suc, List, [], ◌∷◌, ◌++◌, Option, Some, None, Bool, false, ◌&&◌, ◌||◌, find, is_some, length, unwrap_or}
 use Rattle.std.specs.Option.{option_and_then, option_map, option_map_or}
 use Rattle.model.specs.Names.{Name, name_eq, spells, Member}
 use Rattle.model.specs.Tree.{Entry, FileTree, MethodTree, MethodPart, CodeTree, CodeOf, SkippedOfMethod}
-use Rattle.model.specs.Pool.{text_at, class_at}
+use Rattle.model.specs.Pool.{utf8_at, class_name_at}
 use Rattle.model.specs.BuiltIn.{built_in_classes}
 
 -- the trees of the files, in their order
@@ -12,11 +12,11 @@ Program = List FileTree
 
 -- the name of the class that a file declares (JVMS 4.1, this_class)
 abbrev pub name_of : FileTree → Name
-name_of file = unwrap_or (class_at file.pool file.this_class) []
+name_of file = unwrap_or (class_name_at file.pool file.this_class) []
 
 -- the name of its direct superclass (JVMS 4.1, super_class)
 abbrev pub super_name_of : FileTree → Option Name
-super_name_of file = class_at file.pool file.super_class
+super_name_of file = class_name_at file.pool file.super_class
 
 abbrev pub classes_of : Program → List FileTree
 classes_of files = built_in_classes ++ files
@@ -47,7 +47,7 @@ is_subclass files c d = is_within files (length (classes_of files)) c d
 
 -- a method is of this name and descriptor (JVMS 4.6)
 abbrev pub is_method : List Entry → Name → Name → MethodTree → Bool
-is_method pool name descriptor m = spells (text_at pool m.name) name && spells (text_at pool m.descriptor) descriptor
+is_method pool name descriptor m = spells (utf8_at pool m.name) name && spells (utf8_at pool m.descriptor) descriptor
 
 -- the method that a class itself declares (JVMS 4.6)
 abbrev pub declared_in : FileTree → Name → Name → Option MethodTree

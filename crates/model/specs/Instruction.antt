@@ -1,5 +1,5 @@
 -- Which instruction the bytes of a method's code hold at an offset (JVMS 4.7.3, 4.9.1, 6.5). Offsets count from the method's start.
-use Rattle.std.specs.Prelude.{ℕ, ◌+◌, ◌-◌, ◌*◌, ◌%◌, ◌^◌, ℤ, pos, ◌-ℤ◌, unsigned_abs, List, length, drop, Option, Some, None, nat_lt, ◌==◌, if◌then◌else◌, option_map, unwrap_or}
+use Rattle.std.specs.Prelude.{ℕ, ◌+◌, ◌≤◌, ◌-◌, ◌*◌, ◌%◌, ◌^◌, ℤ, pos, ◌-ℤ◌, unsigned_abs, List, length, drop, Option, Some, None, nat_lt, ◌==◌, if◌then◌else◌, option_map, unwrap_or}
 use Rattle.std.specs.Int.{Width, w8, w16, w32, byte_len, cast_signed}
 use lib.Signed.{le_z}
 use Rattle.byteorder.specs.Endian.{big_number}
@@ -110,6 +110,10 @@ instr_at code pc = option_map (λ (s : Sized). s.0) (sized_at code pc)
 -- how many bytes it has
 abbrev pub length_at : List ℕ → ℕ → Option ℕ
 length_at code pc = option_map (λ (s : Sized). s.1) (sized_at code pc)
+
+-- there is a byte, and n of them are in the code from an offset on
+abbrev pub HasBytes : List ℕ → ℕ → ℕ → Type 0
+HasBytes code pc n = (1 ≤ n) × (pc + n ≤ length code)
 
 -- the kth jump of a `tableswitch` whose jumps begin at an offset; 0 where the bytes are not there
 abbrev pub table_jump : List ℕ → ℕ → ℕ → ℤ

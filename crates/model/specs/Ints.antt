@@ -1,5 +1,5 @@
 -- Ints by their 32 bits, and what is computed from them (JVMS 2.3.1, 2.11.3, 2.11.4).
-use Rattle.std.specs.Prelude.{ℕ, ◌+◌, ◌-◌, ◌*◌, ◌/◌, ◌%◌, ◌^◌, ℤ, pos, Bool, true, false, not, ◌==◌, bit_and, bit_or, bit_xor, int_lt, int_le, int_rem}
+use Rattle.std.specs.Prelude.{ℕ, ◌+◌, ◌-◌, ◌*◌, ◌/◌, ◌%◌, ◌^◌, ℤ, Bool, false, not, ◌==◌, bit_and, bit_or, bit_xor, int_lt, int_le, int_rem}
 use Rattle.std.specs.Int.{w8, w16, w32, cast_signed, cast_unsigned, int_wrapping_div, int_shr}
 use Rattle.model.specs.declared.instr.Arithmetic.{Arithmetic}
 use Rattle.model.specs.declared.instr.Arithmetic.TheVariants.{Add, Subtract, Multiply, Divide, Remainder, ShiftLeft, ShiftRight, UnsignedShiftRight, And, Or, ExclusiveOr}

@@ -18,3 +18,5 @@ pub mod Outcomes
 pub mod Meanings
 pub mod Step
 pub mod Run
+pub mod Report
+pub mod Schedule

@@ -1,6 +1,6 @@
 -- The opcodes of the instructions that this machine knows, with their mnemonics and operands (JVMS 6.5, chapter 7). The opcodes
 -- that stand in no row, those of long, float and double and jsr, ret, breakpoint and the like, begin no instruction (own).
-use Rattle.std.specs.Prelude.{ℕ, ◌-◌, ◌++◌, ℤ, pos, negsuc, List, [], ◌∷◌, Option, Some, None, Bool, true, false, nat_lt, nat_le, ◌&&◌, if◌then◌else◌, codes, decimal}
+use Rattle.std.specs.Prelude.{ℕ, ◌+◌, ◌-◌, ◌++◌, ℤ, pos, negsuc, List, [], ◌∷◌, Option, Some, None, Bool, true, false, nat_lt, nat_le, ◌&&◌, if◌then◌else◌, codes}
 use Rattle.model.specs.declared.instr.Kind.TheVariants as kinds
 use Rattle.model.specs.declared.instr.ArrayKind.TheVariants as arrays
 use Rattle.model.specs.declared.instr.Arithmetic.TheVariants.{Add, Subtract, Multiply, Divide, Remainder, ShiftLeft, ShiftRight, UnsignedShiftRight, And, Or, ExclusiveOr}
@@ -43,9 +43,13 @@ pub record Row : Type 0 where
 abbrev pub op : ℕ → List ℕ → Form → Row
 op opcode mnemonic form = record { first = opcode; last = opcode; mnemonic = λ _. mnemonic; form = λ _. form }
 
--- a row whose mnemonics end in numbers from 0 on, as `iload_0` to `iload_3`
+-- the character of a decimal digit
+abbrev pub digit : ℕ → ℕ
+digit k = 48 + k
+
+-- a row whose mnemonics end in a digit from 0 on, as `iload_0` to `iload_3`
 abbrev pub ops : ℕ → ℕ → List ℕ → (ℕ → Form) → Row
-ops first last mnemonic form = record { first = first; last = last; mnemonic = λ k. mnemonic ++ decimal k; form = form }
+ops first last mnemonic form = record { first = first; last = last; mnemonic = λ k. mnemonic ++ digit k ∷ []; form = form }
 
 -- JVMS 7: constants and loads
 abbrev pub constants_and_loads : List Row

@@ -2,7 +2,7 @@
 use Rattle.std.specs.Prelude.{ℕ, zero, suc, ◌+◌, List, [], ◌∷◌, ◌++◌, Option, Some, None, Bool, true, false, ◌&&◌, nat_le, slice_index_or, take, drop, length, map}
 use Rattle.model.specs.Classes.{Program}
 use Rattle.model.specs.ReferenceTypes.{ReferenceType}
-use Rattle.model.specs.Types.{VerificationType, Unusable, IntType, NullType, Want, type_meets, value_meets, is_value_of, is_object_of}
+use Rattle.model.specs.Types.{VerificationType, Unusable, IntType, NullType, Want, value_meets, is_value_of, is_object_of}
 use Rattle.model.specs.declared.value.Value.{Value}
 use Rattle.model.specs.declared.value.Value.TheVariants as value
 use Rattle.std.specs.Prelude.{slice_get}
@@ -14,7 +14,6 @@ pub record Slots (A : Type 0) : Type 0 where
 
 -- how the rows of the local instructions are read
 pub record Domain (A : Type 0) : Type 0 where
-  pub accepts : Want → A → Bool
   pub unset : A
   pub null : A
   -- an int that is made from operands, by their words
@@ -28,19 +27,19 @@ pub record Wants : Type 0 where
   pub pops : List Want
   pub grows : ℕ
 
-abbrev pub reads_meet : {A : Type 0} → Domain A → List (ℕ × Want) → List A → Bool
-reads_meet D [] locals = true
-reads_meet D (r ∷ rs) locals = D.accepts r.1 (slice_index_or locals r.0 D.unset) && reads_meet D rs locals
+abbrev pub reads_meet : {A : Type 0} → (Want → A → Bool) → Domain A → List (ℕ × Want) → List A → Bool
+reads_meet accepts D [] locals = true
+reads_meet accepts D (r ∷ rs) locals = accepts r.1 (slice_index_or locals r.0 D.unset) && reads_meet accepts D rs locals
 
-abbrev pub pops_meet : {A : Type 0} → Domain A → List Want → List A → Bool
-pops_meet D [] stack = true
-pops_meet D (w ∷ ws) [] = false
-pops_meet D (w ∷ ws) (x ∷ xs) = D.accepts w x && pops_meet D ws xs
+abbrev pub pops_meet : {A : Type 0} → (Want → A → Bool) → List Want → List A → Bool
+pops_meet accepts [] stack = true
+pops_meet accepts (w ∷ ws) [] = false
+pops_meet accepts (w ∷ ws) (x ∷ xs) = accepts w x && pops_meet accepts ws xs
 
 -- the one test of operands: each is there and as wanted, and the stack does not pass max_stack (JVMS 4.7.3)
-abbrev pub is_ready : {A : Type 0} → Domain A → Wants → ℕ → Slots A → Bool
-is_ready D w max s =
-    w.allowed && (reads_meet D w.reads s.locals && (pops_meet D w.pops s.stack && nat_le (length (drop (length w.pops) s.stack) + w.grows) max))
+abbrev pub is_ready : {A : Type 0} → (Want → A → Bool) → Domain A → Wants → ℕ → Slots A → Bool
+is_ready accepts D w max s =
+    w.allowed && (reads_meet accepts D w.reads s.locals && (pops_meet accepts w.pops s.stack && nat_le (length (drop (length w.pops) s.stack) + w.grows) max))
 
 -- the operands: the local variables that are read, then what is popped, the top first
 abbrev pub operands : {A : Type 0} → Domain A → Wants → Slots A → List A
@@ -74,25 +73,21 @@ is_word_of files objects want (suc r) = is_object_of files want (slice_get objec
 
 -- ---- the three domains
 
-abbrev pub over_types : Program → Domain VerificationType
-over_types files = record { accepts = type_meets files; unset = Unusable; null = NullType; number = λ f ts. IntType }
+abbrev pub over_types : Domain VerificationType
+over_types = record { unset = Unusable; null = NullType; number = λ f ts. IntType }
 
--- by the types of the objects
-abbrev pub over_values : Program → List ReferenceType → Domain Value
-over_values files objects =
-    record { accepts = value_meets files objects; unset = value.Unset; null = value.Null; number = λ f vs. value.Int (f (map word_of vs)) }
+abbrev pub over_values : Domain Value
+over_values = record { unset = value.Unset; null = value.Null; number = λ f vs. value.Int (f (map word_of vs)) }
 
 abbrev pub over_words : Domain ℕ
-over_words = record { accepts = λ w n. true; unset = 0; null = 0; number = λ f ns. f ns }
+over_words = record { unset = 0; null = 0; number = λ f ns. f ns }
 
 -- ---- what a run does with a value: tagged with its kind, or an untagged word
 
 pub record Carrier (A : Type 0) : Type 0 where
-  pub over : Program → List ReferenceType → Domain A
+  pub over : Domain A
   -- whether operands are as wanted; over words it is not asked
   pub finds : Program → List ReferenceType → Wants → ℕ → Slots A → Bool
-  pub unset : A
-  pub null : A
   pub int : ℕ → A
   pub reference : ℕ → A
   pub word : A → ℕ
@@ -104,9 +99,7 @@ abbrev pub values : Carrier Value
 values =
     record {
       over = over_values;
-      finds = λ files objects. is_ready (over_values files objects);
-      unset = value.Unset;
-      null = value.Null;
+      finds = λ files objects. is_ready (value_meets files objects) over_values;
       int = λ n. value.Int n;
       reference = λ r. value.Reference r;
       word = word_of;
@@ -118,10 +111,8 @@ values =
 abbrev pub words : Carrier ℕ
 words =
     record {
-      over = λ files objects. over_words;
+      over = over_words;
       finds = λ files objects w max s. true;
-      unset = 0;
-      null = 0;
       int = λ n. n;
       reference = suc;
       word = λ n. n;

@@ -1,63 +1,91 @@
--- What the entries of a constant pool name (JVMS 4.4, 5.1).
-use Rattle.std.specs.Prelude.{ℕ, List, [], ◌∷◌, Option, Some, None, map}
-use Rattle.model.specs.Names.{Name, Member}
-use Rattle.model.specs.Tree.{Entry, Utf8, Integer, Class, Field, Method, InterfaceMethod, NameAndType}
+-- What an index of the constant pool names (JVMS 4.4).
+use Rattle.std.specs.Prelude.{ℕ, List, ◌∷◌, Option, Some, None, map}
+use Rattle.model.specs.Names.{Member}
+use Rattle.model.specs.Tree.{Entry, Utf8, Integer, Class, String, Field, Method, InterfaceMethod, NameAndType}
 use Rattle.model.specs.Spelling.{entry_at}
 
-abbrev pub text_in : Entry → Option Name
-text_in (Utf8 text) = Some text
-text_in _ = None
+-- the bytes of the Utf8 (JVMS 4.4.7)
+abbrev pub utf8_of : Entry → Option (List ℕ)
+utf8_of (Utf8 text) = Some text
+utf8_of e = None
 
--- the text of a Utf8 (JVMS 4.4.7)
-abbrev pub text_at : List Entry → ℕ → Option Name
-text_at pool index = text_in (entry_at pool index)
+abbrev pub utf8_at : List Entry → ℕ → Option (List ℕ)
+utf8_at pool index = utf8_of (entry_at pool index)
 
-abbrev pub class_in : List Entry → Entry → Option Name
-class_in pool (Class name) = text_at pool name
-class_in pool _ = None
+-- the name of the Class (JVMS 4.4.1)
+abbrev pub class_name_of : List Entry → Entry → Option (List ℕ)
+class_name_of pool (Class name) = utf8_at pool name
+class_name_of pool e = None
 
--- the name of a Class (JVMS 4.4.1)
-abbrev pub class_at : List Entry → ℕ → Option Name
-class_at pool index = class_in pool (entry_at pool index)
+abbrev pub class_name_at : List Entry → ℕ → Option (List ℕ)
+class_name_at pool index = class_name_of pool (entry_at pool index)
+
+-- the text of the String (JVMS 4.4.3)
+abbrev pub string_of : List Entry → Entry → Option (List ℕ)
+string_of pool (String text) = utf8_at pool text
+string_of pool e = None
+
+abbrev pub string_at : List Entry → ℕ → Option (List ℕ)
+string_at pool index = string_of pool (entry_at pool index)
+
+-- the name and the descriptor of the NameAndType (JVMS 4.4.6)
+pub record NameAndDescriptor : Type 0 where
+  pub name : List ℕ
+  pub descriptor : List ℕ
+
+-- where both are there
+abbrev pub name_and_descriptor : Option (List ℕ) → Option (List ℕ) → Option NameAndDescriptor
+name_and_descriptor (Some name) (Some descriptor) = Some (record { name = name; descriptor = descriptor })
+name_and_descriptor name descriptor = None
+
+abbrev pub name_and_type_of : List Entry → Entry → Option NameAndDescriptor
+name_and_type_of pool (NameAndType name descriptor) = name_and_descriptor (utf8_at pool name) (utf8_at pool descriptor)
+name_and_type_of pool e = None
+
+abbrev pub name_and_type_at : List Entry → ℕ → Option NameAndDescriptor
+name_and_type_at pool index = name_and_type_of pool (entry_at pool index)
+
+-- a field or a method as a Fieldref, a Methodref or an InterfaceMethodref names it (JVMS 4.4.2)
+abbrev pub Reference : Type 0
+Reference = Member
+
+-- where both are there
+abbrev pub reference : Option (List ℕ) → Option NameAndDescriptor → Option Reference
+reference (Some class) (Some member) = Some (record { class = class; name = member.name; descriptor = member.descriptor })
+reference class member = None
+
+abbrev pub reference_at : List Entry → ℕ → ℕ → Option Reference
+reference_at pool class name_and_type = reference (class_name_at pool class) (name_and_type_at pool name_and_type)
+
+-- the Fieldref
+abbrev pub field_of_entry : List Entry → Entry → Option Reference
+field_of_entry pool (Field class name_and_type) = reference_at pool class name_and_type
+field_of_entry pool e = None
+
+abbrev pub field_at : List Entry → ℕ → Option Reference
+field_at pool index = field_of_entry pool (entry_at pool index)
+
+-- the Methodref
+abbrev pub method_of_entry : List Entry → Entry → Option Reference
+method_of_entry pool (Method class name_and_type) = reference_at pool class name_and_type
+method_of_entry pool e = None
+
+abbrev pub method_at : List Entry → ℕ → Option Reference
+method_at pool index = method_of_entry pool (entry_at pool index)
+
+-- the InterfaceMethodref
+abbrev pub interface_method_of_entry : List Entry → Entry → Option Reference
+interface_method_of_entry pool (InterfaceMethod class name_and_type) = reference_at pool class name_and_type
+interface_method_of_entry pool e = None
+
+abbrev pub interface_method_at : List Entry → ℕ → Option Reference
+interface_method_at pool index = interface_method_of_entry pool (entry_at pool index)
 
 -- an Integer by its bits (JVMS 4.4.4)
-abbrev pub integer_in : Entry → Option ℕ
-integer_in (Integer bits) = Some bits
-integer_in _ = None
+abbrev pub integer_of : Entry → Option ℕ
+integer_of (Integer bits) = Some bits
+integer_of e = None
 
 -- the ints that `ldc` and `ldc_w` may load, by the index of the entry
 abbrev pub integers_of : List Entry → List (Option ℕ)
-integers_of pool = None ∷ map integer_in pool
-
--- a member from the texts that name it, where all are there
-abbrev pub member_of : Option Name → Option Name → Option Name → Option Member
-member_of (Some class) (Some name) (Some descriptor) = Some (record { class = class; name = name; descriptor = descriptor })
-member_of _ _ _ = None
-
-abbrev pub named_in : List Entry → Option Name → Entry → Option Member
-named_in pool class (NameAndType name descriptor) = member_of class (text_at pool name) (text_at pool descriptor)
-named_in pool class _ = None
-
-abbrev pub field_in : List Entry → Entry → Option Member
-field_in pool (Field class name_and_type) = named_in pool (class_at pool class) (entry_at pool name_and_type)
-field_in pool _ = None
-
--- the field that a Fieldref names (JVMS 4.4.2)
-abbrev pub field_at : List Entry → ℕ → Option Member
-field_at pool index = field_in pool (entry_at pool index)
-
-abbrev pub method_in : List Entry → Entry → Option Member
-method_in pool (Method class name_and_type) = named_in pool (class_at pool class) (entry_at pool name_and_type)
-method_in pool _ = None
-
--- the method that a Methodref names (JVMS 4.4.2)
-abbrev pub method_at : List Entry → ℕ → Option Member
-method_at pool index = method_in pool (entry_at pool index)
-
-abbrev pub interface_method_in : List Entry → Entry → Option Member
-interface_method_in pool (InterfaceMethod class name_and_type) = named_in pool (class_at pool class) (entry_at pool name_and_type)
-interface_method_in pool _ = None
-
--- the method that an InterfaceMethodref names (JVMS 4.4.2)
-abbrev pub interface_method_at : List Entry → ℕ → Option Member
-interface_method_at pool index = interface_method_in pool (entry_at pool index)
+integers_of pool = None ∷ map integer_of pool

@@ -1,5 +1,5 @@
 -- Reference types (JVMS 2.4): what an object is an instance of.
-use Rattle.std.specs.Prelude.{ℕ, List, [], Option, Some, None, Bool, true, false, ◌==◌, slice_get}
+use Rattle.std.specs.Prelude.{ℕ, Bool, false, ◌==◌}
 use Rattle.model.specs.Names.{Name, name_eq, java_lang_object}
 use Rattle.model.specs.Classes.{Program, is_subclass}
 

@@ -1,9 +1,9 @@
 -- What a run keeps (JVMS 2.5, 2.6; JLS 17): at the carrier `values` with the kind of each value, at `words` without.
-use Rattle.std.specs.Prelude.{ℕ, ℤ, List, [], ◌∷◌, ◌++◌, Option, Some, None, Bool, true, false, map}
+use Rattle.std.specs.Prelude.{ℕ, ℤ, List, [], ◌∷◌, Option, None, Bool, false, map}
 use Rattle.model.specs.Names.{Name, Member, java_lang_class, java_lang_string, java_lang_thread, java_io_print_stream}
 use Rattle.model.specs.Classes.{Program, classes_of}
 use Rattle.model.specs.ReferenceTypes.{Primitive, ReferenceType, ClassType, PrimitiveArray, ReferenceArray}
-use Rattle.model.specs.Operands.{Slots, Carrier, values}
+use Rattle.model.specs.Operands.{Slots}
 use Rattle.model.specs.declared.value.Value.{Value}
 
 -- an object: its class and its fields, each by the class that declares it; or the elements of an array
@@ -127,7 +127,7 @@ abbrev pub main_thread_reference : ℕ
 main_thread_reference = 2
 
 -- the PrintStream of System.out, the arguments, the Thread of main, and a Class object for each class
-abbrev pub opening_heap : {A : Type 0} → Program → List (ObjectOf A)
+unfoldable pub opening_heap : {A : Type 0} → Program → List (ObjectOf A)
 opening_heap files =
     Instance java_io_print_stream []
     ∷ References (ClassType java_lang_string) []

@@ -1,15 +1,14 @@
 -- One event (JVMS 2.6, 5.5, chapter 6; JLS 17): enabled or not, and the one next state.
-use Rattle.std.specs.Prelude.{ℕ, suc, ◌+◌, ◌-◌, nat_lt, List, [], ◌∷◌, ◌++◌, Option, Some, None, Bool, true, false, ◌&&◌, ◌||◌, not, ◌==◌, if◌then◌else◌, slice_get, slice_index_or, slice_set, length, replicate, is_some, unwrap_or, find}
-use Rattle.std.specs.Option.{option_map, option_map_or, option_and_then}
+use Rattle.std.specs.Prelude.{ℕ, suc, ◌+◌, ◌-◌, nat_lt, List, [], ◌∷◌, ◌++◌, Option, Some, None, Bool, true, false, ◌||◌, ◌==◌, if◌then◌else◌, slice_get, slice_index_or, slice_set, length, replicate, is_some, unwrap_or}
+use Rattle.std.specs.Option.{option_and_then}
 use Rattle.model.specs.declared.event.Event.{Event}
-use Rattle.model.specs.declared.value.Value.{Value}
 use Rattle.model.specs.Names.{Name, name_eq, Member, main_of}
 use Rattle.model.specs.Instruction.{length_at}
 use Rattle.model.specs.Classes.{Program, Body, name_of, body_of, is_built_in, superclass_of}
 use Rattle.model.specs.Operands.{Slots, Carrier, values, operands, under}
-use Rattle.model.specs.State.{ObjectOf, Instance, types_of, ClassStatus, NotInitialised, InProgress, Initialised, Erroneous, ThreadStatus, Running, Waiting, Relock, Ended, Thread, PlaceOf, FrameOf, Phase, Super, End, EntryOf, Invocation, Initialisation, StackOf, WorldOf, StateOf, State, arguments_reference}
+use Rattle.model.specs.State.{Instance, types_of, ClassStatus, NotInitialised, InProgress, Initialised, Erroneous, ThreadStatus, Running, Waiting, Relock, Ended, Thread, FrameOf, Phase, Super, End, Invocation, Initialisation, StackOf, WorldOf, StateOf, State, arguments_reference}
 use Rattle.model.specs.Outcomes.{Fault, fault_class, NoClassDefFound, StackOverflow, Cost, Free, Makes, OutcomeOf, Goes, Raises, Throws, Calls, Returns, Waits}
-use Rattle.model.specs.Meanings.{MeaningOf, Site, site_at, meaning_of}
+use Rattle.model.specs.Meanings.{MeaningOf, site_at, meaning_of}
 
 -- what becomes of an event, over the whole state or a part of it
 pub data SteppedOf (S : Type 0) : Type 0 where
@@ -135,7 +134,7 @@ abbrev pub frame_with : {A : Type 0} → Carrier A → Member → List A → Bod
 frame_with C method arguments body =
     record {
       method = method;
-      place = record { offset = 0; slots = record { locals = locals_with C.unset body.code.max_locals arguments; stack = [] } };
+      place = record { offset = 0; slots = record { locals = locals_with C.over.unset body.code.max_locals arguments; stack = [] } };
       entered = None;
     }
 
@@ -185,15 +184,15 @@ abbrev pub enabled_if : {S : Type 0} → Bool → SteppedOf S → SteppedOf S
 enabled_if true stepped = stepped
 enabled_if false stepped = NotEnabled
 
-abbrev pub ops_of : {A : Type 0} → Carrier A → Program → WorldOf A → MeaningOf A → Slots A → List A
-ops_of C files world meaning slots = operands (C.over files (types_of world.heap)) meaning.wants slots
+abbrev pub ops_of : {A : Type 0} → Carrier A → MeaningOf A → Slots A → List A
+ops_of C meaning slots = operands C.over meaning.wants slots
 
 -- it is done, where its pick and the other threads let it
 abbrev pub done : {A : Type 0} → Carrier A → Program → ℕ → Event → WorldOf A → FrameOf A → StackOf A → MeaningOf A → SteppedOf (PartOf A)
 done C files frames event world frame stack meaning =
-    enabled_if (meaning.may event world (ops_of C files world meaning frame.place.slots))
+    enabled_if (meaning.may event world (ops_of C meaning frame.place.slots))
       (become files frames event.thread world frame stack
-        (meaning.does event world frame.place.slots (ops_of C files world meaning frame.place.slots) (under meaning.wants frame.place.slots)))
+        (meaning.does event world frame.place.slots (ops_of C meaning frame.place.slots) (under meaning.wants frame.place.slots)))
 
 -- the operands first, then the class that it needs, then the rest
 abbrev pub bytecode_by : {A : Type 0} → Carrier A → Program → ℕ → Event → WorldOf A → FrameOf A → StackOf A → ℕ → Option (MeaningOf A) → SteppedOf (PartOf A)
@@ -206,7 +205,7 @@ bytecode_by C files frames event world frame stack max_stack (Some meaning) =
 abbrev pub bytecode_in : {A : Type 0} → Carrier A → Program → ℕ → Event → WorldOf A → FrameOf A → StackOf A → Option Body → SteppedOf (PartOf A)
 bytecode_in C files frames event world frame stack None = WrongKind
 bytecode_in C files frames event world frame stack (Some body) =
-    bytecode_by C files frames event world frame stack body.code.max_stack (option_and_then (meaning_of C files) (site_at frame.method body frame.place.offset))
+    bytecode_by C files frames event world frame stack body.code.max_stack (option_and_then (meaning_of C) (site_at frame.method body frame.place.offset))
 
 -- the instruction at the offset of the frame on top
 abbrev pub bytecode_event : {A : Type 0} → Carrier A → Program → ℕ → Event → WorldOf A → FrameOf A → StackOf A → SteppedOf (PartOf A)

@@ -1,5 +1,5 @@
 -- The verifier's types, and what an instruction wants of a word (JVMS 4.10.1.2, 4.10.1.4).
-use Rattle.std.specs.Prelude.{ℕ, List, Option, Some, None, Bool, true, false, ◌||◌, slice_get}
+use Rattle.std.specs.Prelude.{ℕ, List, Option, Some, None, Bool, true, false, slice_get}
 use Rattle.model.specs.Names.{Name, name_eq}
 use Rattle.model.specs.Classes.{Program}
 use Rattle.model.specs.ReferenceTypes.{ReferenceType, ClassType, is_subtype}

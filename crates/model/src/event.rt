@@ -8,3 +8,10 @@ pub struct Event {
     pub thread: u16,
     pub pick: u16,
 }
+
+/// So many equal events, one after the other.
+#[derive(Clone, Copy, Debug, PartialEq, Eq)]
+pub struct ScheduleEntry {
+    pub event: Event,
+    pub repeat: u32,
+}

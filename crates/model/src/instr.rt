@@ -101,42 +101,96 @@ pub enum Instr {
     /// `iconst_m1` to `iconst_5`, `bipush` and `sipush`.
     Const(i32),
     /// `ldc` and `ldc_w`.
-    LoadConstant { index: u16 },
-    Load { kind: Kind, local: u16 },
-    Store { kind: Kind, local: u16 },
+    LoadConstant {
+        index: u16,
+    },
+    Load {
+        kind: Kind,
+        local: u16,
+    },
+    Store {
+        kind: Kind,
+        local: u16,
+    },
     LoadElement(ArrayKind),
     StoreElement(ArrayKind),
     Move(StackMove),
     Compute(Arithmetic),
     Negate,
-    Increment { local: u16, by: i16 },
+    Increment {
+        local: u16,
+        by: i16,
+    },
     Convert(Conversion),
     /// `ifeq` to `ifle`: an int is compared with 0.
-    If { comparison: Comparison, by: i32 },
+    If {
+        comparison: Comparison,
+        by: i32,
+    },
     /// `if_icmpeq` to `if_icmple`.
-    IfInts { comparison: Comparison, by: i32 },
+    IfInts {
+        comparison: Comparison,
+        by: i32,
+    },
     /// `if_acmpeq` and `if_acmpne`.
-    IfReferences { equal: bool, by: i32 },
+    IfReferences {
+        equal: bool,
+        by: i32,
+    },
     /// `ifnull` and `ifnonnull`.
-    IfNull { null: bool, by: i32 },
-    Goto { by: i32 },
+    IfNull {
+        null: bool,
+        by: i32,
+    },
+    Goto {
+        by: i32,
+    },
     /// The jump for `low + k` is the `k`th.
-    TableSwitch { default: i32, low: i32, high: i32, at: usize },
-    LookupSwitch { default: i32, pairs: u32, at: usize },
+    TableSwitch {
+        default: i32,
+        low: i32,
+        high: i32,
+        at: usize,
+    },
+    LookupSwitch {
+        default: i32,
+        pairs: u32,
+        at: usize,
+    },
     Return(Returned),
-    Field { access: FieldAccess, index: u16 },
-    Invoke { invocation: Invocation, index: u16 },
+    Field {
+        access: FieldAccess,
+        index: u16,
+    },
+    Invoke {
+        invocation: Invocation,
+        index: u16,
+    },
     /// The count and the last byte are those of the instruction, whatever they are.
-    InvokeInterface { index: u16, count: u8, last: u8 },
-    New { index: u16 },
+    InvokeInterface {
+        index: u16,
+        count: u8,
+        last: u8,
+    },
+    New {
+        index: u16,
+    },
     /// The code of the element type, whatever it is.
-    NewArray { code: u8 },
+    NewArray {
+        code: u8,
+    },
     /// `anewarray`.
-    NewReferenceArray { index: u16 },
+    NewReferenceArray {
+        index: u16,
+    },
     ArrayLength,
     Throw,
-    CheckCast { index: u16 },
-    InstanceOf { index: u16 },
+    CheckCast {
+        index: u16,
+    },
+    InstanceOf {
+        index: u16,
+    },
     MonitorEnter,
     MonitorExit,
 }

@@ -4,6 +4,7 @@
 #![tactic(auto)]
 
 mod class_file;
+mod end;
 mod event;
 mod instr;
 mod limits;
@@ -11,9 +12,10 @@ mod report;
 mod value;
 
 pub use class_file::ExceptionEntry;
-pub use event::Event;
+pub use end::{End, RunCause};
+pub use event::{Event, ScheduleEntry};
 pub use instr::{
-    ArrayKind, Arithmetic, Comparison, Conversion, FieldAccess, Instr, Invocation, Kind, Returned,
+    Arithmetic, ArrayKind, Comparison, Conversion, FieldAccess, Instr, Invocation, Kind, Returned,
     StackMove,
 };
 pub use limits::Limits;

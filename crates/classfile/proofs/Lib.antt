@@ -1,0 +1,5 @@
+mod Places
+mod PoolLaws
+mod MemberLaws
+mod Whole
+mod Promises

@@ -1,0 +1,51 @@
+-- What decoding promises, from what reading gives.
+use Rattle.std.proofs.Common.{◌≡◌, ℕ, List, take, drop, Result, Ok, Err, refl, sym, ◌∙◌, inl, inr}
+use Rattle.std.specs.Prelude.{IfOk, IfErr}
+use Rattle.reading.specs.declared.fault.Malformed.{Malformed}
+use Rattle.reading.specs.declared.fault.Cause.TheVariants as causes
+use Rattle.reading.proofs.Laws.{IsBytes, done, failed, ok_is, at_place}
+use Rattle.model.specs.Tree.{FileTree}
+use Rattle.model.specs.Spelling.{magic, version, Layout}
+use Rattle.classfile.specs.declared.tree.ClassFile.{ClassFile}
+use Rattle.classfile.specs.View.{file_of}
+use Rattle.classfile.specs.FileReading.{file_at}
+use Rattle.classfile.specs.Decoding.{Answers, Decodes, BeginsWith}
+use Rattle.classfile.proofs.Whole.{Fault, OfField, OfMagic, OfVersion, OfEnd, field_is, file_takes, file_again, fault_of}
+
+pub found_of : (bytes : List ℕ) (r : Result ClassFile Malformed) → IsBytes bytes → Decodes r (file_at (at_place 0 bytes)) → IfOk r (λ c. Layout bytes (file_of c))
+found_of bytes (Ok c) small h = file_takes bytes (file_of c) small h
+found_of bytes (Err e) small h = tt
+
+pub only_of : (bytes : List ℕ) (r : Result ClassFile Malformed) → Decodes r (file_at (at_place 0 bytes)) → (c : FileTree) → Layout bytes c → Answers r c
+only_of bytes (Ok x) h c l = let e : done (file_of x) ≡ done c = sym h ∙ file_again bytes c l in ok_is (file_of x) c e
+only_of bytes (Err e) h c l = elim h [ inl k ↦ k | inr k ↦ (let clash : failed e ≡ done c = sym k ∙ file_again bytes c l in absurd cc) ]
+
+magic_fault : (bytes : List ℕ) (e : Malformed) → Fault bytes e → e.cause ≡ causes.Magic → (e.offset ≡ 0) × (BeginsWith magic bytes → ⊥)
+magic_fault bytes e (OfField h) is = absurd (field_is e.cause causes.Magic h refl is)
+magic_fault bytes e (OfMagic c at others) is = (at, others)
+magic_fault bytes e (OfVersion c at others) is = absurd cc
+magic_fault bytes e (OfEnd c tree) is = absurd cc
+
+version_fault : (bytes : List ℕ) (e : Malformed) → Fault bytes e → e.cause ≡ causes.Version → (e.offset ≡ 4) × (BeginsWith version (drop 4 bytes) → ⊥)
+version_fault bytes e (OfField h) is = absurd (field_is e.cause causes.Version h refl is)
+version_fault bytes e (OfMagic c at others) is = absurd cc
+version_fault bytes e (OfVersion c at others) is = (at, others)
+version_fault bytes e (OfEnd c tree) is = absurd cc
+
+trailing_fault : (bytes : List ℕ) (e : Malformed) → Fault bytes e → e.cause ≡ causes.Trailing → (c : FileTree) × Layout (take e.offset bytes) c
+trailing_fault bytes e (OfField h) is = absurd (field_is e.cause causes.Trailing h refl is)
+trailing_fault bytes e (OfMagic c at others) is = absurd cc
+trailing_fault bytes e (OfVersion c at others) is = absurd cc
+trailing_fault bytes e (OfEnd c tree) is = tree
+
+pub magic_of : (bytes : List ℕ) (r : Result ClassFile Malformed) → IsBytes bytes → Decodes r (file_at (at_place 0 bytes)) → IfErr r (λ e. e.cause ≡ causes.Magic → (e.offset ≡ 0) × (BeginsWith magic bytes → ⊥))
+magic_of bytes (Ok x) small h = tt
+magic_of bytes (Err e) small h = λ is. elim h [ inl k ↦ absurd cc | inr k ↦ magic_fault bytes e (fault_of bytes e small k) is ]
+
+pub version_of : (bytes : List ℕ) (r : Result ClassFile Malformed) → IsBytes bytes → Decodes r (file_at (at_place 0 bytes)) → IfErr r (λ e. e.cause ≡ causes.Version → (e.offset ≡ 4) × (BeginsWith version (drop 4 bytes) → ⊥))
+version_of bytes (Ok x) small h = tt
+version_of bytes (Err e) small h = λ is. elim h [ inl k ↦ absurd cc | inr k ↦ version_fault bytes e (fault_of bytes e small k) is ]
+
+pub trailing_of : (bytes : List ℕ) (r : Result ClassFile Malformed) → IsBytes bytes → Decodes r (file_at (at_place 0 bytes)) → IfErr r (λ e. e.cause ≡ causes.Trailing → (c : FileTree) × Layout (take e.offset bytes) c)
+trailing_of bytes (Ok x) small h = tt
+trailing_of bytes (Err e) small h = λ is. elim h [ inl k ↦ absurd cc | inr k ↦ trailing_fault bytes e (fault_of bytes e small k) is ]

@@ -1,0 +1,16 @@
+//! The instruction at an offset of a method's code (JVMS 6.5).
+#![tactic(auto)]
+
+mod boundaries;
+mod bytes;
+mod decoding;
+mod families;
+mod mnemonics;
+mod switches;
+#[cfg(test)]
+mod tests;
+
+pub use boundaries::starts;
+pub use decoding::{decode_at, length_at, sized_at};
+pub use mnemonics::mnemonic;
+pub use switches::{lookup_pair, table_jump};

@@ -1,0 +1,18 @@
+//! Schedules: which thread does the next step, as lists of events that are kept as runs of equal ones.
+#![tactic(auto)]
+
+mod fault;
+mod read;
+mod reader;
+mod runs;
+mod spelling;
+#[cfg(test)]
+mod tests;
+mod write;
+
+pub use fault::ScheduleFault;
+pub use model::{Event, ScheduleEntry};
+pub use read::read_schedule;
+pub use runs::Schedule;
+pub use spelling::bytes_spell_one_list;
+pub use write::write_schedule;
