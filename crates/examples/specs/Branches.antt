@@ -3,9 +3,9 @@ use Rattle.std.specs.Prelude.{◌≡◌, ℕ, ℤ, pos, negsuc, List, [], ◌∷
 use Rattle.std.specs.Option.{option_map}
 use Rattle.model.specs.declared.instr.Comparison.TheVariants.{Equal, NotEqual, Less, GreaterOrEqual, Greater, LessOrEqual}
 use Rattle.model.specs.declared.instr.Instr.{Instr}
-use Rattle.model.specs.declared.instr.Instr.TheVariants.{If, IfInts, IfReferences, IfNull, Goto, TableSwitch, LookupSwitch}
+use Rattle.model.specs.declared.instr.Instr.TheVariants.{If, IfInts, Goto, TableSwitch, LookupSwitch}
 use Rattle.model.specs.declared.value.Value.{Value}
-use Rattle.model.specs.declared.value.Value.TheVariants.{Int, Null, Reference}
+use Rattle.model.specs.declared.value.Value.TheVariants.{Int}
 use Rattle.model.specs.Ints.{bits_of}
 use Rattle.model.specs.Operands.{word_of}
 use Rattle.model.specs.Rows.{row_target, local_row}
@@ -26,10 +26,6 @@ single = (Int 0xffffffff ∷ []) ∷ (Int 0 ∷ []) ∷ (Int 1 ∷ []) ∷ []
 -- value1 below, at and above value2, which is on top: 1 and 2, 2 and 2, 2 and 1, and -1 and 1
 abbrev pub couples : List (List Value)
 couples = (Int 2 ∷ Int 1 ∷ []) ∷ (Int 2 ∷ Int 2 ∷ []) ∷ (Int 1 ∷ Int 2 ∷ []) ∷ (Int 1 ∷ Int 0xffffffff ∷ []) ∷ []
-
--- two references to one object, to two, null twice, and null and a reference
-abbrev pub references : List (List Value)
-references = (Reference 0 ∷ Reference 0 ∷ []) ∷ (Reference 0 ∷ Reference 1 ∷ []) ∷ (Null ∷ Null ∷ []) ∷ (Null ∷ Reference 0 ∷ []) ∷ []
 
 -- jumps of a tableswitch, or matches and jumps of a lookupswitch
 abbrev pub jumps : List ℕ
@@ -55,10 +51,6 @@ pub record Branches : Type 0 where
   pub if_icmpge : Jumps (IfInts GreaterOrEqual (pos 20)) couples (false ∷ true ∷ true ∷ false ∷ [])
   pub if_icmpgt : Jumps (IfInts Greater (pos 20)) couples (false ∷ false ∷ true ∷ false ∷ [])
   pub if_icmple : Jumps (IfInts LessOrEqual (pos 20)) couples (true ∷ true ∷ false ∷ true ∷ [])
-  pub if_acmpeq : Jumps (IfReferences true (pos 20)) references (true ∷ false ∷ true ∷ false ∷ [])
-  pub if_acmpne : Jumps (IfReferences false (pos 20)) references (false ∷ true ∷ false ∷ true ∷ [])
-  pub ifnull : Jumps (IfNull true (pos 20)) ((Null ∷ []) ∷ (Reference 0 ∷ []) ∷ []) (true ∷ false ∷ [])
-  pub ifnonnull : Jumps (IfNull false (pos 20)) ((Null ∷ []) ∷ (Reference 0 ∷ []) ∷ []) (false ∷ true ∷ [])
   pub goto : Jumps (Goto (pos 20)) ([] ∷ []) (true ∷ [])
   pub backwards : target_in [] (Goto (negsuc 99)) [] ≡ Some 0
   -- from -1 to 1; for -3, -2, -1, 0, 1, 2 and the least and the greatest int

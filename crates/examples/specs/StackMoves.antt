@@ -5,7 +5,7 @@ use Rattle.model.specs.declared.instr.StackMove.{StackMove}
 use Rattle.model.specs.declared.instr.StackMove.TheVariants.{Pop, Pop2, Dup, DupX1, DupX2, Dup2, Dup2X1, Dup2X2, Swap}
 use Rattle.model.specs.declared.value.Value.{Value}
 use Rattle.model.specs.Classes.{Program}
-use Rattle.model.specs.ReferenceTypes.{ReferenceType}
+use Rattle.model.specs.Types.{value_meets}
 use Rattle.model.specs.Operands.{Slots, over_values, is_ready}
 use Rattle.model.specs.Rows.{move_row, row_wants, row_target, after_row}
 
@@ -21,14 +21,14 @@ slots locals stack = record { locals = locals; stack = stack }
 -- and goes on at the next instruction. Where there is nothing else on the stack, max_stack may be as low as the depth
 -- after it, and each of its operands must be there.
 pub record Moves (move : StackMove) (before after : List Value) : Type 0 where
-  pub turns : (files : Program) (objects : List ReferenceType) (locals rest : List Value) (next : ℕ) → after_row (over_values files objects) (move_row move next) (slots locals (pushed rest before)) ≡ slots locals (pushed rest after)
+  pub turns : (locals rest : List Value) (next : ℕ) → after_row over_values (move_row move next) (slots locals (pushed rest before)) ≡ slots locals (pushed rest after)
   pub goes_on : (next : ℕ) (words : List ℕ) → row_target (move_row move next) words ≡ next
-  pub is_done : (files : Program) → is_ready (over_values files []) (row_wants (move_row move 0)) (length after) (slots [] (pushed [] before)) ≡ true
-  pub too_few : (files : Program) → is_ready (over_values files []) (row_wants (move_row move 0)) 9 (slots [] (pushed [] (drop 1 before))) ≡ false
+  pub is_done : (files : Program) → is_ready (value_meets files []) over_values (row_wants (move_row move 0)) (length after) (slots [] (pushed [] before)) ≡ true
+  pub too_few : (files : Program) → is_ready (value_meets files []) over_values (row_wants (move_row move 0)) 9 (slots [] (pushed [] (drop 1 before))) ≡ false
 
 -- The stack is too small for what the instruction leaves, which is more than it found.
 abbrev pub Overflows : StackMove → List Value → ℕ → Type 0
-Overflows move before max_stack = (files : Program) → is_ready (over_values files []) (row_wants (move_row move 0)) max_stack (slots [] (pushed [] before)) ≡ false
+Overflows move before max_stack = (files : Program) → is_ready (value_meets files []) over_values (row_wants (move_row move 0)) max_stack (slots [] (pushed [] before)) ≡ false
 
 pub record StackMoves : Type 0 where
   pub pop : (value : Value) → Moves Pop (value ∷ []) []

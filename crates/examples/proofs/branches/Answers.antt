@@ -1,9 +1,11 @@
 use Rattle.std.proofs.Common.{refl}
 use Rattle.model.specs.OpcodeTable.{low_form, high_form}
+use Rattle.model.specs.BuiltIn.{built_in_classes}
+use Rattle.model.specs.State.{opening_heap}
 use Rattle.examples.proofs.branches.Goals as goal
 
 pub returns : goal.returns
-unfolding low_form high_form
+unfolding low_form high_form built_in_classes opening_heap
 returns c =
     record {
       holds = record {
@@ -19,10 +21,6 @@ returns c =
         if_icmpge = refl;
         if_icmpgt = refl;
         if_icmple = refl;
-        if_acmpeq = refl;
-        if_acmpne = refl;
-        ifnull = refl;
-        ifnonnull = refl;
         goto = refl;
         backwards = refl;
         tableswitch = refl;

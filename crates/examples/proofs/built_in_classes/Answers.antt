@@ -1,9 +1,11 @@
 use Rattle.std.proofs.Common.{refl}
-use Rattle.model.specs.BuiltIn.{built_in_classes}
 use Rattle.examples.proofs.Fits.{all_fit}
+use Rattle.model.specs.BuiltIn.{built_in_classes}
+use Rattle.model.specs.State.{opening_heap}
 use Rattle.examples.proofs.built_in_classes.Goals as goal
 
 pub returns : goal.returns
+unfolding built_in_classes opening_heap
 returns c =
     record {
       holds = record {

@@ -1,9 +1,11 @@
 use Rattle.std.proofs.Common.{refl}
 use Rattle.model.specs.OpcodeTable.{low_form, high_form}
+use Rattle.model.specs.BuiltIn.{built_in_classes}
+use Rattle.model.specs.State.{opening_heap}
 use Rattle.examples.proofs.event_by_event.Goals as goal
 
 pub returns : goal.returns
-unfolding low_form high_form
+unfolding low_form high_form built_in_classes opening_heap
 returns c =
     record {
       holds = record {

@@ -2,10 +2,12 @@ use Rattle.std.proofs.Common.{refl}
 use Rattle.model.specs.OpcodeTable.{low_form, high_form}
 use Rattle.model.specs.Instruction.{wide_at, table_switch_at, lookup_switch_at}
 use Rattle.examples.proofs.Fits.{fits}
+use Rattle.model.specs.BuiltIn.{built_in_classes}
+use Rattle.model.specs.State.{opening_heap}
 use Rattle.examples.proofs.only_returns.Goals as goal
 
 pub returns : goal.returns
-unfolding low_form high_form wide_at table_switch_at lookup_switch_at
+unfolding low_form high_form wide_at table_switch_at lookup_switch_at built_in_classes opening_heap
 returns c =
     record {
       holds = record {

@@ -5,10 +5,12 @@ use Rattle.examples.specs.PrintsSeven.{prints_seven_file}
 use Rattle.examples.specs.Runs.{after}
 use Rattle.examples.proofs.Fits.{fits}
 use Rattle.examples.proofs.Picks.{other_picks}
+use Rattle.model.specs.BuiltIn.{built_in_classes}
+use Rattle.model.specs.State.{opening_heap}
 use Rattle.examples.proofs.prints_seven.Goals as goal
 
 pub returns : goal.returns
-unfolding low_form high_form wide_at table_switch_at lookup_switch_at
+unfolding low_form high_form wide_at table_switch_at lookup_switch_at built_in_classes opening_heap
 returns c =
     record {
       holds = record {
