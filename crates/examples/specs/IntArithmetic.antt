@@ -43,4 +43,4 @@ file_with max_stack max_locals code = with_main pool 16 18 19 20 21 max_stack ma
 
 abbrev pub IntArithmetic : Type 0
 IntArithmetic =
-    Prints (bytes_with (hex (codes "0000003f 0003 0001 00000033")) int_arithmetic_code) (file_with 3 1 int_arithmetic_code) 30 (negsuc 2147483647 ∷ pos 0 ∷ pos 2 ∷ pos 15 ∷ negsuc 2147483647 ∷ [])
+    Prints (bytes_with (hex (codes "0000003f 0003 0001 00000033")) int_arithmetic_code) (file_with 3 1 int_arithmetic_code) 30 (negsuc 2147483647 ∷ pos 0 ∷ pos 2 ∷ pos 15 ∷ negsuc 2147483647 ∷ []) (codes "-2147483648\n0\n2\n15\n-2147483648\nthread 0 ended\nevents 30\nend quiet\n")

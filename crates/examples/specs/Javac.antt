@@ -122,4 +122,4 @@ javac_file =
 
 -- main prints 7, by the four instructions of a main that does nothing else
 abbrev pub WrittenByJavac : Type 0
-WrittenByJavac = Prints javac_bytes javac_file 8 (pos 7 ∷ [])
+WrittenByJavac = Prints javac_bytes javac_file 8 (pos 7 ∷ []) (codes "7\nthread 0 ended\nevents 8\nend quiet\n")

@@ -37,8 +37,8 @@ switches_code =
 
 -- 0 + 1 + 4 + 9 + 16, and 3 - 10
 abbrev pub Loop : Type 0
-Loop = Prints (printing.bytes_with (hex (codes "00000036 0003 0003 0000002a")) loop_code) (printing.file_with 3 3 loop_code) 74 (pos 30 ∷ negsuc 6 ∷ [])
+Loop = Prints (printing.bytes_with (hex (codes "00000036 0003 0003 0000002a")) loop_code) (printing.file_with 3 3 loop_code) 74 (pos 30 ∷ negsuc 6 ∷ []) (codes "30\n-7\nthread 0 ended\nevents 74\nend quiet\n")
 
 -- for -3 its low 16 bits; for -2 and 3 -1; for -1 11; for 0 -300; for 1 -2147483647; for 2 the low 8 bits of 200
 abbrev pub Switches : Type 0
-Switches = Prints (ints.bytes_with (hex (codes "00000081 0002 0003 00000075")) switches_code) (ints.file_with 2 3 switches_code) 106 (pos 65533 ∷ negsuc 0 ∷ pos 11 ∷ negsuc 299 ∷ negsuc 2147483646 ∷ negsuc 55 ∷ negsuc 0 ∷ [])
+Switches = Prints (ints.bytes_with (hex (codes "00000081 0002 0003 00000075")) switches_code) (ints.file_with 2 3 switches_code) 106 (pos 65533 ∷ negsuc 0 ∷ pos 11 ∷ negsuc 299 ∷ negsuc 2147483646 ∷ negsuc 55 ∷ negsuc 0 ∷ []) (codes "65533\n-1\n11\n-300\n-2147483647\n-56\n-1\nthread 0 ended\nevents 106\nend quiet\n")

@@ -18,4 +18,4 @@ abbrev pub only_returns_file : FileTree
 only_returns_file = with_main pool 2 4 5 6 7 0 1 (hex (codes "b1"))
 
 abbrev pub OnlyReturns : Type 0
-OnlyReturns = Prints only_returns_bytes only_returns_file 5 []
+OnlyReturns = Prints only_returns_bytes only_returns_file 5 [] (codes "thread 0 ended\nevents 5\nend quiet\n")

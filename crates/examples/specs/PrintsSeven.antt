@@ -39,7 +39,7 @@ prints_seven_file = file_with (hex (codes "b2000d 1007 b60013 b1"))
 -- Three events initialise the class, the fourth begins main, and four instructions follow. After three events the one event
 -- that is enabled is that of thread 0 with pick 0.
 pub record PrintsSeven : Type 0 where
-  pub prints : Prints prints_seven_bytes prints_seven_file 8 (pos 7 ∷ [])
+  pub prints : Prints prints_seven_bytes prints_seven_file 8 (pos 7 ∷ []) (codes "7\nthread 0 ended\nevents 8\nend quiet\n")
   pub other_thread : (thread pick : ℕ) → then_stepped prints_seven_file (after prints_seven_file 3) (record { thread = suc thread; pick = pick }) ≡ Some NotEnabled
   pub other_pick : (pick : ℕ) → then_stepped prints_seven_file (after prints_seven_file 3) (record { thread = 0; pick = suc pick }) ≡ Some NotEnabled
   pub this_one : option_map (λ state. is_enabled (prints_seven_file ∷ []) frames state (event_of 0)) (after prints_seven_file 3) ≡ Some true

@@ -8,6 +8,8 @@ use Rattle.model.specs.Spelling.{Layout}
 use Rattle.model.specs.Operands.{values}
 use Rattle.model.specs.State.{State, StackOf, ThreadStatus, Ended, Thread}
 use Rattle.model.specs.Outcomes.{Cost}
+use Rattle.model.specs.Report as report
+use Rattle.model.specs.declared.end.End.TheVariants as ends
 use Rattle.model.specs.Run.{run}
 use Rattle.model.specs.Step.{SteppedOf, NotEnabled, WrongKind, Next, stepped}
 
@@ -43,11 +45,12 @@ cost_of WrongKind = None
 cost_of (Next cost next) = Some cost
 
 -- The bytes are those of a file. After so many events of thread 0, and not before, main has ended with no exception,
--- and these numbers were printed.
-pub record Prints (bytes : List ℕ) (file : FileTree) (events : ℕ) (printed : List ℤ) : Type 0 where
+-- and these numbers were printed; the report says so by this text.
+pub record Prints (bytes : List ℕ) (file : FileTree) (events : ℕ) (printed : List ℤ) (text : List ℕ) : Type 0 where
   pub layout : Layout bytes file
   pub numbers : numbers_in (after file events) ≡ Some printed
   pub threads : statuses_in (after file events) ≡ Some (Ended None ∷ [])
+  pub reported : report.report_text printed (report.Ended ∷ []) events ends.Quiet ≡ text
   pub then_over : then_stepped file (after file events) (event_of 0) ≡ Some NotEnabled
 
 -- A public class with a public static main alone, whose Code has no handlers and no attributes. `this_class`, `super_class`,
