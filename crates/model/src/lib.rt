@@ -3,12 +3,14 @@
 //! the Java Language Specification (JLS), both of Java SE 8.
 #![tactic(auto)]
 
+mod device;
 mod event;
 mod instr;
 mod limits;
 mod report;
 mod value;
 
+pub use device::{DeviceFault, Sink, Source};
 pub use event::Event;
 pub use instr::{
     ArrayKind, Arithmetic, Comparison, Conversion, FieldAccess, Instr, Invocation, Kind, Returned,
