@@ -1,0 +1,242 @@
+//! The reading of the command line.
+
+ghost use Rattle.std.specs.Prelude.{◌≡◌, ◌≤◌, IfOk, IfSome};
+ghost use Rattle.std.specs.Option.{SomeIff};
+ghost use Rattle.std.specs.Str.Parse.{IsNumeral, digits_value};
+
+use crate::options;
+use crate::options::{LimitOptions, Replay};
+use clap::builder::ValueParser;
+use clap::error::ErrorKind;
+use clap::{Arg, ArgAction, ArgMatches};
+use std::alloc::{AllocError, AllocFailed, Global};
+use std::fmt;
+
+/// Why there is no command.
+#[derive(Debug, Drop)]
+pub enum Usage {
+    /// The words are no command, or ask for help. Its text is for the user.
+    Parser(clap::Error),
+    OutOfMemory,
+}
+
+impl fmt::Display for Usage {
+    fn fmt<W: fmt::Write>(&self, f: &mut fmt::Formatter<W>) -> fmt::Result {
+        match self {
+            Usage::Parser(error) => error.fmt(f),
+            Usage::OutOfMemory => f.write_str("run refused Memory\n"),
+        }
+    }
+}
+
+impl From<clap::Error> for Usage {
+    fn from(error: clap::Error) -> Usage {
+        match error.kind() {
+            ErrorKind::OutOfMemory => Usage::OutOfMemory,
+            _ => Usage::Parser(error),
+        }
+    }
+}
+
+impl From<AllocError> for Usage {
+    fn from(_error: AllocError) -> Usage {
+        Usage::OutOfMemory
+    }
+}
+
+impl<T: Drop> From<AllocFailed<T>> for Usage {
+    fn from(_error: AllocFailed<T>) -> Usage {
+        Usage::OutOfMemory
+    }
+}
+
+/// An option that takes a number: its name, its range, and what its help says.
+#[derive(Clone, Copy)]
+struct NumberOption {
+    name: &'static str,
+    least: u32,
+    most: u32,
+    help: &'static str,
+}
+
+const OBJECTS: NumberOption = NumberOption {
+    name: "objects",
+    least: 0,
+    most: 4_000_000_000,
+    help: "How many objects may be made [default: 1000000]",
+};
+
+const CELLS: NumberOption = NumberOption {
+    name: "cells",
+    least: 0,
+    most: u32::MAX,
+    help: "How many instance fields and array elements they may have [default: 16000000]",
+};
+
+const MONITORS: NumberOption = NumberOption {
+    name: "monitors",
+    least: 0,
+    most: 8_388_608,
+    help: "How many monitors may be inflated [default: 65536]",
+};
+
+const THREADS: NumberOption = NumberOption {
+    name: "threads",
+    least: 1,
+    most: 32_767,
+    help: "How many threads may be started, the main thread included [default: 256]",
+};
+
+const FRAMES: NumberOption = NumberOption {
+    name: "frames",
+    least: 1,
+    most: 65_535,
+    help: "How many method frames a thread may have [default: 1024]",
+};
+
+impl NumberOption {
+    /// The option, for the parser.
+    fn argument<'a>(self, alloc: Global) -> Arg<'a> {
+        Arg::new(alloc, self.name)
+            .long(self.name)
+            .value_name("NUMBER")
+            .action(ArgAction::Set)
+            .value_parser(ValueParser::unsigned(u64::from(self.least), u64::from(self.most)))
+            .help(self.help)
+    }
+
+    /// Its number among what the parser found, and `None` where it isn't there.
+    fn number(self, alloc: Global, matches: &ArgMatches<'_>) -> Result<Option<u32>, Usage>
+        ensures { IfOk result (λ number. IfSome number (λ n. (self.least ≤ n) × (n ≤ self.most))) }
+    {
+        match matches.get_str(self.name) {
+            None => Ok(None),
+            Some(text) => match decimal(text, self.least, self.most) {
+                Some(number) => Ok(Some(number)),
+                None => Err(self.refusal(alloc, text)?),
+            },
+        }
+    }
+
+    /// That a text isn't a number of the option's. The parser takes a sign, which this program doesn't.
+    fn refusal(self, alloc: Global, text: &str) -> Result<Usage, Usage> {
+        let name = self.name;
+        let message = format!(in alloc; "invalid value '{text}' for '--{name} <NUMBER>': digits alone are a number")?;
+        let mut program = program(alloc)?;
+        Ok(Usage::from(program.error(ErrorKind::ValueValidation, message.as_str())?))
+    }
+}
+
+/// The number that decimal digits spell, where it lies between these two. Digits alone do, and no sign.
+fn decimal(text: &str, least: u32, most: u32) -> Option<u32>
+    ensures { SomeIff result (IsNumeral 10 text.now × (least ≤ digits_value 10 text.now) × (digits_value 10 text.now ≤ most)) (digits_value 10 text.now) }
+{
+    if text.starts_with('+') {
+        return None;
+    }
+    let number = text.parse::<u32>().ok()?;
+    if least <= number && number <= most {
+        Some(number)
+    } else {
+        None
+    }
+}
+
+/// The command that the words spell, the program's name first.
+pub fn command(alloc: Global, words: &[String]) -> Result<options::Command, Usage> {
+    let matches = program(alloc)?.try_get_matches_from(words)?;
+    match matches.subcommand() {
+        Some(("replay", replay)) => Ok(options::Command::Replay(replay_of(alloc, replay)?)),
+        _ => Err(missing(alloc, "a subcommand is missing")?),
+    }
+}
+
+/// That the words lack something. The parser says so first, so that this text is never seen.
+fn missing(alloc: Global, what: &str) -> Result<Usage, Usage> {
+    let mut program = program(alloc)?;
+    Ok(Usage::from(program.error(ErrorKind::MissingRequiredArgument, what)?))
+}
+
+fn replay_of(alloc: Global, matches: &ArgMatches<'_>) -> Result<Replay, Usage> {
+    let schedule = match matches.get_str("schedule") {
+        Some(path) => String::from_str(alloc, path)?,
+        None => return Err(missing(alloc, "the schedule file is missing")?),
+    };
+    let limits = limits_of(alloc, matches)?;
+    let files = files_of(alloc, matches)?;
+    Ok(Replay {
+        schedule,
+        limits,
+        files,
+    })
+}
+
+fn limits_of(alloc: Global, matches: &ArgMatches<'_>) -> Result<LimitOptions, Usage> {
+    Ok(LimitOptions {
+        objects: OBJECTS.number(alloc, matches)?,
+        cells: CELLS.number(alloc, matches)?,
+        monitors: MONITORS.number(alloc, matches)?,
+        threads: THREADS.number(alloc, matches)?,
+        frames: FRAMES.number(alloc, matches)?,
+    })
+}
+
+/// The paths of the class files.
+fn files_of(alloc: Global, matches: &ArgMatches<'_>) -> Result<Vec<String>, Usage> {
+    let mut files = Vec::new(alloc);
+    if let Some(paths) = matches.get_strs("files") {
+        for path in paths {
+            files.push(String::from_str(alloc, path)?)?;
+        }
+    }
+    Ok(files)
+}
+
+/// The parser of the command line.
+fn program<'a>(alloc: Global) -> Result<clap::Command<'a>, clap::Error> {
+    let program = clap::Command::new(alloc, "jvm")
+        .about("Runs Java class files under a schedule")
+        .disable_help_subcommand(true)
+        .subcommand_required(true)
+        .subcommand(replay_parser(alloc)?)?;
+    Ok(program)
+}
+
+fn replay_parser<'a>(alloc: Global) -> Result<clap::Command<'a>, AllocError> {
+    let schedule = Arg::new(alloc, "schedule")
+        .long("schedule")
+        .value_name("FILE")
+        .required(true)
+        .action(ArgAction::Set)
+        .help("The schedule file");
+    let replay = clap::Command::new(alloc, "replay")
+        .about("Runs class files under the schedule of a file")
+        .arg(schedule)?;
+    with_limits(alloc, replay)?.arg(files_argument(alloc))
+}
+
+/// The class files, one or more.
+fn files_argument<'a>(alloc: Global) -> Arg<'a> {
+    Arg::new(alloc, "files")
+        .value_name("FILE")
+        .required(true)
+        .num_args(1..)
+        .action(ArgAction::Append)
+        .help("The class files; the main method is that of the first")
+}
+
+/// The command with the options of the limits.
+fn with_limits<'a>(
+    alloc: Global,
+    command: clap::Command<'a>,
+) -> Result<clap::Command<'a>, AllocError> {
+    command
+        .arg(OBJECTS.argument(alloc))?
+        .arg(CELLS.argument(alloc))?
+        .arg(MONITORS.argument(alloc))?
+        .arg(THREADS.argument(alloc))?
+        .arg(FRAMES.argument(alloc))
+}
+
+#[cfg(test)]
+mod tests;
