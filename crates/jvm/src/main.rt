@@ -2,7 +2,10 @@
 #![tactic(auto)]
 
 mod command;
+mod fault;
 mod options;
+mod stand_in;
+mod status;
 
 use std::io;
 
