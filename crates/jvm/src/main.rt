@@ -2,6 +2,7 @@
 #![tactic(auto)]
 
 mod command;
+mod device;
 mod fault;
 mod options;
 mod stand_in;
