@@ -1,3 +1,5 @@
+pub mod Choices
 pub mod Devices
+pub mod Engines
 pub mod StandIn
 pub mod Statuses

@@ -3,6 +3,7 @@
 
 mod command;
 mod device;
+mod engine;
 mod fault;
 mod options;
 mod stand_in;

@@ -35,13 +35,11 @@ pub struct LimitOptions {
 }
 
 impl LimitOptions {
+    ghost use Rattle.jvm.specs.Choices.{AreChosen};
+
     /// The limits of the run.
     pub fn limits(&self) -> Limits
-        ensures objects { result.objects ≡ unwrap_or self.now.objects 1000000 }
-        ensures cells { result.cells ≡ unwrap_or self.now.cells 16000000 }
-        ensures monitors { result.monitors ≡ unwrap_or self.now.monitors 65536 }
-        ensures threads { result.threads ≡ unwrap_or self.now.threads 256 }
-        ensures frames { result.frames ≡ unwrap_or self.now.frames 1024 }
+        ensures { AreChosen self.now result }
     {
         Limits {
             objects: self.objects.unwrap_or(1_000_000),

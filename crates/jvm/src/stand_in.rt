@@ -1,6 +1,6 @@
 //! Stands for the crates `schedule` and `replay`, which are written at the same time.
 
-ghost use Rattle.std.specs.Prelude.{◌≡◌, ◌⊎◌, ◌≢◌, IfOk, IfErr, map};
+ghost use Rattle.std.specs.Prelude.{◌≡◌, ◌⊎◌, ◌≢◌, IfOk, IfErr, map, vec_items};
 ghost use Rattle.std.specs.Arc.{arc_value};
 ghost use Rattle.jvm.specs.StandIn.{ScheduleFile, IsAccepted, IsReplay, Links, Verifies, text_of};
 
@@ -65,8 +65,8 @@ pub struct Verified {
 }
 
 pub fn link(_alloc: Global, files: &[Vec<u8>]) -> Result<Linked, Refusal>
-    ensures linked { IfOk result (Links (map (λ file. file.items) files.now)) }
-    ensures refused { IfErr result (λ refusal. (refusal.kind ≡ RefusalKind.OutOfMemory) ⊎ (IsAccepted (map (λ file. file.items) files.now) → ⊥)) }
+    ensures linked { IfOk result (Links (map vec_items files.now)) }
+    ensures refused { IfErr result (λ refusal. (refusal.kind ≡ RefusalKind.OutOfMemory) ⊎ (IsAccepted (map vec_items files.now) → ⊥)) }
 {
     match files {
         [_] => Ok(Linked { length: 1 }),
