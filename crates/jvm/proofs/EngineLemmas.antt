@@ -2,7 +2,11 @@
 use Rattle.std.proofs.Common.{arith, ◌≡◌, ℕ, ◌+◌, ◌<◌, List, [], ◌∷◌, ◌++◌, length, take, drop, map, sum_by, get_or, set, Option, refl, sym, ◌∙◌, ap}
 use Rattle.std.proofs.lemmas.List.{drop_more, drop-set-lt, take_more, map-append}
 use Rattle.std.proofs.lemmas.List.Sums.{sum_by-set}
-use Rattle.jvm.specs.Engines.{Reads, ReadsEach, CountsWith}
+use Rattle.model.specs.declared.device.DeviceFault.{DeviceFault}
+use Rattle.model.specs.declared.device.DeviceFault.TheVariants as devices
+use Rattle.jvm.specs.Devices.{fault_of}
+use Rattle.jvm.specs.Engines.{Reads, ReadsEach, WritesPart, IsFaulty, CountsWith}
+use Rattle.jvm.specs.declared.options.LimitOptions.{LimitOptions}
 use Rattle.jvm.specs.declared.fault.Fault.{Fault}
 use Rattle.jvm.specs.declared.fault.Fault.TheVariants as faults
 
@@ -33,3 +37,15 @@ counts_among failures (faults.Refusal refusal) total sources i y d within so_far
 
 pub none_failed : {S : Type 0} (failures : S → ℕ) (total : ℕ) (sources : List S) (i : ℕ) (y d : S) → i < length sources → sum_by failures sources ≡ total → failures y ≡ failures (get_or sources i d) → sum_by failures (set sources i y) ≡ total
 none_failed failures total sources i y d within so_far counted = omega (arith, sum_by-set failures sources i y d within, so_far, counted)
+
+-- where a device fails, or there is no memory for what it does, a part may be written
+pub part_is_faulty : (fault : DeviceFault) (left : Option (List ℕ)) (lefts : List (Option (List ℕ))) (options : LimitOptions) (old new : Option (List ℕ)) → WritesPart left lefts options old new → IsFaulty left lefts options old new (fault_of fault)
+part_is_faulty devices.Device left lefts options old new part = part
+part_is_faulty devices.Memory left lefts options old new part = part
+
+-- where nothing counts a failure, the sum of the counts stays
+pub counts_sum : (fault : Fault) (a b c d sum : ℕ) → a ≡ c → b ≡ d → CountsWith fault sum sum → CountsWith fault (c + d + sum) (a + b + sum)
+counts_sum faults.Device a b c d sum first second counted = absurd (omega (arith, counted))
+counts_sum faults.Memory a b c d sum first second counted = omega (arith, first, second)
+counts_sum (faults.Schedule fault) a b c d sum first second counted = omega (arith, first, second)
+counts_sum (faults.Refusal refusal) a b c d sum first second counted = omega (arith, first, second)

@@ -3,7 +3,7 @@
 ghost use Rattle.std.specs.Prelude.{◌≡◌, ◌+◌, IfOk, IfErr, map, sum_by, vec_items};
 ghost use Rattle.std.specs.Arc.{arc_value};
 ghost use Rattle.std.specs.Io.KnownBytes.{Appends};
-ghost use Rattle.jvm.specs.Engines.{Reads, ReadsEach, Replays, IsFaulty, IsOfSchedule, CountsFailure};
+ghost use Rattle.jvm.specs.Engines.{Reads, ReadsEach, Replays, IsReplayed, IsFaulty, IsOfSchedule, CountsFailure};
 ghost use Rattle.jvm.specs.StandIn.{ScheduleFile, Verifies};
 
 use crate::fault::Fault;
@@ -13,7 +13,7 @@ use crate::stand_in::{
 };
 use crate::status::Status;
 use model::{DeviceFault, Sink, Source};
-use std::alloc::Global;
+use std::alloc::{AllocError, Global};
 use std::sync::Arc;
 
 /// Runs the class files under the schedule, writes the report and answers its status.
@@ -41,10 +41,9 @@ pub fn replay_engine<S: Source, W: Sink>(
     let schedule = read_schedule_file(alloc, schedule)?;
     let files = read_class_files(alloc, files)?;
     let verified = verified(alloc, files.as_slice())?;
-    let (found, end) = replay(alloc, &verified, &schedule, limits.limits())?;
-    let text = text(alloc, &found, &end)?;
+    let (text, status) = replayed(alloc, &verified, &schedule, limits)?;
     report.write_all(text.as_slice())?;
-    Ok(Status::of(&found, end))
+    Ok(status)
 }
 
 /// The schedule of a schedule file.
@@ -116,7 +115,24 @@ fn verified(alloc: Global, files: &[Vec<u8>]) -> Result<Arc<Verified>, Fault>
         → Reads left schedule → ReadsEach lefts (map vec_items files.now) → ScheduleFile schedule events
         → IsFaulty left lefts options sink sink fault) }
     ensures of_files { IfErr result (λ fault. IsOfSchedule fault → ⊥) }
+    ensures counted { (count : _) → CountsFailure result count count }
 {
     let verified = verify(link(alloc, files)?)?;
     Ok(Arc::new(alloc, verified)?)
+}
+
+/// The text and the status of what the class files do under the schedule.
+fn replayed(
+    alloc: Global,
+    verified: &Arc<Verified>,
+    schedule: &Schedule,
+    limits: &LimitOptions,
+) -> Result<(Vec<u8>, Status), AllocError>
+    ensures { IfOk result (λ told. (bytes : _) (files : _) → ScheduleFile bytes schedule.now.events.items
+        → Verifies files (arc_value verified.now)
+        → IsReplayed bytes files limits.now told.0.items told.1) }
+{
+    let (report, end) = replay(alloc, verified, schedule, limits.limits())?;
+    let text = text(alloc, &report, &end)?;
+    Ok((text, Status::of(&report, end)))
 }
