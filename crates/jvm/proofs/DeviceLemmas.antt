@@ -20,9 +20,10 @@ appends_keeps (Some held) (Some more) (Some all) xs first second = second ∙ fi
 
 -- a front of the bytes, and then n more of them
 pub front_on : (old mid new : Option (List ℕ)) (bytes front rest : List ℕ) (n : ℕ) → bytes ≡ front ++ rest → Appends old mid front → Appends mid new (take n rest) → (bytes ≡ (front ++ take n rest) ++ drop n rest) × Appends old new (front ++ take n rest)
-front_on old mid new bytes front rest n cut first second =
-    (cut ∙ ap (λ l. front ++ l) (sym (take-append-drop n rest)) ∙ sym (append_assoc front (take n rest) (drop n rest)),
-    appends_on old mid new front (take n rest) first second)
+front_on old mid new bytes front rest n cut first second = (
+  cut ∙ ap (λ l. front ++ l) (sym (take-append-drop n rest)) ∙ sym (append_assoc front (take n rest) (drop n rest)),
+  appends_on old mid new front (take n rest) first second,
+)
 
 -- `&rest[n..]`, which is cut at the length too
 pub tail_cut : (n : ℕ) (rest : List ℕ) → take (length rest - n) (drop n rest) ≡ drop n rest

@@ -121,7 +121,9 @@ impl NumberOption {
     /// That a text isn't a number of the option's. The parser takes a sign, which this program doesn't.
     fn refusal(self, alloc: Global, text: &str) -> Result<Usage, Usage> {
         let name = self.name;
-        let message = format!(in alloc; "invalid value '{text}' for '--{name} <NUMBER>': digits alone are a number")?;
+        let message = format!(in alloc;
+            "invalid value '{text}' for '--{name} <NUMBER>': digits alone are a number"
+        )?;
         let mut program = program(alloc)?;
         Ok(Usage::from(program.error(ErrorKind::ValueValidation, message.as_str())?))
     }

@@ -79,3 +79,6 @@ impl<W: Write> Sink for Counted<W> {
         Err(self.fault(ErrorKind::TimedOut))
     }
 }
+
+#[cfg(test)]
+pub(crate) mod fake;

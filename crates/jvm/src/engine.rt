@@ -9,7 +9,8 @@ ghost use Rattle.jvm.specs.StandIn.{ScheduleFile, Verifies};
 use crate::fault::Fault;
 use crate::options::LimitOptions;
 use crate::stand_in::{
-    Refusal, RefusalKind, Schedule, ScheduleFault, Verified, link, read_schedule, replay, text, verify,
+    Refusal, RefusalKind, Schedule, ScheduleFault, Verified, link, read_schedule, replay, text,
+    verify,
 };
 use crate::status::Status;
 use model::{DeviceFault, Sink, Source};
@@ -80,11 +81,7 @@ fn read_class_files<S: Source>(alloc: Global, files: &mut [S]) -> Result<Vec<Vec
 }
 
 /// The bytes of the class file with this number.
-fn read_class_file<S: Source>(
-    alloc: Global,
-    file: &mut S,
-    number: usize,
-) -> Result<Vec<u8>, Fault>
+fn read_class_file<S: Source>(alloc: Global, file: &mut S, number: usize) -> Result<Vec<u8>, Fault>
     ensures read { IfOk result (λ bytes. Reads (S.remaining file.old) bytes.items) }
     ensures faulty { IfErr result (λ fault. (left : _) (lefts : _) (options : _) (sink : _)
         → IsFaulty left lefts options sink sink fault) }
@@ -136,3 +133,6 @@ fn replayed(
     let text = text(alloc, &report, &end)?;
     Ok((text, Status::of(&report, end)))
 }
+
+#[cfg(test)]
+mod tests;

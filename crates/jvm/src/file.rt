@@ -1,9 +1,8 @@
 //! Files by their paths.
 
-use std::fs;
-use std::io;
 use std::io::Read;
 use std::rt::Files;
+use std::{fs, io};
 
 /// The file at a path, which is opened by the first read and closed at its end.
 #[derive(Drop)]

@@ -26,10 +26,10 @@ loop-number-preserved g c =
     let within_sources : number < length sources = omega (arith, within, c.loop-number.auto.files) in
     let same = next_same files sources number _ within within_sources c.loop-number.invariant.rest in
     let pushed : c.push.new.self.items ≡ c.loop-number.read.items ++ c.in_ok-bytes.bytes ∷ [] =
-        c.push.ensures.items ∙ ap (λ b. if b then c.loop-number.read.items ++ c.in_ok-bytes.bytes ∷ [] else c.loop-number.read.items) c.if-is_err.ensures.negation in
+    c.push.ensures.items ∙ ap (λ b. if b then c.loop-number.read.items ++ c.in_ok-bytes.bytes ∷ [] else c.loop-number.read.items) c.if-is_err.ensures.negation in
     record {
       read = rw (pushed) (reads_next g.S.Source.remaining vec_items sources number _ c.loop-number.read.items c.in_ok-bytes.bytes within_sources
-        c.loop-number.invariant.read (subst (λ source. Reads (g.S.Source.remaining source) c.in_ok-bytes.bytes.items) same.0 c.in_ok-bytes.ensures.read));
+          c.loop-number.invariant.read (subst (λ source. Reads (g.S.Source.remaining source) c.in_ok-bytes.bytes.items) same.0 c.in_ok-bytes.ensures.read));
       rest = drop-set-lt (number + 1) files number _ (omega arith) ∙ same.1;
-      counted = none_failed g.S.Source.failures _ files number _ _ within c.loop-number.invariant.counted c.in_ok-bytes.ensures.counted
+      counted = none_failed g.S.Source.failures _ files number _ _ within c.loop-number.invariant.counted c.in_ok-bytes.ensures.counted;
     }

@@ -9,5 +9,5 @@ invariant-loop-number g l =
     record {
       read : ReadsEach (map source.remaining (take l.number l.fn.files)) (map vec_items l.read.items);
       rest : drop l.number l.files ≡ drop l.number l.fn.files;
-      counted : sum_by source.failures l.files ≡ sum_by source.failures l.fn.files
+      counted : sum_by source.failures l.files ≡ sum_by source.failures l.fn.files;
     }

@@ -37,7 +37,7 @@ returns-in_err-write_all-clause-faulty g c =
     let verified = subst (λ files. Verifies (map vec_items files) c.in_ok-verified.verified.value) c.as_slice.ensures.value c.in_ok-verified.ensures.verified in
     let written = subst (λ text. AppendsFront (contents c.args.report.now) (contents c.write_all.new.self) text) c.as_slice-2.ensures.value c.in_err-write_all.ensures.part in
     rw (p.1, p.2) (part_is_faulty _ _ _ _ _ _
-      (inr (_, _, (schedule.0, _, schedule.1, c.in_ok-files.ensures.read, c.in_ok-text.ensures _ _ schedule.2 verified), written)))
+    (inr (_, _, (schedule.0, _, schedule.1, c.in_ok-files.ensures.read, c.in_ok-text.ensures _ _ schedule.2 verified), written)))
 
 pub returns-clause-replayed : goal.returns-clause-replayed
 returns-clause-replayed g c =

@@ -19,11 +19,11 @@ loop-preserved g c =
     let front = c.loop.invariant.0 in
     elim c.match-write.branch [
       | in-Ok w ↦
-        let on = front_on _ _ _ _ front _ w.in-Ok.n c.loop.invariant.1 c.loop.invariant.2 w.in-Ok.ensures.bytes in
-        let cut : c.match-write.rest.now ≡ drop w.in-Ok.n c.loop.rest.now = ap (λ rest. rest.now) w.rest-is ∙ tail_cut w.in-Ok.n c.loop.rest.now in
-        (front ++ take w.in-Ok.n c.loop.rest.now, rw (cut) on.0, on.1, c.loop.invariant.3)
+          let on = front_on _ _ _ _ front _ w.in-Ok.n c.loop.invariant.1 c.loop.invariant.2 w.in-Ok.ensures.bytes in
+          let cut : c.match-write.rest.now ≡ drop w.in-Ok.n c.loop.rest.now = ap (λ rest. rest.now) w.rest-is ∙ tail_cut w.in-Ok.n c.loop.rest.now in
+          (front ++ take w.in-Ok.n c.loop.rest.now, rw (cut) on.0, on.1, c.loop.invariant.3)
       | in-Err+else-ne w ↦
-        rw (w.rest-is) (front, c.loop.invariant.1, appends_keeps _ _ _ _ c.loop.invariant.2 w.in-Err.ensures.bytes, c.loop.invariant.3)
+          rw (w.rest-is) (front, c.loop.invariant.1, appends_keeps _ _ _ _ c.loop.invariant.2 w.in-Err.ensures.bytes, c.loop.invariant.3)
     ]
 
 pub returns-clause-part : goal.returns-clause-part
