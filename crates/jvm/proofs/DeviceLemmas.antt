@@ -1,8 +1,7 @@
 -- Writes one after another.
-use Rattle.std.proofs.Common.{arith, length, ◌-◌, ◌≡◌, ℕ, List, [], ◌∷◌, ◌++◌, take, drop, Option, None, Some, refl, sym, ◌∙◌, ap, append_assoc, append-nil}
+use Rattle.std.proofs.Common.{arith, length, ◌-◌, ◌≡◌, ℕ, List, ◌++◌, take, drop, Option, None, Some, sym, ◌∙◌, ap, append_assoc}
 use Rattle.std.proofs.lemmas.List.{take-append-drop, take_all, length-drop}
 use Rattle.std.specs.Io.KnownBytes.{Appends, Keeps}
-use Rattle.model.specs.Devices.{AppendsFront}
 
 -- one write, and then another
 pub appends_on : (old mid new : Option (List ℕ)) (xs ys : List ℕ) → Appends old mid xs → Appends mid new ys → Appends old new (xs ++ ys)

@@ -1,6 +1,6 @@
 -- Sources that are read one after another.
-use Rattle.std.proofs.Common.{arith, ◌≡◌, ℕ, ◌+◌, ◌<◌, List, [], ◌∷◌, ◌++◌, length, take, drop, map, sum_by, get_or, set, Option, refl, sym, ◌∙◌, ap}
-use Rattle.std.proofs.lemmas.List.{drop_more, drop-set-lt, take_more, map-append}
+use Rattle.std.proofs.Common.{arith, ◌≡◌, ℕ, ◌+◌, ◌<◌, List, [], ◌∷◌, ◌++◌, length, take, drop, map, sum_by, get_or, set, Option, sym, ◌∙◌}
+use Rattle.std.proofs.lemmas.List.{drop_more, take_more, map-append}
 use Rattle.std.proofs.lemmas.List.Sums.{sum_by-set}
 use Rattle.model.specs.declared.device.DeviceFault.{DeviceFault}
 use Rattle.model.specs.declared.device.DeviceFault.TheVariants as devices

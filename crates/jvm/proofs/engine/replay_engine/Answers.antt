@@ -1,4 +1,4 @@
-use Rattle.std.proofs.Common.{◌≡◌, map, vec_items, inr, sym, subst, refl}
+use Rattle.std.proofs.Common.{map, vec_items, inr, sym, subst}
 use Rattle.std.proofs.lemmas.Result.{err_from_is_err_and}
 use Rattle.std.specs.Io.KnownBytes.{Appends}
 use Rattle.model.specs.Devices.{AppendsFront}

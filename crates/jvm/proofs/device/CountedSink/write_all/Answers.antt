@@ -1,4 +1,4 @@
-use Rattle.std.proofs.Common.{◌≡◌, ℕ, List, ◌++◌, take, drop, ap, ◌∙◌}
+use Rattle.std.proofs.Common.{◌≡◌, ◌++◌, take, drop, ap, ◌∙◌}
 use Rattle.jvm.proofs.DeviceLemmas.{front_on, appends_keeps, tail_cut}
 use Rattle.jvm.proofs.device.CountedSink.write_all.Goals.{in-Ok, in-Err+else-ne}
 use Rattle.jvm.proofs.device.CountedSink.write_all.Goals as goal
