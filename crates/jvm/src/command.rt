@@ -1,7 +1,9 @@
 //! The reading of the command line.
 
-ghost use Rattle.std.specs.Prelude.{◌≡◌, ◌≤◌, IfOk, IfSome};
+ghost use Rattle.std.specs.Prelude.{◌≡◌, ◌≤◌, false, IfOk, IfSome};
 ghost use Rattle.std.specs.Option.{SomeIff};
+ghost use Rattle.clap.specs.Words.{app_of, rule_of};
+ghost use Rattle.jvm.specs.CommandLine.{IsLocal, class_files, jvm, jvm_replay, number_option, with_limits as limited};
 ghost use Rattle.std.specs.Str.Parse.{IsNumeral, digits_value};
 
 use crate::options;
@@ -96,7 +98,10 @@ const FRAMES: NumberOption = NumberOption {
 
 impl NumberOption {
     /// The option, for the parser.
-    fn argument<'a>(self, alloc: Global) -> Arg<'a> {
+    fn argument<'a>(self, alloc: Global) -> Arg<'a>
+        ensures rule { rule_of result ≡ number_option self.name.now self.least self.most }
+        ensures local { result.global ≡ false }
+    {
         Arg::new(alloc, self.name)
             .long(self.name)
             .value_name("NUMBER")
@@ -195,7 +200,9 @@ fn files_of(alloc: Global, matches: &ArgMatches<'_>) -> Result<Vec<String>, Usag
 }
 
 /// The parser of the command line.
-fn program<'a>(alloc: Global) -> Result<clap::Command<'a>, clap::Error> {
+fn program<'a>(alloc: Global) -> Result<clap::Command<'a>, clap::Error>
+    ensures { IfOk result (λ program. app_of program ≡ jvm) }
+{
     let program = clap::Command::new(alloc, "jvm")
         .about("Runs Java class files under a schedule")
         .disable_help_subcommand(true)
@@ -204,7 +211,9 @@ fn program<'a>(alloc: Global) -> Result<clap::Command<'a>, clap::Error> {
     Ok(program)
 }
 
-fn replay_parser<'a>(alloc: Global) -> Result<clap::Command<'a>, AllocError> {
+fn replay_parser<'a>(alloc: Global) -> Result<clap::Command<'a>, AllocError>
+    ensures { IfOk result (λ replay. (app_of replay ≡ jvm_replay) × IsLocal replay) }
+{
     let schedule = Arg::new(alloc, "schedule")
         .long("schedule")
         .value_name("FILE")
@@ -218,7 +227,10 @@ fn replay_parser<'a>(alloc: Global) -> Result<clap::Command<'a>, AllocError> {
 }
 
 /// The class files, one or more.
-fn files_argument<'a>(alloc: Global) -> Arg<'a> {
+fn files_argument<'a>(alloc: Global) -> Arg<'a>
+    ensures rule { rule_of result ≡ class_files }
+    ensures local { result.global ≡ false }
+{
     Arg::new(alloc, "files")
         .value_name("FILE")
         .required(true)
@@ -231,7 +243,10 @@ fn files_argument<'a>(alloc: Global) -> Arg<'a> {
 fn with_limits<'a>(
     alloc: Global,
     command: clap::Command<'a>,
-) -> Result<clap::Command<'a>, AllocError> {
+) -> Result<clap::Command<'a>, AllocError>
+    ensures app { IfOk result (λ limits. app_of limits ≡ limited (app_of command.entry)) }
+    ensures local { IsLocal command.entry → IfOk result IsLocal }
+{
     command
         .arg(OBJECTS.argument(alloc))?
         .arg(CELLS.argument(alloc))?
