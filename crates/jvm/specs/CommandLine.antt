@@ -1,6 +1,6 @@
 -- The command line (own), in the words of the crate `clap`: which options there are, and which command the words
 -- spell.
-use Rattle.std.specs.Prelude.{◌≡◌, ◌≤◌, ◌⊎◌, ℕ, ◌-◌, ◌^◌, List, [], ◌∷◌, ◌++◌, map, true, false, codes, Option, Some, None, string_bytes}
+use Rattle.std.specs.Prelude.{◌≡◌, ◌≤◌, ◌⊎◌, ℕ, ◌-◌, ◌^◌, List, map, true, false, codes, Option, Some, None, string_bytes}
 use Rattle.std.specs.Str.Parse.{IsNumeral, digits_value}
 use Rattle.clap.specs.Words.{App, Row, Rule, Shape, Text, all_of, first_of, new_app, new_rule, subcommand_of, takes, with_rule, with_subcommand}
 use Rattle.clap.specs.declared.builder.command.Command as parser
@@ -11,6 +11,7 @@ use Rattle.jvm.specs.declared.command.Usage.{Usage}
 use Rattle.jvm.specs.declared.command.Usage.TheVariants.{Parser, OutOfMemory}
 use Rattle.jvm.specs.declared.options.Command.{Command}
 use Rattle.jvm.specs.declared.options.Command.TheVariants as commands
+use Rattle.jvm.specs.declared.options.LimitOptions.{LimitOptions}
 use Rattle.jvm.specs.declared.options.Replay.{Replay}
 
 -- `--NAME NUMBER`, a number from least to most
@@ -68,21 +69,28 @@ IsNumber least most (Some text) (Some number) = IsNumeral 10 text × (digits_val
 IsNumber least most None (Some number) = ⊥
 IsNumber least most (Some text) None = ⊥
 
+pub record AreLimitNumbers (rows : List Row) (limits : LimitOptions) : Type 0 where
+  pub objects : IsNumber 0 4000000000 (first_of (codes "objects") rows) limits.objects
+  pub cells : IsNumber 0 4294967295 (first_of (codes "cells") rows) limits.cells
+  pub monitors : IsNumber 0 8388608 (first_of (codes "monitors") rows) limits.monitors
+  pub threads : IsNumber 1 32767 (first_of (codes "threads") rows) limits.threads
+  pub frames : IsNumber 1 65535 (first_of (codes "frames") rows) limits.frames
+
 -- the values that the words give to `jvm replay`
 pub record AreValues (rows : List Row) (replay : Replay) : Type 0 where
   pub schedule : first_of (codes "schedule") rows ≡ Some (string_bytes replay.schedule)
-  pub objects : IsNumber 0 4000000000 (first_of (codes "objects") rows) replay.limits.objects
-  pub cells : IsNumber 0 4294967295 (first_of (codes "cells") rows) replay.limits.cells
-  pub monitors : IsNumber 0 8388608 (first_of (codes "monitors") rows) replay.limits.monitors
-  pub threads : IsNumber 1 32767 (first_of (codes "threads") rows) replay.limits.threads
-  pub frames : IsNumber 1 65535 (first_of (codes "frames") rows) replay.limits.frames
+  pub limits : AreLimitNumbers rows replay.limits
   pub files : all_of (codes "files") rows ≡ Some (map string_bytes replay.files.items)
 
 -- the words, the program's name first, spell the command
 abbrev pub Spells : List Text → Command → Type 0
 Spells words (commands.Replay replay) = (rows : List Row) × (subcommand_of jvm words ≡ Some (codes "replay", rows)) × AreValues rows replay
 
--- memory apart, the parser doesn't take the words, or they spell no command
-abbrev pub IsRefusal : List Text → Usage → Type 0
-IsRefusal words OutOfMemory = Unit {0}
-IsRefusal words (Parser error) = (takes jvm words ≡ true → ⊥) ⊎ ((command : Command) → Spells words command → ⊥)
+-- memory apart, there is no command because this holds
+abbrev pub Refuses : Usage → Type 0 → Type 0
+Refuses OutOfMemory reason = Unit {0}
+Refuses (Parser error) reason = reason
+
+-- the parser doesn't take the words, or they spell no command
+abbrev pub SpellsNothing : List Text → Type 0
+SpellsNothing words = (takes jvm words ≡ true → ⊥) ⊎ ((command : Command) → Spells words command → ⊥)

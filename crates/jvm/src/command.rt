@@ -1,9 +1,11 @@
 //! The reading of the command line.
 
-ghost use Rattle.std.specs.Prelude.{◌≡◌, ◌≤◌, false, IfOk, IfSome};
+ghost use Rattle.std.specs.Prelude.{◌≡◌, ◌≤◌, false, Some, codes, map, string_bytes, IfOk, IfErr};
 ghost use Rattle.std.specs.Option.{SomeIff};
-ghost use Rattle.clap.specs.Words.{app_of, rule_of};
-ghost use Rattle.jvm.specs.CommandLine.{IsLocal, class_files, jvm, jvm_replay, number_option, with_limits as limited};
+ghost use Rattle.clap.specs.Words.{all_of, app_of, first_of, found_of, kind_of, rows_of, rule_of};
+ghost use Rattle.clap.specs.declared.error.kind.ErrorKind.TheVariants.{OutOfMemory as no_memory};
+ghost use Rattle.jvm.specs.declared.command.Usage.TheVariants.{OutOfMemory};
+ghost use Rattle.jvm.specs.CommandLine.{AreLimitNumbers, AreValues, IsLocal, IsNumber, Refuses, Spells, SpellsNothing, class_files, jvm, jvm_replay, number_option, with_limits as limited};
 ghost use Rattle.std.specs.Str.Parse.{IsNumeral, digits_value};
 
 use crate::options;
@@ -32,6 +34,8 @@ impl fmt::Display for Usage {
 }
 
 impl From<clap::Error> for Usage {
+    ghost from_gives = { λ error usage. kind_of error ≡ no_memory → usage ≡ OutOfMemory };
+
     fn from(error: clap::Error) -> Usage {
         match error.kind() {
             ErrorKind::OutOfMemory => Usage::OutOfMemory,
@@ -41,12 +45,16 @@ impl From<clap::Error> for Usage {
 }
 
 impl From<AllocError> for Usage {
+    ghost from_gives = { λ _ usage. usage ≡ OutOfMemory };
+
     fn from(_error: AllocError) -> Usage {
         Usage::OutOfMemory
     }
 }
 
 impl<T: Drop> From<AllocFailed<T>> for Usage {
+    ghost from_gives = { λ _ usage. usage ≡ OutOfMemory };
+
     fn from(_error: AllocFailed<T>) -> Usage {
         Usage::OutOfMemory
     }
@@ -112,7 +120,10 @@ impl NumberOption {
 
     /// Its number among what the parser found, and `None` where it isn't there.
     fn number(self, alloc: Global, matches: &ArgMatches<'_>) -> Result<Option<u32>, Usage>
-        ensures { IfOk result (λ number. IfSome number (λ n. (self.least ≤ n) × (n ≤ self.most))) }
+        ensures number { IfOk result (IsNumber self.least self.most
+            (first_of self.name.now (rows_of (found_of matches.now)))) }
+        ensures none { IfErr result (λ usage. Refuses usage ((number : _) → IsNumber self.least self.most
+            (first_of self.name.now (rows_of (found_of matches.now))) number → ⊥)) }
     {
         match matches.get_str(self.name) {
             None => Ok(None),
@@ -150,11 +161,14 @@ fn decimal(text: &str, least: u32, most: u32) -> Option<u32>
 }
 
 /// The command that the words spell, the program's name first.
-pub fn command(alloc: Global, words: &[String]) -> Result<options::Command, Usage> {
+pub fn command(alloc: Global, words: &[String]) -> Result<options::Command, Usage>
+    ensures spelled { IfOk result (Spells (map string_bytes words.now)) }
+    ensures refused { IfErr result (λ usage. Refuses usage (SpellsNothing (map string_bytes words.now))) }
+{
     let matches = program(alloc)?.try_get_matches_from(words)?;
-    match matches.subcommand() {
-        Some(("replay", replay)) => Ok(options::Command::Replay(replay_of(alloc, replay)?)),
-        _ => Err(missing(alloc, "a subcommand is missing")?),
+    match matches.subcommand_matches("replay") {
+        Some(replay) => Ok(options::Command::Replay(replay_of(alloc, replay)?)),
+        None => Err(missing(alloc, "a subcommand is missing")?),
     }
 }
 
@@ -164,7 +178,11 @@ fn missing(alloc: Global, what: &str) -> Result<Usage, Usage> {
     Ok(Usage::from(program.error(ErrorKind::MissingRequiredArgument, what)?))
 }
 
-fn replay_of(alloc: Global, matches: &ArgMatches<'_>) -> Result<Replay, Usage> {
+fn replay_of(alloc: Global, matches: &ArgMatches<'_>) -> Result<Replay, Usage>
+    ensures values { IfOk result (AreValues (rows_of (found_of matches.now))) }
+    ensures none { IfErr result (λ usage. Refuses usage ((replay : _)
+        → AreValues (rows_of (found_of matches.now)) replay → ⊥)) }
+{
     let schedule = match matches.get_str("schedule") {
         Some(path) => String::from_str(alloc, path)?,
         None => return Err(missing(alloc, "the schedule file is missing")?),
@@ -178,7 +196,11 @@ fn replay_of(alloc: Global, matches: &ArgMatches<'_>) -> Result<Replay, Usage> {
     })
 }
 
-fn limits_of(alloc: Global, matches: &ArgMatches<'_>) -> Result<LimitOptions, Usage> {
+fn limits_of(alloc: Global, matches: &ArgMatches<'_>) -> Result<LimitOptions, Usage>
+    ensures limits { IfOk result (AreLimitNumbers (rows_of (found_of matches.now))) }
+    ensures none { IfErr result (λ usage. Refuses usage ((limits : _)
+        → AreLimitNumbers (rows_of (found_of matches.now)) limits → ⊥)) }
+{
     Ok(LimitOptions {
         objects: OBJECTS.number(alloc, matches)?,
         cells: CELLS.number(alloc, matches)?,
@@ -189,19 +211,32 @@ fn limits_of(alloc: Global, matches: &ArgMatches<'_>) -> Result<LimitOptions, Us
 }
 
 /// The paths of the class files.
-fn files_of(alloc: Global, matches: &ArgMatches<'_>) -> Result<Vec<String>, Usage> {
-    let mut files = Vec::new(alloc);
-    if let Some(paths) = matches.get_strs("files") {
-        for path in paths {
-            files.push(String::from_str(alloc, path)?)?;
-        }
+fn files_of(alloc: Global, matches: &ArgMatches<'_>) -> Result<Vec<String>, Usage>
+    ensures files { IfOk result (λ files. all_of (codes "files") (rows_of (found_of matches.now))
+        ≡ Some (map string_bytes files.items)) }
+    ensures none { IfErr result (λ usage. Refuses usage ((files : _)
+        → all_of (codes "files") (rows_of (found_of matches.now)) ≡ Some files → ⊥)) }
+{
+    match matches.get_strs("files") {
+        Some(paths) => Ok(copied(alloc, paths)?),
+        None => Err(missing(alloc, "the class files are missing")?),
     }
-    Ok(files)
+}
+
+fn copied(alloc: Global, texts: &[&str]) -> Result<Vec<String>, AllocError>
+    ensures { IfOk result (λ copies. map string_bytes copies.items ≡ map (λ text. text.now) texts.now) }
+{
+    let mut copies = Vec::with_capacity(alloc, texts.len())?;
+    for text in texts {
+        copies.push(String::from_str(alloc, text)?)?;
+    }
+    Ok(copies)
 }
 
 /// The parser of the command line.
 fn program<'a>(alloc: Global) -> Result<clap::Command<'a>, clap::Error>
-    ensures { IfOk result (λ program. app_of program ≡ jvm) }
+    ensures app { IfOk result (λ program. app_of program ≡ jvm) }
+    ensures err { IfErr result (λ error. kind_of error ≡ no_memory) }
 {
     let program = clap::Command::new(alloc, "jvm")
         .about("Runs Java class files under a schedule")
