@@ -1,3 +1,4 @@
+pub mod Devices
 pub mod LimitRanges
 pub mod Names
 pub mod Tree
