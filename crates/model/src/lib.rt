@@ -16,7 +16,6 @@ pub use class_file::ExceptionEntry;
 pub use end::{End, RunCause};
 pub use event::{Event, ScheduleEntry};
 pub use device::{DeviceFault, Sink, Source};
-pub use event::Event;
 pub use instr::{
     Arithmetic, ArrayKind, Comparison, Conversion, FieldAccess, Instr, Invocation, Kind, Returned,
     StackMove,
