@@ -90,3 +90,32 @@ pub(crate) fn first_field(file: &ClassFile) -> usize {
         .saturating_add(sum_of(&file.pool))
         .saturating_add(sum_of(&file.interfaces))
 }
+
+impl ClassFile {
+    /// The offset of the Code attribute of a method, behind its name and length; where it has none, the offset
+    /// behind its attributes. Methods count from 0. It is one only of the file that this tree was decoded from.
+    pub fn code_offset(&self, method: usize) -> usize {
+        let mut offset = first_field(self)
+            .saturating_add(sum_of(&self.fields))
+            .saturating_add(10);
+        for (place, other) in self.methods.iter().enumerate() {
+            if place == method {
+                return offset.saturating_add(before_code(&other.attributes));
+            }
+            offset = offset.saturating_add(other.length());
+        }
+        offset
+    }
+}
+
+/// The length of what stands before the Code among attributes, with its name and length.
+fn before_code(attributes: &[MethodAttribute]) -> usize {
+    let mut length = 0usize;
+    for attribute in attributes {
+        if let MethodAttribute::Code { .. } = attribute {
+            return length.saturating_add(6);
+        }
+        length = length.saturating_add(attribute.length());
+    }
+    length
+}

@@ -2,3 +2,5 @@ pub mod Others
 pub mod Stages
 pub mod Enabled
 pub mod Runs
+pub mod Finds
+pub mod Linkings

@@ -29,7 +29,7 @@ pub built_in_object : is_built_in java_lang_object ≡ true
 unfolding built_in_classes
 built_in_object = refl
 
-same_name : (bs : List ℕ) → name_eq bs bs ≡ true
+pub same_name : (bs : List ℕ) → name_eq bs bs ≡ true
 same_name [] = refl
 same_name (b ∷ bs) = rw (eq-eqb b b refl, same_name bs) refl
 

@@ -1,10 +1,10 @@
 -- What linking finds in one class file whose only method is main.
-use Rattle.std.specs.Prelude.{◌≡◌, ℕ, List, [], ◌∷◌, Option, Some, None, Bool, true, false, unwrap_or, option_map}
+use Rattle.std.specs.Prelude.{◌≡◌, ℕ, List, [], ◌∷◌, Option, Some, None, Bool, true, false, if◌then◌else◌, unwrap_or, option_map, codes}
 use Rattle.model.specs.Names.{Member, member_eq, main_of, java_lang_object}
 use Rattle.model.specs.Pool.{integers_of}
-use Rattle.model.specs.Tree.{FileTree, CodeTree}
-use Rattle.model.specs.Spelling.{Layout}
-use Rattle.model.specs.Classes.{Program, Body, name_of, body_of, is_built_in, superclass_of}
+use Rattle.model.specs.Tree.{Entry, FileTree, MethodTree, CodeTree}
+use Rattle.model.specs.Spells.{Spells}
+use Rattle.model.specs.Classes.{Program, Body, is_method, code_in, name_of, body_of, is_built_in, superclass_of}
 use Rattle.frames.specs.Places.{LocalCode}
 
 -- the program of one file
@@ -42,5 +42,16 @@ names (Some a) m = member_eq a m
 -- the bytes of the one file are those of the class file that is linked
 abbrev pub Links : List (List ℕ) → FileTree → Type 0
 Links [] file = ⊥
-Links (bytes ∷ []) file = Layout bytes file
+Links (bytes ∷ []) file = Spells bytes file
 Links (bytes ∷ other ∷ files) file = ⊥
+
+-- ---- what linking tests
+
+abbrev pub sole_in : List Entry → List MethodTree → Option CodeTree
+sole_in pool [] = None
+sole_in pool (m ∷ []) = if is_method pool (codes "main") (codes "([Ljava/lang/String;)V") m then code_in m.parts else None
+sole_in pool (m ∷ other ∷ methods) = None
+
+-- the code of main, where it is the only method
+abbrev pub sole_main : FileTree → Option CodeTree
+sole_main file = sole_in file.pool file.methods

@@ -1,0 +1,126 @@
+//! Why class files are refused.
+
+use reading::Cause;
+use std::alloc::{AllocError, AllocFailed};
+use std::fmt;
+
+/// What is wrong with class files. Its number is that of its place, counted from 1.
+#[derive(Clone, Copy, Debug, PartialEq, Eq)]
+pub enum RefusalKind {
+    /// A file is no class file, or the code of a method is none.
+    Malformed = 1,
+    /// It has what this machine leaves out.
+    OutsideProfile,
+    /// Two classes have one name, or a class has the name of a built-in one.
+    DuplicateClass,
+    /// A class, a field or a method is not found.
+    Unresolved,
+    /// The classes stand in no hierarchy.
+    BadHierarchy,
+    /// The code of a method has no typing.
+    Unverified,
+    /// The class of the first file has no main, or there is no file.
+    NoMain,
+    /// There are too many files, or a class has too many fields.
+    TooLarge,
+    OutOfMemory,
+}
+
+/// The number and the name.
+impl fmt::Display for RefusalKind {
+    fn fmt<W: fmt::Write>(&self, f: &mut fmt::Formatter<W>) -> fmt::Result {
+        f.write_str(match self {
+            RefusalKind::Malformed => "1 Malformed",
+            RefusalKind::OutsideProfile => "2 OutsideProfile",
+            RefusalKind::DuplicateClass => "3 DuplicateClass",
+            RefusalKind::Unresolved => "4 Unresolved",
+            RefusalKind::BadHierarchy => "5 BadHierarchy",
+            RefusalKind::Unverified => "6 Unverified",
+            RefusalKind::NoMain => "7 NoMain",
+            RefusalKind::TooLarge => "8 TooLarge",
+            RefusalKind::OutOfMemory => "9 OutOfMemory",
+        })
+    }
+}
+
+/// Why class files are refused, and where: the number of the file, counted from 0, the name and the descriptor of
+/// the method, and an offset, which counts from the start of the code where a method is named, else from that of the
+/// file. Only what is malformed has a cause.
+#[derive(Debug, Drop, PartialEq, Eq)]
+pub struct Refusal {
+    pub kind: RefusalKind,
+    pub file: Option<usize>,
+    pub method: Option<String>,
+    pub offset: Option<usize>,
+    pub cause: Option<Cause>,
+}
+
+impl Refusal {
+    /// A refusal with no place.
+    pub(crate) fn of(kind: RefusalKind) -> Refusal {
+        Refusal {
+            kind,
+            file: None,
+            method: None,
+            offset: None,
+            cause: None,
+        }
+    }
+
+    /// A refusal of a file.
+    pub(crate) fn of_file(kind: RefusalKind, file: usize) -> Refusal {
+        Refusal {
+            kind,
+            file: Some(file),
+            method: None,
+            offset: None,
+            cause: None,
+        }
+    }
+
+    /// A file, or its code, is malformed at an offset.
+    pub(crate) fn malformed(file: usize, offset: usize, cause: Cause) -> Refusal {
+        Refusal {
+            kind: RefusalKind::Malformed,
+            file: Some(file),
+            method: None,
+            offset: Some(offset),
+            cause: Some(cause),
+        }
+    }
+}
+
+/// The line that tells it.
+impl fmt::Display for Refusal {
+    fn fmt<W: fmt::Write>(&self, f: &mut fmt::Formatter<W>) -> fmt::Result {
+        let kind = self.kind;
+        write!(f, "refused {kind}")?;
+        if let Some(file) = self.file {
+            write!(f, " file {file}")?;
+        }
+        if let Some(method) = &self.method {
+            write!(f, " method {method}")?;
+        }
+        if let Some(offset) = self.offset {
+            write!(f, " offset {offset}")?;
+        }
+        if let Some(cause) = self.cause {
+            write!(f, " {cause}")?;
+        }
+        Ok(())
+    }
+}
+
+impl std::error::Error for Refusal {}
+
+impl From<AllocError> for Refusal {
+    fn from(_error: AllocError) -> Refusal {
+        Refusal::of(RefusalKind::OutOfMemory)
+    }
+}
+
+impl<T: Drop> From<AllocFailed<T>> for Refusal {
+    fn from(_error: AllocFailed<T>) -> Refusal {
+        Refusal::of(RefusalKind::OutOfMemory)
+    }
+}
