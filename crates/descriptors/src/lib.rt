@@ -4,6 +4,8 @@
 mod field;
 mod method;
 mod name;
+#[cfg(test)]
+mod tests;
 
 pub use field::{Element, Field, parse_field};
 pub use method::method_slots;
