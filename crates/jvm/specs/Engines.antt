@@ -1,6 +1,6 @@
 -- What an engine answers and writes, by the bytes that its devices hold. Where a device says nothing of its
 -- bytes, they are any that it may have handed over.
-use Rattle.std.specs.Prelude.{◌≡◌, ◌⊎◌, ℕ, ◌+◌, List, [], ◌∷◌, Option, IfSome, Result, Ok, Err}
+use Rattle.std.specs.Prelude.{◌≡◌, ◌⊎◌, ℕ, ◌+◌, List, [], ◌∷◌, Option, Some, IfSome, Result, Ok, Err}
 use Rattle.model.specs.declared.event.Event.{Event}
 use Rattle.model.specs.declared.limits.Limits.{Limits}
 use Rattle.model.specs.declared.report.Report.{Report}
@@ -66,6 +66,13 @@ IsOfSchedule faults.Device = ⊥
 IsOfSchedule faults.Memory = ⊥
 IsOfSchedule (faults.Schedule fault) = Unit {0}
 IsOfSchedule (faults.Refusal refusal) = ⊥
+
+-- the fault is a device's, or of the class file with this number
+abbrev pub IsOfFile : ℕ → Fault → Type 0
+IsOfFile number faults.Device = Unit {0}
+IsOfFile number faults.Memory = ⊥
+IsOfFile number (faults.Schedule fault) = ⊥
+IsOfFile number (faults.Refusal refusal) = refusal.file ≡ Some number
 
 -- a failure is counted with the fault Device, and with no other
 abbrev pub CountsWith : Fault → ℕ → ℕ → Type 0

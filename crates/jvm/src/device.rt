@@ -16,7 +16,10 @@ pub struct Counted<D> {
 
 impl<D> Counted<D> {
     /// The device, with no failure so far.
-    pub fn new(alloc: Global, device: D) -> Counted<D> {
+    pub fn new(alloc: Global, device: D) -> Counted<D>
+        ensures device { result.device ≡ device }
+        ensures none { vec_len result.failures ≡ 0 }
+    {
         Counted {
             device,
             failures: Vec::new(alloc),
@@ -24,7 +27,9 @@ impl<D> Counted<D> {
     }
 
     /// The device.
-    pub fn into_inner(self) -> D {
+    pub fn into_inner(self) -> D
+        ensures { result ≡ self.device }
+    {
         self.device
     }
 

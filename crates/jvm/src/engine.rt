@@ -1,9 +1,9 @@
 //! What the program does, over any readers and writers.
 
-ghost use Rattle.std.specs.Prelude.{◌≡◌, ◌+◌, IfOk, IfErr, map, sum_by, vec_items};
+ghost use Rattle.std.specs.Prelude.{◌≡◌, ◌+◌, Some, IfOk, IfErr, map, sum_by, vec_items};
 ghost use Rattle.std.specs.Arc.{arc_value};
 ghost use Rattle.std.specs.Io.KnownBytes.{Appends};
-ghost use Rattle.jvm.specs.Engines.{Reads, ReadsEach, Replays, IsReplayed, IsFaulty, IsOfSchedule, CountsFailure};
+ghost use Rattle.jvm.specs.Engines.{Reads, ReadsEach, Replays, IsReplayed, IsFaulty, IsOfFile, IsOfSchedule, CountsFailure};
 ghost use Rattle.jvm.specs.StandIn.{ScheduleFile, Verifies};
 
 use crate::fault::Fault;
@@ -85,7 +85,7 @@ fn read_class_file<S: Source>(alloc: Global, file: &mut S, number: usize) -> Res
     ensures read { IfOk result (λ bytes. Reads (S.remaining file.old) bytes.items) }
     ensures faulty { IfErr result (λ fault. (left : _) (lefts : _) (options : _) (sink : _)
         → IsFaulty left lefts options sink sink fault) }
-    ensures of_files { IfErr result (λ fault. IsOfSchedule fault → ⊥) }
+    ensures of_file { IfErr result (IsOfFile number) }
     ensures counted { CountsFailure result (S.failures file.old) (S.failures file.new) }
 {
     match file.read_all(alloc) {
@@ -97,7 +97,8 @@ fn read_class_file<S: Source>(alloc: Global, file: &mut S, number: usize) -> Res
 
 /// That there is no memory for a class file.
 fn out_of_memory(file: usize) -> Refusal
-    ensures { result.kind ≡ RefusalKind.OutOfMemory }
+    ensures kind { result.kind ≡ RefusalKind.OutOfMemory }
+    ensures file { result.file ≡ Some file }
 {
     Refusal {
         kind: RefusalKind::OutOfMemory,

@@ -1,5 +1,8 @@
 //! What the program does with its words.
 
+ghost use Rattle.std.specs.Prelude.{◌≡◌, MatchResult};
+ghost use Rattle.jvm.specs.Statuses.{fault_status, usage_status};
+
 use crate::command;
 use crate::command::Usage;
 use crate::device::Counted;
@@ -33,7 +36,9 @@ pub fn without_words<R: Eprint>(rt: &R, error: &io::Error) -> Status {
 }
 
 /// The status, after a fault has been told.
-fn told<R: Eprint>(rt: &R, outcome: Result<Status, Fault>) -> Status {
+fn told<R: Eprint>(rt: &R, outcome: Result<Status, Fault>) -> Status
+    ensures { MatchResult outcome (λ status. result ≡ status) (λ fault. result ≡ fault_status fault) }
+{
     match outcome {
         Ok(status) => status,
         Err(fault) => {
@@ -46,7 +51,9 @@ fn told<R: Eprint>(rt: &R, outcome: Result<Status, Fault>) -> Status {
 }
 
 /// The status where the words are no command.
-fn refused<R: Eprint>(rt: &R, usage: &Usage) -> Status {
+fn refused<R: Eprint>(rt: &R, usage: &Usage) -> Status
+    ensures { result ≡ usage_status usage.now }
+{
     let _ = rt.eprint(usage);
     Status::of_usage(usage)
 }
