@@ -147,6 +147,7 @@ impl LockWord {
         requires { thread < 32767 }
         ensures answer { result ≡ entering thread self.old.lock }
         ensures after { self.new ≡ record self.old { lock = lock_entered thread self.old.lock } }
+        ensures fits { HasRoomFor self.new.lock }
     {
         match self.lock() {
             Lock::Unlocked => *self = self.thin(thread, 1),

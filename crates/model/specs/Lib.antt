@@ -18,3 +18,4 @@ pub mod Outcomes
 pub mod Meanings
 pub mod Step
 pub mod Run
+pub mod Monitors

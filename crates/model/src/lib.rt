@@ -7,6 +7,7 @@ mod class_file;
 mod event;
 mod instr;
 mod limits;
+mod monitor_answer;
 mod report;
 mod value;
 
@@ -17,5 +18,6 @@ pub use instr::{
     StackMove,
 };
 pub use limits::Limits;
+pub use monitor_answer::MonitorAnswer;
 pub use report::{EndState, Report};
 pub use value::Value;

@@ -1,0 +1,4 @@
+pub mod Sound
+pub mod Done
+pub mod ThinLocks
+pub mod Waiting
