@@ -1,5 +1,8 @@
 //! Calls of monitors as values.
 
+ghost use Rattle.std.specs.Prelude.{◌≡◌};
+ghost use Rattle.monitor.specs.Locks.{object_of};
+
 /// A call of `Monitors`, by the object and the thread that it names.
 #[derive(Clone, Copy, Debug, PartialEq, Eq)]
 pub enum Call {
@@ -36,4 +39,22 @@ pub enum Call {
         thread: u16,
         count: u32,
     },
+}
+
+impl Call {
+    /// The object that the call names.
+    pub fn object(self) -> u32
+        ensures { result ≡ object_of self }
+    {
+        match self {
+            Call::Enter { object, .. }
+            | Call::Exit { object, .. }
+            | Call::Wait { object, .. }
+            | Call::Notify { object, .. }
+            | Call::NotifyAll { object, .. }
+            | Call::WakeAll { object }
+            | Call::Interrupt { object, .. }
+            | Call::Relock { object, .. } => object,
+        }
+    }
 }

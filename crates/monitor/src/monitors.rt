@@ -1,6 +1,6 @@
 //! Monitors by the references of their objects.
 
-ghost use Rattle.std.specs.Prelude.{◌≡◌, ◌<◌, ◌≤◌, [], ◌∷◌, ◌++◌, Ok, Err, IfOk, OnOk, OnErr, IfErr, false, MatchResult, slice_get, length};
+ghost use Rattle.std.specs.Prelude.{◌≡◌, ◌<◌, ◌≤◌, [], ◌∷◌, ◌++◌, Ok, Err, IfOk, OnOk, OnErr, IfErr, false, MatchResult, slice_get, length, IsTrue, ◌↔◌};
 ghost use Rattle.lock_word.specs.Words.{HasRoomFor};
 ghost use Rattle.model.specs.Monitors.{unlocked, monitor_at};
 ghost use Rattle.monitor.specs.Locks.{Answers, IsAllowed, is_fat_at};
@@ -14,6 +14,9 @@ use lock_word::{Lock, LockWord, TryEnter, TryExit};
 use model::MonitorAnswer;
 use std::alloc::{AllocError, Global};
 use std::marker::Model;
+
+/// How many threads there may be: their numbers are below this one.
+const MOST_THREADS: u16 = 32767;
 
 /// The monitors of objects, by the references of the objects.
 ///
@@ -278,6 +281,25 @@ impl Monitors {
             }
             Lock::Thin { .. } => MonitorAnswer::Held,
             Lock::Fat(index) => self.table.relock(index, thread, count),
+        }
+    }
+
+    /// Whether a caller may make this call: the object is there, a thread that is to own it is below 32,767, and one
+    /// that enters again entered at least once, and where the lock is thin at most 256 times.
+    pub fn allows(&self, call: Call) -> bool
+        ensures { IsTrue result ↔ IsAllowed call self.now }
+    {
+        if self.len() <= call.object() as usize {
+            return false;
+        }
+        match call {
+            Call::Enter { thread, .. } | Call::Wait { thread, .. } => thread < MOST_THREADS,
+            Call::Relock {
+                object,
+                thread,
+                count,
+            } => thread < MOST_THREADS && 0 < count && (count <= 256 || self.is_fat(object)),
+            _ => true,
         }
     }
 
