@@ -3,8 +3,8 @@
 #![tactic(auto)]
 
 mod call;
-mod fat;
 mod monitors;
+mod records;
 mod refusal;
 mod table;
 #[cfg(test)]

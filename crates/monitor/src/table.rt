@@ -1,21 +1,54 @@
-//! The table of the fat locks' records.
+//! What the monitors of fat locks answer.
 
-ghost use Rattle.std.specs.Prelude.{◌≡◌, ◌<◌, [], ◌∷◌, ◌++◌, length, true, false, Some, None, IfOk, OnOk, OnErr, IfErr, slice_get, slice_set};
+ghost use Rattle.std.specs.Prelude.{◌≡◌, ◌<◌, [], ◌∷◌, ◌++◌, length, true, false, Some, None, IfOk, OnOk, OnErr, IfErr, IfSome, MatchOption, slice_get, slice_set};
+ghost use Rattle.std.specs.List.{remove};
 ghost use Rattle.monitor.specs.Locks.{is_at_most_entries};
-ghost use Rattle.model.specs.Monitors.{owned, unlocked, owns, monitor_at, monitor_enter, monitor_exit, monitor_wait, monitor_notify, monitor_notify_all, monitor_wake_all, monitor_interrupt, monitor_relock};
+ghost use Rattle.model.specs.Monitors.{owned, unlocked, owns, without, monitor_at, monitor_enter, monitor_exit, monitor_wait, monitor_notify, monitor_notify_all, monitor_wake_all, monitor_interrupt, monitor_relock};
 
-use crate::fat::FatMonitor;
+use crate::records::Records;
 use crate::refusal::Refusal;
 use crate::waiter::Waiter;
 use model::MonitorAnswer;
 use std::alloc::{AllocError, Global};
 use std::marker::Model;
 
+fn is_owner(records: &Records, index: u32, thread: u16) -> bool
+    requires { index < length records.now }
+    ensures { result ≡ owns thread (monitor_at records.now index).owner }
+{
+    records.owner(index) == Some(thread)
+}
+
+/// Where the thread stands in a wait set.
+fn position(records: &Records, index: u32, thread: u16) -> Option<usize>
+    requires { index < length records.now }
+    ensures member { IfSome result (λ at. at < length (monitor_at records.now index).waiters) }
+    ensures value { MatchOption result (without thread (monitor_at records.now index).waiters ≡ (monitor_at records.now index).waiters) (λ at. remove (monitor_at records.now index).waiters at ≡ without thread (monitor_at records.now index).waiters) }
+{
+    for at in 0..records.waiter_count(index) {
+        if records.member(index, at).thread == thread {
+            return Some(at);
+        }
+    }
+    None
+}
+
+/// All members leave a wait set, the last first.
+fn clear(records: &mut Records, index: u32)
+    requires { index < length records.old }
+    ensures { records.new ≡ slice_set records.old index (record (monitor_at records.old index) { waiters = [] }) }
+{
+    let mut count = records.waiter_count(index);
+    while count > 0 {
+        count -= 1;
+        records.leave(index, count);
+    }
+}
+
 /// The monitors of fat locks, by the indices that these name.
 #[derive(Drop)]
 pub struct Table {
-    records: Vec<FatMonitor>,
-    alloc: Global,
+    records: Records,
 }
 
 impl Model for Table {
@@ -24,7 +57,7 @@ impl Model for Table {
 
     ghost Value = { List Monitor };
 
-    ghost view = { λ t. t.records.items };
+    ghost view = { λ t. t.records };
 }
 
 impl Table {
@@ -32,8 +65,7 @@ impl Table {
         ensures { result ≡ [] }
     {
         Table {
-            records: Vec::new(alloc),
-            alloc,
+            records: Records::new(alloc),
         }
     }
 
@@ -48,9 +80,7 @@ impl Table {
         ensures ok { OnOk result (self.new ≡ self.old ++ owned unlocked owner count ∷ []) }
         ensures err { OnErr result (self.new ≡ self.old) }
     {
-        let record = FatMonitor::with_owner(self.alloc, owner, count);
-        self.records.push(record)?;
-        Ok(())
+        self.records.add(Some(owner), count)
     }
 
     /// One more monitor without an owner, in whose wait set this thread is alone.
@@ -58,23 +88,21 @@ impl Table {
         ensures ok { OnOk result (self.new ≡ self.old ++ record { owner = None; count = 0; waiters = waiter ∷ [] } ∷ []) }
         ensures err { OnErr result (self.new ≡ self.old) }
     {
-        let record = FatMonitor::with_waiter(self.alloc, waiter)?;
-        self.records.push(record)?;
-        Ok(())
+        self.records.add_waiting(waiter)
     }
 
     pub fn owner(&self, index: u32) -> Option<u16>
         requires { index < length self.now }
         ensures { result ≡ (monitor_at self.now index).owner }
     {
-        self.records[index as usize].owner()
+        self.records.owner(index)
     }
 
     pub fn count(&self, index: u32) -> u32
         requires { index < length self.now }
         ensures { result ≡ (monitor_at self.now index).count }
     {
-        self.records[index as usize].count()
+        self.records.count(index)
     }
 
     /// How many threads are in the wait set.
@@ -82,7 +110,7 @@ impl Table {
         requires { index < length self.now }
         ensures { result ≡ length (monitor_at self.now index).waiters }
     {
-        self.records[index as usize].waiters().len()
+        self.records.waiter_count(index)
     }
 
     /// The member of this number in joining order.
@@ -90,7 +118,7 @@ impl Table {
         requires { index < length self.now }
         ensures { result ≡ slice_get (monitor_at self.now index).waiters pick }
     {
-        self.records[index as usize].waiters().get(pick).copied()
+        self.records.waiter(index, pick)
     }
 
     /// The members of the wait set in joining order.
@@ -98,7 +126,11 @@ impl Table {
         requires { index < length self.now }
         ensures { IfOk result (λ v. v.items ≡ (monitor_at self.now index).waiters) }
     {
-        Vec::from_slice(alloc, self.records[index as usize].waiters())
+        let mut waiters = Vec::new(alloc);
+        for pick in 0..self.records.waiter_count(index) {
+            waiters.push(self.records.member(index, pick))?;
+        }
+        Ok(waiters)
     }
 
     /// Enters once; an owner with 4,294,967,295 entries is refused.
@@ -109,7 +141,20 @@ impl Table {
         ensures counted { OnOk result (is_at_most_entries thread (monitor_at self.old index) ≡ false) }
         ensures refused { IfErr result (λ e. (e ≡ Refusal.LockCount) × (is_at_most_entries thread (monitor_at self.old index) ≡ true) × (self.new ≡ self.old)) }
     {
-        self.records[index as usize].enter(thread)
+        match self.records.owner(index) {
+            None => {
+                self.records.set_owner(index, Some(thread), 1);
+                Ok(MonitorAnswer::Done)
+            }
+            Some(owner) if owner == thread => {
+                let Some(count) = self.records.count(index).checked_add(1) else {
+                    return Err(Refusal::LockCount);
+                };
+                self.records.set_owner(index, Some(thread), count);
+                Ok(MonitorAnswer::Done)
+            }
+            Some(_) => Ok(MonitorAnswer::Held),
+        }
     }
 
     pub fn exit(&mut self, index: u32, thread: u16) -> MonitorAnswer
@@ -117,7 +162,16 @@ impl Table {
         ensures answer { result ≡ (monitor_exit thread (monitor_at self.old index)).answer }
         ensures after { self.new ≡ slice_set self.old index (monitor_exit thread (monitor_at self.old index)).after }
     {
-        self.records[index as usize].exit(thread)
+        if !is_owner(&self.records, index, thread) {
+            return MonitorAnswer::NotOwner;
+        }
+        let count = self.records.count(index);
+        if count <= 1 {
+            self.records.set_owner(index, None, 0);
+        } else {
+            self.records.set_owner(index, Some(thread), count - 1);
+        }
+        MonitorAnswer::Done
     }
 
     /// Joins the wait set; without memory nothing changes.
@@ -128,7 +182,13 @@ impl Table {
         ensures joins { OnErr result (owns thread (monitor_at self.old index).owner ≡ true) }
         ensures refused { OnErr result (self.new ≡ self.old) }
     {
-        self.records[index as usize].wait(thread)
+        if !is_owner(&self.records, index, thread) {
+            return Ok(MonitorAnswer::NotOwner);
+        }
+        let count = self.records.count(index);
+        self.records.join(index, Waiter { thread, count })?;
+        self.records.set_owner(index, None, 0);
+        Ok(MonitorAnswer::Done)
     }
 
     pub fn notify(&mut self, index: u32, thread: u16, pick: u16) -> MonitorAnswer
@@ -136,7 +196,14 @@ impl Table {
         ensures answer { result ≡ (monitor_notify thread pick (monitor_at self.old index)).answer }
         ensures after { self.new ≡ slice_set self.old index (monitor_notify thread pick (monitor_at self.old index)).after }
     {
-        self.records[index as usize].notify(thread, pick)
+        if !is_owner(&self.records, index, thread) {
+            return MonitorAnswer::NotOwner;
+        }
+        let pick = usize::from(pick);
+        if pick < self.records.waiter_count(index) {
+            self.records.leave(index, pick);
+        }
+        MonitorAnswer::Done
     }
 
     pub fn notify_all(&mut self, index: u32, thread: u16) -> MonitorAnswer
@@ -144,21 +211,27 @@ impl Table {
         ensures answer { result ≡ (monitor_notify_all thread (monitor_at self.old index)).answer }
         ensures after { self.new ≡ slice_set self.old index (monitor_notify_all thread (monitor_at self.old index)).after }
     {
-        self.records[index as usize].notify_all(thread)
+        if !is_owner(&self.records, index, thread) {
+            return MonitorAnswer::NotOwner;
+        }
+        clear(&mut self.records, index);
+        MonitorAnswer::Done
     }
 
     pub fn wake_all(&mut self, index: u32)
         requires { index < length self.old }
         ensures { self.new ≡ slice_set self.old index (monitor_wake_all (monitor_at self.old index)).after }
     {
-        self.records[index as usize].wake_all();
+        clear(&mut self.records, index);
     }
 
     pub fn interrupt(&mut self, index: u32, thread: u16)
         requires { index < length self.old }
         ensures { self.new ≡ slice_set self.old index (monitor_interrupt thread (monitor_at self.old index)).after }
     {
-        self.records[index as usize].interrupt(thread);
+        if let Some(at) = position(&self.records, index, thread) {
+            self.records.leave(index, at);
+        }
     }
 
     pub fn relock(&mut self, index: u32, thread: u16, count: u32) -> MonitorAnswer
@@ -166,6 +239,10 @@ impl Table {
         ensures answer { result ≡ (monitor_relock thread count (monitor_at self.old index)).answer }
         ensures after { self.new ≡ slice_set self.old index (monitor_relock thread count (monitor_at self.old index)).after }
     {
-        self.records[index as usize].relock(thread, count)
+        if self.records.owner(index).is_some() {
+            return MonitorAnswer::Held;
+        }
+        self.records.set_owner(index, Some(thread), count);
+        MonitorAnswer::Done
     }
 }

@@ -1,5 +1,0 @@
-use Rattle.monitor.proofs.Waiting.{IsPassed}
-use Rattle.monitor.proofs.fat.position.Given as goal
-
-abbrev pub invariant-loop-at : goal.invariant-loop-at
-invariant-loop-at l = IsPassed l.thread l.waiters l.at
