@@ -1,5 +1,6 @@
 pub mod Keys
 pub mod Listed
+pub mod Replies
 pub mod Sound
 pub mod Done
 pub mod ThinLocks

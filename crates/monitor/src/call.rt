@@ -1,7 +1,10 @@
 //! Calls of monitors as values.
 
-ghost use Rattle.std.specs.Prelude.{◌≡◌};
-ghost use Rattle.monitor.specs.Locks.{object_of};
+ghost use Rattle.std.specs.Prelude.{◌≡◌, ◌↔◌, IsTrue};
+ghost use Rattle.monitor.specs.Locks.{object_of, IsAllowed, Answers};
+
+use crate::refusal::Refusal;
+use model::MonitorAnswer;
 
 /// A call of `Monitors`, by the object and the thread that it names.
 #[derive(Clone, Copy, Debug, PartialEq, Eq)]
@@ -57,4 +60,21 @@ impl Call {
             | Call::Relock { object, .. } => object,
         }
     }
+}
+
+/// What answers calls of monitors, seen as the locks of objects.
+pub trait MonitorCalls {
+    ghost use Rattle.monitor.specs.Locks.{Locks};
+
+    ghost locks: { Self → Locks };
+
+    /// Whether a caller may make this call: the object is there, a thread that is to own it is below 32,767, and one
+    /// that enters again entered at least once, and where the lock is thin at most 256 times.
+    fn allows(&self, call: Call) -> bool
+        ensures { IsTrue result ↔ IsAllowed call (Self.locks self.now) };
+
+    /// What the call of `Monitors` of that name does.
+    fn apply(&mut self, call: Call) -> Result<MonitorAnswer, Refusal>
+        requires { IsAllowed call (Self.locks self.old) }
+        ensures { Answers result call (Self.locks self.old) (Self.locks self.new) };
 }

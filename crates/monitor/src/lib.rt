@@ -6,12 +6,14 @@ mod call;
 mod monitors;
 mod records;
 mod refusal;
+mod run;
 mod table;
 #[cfg(test)]
 mod tests;
 mod waiter;
 
-pub use call::Call;
+pub use call::{Call, MonitorCalls};
 pub use monitors::Monitors;
 pub use refusal::Refusal;
+pub use run::{Reply, run_calls};
 pub use waiter::Waiter;

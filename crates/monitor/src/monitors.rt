@@ -6,7 +6,7 @@ ghost use Rattle.model.specs.Monitors.{unlocked, monitor_at};
 ghost use Rattle.monitor.specs.Locks.{Answers, IsAllowed, is_fat_at};
 ghost use Rattle.monitor.specs.Words.{lock_at};
 
-use crate::call::Call;
+use crate::call::{Call, MonitorCalls};
 use crate::refusal::Refusal;
 use crate::table::Table;
 use crate::waiter::Waiter;
@@ -283,12 +283,12 @@ impl Monitors {
             Lock::Fat(index) => self.table.relock(index, thread, count),
         }
     }
+}
 
-    /// Whether a caller may make this call: the object is there, a thread that is to own it is below 32,767, and one
-    /// that enters again entered at least once, and where the lock is thin at most 256 times.
-    pub fn allows(&self, call: Call) -> bool
-        ensures { IsTrue result ↔ IsAllowed call self.now }
-    {
+impl MonitorCalls for Monitors {
+    ghost locks = { λ m. m };
+
+    fn allows(&self, call: Call) -> bool {
         if self.len() <= call.object() as usize {
             return false;
         }
@@ -303,11 +303,7 @@ impl Monitors {
         }
     }
 
-    /// What the call of that name does.
-    pub fn apply(&mut self, call: Call) -> Result<MonitorAnswer, Refusal>
-        requires { IsAllowed call self.old }
-        ensures { Answers result call self.old self.new }
-    {
+    fn apply(&mut self, call: Call) -> Result<MonitorAnswer, Refusal> {
         match call {
             Call::Enter { object, thread } => self.enter(object, thread),
             Call::Exit { object, thread } => Ok(self.exit(object, thread)),

@@ -1,4 +1,4 @@
-use crate::{Call, Monitors, Refusal};
+use crate::{Call, MonitorCalls, Monitors, Refusal};
 use model::MonitorAnswer;
 use std::process::Abort;
 use std::test::Fail;
