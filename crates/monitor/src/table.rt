@@ -165,12 +165,9 @@ impl Table {
         if !is_owner(&self.records, index, thread) {
             return MonitorAnswer::NotOwner;
         }
-        let count = self.records.count(index);
-        if count <= 1 {
-            self.records.set_owner(index, None, 0);
-        } else {
-            self.records.set_owner(index, Some(thread), count - 1);
-        }
+        let left = self.records.count(index).saturating_sub(1);
+        let owner = if left == 0 { None } else { Some(thread) };
+        self.records.set_owner(index, owner, left);
         MonitorAnswer::Done
     }
 
