@@ -2,7 +2,8 @@
 use Rattle.std.specs.Prelude.{◌≡◌, ℕ, ◌<◌, ◌≤◌, ◌==◌, ◌&&◌, nat_le, not, List, length, Option, Some, None, Bool, true, false, Result, Ok, Err, slice_index_or, slice_set, count_by, if◌then◌else◌}
 use Rattle.model.specs.State.{Monitor, Waiter}
 use Rattle.model.specs.declared.monitor_answer.MonitorAnswer.{MonitorAnswer}
-use Rattle.model.specs.Monitors.{Answered, owns, monitor_at, enter, exit, wait, notify, notify_all, wake_all, interrupt, relock}
+use Rattle.model.specs.Monitors.{Answered, owns, monitor_at, enter, exit, wait, notify, notify_all, wake_all, interrupt, relock, monitor_enter, monitor_exit, monitor_wait, monitor_notify, monitor_notify_all, monitor_wake_all, monitor_interrupt, monitor_relock}
+use Rattle.model.specs.declared.monitor_answer.MonitorAnswer.TheVariants.{Done}
 use Rattle.monitor.specs.declared.call.Call.{Call}
 use Rattle.monitor.specs.declared.call.Call.TheVariants.{Enter, Exit, Wait, Notify, NotifyAll, WakeAll, Interrupt, Relock}
 use Rattle.monitor.specs.declared.refusal.Refusal.{Refusal}
@@ -42,6 +43,17 @@ answered (WakeAll object) = wake_all object
 answered (Interrupt object thread) = interrupt object thread
 answered (Relock object thread count) = relock object thread count
 
+-- the same, of the monitor of that object
+abbrev pub answered_by : Call → Monitor → Answered Monitor
+answered_by (Enter object thread) = monitor_enter thread
+answered_by (Exit object thread) = monitor_exit thread
+answered_by (Wait object thread) = monitor_wait thread
+answered_by (Notify object thread pick) = monitor_notify thread pick
+answered_by (NotifyAll object thread) = monitor_notify_all thread
+answered_by (WakeAll object) = monitor_wake_all
+answered_by (Interrupt object thread) = monitor_interrupt thread
+answered_by (Relock object thread count) = monitor_relock thread count
+
 -- what a caller keeps: the object is there, a thread is below 32,767, and a thread that enters again entered at least
 -- once, and where the lock is thin at most 256 times
 abbrev pub IsAllowed : Call → Locks → Type 0
@@ -74,21 +86,30 @@ is_table_full call locks = inflates_in call locks && (not (is_fat_at locks (obje
 abbrev pub is_at_most_entries : ℕ → Monitor → Bool
 is_at_most_entries thread monitor = owns thread monitor.owner && (monitor.count == 4294967295)
 
+abbrev pub is_count_full_by : Call → Monitor → Bool
+is_count_full_by (Enter object thread) monitor = is_at_most_entries thread monitor
+is_count_full_by call monitor = false
+
 abbrev pub is_count_full : Call → Locks → Bool
-is_count_full (Enter object thread) locks = is_at_most_entries thread (monitor_at locks.monitors object)
-is_count_full call locks = false
+is_count_full call locks = is_count_full_by call (monitor_at locks.monitors (object_of call))
 
 -- the lock becomes fat, or a thread joins a wait set
 abbrev pub takes_memory : Call → Locks → Bool
 takes_memory (Wait object thread) locks = owns thread (monitor_at locks.monitors object).owner
 takes_memory call locks = inflates_in call locks && not (is_fat_at locks (object_of call))
 
--- a call was done, with this answer
+-- only what was done has changed something
+abbrev pub KeptUnlessDone : MonitorAnswer → Locks → Locks → Type 0
+KeptUnlessDone Done old new = Unit {0}
+KeptUnlessDone answer old new = new ≡ old
+
+-- a call was done, or answered that it can't be
 pub record IsDone (answer : MonitorAnswer) (call : Call) (old new : Locks) : Type 0 where
   pub answers : answer ≡ (answered call old.monitors).answer
   pub monitors : new.monitors ≡ (answered call old.monitors).after
   pub fat : new.fat ≡ fat_after call old
   pub limit : new.limit ≡ old.limit
+  pub kept : KeptUnlessDone answer old new
   pub table : is_table_full call old ≡ false
   pub count : is_count_full call old ≡ false
 

@@ -16,7 +16,7 @@ pub returns-in-Entered : goal.returns-in-Entered
 returns-in-Entered c =
     let entered : Enters c.self.inside.table c.args.thread c.word_of-word.result.lock = enters _ _ _ c.in-Entered.ensures.answer in
     let is : c.try_enter.new.self.lock ≡ lock_entered c.args.thread c.word_of-word.result.lock = ap (λ (x : Word). x.lock) c.in-Entered.ensures.after in
-    thin_done (Enter c.args.object c.args.thread) Done c.self.inside.table c.self.inside.words.items c.as_slice.result.now c.self.inside.limit c.args.self.now
+    thin_done (Enter c.args.object c.args.thread) c.self.inside.table c.self.inside.words.items c.as_slice.result.now c.self.inside.limit c.args.self.now
     c.word_of-word.result.lock c.try_enter.new.self c.self.view_is c.requires.0 c.as_slice.ensures.value c.word_of-word.ensures
     entered.thin (ap is_fat_lock is ∙ entered.still) entered.answer (ap (monitor_of c.self.inside.table) is ∙ entered.after) entered.small entered.few
 
@@ -67,7 +67,7 @@ pub returns-in_ok-add_owned-in-Full : goal.returns-in_ok-add_owned-in-Full
 returns-in_ok-add_owned-in-Full c =
     let is : c.try_enter.new.self.lock ≡ lock_entered c.args.thread c.word_of-word.result.lock = ap (λ (x : Word). x.lock) c.in-Full.ensures.after in
     let full : Overflows c.self.inside.table c.args.thread c.word_of-word.result.lock = overflows _ _ _ (subst HasRoomFor is c.in-Full.ensures.fits) c.in-Full.ensures.answer in
-    inflated_done (Enter c.args.object c.args.thread) Done c.self.inside.table c.add_owned.new.self c.self.inside.words.items c.as_slice.result.now c.self.inside.limit c.args.self.now
+    inflated_done (Enter c.args.object c.args.thread) c.self.inside.table c.add_owned.new.self c.self.inside.words.items c.as_slice.result.now c.self.inside.limit c.args.self.now
     c.word_of-word.result.lock c.fat.result c.self.view_is c.self.invariant c.requires.0 c.as_slice.ensures.value c.word_of-word.ensures
     (ap (λ (w : Word). w.lock) c.fat.ensures ∙ ap Fat c.in_ok-index-in-Full.ensures.next.0) c.in_ok-index-in-Full.ensures.next.1 full.answer
     (rw (← full.after) c.in_ok-add_owned-in-Full.ensures.ok) full.last full.few

@@ -14,7 +14,7 @@ pub returns-in-Left : goal.returns-in-Left
 returns-in-Left c =
     let left : Leaves c.self.inside.table c.args.thread c.word_of-word.result.lock = leaves _ _ _ c.in-Left.ensures.answer in
     let is : c.try_exit.new.self.lock ≡ lock_left c.args.thread c.word_of-word.result.lock = ap (λ (x : Word). x.lock) c.in-Left.ensures.after in
-    thin_done (Exit c.args.object c.args.thread) Done c.self.inside.table c.self.inside.words.items c.as_slice.result.now c.self.inside.limit c.args.self.now
+    thin_done (Exit c.args.object c.args.thread) c.self.inside.table c.self.inside.words.items c.as_slice.result.now c.self.inside.limit c.args.self.now
     c.word_of-word.result.lock c.try_exit.new.self c.self.view_is c.requires c.as_slice.ensures.value c.word_of-word.ensures
     left.thin (ap is_fat_lock is ∙ left.still) left.answer (ap (monitor_of c.self.inside.table) is ∙ left.after) refl refl
 

@@ -11,7 +11,7 @@ use Rattle.monitor.proofs.monitors.Monitors.relock.Goals as goal
 
 pub returns-in-Unlocked : goal.returns-in-Unlocked
 returns-in-Unlocked c =
-    thin_done (Relock c.args.object c.args.thread c.args.count) Done c.self.inside.table c.self.inside.words.items c.as_slice.result.now c.self.inside.limit c.args.self.now
+    thin_done (Relock c.args.object c.args.thread c.args.count) c.self.inside.table c.self.inside.words.items c.as_slice.result.now c.self.inside.limit c.args.self.now
     c.word_of-word.result.lock c.thin.result c.self.view_is c.requires.0 c.as_slice.ensures.value c.word_of-word.ensures
     (ap is_fat_lock (sym c.in-Unlocked.ensures.same)) (ap (λ (w : Word). is_fat_lock w.lock) c.thin.ensures)
     (ap (λ (l : Lock). (monitor_relock c.args.thread c.args.count (monitor_of c.self.inside.table l)).answer) c.in-Unlocked.ensures.same)
