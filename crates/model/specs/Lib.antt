@@ -26,3 +26,4 @@ pub mod Descriptors
 pub mod DescriptorScan
 pub mod Conditions
 pub mod Spells
+pub mod Monitors

@@ -9,6 +9,7 @@ mod device;
 mod event;
 mod instr;
 mod limits;
+mod monitor_answer;
 mod report;
 mod value;
 
@@ -21,5 +22,6 @@ pub use instr::{
     StackMove,
 };
 pub use limits::Limits;
+pub use monitor_answer::MonitorAnswer;
 pub use report::{EndState, Report};
 pub use value::Value;

@@ -1,0 +1,7 @@
+pub mod Keys
+pub mod Listed
+pub mod Replies
+pub mod Sound
+pub mod Done
+pub mod ThinLocks
+pub mod Waiting

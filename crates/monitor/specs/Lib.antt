@@ -1,0 +1,4 @@
+pub mod Locks
+pub mod Records
+pub mod Runs
+pub mod Words
