@@ -14,6 +14,8 @@ import sys
 import tempfile
 import time
 
+sys.dont_write_bytecode = True
+
 from class_file import class_file
 from schedule_file import schedule_file
 
