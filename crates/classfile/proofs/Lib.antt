@@ -3,3 +3,5 @@ mod PoolLaws
 mod MemberLaws
 mod Whole
 mod Promises
+mod Both
+mod Differ

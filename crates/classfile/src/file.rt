@@ -1,14 +1,22 @@
 //! The whole file (JVMS 4.1).
 
-ghost use Rattle.std.specs.Prelude.{◌≡◌, List, take, drop, IfOk, IfErr};
+ghost use Rattle.std.specs.Prelude.{◌≡◌, List, take, drop, IfOk, IfErr, IsTrue, IsFalse};
 ghost use Rattle.model.specs.Tree.{FileTree};
 ghost use Rattle.model.specs.Spelling.{magic, version, Layout};
+ghost use Rattle.model.specs.Conditions.{file_indices, file_names, file_descriptors, members_differ};
+ghost use Rattle.model.specs.Spells.{IsWhole, Spells};
 ghost use Rattle.reading.specs.declared.fault.Cause.TheVariants as causes;
 ghost use Rattle.reading.specs.Reading.{Gives};
 ghost use Rattle.classfile.specs.View.{file_of};
 ghost use Rattle.classfile.specs.FileReading.{parts_at, file_at};
-ghost use Rattle.classfile.specs.Decoding.{Answers, Decodes, BeginsWith};
+ghost use Rattle.classfile.specs.Decoding.{Answers, Decodes, BeginsWith, StandsOrStops, is_reading_cause};
 
+use crate::attribute::check_attributes;
+use crate::descriptor::check_descriptors;
+use crate::duplicate::check_members_differ;
+use crate::index::check_indices;
+use crate::length::first_field;
+use crate::names::check_names;
 use crate::part::{Owner, read_table};
 use crate::pool::read_pool;
 use crate::tree::ClassFile;
@@ -66,30 +74,67 @@ fn decoded(alloc: Global, bytes: &[u8]) -> Result<ClassFile, Malformed>
 {
     match read_file(alloc, &mut Reader::new(bytes)) {
         Ok(file) => Ok(file),
-        Err(Stop::Fault(fault)) => Err(fault),
-        Err(Stop::Memory) => Err(Malformed {
-            cause: Cause::OutOfMemory,
-            offset: 0,
-        }),
+        Err(stop) => Err(stop.malformed()),
     }
+}
+
+/// The tree of the fields of the bytes.
+fn laid_out(alloc: Global, bytes: &[u8]) -> Result<ClassFile, Malformed>
+    ensures found { IfOk result (λ c. Layout bytes.now (file_of c)) }
+    ensures only { (c : FileTree) → Layout bytes.now c → Answers result c }
+    ensures cause { IfErr result (λ e. IsTrue (is_reading_cause e.cause)) }
+    ensures magic { IfErr result (λ e. e.cause ≡ causes.Magic → (e.offset ≡ 0) × (BeginsWith magic bytes.now → ⊥)) }
+    ensures version { IfErr result (λ e. e.cause ≡ causes.Version → (e.offset ≡ 4) × (BeginsWith version (drop 4 bytes.now) → ⊥)) }
+    ensures trailing { IfErr result (λ e. e.cause ≡ causes.Trailing → (c : FileTree) × Layout (take e.offset bytes.now) c) }
+{
+    decoded(alloc, bytes)
+}
+
+/// Checks the conditions on the tree of a file, one after the other, each over the whole file.
+fn check(alloc: Global, file: &ClassFile) -> Result<(), Stop>
+    ensures met { IfOk result (λ _. IsWhole (file_of file.now)) }
+    ensures stands { IfErr result (λ stop. StandsOrStops stop (file_of file.now)) }
+{
+    check_indices(file)?;
+    check_names(file)?;
+    check_descriptors(file)?;
+    let fields = first_field(file);
+    check_attributes(file, fields)?;
+    check_members_differ(alloc, file, fields)
 }
 
 /// The class file that the bytes are.
 ///
-/// The first fault is answered in the order in which the fields stand, each at the offset where its field begins:
-/// `Truncated`, `Magic`, `Version` (at 4), `Tag`, `Utf8`, `Attribute` (a length that does not fit) and, behind the
-/// last field, `Trailing`. A constant_pool_count of 0 is `Truncated` there.
+/// First all fields are read in the order of the file, and the first fault is answered, each at the offset where its
+/// field begins: `Truncated`, `Magic`, `Version` (at 4), `Tag`, `Utf8`, `Attribute` (a length that does not fit) and,
+/// behind the last field, `Trailing`. A constant_pool_count of 0 is `Truncated` there. Then the conditions follow, each
+/// over the whole file: `Index`, at the first index that names no entry of the kind that it has to name; `Name` and
+/// `Descriptor`, at the first index of a name or of a descriptor that is none; `Attribute`, at the first method without
+/// its Code, or the name of a Code or a ConstantValue too many, or the index of a ConstantValue of another kind than the
+/// field's type; `Duplicate`, at the second of two members of one name and one descriptor.
 pub fn decode(alloc: Global, bytes: &[u8]) -> Result<ClassFile, Malformed>
     // What is answered is spelled so.
-    ensures found { IfOk result (λ c. Layout bytes.now (file_of c)) }
+    ensures found { IfOk result (λ c. Spells bytes.now (file_of c)) }
     // What is spelled so is answered, unless memory runs out.
-    ensures only { (c : FileTree) → Layout bytes.now c → Answers result c }
+    ensures only { (c : FileTree) → Spells bytes.now c → Answers result c }
     // The first four bytes are others.
     ensures magic { IfErr result (λ e. e.cause ≡ causes.Magic → (e.offset ≡ 0) × (BeginsWith magic bytes.now → ⊥)) }
     // The bytes 4 to 7 are others.
     ensures version { IfErr result (λ e. e.cause ≡ causes.Version → (e.offset ≡ 4) × (BeginsWith version (drop 4 bytes.now) → ⊥)) }
-    // The bytes before the offset are a class file.
+    // The bytes before the offset have a layout.
     ensures trailing { IfErr result (λ e. e.cause ≡ causes.Trailing → (c : FileTree) × Layout (take e.offset bytes.now) c) }
+    // The bytes have a layout in which an index names no entry of its kind.
+    ensures index { IfErr result (λ e. e.cause ≡ causes.Index → (c : FileTree) × (Layout bytes.now c × IsFalse (file_indices c))) }
+    // The bytes have a layout in which a name is none.
+    ensures name { IfErr result (λ e. e.cause ≡ causes.Name → (c : FileTree) × (Layout bytes.now c × IsFalse (file_names c))) }
+    // The bytes have a layout in which a descriptor is none or of another kind.
+    ensures descriptor { IfErr result (λ e. e.cause ≡ causes.Descriptor → (c : FileTree) × (Layout bytes.now c × IsFalse (file_descriptors c))) }
+    // The bytes have a layout in which two fields, or two methods, have one name and one descriptor.
+    ensures duplicate { IfErr result (λ e. e.cause ≡ causes.Duplicate → (c : FileTree) × (Layout bytes.now c × IsFalse (members_differ c))) }
 {
-    decoded(alloc, bytes)
+    let file = laid_out(alloc, bytes)?;
+    match check(alloc, &file) {
+        Ok(()) => Ok(file),
+        Err(fault) => Err(fault.malformed()),
+    }
 }

@@ -2,14 +2,14 @@
 
 ghost use Rattle.std.specs.Prelude.{◌≡◌, List, Option, option_map, unwrap_or};
 ghost use Rattle.model.specs.Tree.{Entry, Unusable};
-ghost use Rattle.model.specs.Spelling.{entry_at};
+ghost use Rattle.model.specs.Spelling.{entry_at, text_of};
 ghost use Rattle.model.specs.Pool.{utf8_at, class_name_at, string_at, name_and_type_at, reference_at, field_at, method_at, interface_method_at};
 ghost use Rattle.classfile.specs.View.{entry_of, entries_of, name_and_descriptor_of, reference_of};
 
 use crate::tree::{ClassFile, Constant};
 
 /// A name and a descriptor.
-#[derive(Clone, Copy, Debug)]
+#[derive(Clone, Copy, Debug, PartialEq, Eq, Hash)]
 pub struct NameAndDescriptor<'a> {
     pub name: &'a [u8],
     pub descriptor: &'a [u8],
@@ -34,6 +34,16 @@ pub(crate) fn constant(pool: &[Constant], index: u16) -> Option<&Constant>
     match pool.get(index as usize - 1) {
         Some(constant) => Some(constant),
         None => None,
+    }
+}
+
+/// The bytes of the Utf8 of an index, none where it names another entry.
+pub(crate) fn text(pool: &[Constant], index: u16) -> &[u8]
+    ensures { result.now ≡ text_of (entry_at (entries_of pool.now) index) }
+{
+    match constant(pool, index) {
+        Some(Constant::Utf8(text)) => text.as_slice(),
+        _ => &[],
     }
 }
 

@@ -41,6 +41,17 @@ impl Frame {
         })
     }
 
+    /// A frame with no local variables and an empty stack. It takes no memory.
+    pub fn blank(alloc: Global) -> Frame
+        ensures { result ≡ record { offset = 0; slots = record { locals = []; stack = [] } } }
+    {
+        Frame {
+            offset: 0,
+            locals: SmallVec::new(alloc),
+            stack: SmallVec::new(alloc),
+        }
+    }
+
     pub fn offset(&self) -> usize
         ensures { result ≡ self.now.offset }
     {

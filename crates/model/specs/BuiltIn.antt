@@ -62,7 +62,7 @@ throwables =
     ∷ below (codes "java/lang/IndexOutOfBoundsException") (codes "java/lang/ArrayIndexOutOfBoundsException")
     ∷ []
 
-abbrev pub built_in_classes : List FileTree
+unfoldable pub built_in_classes : List FileTree
 built_in_classes =
     object_class
     ∷ built_in 0x0601 (codes "java/lang/Runnable") java_lang_object

@@ -1,3 +1,4 @@
+pub mod Devices
 pub mod LimitRanges
 pub mod Names
 pub mod Tree
@@ -20,3 +21,8 @@ pub mod Step
 pub mod Run
 pub mod Report
 pub mod Schedule
+pub mod Meaning
+pub mod Descriptors
+pub mod DescriptorScan
+pub mod Conditions
+pub mod Spells

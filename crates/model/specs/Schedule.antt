@@ -13,7 +13,7 @@ use Rattle.model.specs.declared.limits.Limits.{Limits}
 abbrev pub events_of : List ScheduleEntry → List Event
 events_of entries = flat_map (λ e. replicate e.repeat e.event) entries
 
--- what an entry may be: only one event alone picks a member of a wait set
+-- what an entry may be: it stands for at least one event, and for several only where their pick is 0
 pub record EntryFits (e : ScheduleEntry) : Type 0 where
   pub thread : e.event.thread < 2 ^ 16
   pub pick : e.event.pick < 2 ^ 16
@@ -58,16 +58,17 @@ version (Some r) = 2 ∷ recording r
 abbrev pub schedule : Option Recording → List ScheduleEntry → List ℕ
 schedule recorded entries = codes "JSCH" ++ (version recorded ++ table entries)
 
-abbrev pub IsRecorded : Option Recording → Type 0
-IsRecorded None = Unit {0}
-IsRecorded (Some r) = RecordingFits r
+-- what is recorded, if anything is, has bytes
+abbrev pub RecordedFits : Option Recording → Type 0
+RecordedFits None = Unit {0}
+RecordedFits (Some r) = RecordingFits r
 
 -- The bytes spell these events, and with what they were recorded. A list of events has a spelling for each
 -- way to write it as entries.
 pub record ScheduleFile (bytes : List ℕ) (recorded : Option Recording) (events : List Event) : Type 0 where
   pub entries : List ScheduleEntry
   pub fits : AreEntries entries
-  pub recording_fits : IsRecorded recorded
+  pub recording_fits : RecordedFits recorded
   pub spelled : bytes ≡ schedule recorded entries
   pub stands_for : events ≡ events_of entries
 

@@ -127,7 +127,7 @@ abbrev pub main_thread_reference : ℕ
 main_thread_reference = 2
 
 -- the PrintStream of System.out, the arguments, the Thread of main, and a Class object for each class
-abbrev pub opening_heap : {A : Type 0} → Program → List (ObjectOf A)
+unfoldable pub opening_heap : {A : Type 0} → Program → List (ObjectOf A)
 opening_heap files =
     Instance java_io_print_stream []
     ∷ References (ClassType java_lang_string) []

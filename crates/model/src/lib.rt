@@ -5,6 +5,7 @@
 
 mod class_file;
 mod end;
+mod device;
 mod event;
 mod instr;
 mod limits;
@@ -14,6 +15,8 @@ mod value;
 pub use class_file::ExceptionEntry;
 pub use end::{End, RunCause};
 pub use event::{Event, ScheduleEntry};
+pub use device::{DeviceFault, Sink, Source};
+pub use event::Event;
 pub use instr::{
     Arithmetic, ArrayKind, Comparison, Conversion, FieldAccess, Instr, Invocation, Kind, Returned,
     StackMove,

@@ -25,6 +25,11 @@ abbrev pub ◌>>=◌ : {A B : Type 0} → Result A Malformed → (A → Result B
 (Ok x) >>= f = f x
 (Err e) >>= f = Err e
 
+-- what is answered of a reading that stopped
+abbrev pub malformed_of : Stop → Malformed
+malformed_of stops.Memory = record { cause = causes.OutOfMemory; offset = 0 }
+malformed_of (stops.Fault f) = f
+
 -- what a function returned, seen by `view`, is what reading gives, unless memory ran out
 abbrev pub Fails : {Y : Type 0} → Stop → Result Y Malformed → Type 0
 Fails stops.Memory read = Unit {0}

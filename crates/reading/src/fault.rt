@@ -1,8 +1,8 @@
 //! Why bytes are no class file.
 
 ghost use Rattle.std.specs.Prelude.{◌≡◌};
-ghost use Rattle.reading.specs.declared.fault.Stop.TheVariants.{Memory};
-ghost use Rattle.reading.specs.Reading.{inner_stop, moved_stop};
+ghost use Rattle.reading.specs.declared.fault.Stop.TheVariants.{Memory, Fault};
+ghost use Rattle.reading.specs.Reading.{inner_stop, moved_stop, malformed_of};
 
 use std::alloc::{AllocError, AllocFailed};
 use std::fmt;
@@ -97,6 +97,19 @@ impl Stop {
         }
     }
 
+    /// What is answered: where memory ran out, `OutOfMemory` at 0.
+    pub fn malformed(self) -> Malformed
+        ensures { result ≡ malformed_of self }
+    {
+        match self {
+            Stop::Memory => Malformed {
+                cause: Cause::OutOfMemory,
+                offset: 0,
+            },
+            Stop::Fault(fault) => fault,
+        }
+    }
+
     /// The fault at this offset, wherever it was met.
     pub fn moved(self, offset: usize) -> Stop
         ensures { result ≡ moved_stop offset self }
@@ -105,6 +118,14 @@ impl Stop {
             Stop::Memory => Stop::Memory,
             Stop::Fault(fault) => Stop::Fault(Malformed { offset, ..fault }),
         }
+    }
+}
+
+impl From<Malformed> for Stop {
+    ghost from_gives = { λ f e. e ≡ Fault f };
+
+    fn from(fault: Malformed) -> Stop {
+        Stop::Fault(fault)
     }
 }
 

@@ -18,7 +18,7 @@ abbrev pub no_code : CodeTree
 no_code = record { max_stack = 0; max_locals = 0; code = []; exceptions = []; attributes = [] }
 
 -- the code of main, where there is one
-abbrev pub main_code : FileTree → CodeTree
+unfoldable pub main_code : FileTree → CodeTree
 main_code file = unwrap_or (option_map (λ (body : Body). body.code) (body_of (program_of file) (main_in file))) no_code
 
 -- main where it runs

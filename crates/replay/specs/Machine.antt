@@ -1,16 +1,18 @@
 -- What a machine of one thread shows, and what its answers say.
-use Rattle.std.specs.Prelude.{◌≡◌, ℕ, ℤ, List, [], ◌∷◌, Option, Some, None, Bool, true, false, is_some, length}
+use Rattle.std.specs.Prelude.{◌≡◌, ℕ, ℤ, List, [], ◌∷◌, Option, Some, None, Bool, true, false, ◌==◌, is_some, length}
 use Rattle.model.specs.declared.event.Event.{Event}
 use Rattle.model.specs.declared.limits.Limits.{Limits}
 use Rattle.model.specs.declared.value.Value.{Value}
+use Rattle.model.specs.declared.value.Value.TheVariants as value
+use Rattle.model.specs.declared.instr.Instr.{Instr}
 use Rattle.model.specs.declared.end.RunCause.{RunCause}
 use Rattle.model.specs.declared.end.RunCause.TheVariants as causes
 use Rattle.model.specs.Names.{Name}
 use Rattle.model.specs.Classes.{name_of}
 use Rattle.model.specs.Operands.{values}
-use Rattle.model.specs.State.{ClassStatus, InProgress, Initialised, Running, Ended, Thread, Place, Frame, Super, End, Invocation, Initialisation, StackOf, World, State, opening_heap, main_thread_reference, new_thread}
+use Rattle.model.specs.State.{ClassStatus, InProgress, Initialised, Running, Ended, Thread, Place, Frame, Super, End, Invocation, Initialisation, print_stream_reference, StackOf, World, State, opening_heap, main_thread_reference, new_thread}
 use Rattle.model.specs.Outcomes.{Cost, Free}
-use Rattle.model.specs.Meanings.{meaning_of, site_at}
+use Rattle.model.specs.Meanings.{meaning_of, other_meaning, site_at}
 use Rattle.model.specs.Step.{SteppedOf, NotEnabled, WrongKind, Next, PartOf, part, thread_at, bytecode_by, stepped}
 use Rattle.std.specs.Option.{option_and_then}
 use Rattle.replay.specs.declared.machine.Stage.{Stage}
@@ -39,6 +41,15 @@ classes_of class stages.End = (class, InProgress 0) ∷ []
 classes_of class stages.Ready = (class, Initialised) ∷ (class, InProgress 0) ∷ []
 classes_of class stages.Runs = (class, Initialised) ∷ (class, InProgress 0) ∷ []
 classes_of class stages.Ended = (class, Initialised) ∷ (class, InProgress 0) ∷ []
+
+-- whether the thread has not ended
+abbrev pub is_alive : Stage → Bool
+is_alive stages.New = true
+is_alive stages.Super = true
+is_alive stages.End = true
+is_alive stages.Ready = true
+is_alive stages.Runs = true
+is_alive stages.Ended = false
 
 -- the frame of main at a place
 abbrev pub frame_of : FileTree → Place → Frame
@@ -69,11 +80,16 @@ state_of file stage place printed = record { world = world_of file stage printed
 pub record Machine : Type 0 where
   pub file : FileTree
   pub limits : Limits
-  pub state : State
+  pub stage : Stage
+  pub place : Place
+  pub printed : List ℤ
+
+abbrev pub state_in : Machine → State
+state_in m = state_of m.file m.stage m.place m.printed
 
 -- the machine shows the state
 pub record Shows (m : Machine) (s : State) : Type 0 where
-  pub state_is : m.state ≡ s
+  pub state_is : state_in m ≡ s
 
 -- ---- what an answer says of an event
 
@@ -124,16 +140,29 @@ abbrev pub frame_event : FileTree → ℕ → List ℤ → Place → SteppedOf (
 frame_event file frames printed place =
     bytecode_by values (program_of file) frames main_step (world_of file stages.Runs printed) (frame_of file place) [] (main_body file).code.max_stack (option_and_then (meaning_of values) (site_at (main_in file) (main_body file) place.offset))
 
--- on at no cost, with no exception pending
-abbrev pub PartGoesOn : SteppedOf (PartOf Value) → (PartOf Value → Type 0) → Type 0
-PartGoesOn NotEnabled P = ⊥
-PartGoesOn WrongKind P = ⊥
-PartGoesOn (Next cost p) P = (cost ≡ Free) × (is_thrown 0 p.world ≡ false) × P p
+-- the same of an instruction that is not local
+abbrev pub other_event : FileTree → ℕ → List ℤ → Place → Instr → ℕ → SteppedOf (PartOf Value)
+other_event file frames printed place instr next =
+    bytecode_by values (program_of file) frames main_step (world_of file stages.Runs printed) (frame_of file place) [] (main_body file).code.max_stack (other_meaning values (record { method = main_in file; body = main_body file; offset = place.offset; instr = instr; next = next }) instr)
 
+-- null, or the PrintStream of System.out
+abbrev pub is_print_stream : Value → Bool
+is_print_stream value.Unset = false
+is_print_stream (value.Int bits) = false
+is_print_stream value.Null = true
+is_print_stream (value.Reference r) = r == print_stream_reference
+
+-- on in the frame at no cost, with no exception pending
+abbrev pub PartGoesOn : SteppedOf (PartOf Value) → Type 0
+PartGoesOn NotEnabled = ⊥
+PartGoesOn WrongKind = ⊥
+PartGoesOn (Next cost p) = (cost ≡ Free) × (is_thrown 0 p.world ≡ false) × (length p.stack ≡ 1)
+
+-- an exception is pending in the frame
 abbrev pub PartThrows : SteppedOf (PartOf Value) → Type 0
 PartThrows NotEnabled = ⊥
 PartThrows WrongKind = ⊥
-PartThrows (Next cost p) = (is_thrown 0 p.world ≡ true) × (length p.world.threads ≡ 1)
+PartThrows (Next cost p) = (is_thrown 0 p.world ≡ true) × (length p.stack ≡ 1)
 
 -- what an answer says of an instruction of main
 abbrev pub FrameSays : FrameStep → SteppedOf (PartOf Value) → FileTree → List ℤ → List ℤ → Place → Place → Type 0
@@ -141,4 +170,4 @@ FrameSays frame_steps.Done out file printed now old new = out ≡ Next Free (par
 FrameSays frame_steps.Returned out file printed now old new = (out ≡ Next Free (part (world_of file stages.Runs printed) [])) × (now ≡ printed) × (new ≡ old)
 FrameSays frame_steps.WrongKind out file printed now old new = (out ≡ WrongKind) × (now ≡ printed) × (new ≡ old)
 FrameSays frame_steps.Throws out file printed now old new = PartThrows out × (now ≡ printed) × (new ≡ old)
-FrameSays frame_steps.NoMemory out file printed now old new = PartGoesOn out (λ p. Unit {0}) × (now ≡ printed) × (new ≡ old)
+FrameSays frame_steps.NoMemory out file printed now old new = PartGoesOn out × (now ≡ printed) × (new ≡ old)

@@ -5,4 +5,7 @@ mod bytecode;
 mod linked;
 mod machine;
 
+mod run;
+
 pub use linked::Linked;
+pub use run::replay;

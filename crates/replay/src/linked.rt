@@ -33,7 +33,7 @@ impl Model for Linked {
 
 /// Whether a reference is to this member.
 fn is_member(reference: Option<Reference<'_>>, class: &[u8], name: &[u8], descriptor: &[u8]) -> bool
-    ensures { result ≡ names (option_map (λ r. reference_of r) reference) (record { class = class.now; name = name.now; descriptor = descriptor.now }) }
+    ensures { result ≡ names (option_map (λ r. reference_of r) reference.entry) (record { class = class.now; name = name.now; descriptor = descriptor.now }) }
 {
     match reference {
         Some(member) => member.class == class && member.name == name && member.descriptor == descriptor,

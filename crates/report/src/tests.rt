@@ -10,19 +10,19 @@ fn writes_a_line_for_each_state(rt: HostRuntime) -> Result<(), Fail> {
     let thrown = b"java/lang/Error".to_vec(alloc)?;
     let report = Report {
         printed: vec![in alloc; -2147483648, 0, 7]?,
-        threads: vec![
-            in alloc;
+        threads: vec![in alloc;
             EndState::Ended,
             EndState::Threw(thrown),
             EndState::Blocked,
             EndState::Waiting,
             EndState::Joining,
             EndState::Initialising,
-            EndState::Runnable
+            EndState::Runnable,
         ]?,
         events: 41,
     };
-    let want = "-2147483648\n0\n7\nthread 0 ended\nthread 1 threw java/lang/Error\nthread 2 blocked\nthread 3 waiting\nthread 4 joining\nthread 5 initialising\nthread 6 runnable\nevents 41\nend not enabled 41\n";
+    let want =
+        "-2147483648\n0\n7\nthread 0 ended\nthread 1 threw java/lang/Error\nthread 2 blocked\nthread 3 waiting\nthread 4 joining\nthread 5 initialising\nthread 6 runnable\nevents 41\nend not enabled 41\n";
     assert!(rt; text(alloc, &report, &End::NotEnabled(41))?.as_slice() == want.as_bytes());
     Ok(())
 }
@@ -48,7 +48,10 @@ fn says_why_a_run_ended(rt: HostRuntime) -> Result<(), Fail> {
         (End::Budget, "budget"),
     ] {
         let want = format!(in alloc; "events 3\nend {words}\n")?;
-        assert!(rt; text(alloc, &report, &end)?.as_slice() == want.as_bytes(), "{words}");
+        assert!(rt;
+            text(alloc, &report, &end)?.as_slice() == want.as_bytes(),
+            "{words}"
+        );
     }
     Ok(())
 }

@@ -1,5 +1,5 @@
 -- What is read was spelled so, and what is spelled is read again.
-use Rattle.std.proofs.Common.{◌≡◌, ◌⊎◌, ℕ, zero, suc, ◌+◌, ◌*◌, ◌/◌, ◌%◌, ◌^◌, ◌<◌, ◌≤◌, Bool, true, false, cond, ltb, eqb, List, [], ◌∷◌, ◌++◌, length, get_or, take, drop, Result, Ok, Err, refl, sym, ap, subst, ◌∙◌, append_assoc, arith, IsTrue, inl, inr}
+use Rattle.std.proofs.Common.{◌≡◌, ◌⊎◌, ℕ, zero, suc, ◌+◌, ◌*◌, ◌%◌, ◌^◌, ◌<◌, ◌≤◌, Bool, true, false, cond, ltb, eqb, List, [], ◌∷◌, ◌++◌, length, get_or, take, drop, Result, Ok, Err, refl, sym, ap, subst, ◌∙◌, append_assoc, arith, IsTrue, inl, inr}
 use Rattle.std.specs.List.{flat_map, AllByRecursion}
 use Rattle.std.proofs.lemmas.Bool.{eqb-true, ltb-false, le-ltb}
 use Rattle.std.proofs.lemmas.Bool.{cases_lt}
@@ -238,6 +238,10 @@ table_again xs f =
     let all : entries_at (length xs) (flat_map entry xs) ≡ Ok (xs, []) = ap (λ (l : List ℕ). entries_at (length xs) l) (sym (append-nil (flat_map entry xs))) ∙ entries_again xs [] f.each in
     rw (number_again 4 (length xs) (flat_map entry xs) f.count, all) refl
 
+unended : (n : ℕ) (xs : List ScheduleEntry) → cond (eqb n 0) (done xs) (failed faults.Trailing) ≡ Err faults.Trailing → 0 < n
+unended zero xs e = absurd cc
+unended (suc n) xs e = omega arith
+
 -- the faults behind the version
 abbrev pub is_table_fault : ScheduleFault → Bool
 is_table_fault faults.Trailing = true
@@ -259,5 +263,24 @@ table_stops bytes f e =
       | inr h ↦ elim (bind_err (entries_at h.0.0 h.0.1) (λ x. ends x) f h.2) [
         | inl g ↦ of_entry f (entries_stop h.0.0 h.0.1 f g)
         | inr g ↦ subst (λ (m : ScheduleFault). IsTrue (is_table_fault m)) (unpassed (eqb (length g.0.1) 0) faults.Trailing f g.0.0 g.2) refl
+      ]
+    ]
+
+-- bytes after a whole table
+pub table_trailing : (bytes : List ℕ) → IsBytes bytes → table_at bytes ≡ Err faults.Trailing → (xs : List ScheduleEntry) × (rest : List ℕ) × AreEntries xs × (0 < length rest) × (bytes ≡ table xs ++ rest)
+unfolding table_at
+table_trailing bytes small e =
+    elim (bind_err (number_at 4 bytes) (λ count. entries_at count.0 count.1 >>= λ x. ends x) faults.Trailing e) [
+      | inl h ↦ (let clash = number_stops 4 bytes faults.Trailing h in absurd cc)
+      | inr h ↦ elim (bind_err (entries_at h.0.0 h.0.1) (λ x. ends x) faults.Trailing h.2) [
+        | inl g ↦ (let clash : false ≡ true = entries_stop h.0.0 h.0.1 faults.Trailing g in absurd cc)
+        | inr g ↦
+            (let t = number_takes 4 back4 bytes h.0.0 h.0.1 small h.1 in
+            let u = entries_take h.0.0 h.0.1 g.0.0 g.0.1 t.0.rest_fits g.1 in
+            let fits : AreEntries g.0.0 = record { count = rw u.1.0 t.1; each = u.1.1 } in
+            let left : 0 < length g.0.1 = unended (length g.0.1) g.0.0 g.2 in
+            let whole : bytes ≡ table g.0.0 ++ g.0.1 =
+            t.0.parts ∙ ap (λ (l : List ℕ). big_bytes 4 h.0.0 ++ l) u.0.parts ∙ sym (append_assoc (big_bytes 4 h.0.0) (flat_map entry g.0.0) g.0.1) ∙ ap (λ (k : ℕ). (big_bytes 4 k ++ flat_map entry g.0.0) ++ g.0.1) (sym u.1.0) in
+            (g.0.0, g.0.1, fits, left, whole))
       ]
     ]

@@ -1,3 +1,4 @@
 pub mod Laws
 pub mod Loop
+pub mod OneList
 pub mod Whole

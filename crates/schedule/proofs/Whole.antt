@@ -1,5 +1,5 @@
 -- What reading a schedule promises, by the definition of schedule files.
-use Rattle.std.proofs.Common.{◌≡◌, ◌⊎◌, ℕ, ◌+◌, ◌<◌, Bool, true, false, cond, eqb, List, [], ◌∷◌, ◌++◌, Result, Ok, Err, refl, sym, ap, subst, ◌∙◌, append_assoc, IsTrue, inl, inr, lit<}
+use Rattle.std.proofs.Common.{◌≡◌, ◌⊎◌, ℕ, Bool, true, false, cond, eqb, List, [], ◌∷◌, ◌++◌, Result, Ok, Err, refl, sym, ap, ◌∙◌, inl, inr, lit<}
 use Rattle.std.specs.Prelude.{codes, None}
 use Rattle.std.proofs.lemmas.Bool.{eqb-true}
 use Rattle.byteorder.specs.Endian.{big_bytes}
@@ -8,8 +8,9 @@ use Rattle.model.specs.declared.event.ScheduleEntry.{ScheduleEntry}
 use Rattle.model.specs.Schedule.{AreEntries, ScheduleFile, events_of, schedule, table}
 use Rattle.schedule.specs.declared.fault.ScheduleFault.{ScheduleFault}
 use Rattle.schedule.specs.declared.fault.ScheduleFault.TheVariants as faults
-use Rattle.schedule.specs.Reading.{◌>>=◌, Read, Fails, BeginsWith, number_at, table_at, version_at, schedule_at}
-use Rattle.schedule.proofs.Laws.{IsBytes, bind_ok, bind_err, done, failed, ok_is, err_is, back1, back4, number_takes, number_again, number_stops, table_takes, table_again, table_stops, is_table_fault}
+use Rattle.schedule.specs.Outcomes.{BeginsWith, HasMore}
+use Rattle.schedule.specs.Reading.{◌>>=◌, Read, Fails, number_at, table_at, version_at, schedule_at}
+use Rattle.schedule.proofs.Laws.{IsBytes, bind_ok, bind_err, done, failed, ok_is, err_is, back1, back4, number_takes, number_again, number_stops, table_takes, table_again, table_stops, table_trailing}
 
 -- behind the right magic, and the right version
 after_magic : (rest : List ℕ) → schedule_at (codes "JSCH" ++ rest) ≡ version_at rest
@@ -27,6 +28,11 @@ chosen_ok false r d y e = absurd cc
 chosen_err : {A : Type 0} (b : Bool) (r : Result A ScheduleFault) (d f : ScheduleFault) → cond b r (failed d) ≡ Err f → (r ≡ Err f) ⊎ (d ≡ f)
 chosen_err true r d f e = inl e
 chosen_err {A = A} false r d f e = inr (err_is {B = A} d f e)
+
+-- the same with how the test went
+test_err : {A : Type 0} (b : Bool) (r : Result A ScheduleFault) (d f : ScheduleFault) → cond b r (failed d) ≡ Err f → ((b ≡ true) × (r ≡ Err f)) ⊎ (d ≡ f)
+test_err true r d f e = inl (refl, e)
+test_err {A = A} false r d f e = inr (err_is {B = A} d f e)
 
 pub schedule_takes : (bytes : List ℕ) (xs : List ScheduleEntry) → IsBytes bytes → schedule_at bytes ≡ Ok xs → (bytes ≡ schedule None xs) × AreEntries xs
 unfolding schedule_at version_at
@@ -74,6 +80,48 @@ only_memory bytes faults.Magic e events s = absurd (unspelled bytes faults.Magic
 only_memory bytes faults.Version e events s = absurd (unspelled bytes faults.Version e events s)
 only_memory bytes faults.Repeat e events s = absurd (unspelled bytes faults.Repeat e events s)
 only_memory bytes faults.Trailing e events s = absurd (unspelled bytes faults.Trailing e events s)
+
+-- the bytes before a table
+headed : (bytes : List ℕ) (f : ScheduleFault) → IsBytes bytes → (faults.Magic ≡ f → ⊥) → (faults.Version ≡ f → ⊥) → (faults.Truncated ≡ f → ⊥) → schedule_at bytes ≡ Err f
+    → (rest : List ℕ) × IsBytes rest × (bytes ≡ codes "JSCH" ++ 1 ∷ rest) × (table_at rest ≡ Err f)
+unfolding schedule_at version_at
+headed bytes f small no_m no_v no_t e =
+    elim (bind_err (number_at 4 bytes) (λ magic. cond (eqb magic.0 0x4a534348) (version_at magic.1) (failed faults.Magic)) f e) [
+      | inl h ↦ absurd (no_t (number_stops 4 bytes f h))
+      | inr h ↦ elim (test_err (eqb h.0.0 0x4a534348) (version_at h.0.1) faults.Magic f h.2) [
+        | inr m ↦ absurd (no_m m)
+        | inl m ↦ elim (bind_err (number_at 1 h.0.1) (λ version. cond (eqb version.0 1) (table_at version.1) (failed faults.Version)) f m.1) [
+          | inl g ↦ absurd (no_t (number_stops 1 h.0.1 f g))
+          | inr g ↦ elim (test_err (eqb g.0.0 1) (table_at g.0.1) faults.Version f g.2) [
+            | inr v ↦ absurd (no_v v)
+            | inl v ↦
+                (let t = number_takes 4 back4 bytes h.0.0 h.0.1 small h.1 in
+                let u = number_takes 1 back1 h.0.1 g.0.0 g.0.1 t.0.rest_fits g.1 in
+                let magic : bytes ≡ codes "JSCH" ++ h.0.1 = t.0.parts ∙ ap (λ (k : ℕ). big_bytes 4 k ++ h.0.1) (eqb-true _ _ m.0) in
+                let version : h.0.1 ≡ 1 ∷ g.0.1 = u.0.parts ∙ ap (λ (k : ℕ). big_bytes 1 k ++ g.0.1) (eqb-true _ _ v.0) in
+                (g.0.1, u.0.rest_fits, magic ∙ ap (λ (l : List ℕ). codes "JSCH" ++ l) version, v.1))
+          ]
+        ]
+      ]
+    ]
+
+pub trailing_of : (bytes : List ℕ) (f : ScheduleFault) → IsBytes bytes → Fails f (schedule_at bytes) → f ≡ faults.Trailing → HasMore bytes
+trailing_of bytes faults.Trailing small e is =
+    let a = headed bytes faults.Trailing small (λ e. absurd cc) (λ e. absurd cc) (λ e. absurd cc) e in
+    let b = table_trailing a.0 a.1 a.3 in
+    record {
+      file = schedule None b.0;
+      events = events_of b.0;
+      more = b.1;
+      spelled = record { entries = b.0; fits = b.2; recording_fits = tt; spelled = refl; stands_for = refl };
+      some = b.3;
+      parts = a.2 ∙ ap (λ (l : List ℕ). codes "JSCH" ++ 1 ∷ l) b.4;
+    }
+trailing_of bytes faults.OutOfMemory small e is = absurd cc
+trailing_of bytes faults.Truncated small e is = absurd cc
+trailing_of bytes faults.Magic small e is = absurd cc
+trailing_of bytes faults.Version small e is = absurd cc
+trailing_of bytes faults.Repeat small e is = absurd cc
 
 -- a table has no such fault
 no_magic : (rest : List ℕ) → version_at rest ≡ Err faults.Magic → ⊥

@@ -1,9 +1,7 @@
 -- Reading a schedule file from left to right, with the first fault that is met.
-use Rattle.std.specs.Prelude.{◌≡◌, ℕ, zero, suc, List, [], ◌∷◌, ◌++◌, length, drop, Result, Ok, Err, Bool, nat_lt, ◌==◌, ◌&&◌, ◌||◌, if◌then◌else◌}
+use Rattle.std.specs.Prelude.{◌≡◌, ℕ, zero, suc, List, [], ◌∷◌, length, drop, Result, Ok, Err, Bool, nat_lt, ◌==◌, ◌&&◌, ◌||◌, if◌then◌else◌}
 use Rattle.byteorder.specs.Endian.{big_number}
-use Rattle.model.specs.declared.event.Event.{Event}
 use Rattle.model.specs.declared.event.ScheduleEntry.{ScheduleEntry}
-use Rattle.model.specs.Schedule.{events_of}
 use Rattle.schedule.specs.declared.fault.ScheduleFault.{ScheduleFault}
 use Rattle.schedule.specs.declared.fault.ScheduleFault.TheVariants as faults
 
@@ -55,8 +53,6 @@ schedule_at bytes = do
   magic ← number_at 4 bytes
   if magic.0 == 0x4a534348 then version_at magic.1 else Err faults.Magic
 
--- ---- what the functions promise
-
 -- What a function returned, seen by view, is what reading gives, unless memory ran out.
 abbrev pub Fails : {Y : Type 0} → ScheduleFault → Result Y ScheduleFault → Type 0
 Fails faults.OutOfMemory read = Unit {0}
@@ -65,11 +61,3 @@ Fails fault read = read ≡ Err fault
 abbrev pub Gives : {X Y : Type 0} → (X → Y) → Result X ScheduleFault → Result Y ScheduleFault → Type 0
 Gives view (Ok x) read = read ≡ Ok (view x)
 Gives view (Err e) read = Fails e read
-
--- these events are answered, unless memory ran out
-abbrev pub Answers : Result (List ScheduleEntry) ScheduleFault → List Event → Type 0
-Answers (Ok entries) events = events_of entries ≡ events
-Answers (Err e) events = e ≡ faults.OutOfMemory
-
-abbrev pub BeginsWith : List ℕ → List ℕ → Type 0
-BeginsWith front bytes = (rest : List ℕ) × (bytes ≡ front ++ rest)

@@ -5,6 +5,7 @@ mod fault;
 mod read;
 mod reader;
 mod runs;
+mod spelling;
 #[cfg(test)]
 mod tests;
 mod write;
@@ -13,4 +14,5 @@ pub use fault::ScheduleFault;
 pub use model::{Event, ScheduleEntry};
 pub use read::read_schedule;
 pub use runs::Schedule;
+pub use spelling::bytes_spell_one_list;
 pub use write::write_schedule;

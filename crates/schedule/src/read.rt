@@ -4,7 +4,8 @@ ghost use Rattle.std.specs.Prelude.{◌≡◌, ◌∷◌, ◌++◌, [], List, If
 ghost use Rattle.model.specs.Schedule.{ScheduleFile, events_of};
 ghost use Rattle.model.specs.declared.event.Event.{Event};
 ghost use Rattle.schedule.specs.declared.fault.ScheduleFault.TheVariants as faults;
-ghost use Rattle.schedule.specs.Reading.{Gives, Answers, BeginsWith, entry_at, entries_at, schedule_at};
+ghost use Rattle.schedule.specs.Outcomes.{Answers, BeginsWith, HasMore};
+ghost use Rattle.schedule.specs.Reading.{Gives, entry_at, entries_at, schedule_at};
 
 use crate::fault::ScheduleFault;
 use crate::reader::Reader;
@@ -81,6 +82,7 @@ pub fn read_schedule(alloc: Global, bytes: &[u8]) -> Result<Schedule, ScheduleFa
     // What is spelled so is read, unless memory runs out.
     ensures only { (events : List Event) → ScheduleFile bytes.now None events → Answers result events }
     ensures magic { IfErr result (λ e. e ≡ faults.Magic → BeginsWith (codes "JSCH") bytes.now → ⊥) }
+    ensures trailing { IfErr result (λ e. e ≡ faults.Trailing → HasMore bytes.now) }
     ensures version { IfErr result (λ e. e ≡ faults.Version → BeginsWith (codes "JSCH" ++ 1 ∷ []) bytes.now → ⊥) }
 {
     Ok(Schedule::of_entries(read_all(alloc, bytes)?))

@@ -1,18 +1,12 @@
-use Rattle.std.proofs.Common.{arith}
-use Rattle.classfile.proofs.Promises.{found_of, only_of, magic_of, version_of, trailing_of}
+use Rattle.std.proofs.Common.{◌≡◌, ◌∙◌, ap, subst, sym}
+use Rattle.reading.specs.declared.fault.Malformed.{Malformed}
+use Rattle.model.specs.Tree.{FileTree}
+use Rattle.model.specs.Spells.{IsWhole}
+use Rattle.classfile.specs.View.{file_of}
+use Rattle.classfile.proofs.Promises.{stops_not}
 use Rattle.classfile.proofs.file.decode.Goals as goal
 
-pub returns-clause-found : goal.returns-clause-found
-returns-clause-found c = found_of c.args.bytes.now c.decoded.result (λ i. omega (arith, c.type_inv.bytes i)) c.decoded.ensures
-
-pub returns-clause-only : goal.returns-clause-only
-returns-clause-only c = only_of c.args.bytes.now c.decoded.result c.decoded.ensures
-
-pub returns-clause-magic : goal.returns-clause-magic
-returns-clause-magic c = magic_of c.args.bytes.now c.decoded.result (λ i. omega (arith, c.type_inv.bytes i)) c.decoded.ensures
-
-pub returns-clause-version : goal.returns-clause-version
-returns-clause-version c = version_of c.args.bytes.now c.decoded.result (λ i. omega (arith, c.type_inv.bytes i)) c.decoded.ensures
-
-pub returns-clause-trailing : goal.returns-clause-trailing
-returns-clause-trailing c = trailing_of c.args.bytes.now c.decoded.result (λ i. omega (arith, c.type_inv.bytes i)) c.decoded.ensures
+pub returns-in-Err-clause-only : goal.returns-in-Err-clause-only
+returns-in-Err-clause-only c tree spelled =
+    let is : file_of c.in_ok-file.file ≡ tree = c.in_ok-file.ensures.only tree spelled.layout in
+    ap (λ (e : Malformed). e.cause) c.malformed.ensures ∙ stops_not c.in-Err.fault (file_of c.in_ok-file.file) c.in-Err.ensures.stands (subst (λ (t : FileTree). IsWhole t) (sym is) spelled.whole)

@@ -1,4 +1,4 @@
-use Rattle.std.proofs.Common.{◌≡◌, ◌++◌, sym, ap, append_assoc, ◌∙◌, List, ℕ, map, take}
+use Rattle.std.proofs.Common.{◌++◌, sym, ap, append_assoc, ◌∙◌, List, ℕ, map, take}
 use Rattle.model.specs.Report.{end_state_of, thread_line, thread_lines}
 use Rattle.model.specs.declared.report.EndState.{EndState}
 use Rattle.report.proofs.ThreadLines.{one_more}

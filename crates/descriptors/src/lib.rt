@@ -1,0 +1,10 @@
+//! Class names and descriptors (JVMS 4.2, 4.3).
+#![tactic(auto)]
+
+mod field;
+mod method;
+mod name;
+
+pub use field::{Element, Field, parse_field};
+pub use method::method_slots;
+pub use name::{is_class_name, is_unqualified_name};

@@ -1,0 +1,29 @@
+use Rattle.std.proofs.Common.{refl}
+use Rattle.model.specs.OpcodeTable.{low_form, high_form}
+use Rattle.model.specs.BuiltIn.{built_in_classes}
+use Rattle.model.specs.State.{opening_heap}
+use Rattle.examples.proofs.branches.Goals as goal
+
+pub returns : goal.returns
+unfolding low_form high_form built_in_classes opening_heap
+returns c =
+    record {
+      holds = record {
+        ifeq = refl;
+        ifne = refl;
+        iflt = refl;
+        ifge = refl;
+        ifgt = refl;
+        ifle = refl;
+        if_icmpeq = refl;
+        if_icmpne = refl;
+        if_icmplt = refl;
+        if_icmpge = refl;
+        if_icmpgt = refl;
+        if_icmple = refl;
+        goto = refl;
+        backwards = refl;
+        tableswitch = refl;
+        lookupswitch = refl;
+      };
+    }

@@ -1,0 +1,20 @@
+use Rattle.std.proofs.Common.{refl}
+use Rattle.examples.proofs.Fits.{all_fit}
+use Rattle.model.specs.BuiltIn.{built_in_classes}
+use Rattle.model.specs.State.{opening_heap}
+use Rattle.examples.proofs.built_in_classes.Goals as goal
+
+pub returns : goal.returns
+unfolding built_in_classes opening_heap
+returns c =
+    record {
+      holds = record {
+        declared_so = refl;
+        no_others = refl;
+        are_files = all_fit built_in_classes tt;
+        exception_below = refl;
+        throwable_above = refl;
+        error_aside = refl;
+        subtyped = refl;
+      };
+    }

@@ -1,0 +1,21 @@
+use Rattle.std.proofs.Common.{refl}
+use Rattle.model.specs.OpcodeTable.{low_form, high_form}
+use Rattle.model.specs.BuiltIn.{built_in_classes}
+use Rattle.model.specs.State.{opening_heap}
+use Rattle.examples.proofs.class_at_begin.Goals as goal
+
+pub returns : goal.returns
+unfolding low_form high_form built_in_classes opening_heap
+returns c =
+    record {
+      holds = record {
+        held = refl;
+        its_own = refl;
+        done = refl;
+        erroneous = refl;
+        none_pending = refl;
+        superclass_held = refl;
+        one_frame = refl;
+        no_frame = refl;
+      };
+    }

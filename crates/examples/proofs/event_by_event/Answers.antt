@@ -1,0 +1,26 @@
+use Rattle.std.proofs.Common.{refl}
+use Rattle.model.specs.OpcodeTable.{low_form, high_form}
+use Rattle.model.specs.BuiltIn.{built_in_classes}
+use Rattle.model.specs.State.{opening_heap}
+use Rattle.examples.proofs.event_by_event.Goals as goal
+
+pub returns : goal.returns
+unfolding low_form high_form built_in_classes opening_heap
+returns c =
+    record {
+      holds = record {
+        opening = refl;
+        class_begun = refl;
+        superclass_first = refl;
+        class_done = refl;
+        statuses = refl;
+        main_begun = refl;
+        stream_pushed = refl;
+        seven_pushed = refl;
+        not_yet = refl;
+        printed = refl;
+        seven = refl;
+        returned = refl;
+        costs = refl;
+      };
+    }

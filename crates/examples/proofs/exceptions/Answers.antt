@@ -1,0 +1,16 @@
+use Rattle.std.proofs.Common.{refl}
+use Rattle.model.specs.OpcodeTable.{low_form, high_form}
+use Rattle.model.specs.BuiltIn.{built_in_classes}
+use Rattle.model.specs.State.{opening_heap}
+use Rattle.examples.proofs.exceptions.Goals as goal
+
+pub returns : goal.returns
+unfolding low_form high_form built_in_classes opening_heap
+returns c =
+    record {
+      holds = record {
+        idiv_by_zero = record { not_yet = refl; pending = refl; stays = refl; costs = refl; silent = refl };
+        irem_by_zero = record { not_yet = refl; pending = refl; stays = refl; costs = refl; silent = refl };
+        println_at_null = record { not_yet = refl; pending = refl; stays = refl; costs = refl; silent = refl };
+      };
+    }

@@ -1,0 +1,21 @@
+use Rattle.std.proofs.Common.{refl}
+use Rattle.std.specs.Fmt.{digits}
+use Rattle.model.specs.OpcodeTable.{low_form, high_form}
+use Rattle.model.specs.Instruction.{wide_at, table_switch_at, lookup_switch_at}
+use Rattle.examples.proofs.Fits.{fits}
+use Rattle.model.specs.BuiltIn.{built_in_classes}
+use Rattle.model.specs.State.{opening_heap}
+use Rattle.examples.proofs.wide_and_switch.Goals as goal
+
+pub returns : goal.returns
+unfolding low_form high_form wide_at table_switch_at lookup_switch_at built_in_classes opening_heap digits
+returns c =
+    record {
+      holds = record {
+        wide = record { layout = record { spelled = refl; fits = fits _ tt }; numbers = refl; threads = refl; reported = refl; then_over = refl };
+        after_0 = record { layout = record { spelled = refl; fits = fits _ tt }; numbers = refl; threads = refl; reported = refl; then_over = refl };
+        after_1 = record { layout = record { spelled = refl; fits = fits _ tt }; numbers = refl; threads = refl; reported = refl; then_over = refl };
+        after_2 = record { layout = record { spelled = refl; fits = fits _ tt }; numbers = refl; threads = refl; reported = refl; then_over = refl };
+        after_3 = record { layout = record { spelled = refl; fits = fits _ tt }; numbers = refl; threads = refl; reported = refl; then_over = refl };
+      };
+    }

@@ -1,0 +1,17 @@
+pub mod Bytes
+pub mod Runs
+pub mod PrintsSeven
+pub mod Printing
+pub mod OnlyReturns
+pub mod IntArithmetic
+pub mod WideAndSwitch
+pub mod Loops
+pub mod Instructions
+pub mod WrongOperands
+pub mod Exceptions
+pub mod StackMoves
+pub mod IntValues
+pub mod Branches
+pub mod Initialisations
+pub mod Javac
+pub mod BuiltInClasses

@@ -1,0 +1,123 @@
+//! What the definitions of `model` mean, on programs and operands written out: each function here is a
+//! theorem, and does nothing.
+#![tactic(auto)]
+
+ghost use Rattle.examples.specs.Branches.{Branches};
+ghost use Rattle.examples.specs.BuiltInClasses.{BuiltInClasses, OpeningObjects};
+ghost use Rattle.examples.specs.Exceptions.{Exceptions};
+ghost use Rattle.examples.specs.Initialisations.{ClassAtBegin, SuperclassFirst};
+ghost use Rattle.examples.specs.Instructions.{Instructions, Opcodes};
+ghost use Rattle.examples.specs.IntArithmetic.{IntArithmetic};
+ghost use Rattle.examples.specs.IntValues.{Compared, Computed, Converted};
+ghost use Rattle.examples.specs.Javac.{WrittenByJavac};
+ghost use Rattle.examples.specs.Loops.{Loop, Switches};
+ghost use Rattle.examples.specs.OnlyReturns.{OnlyReturns};
+ghost use Rattle.examples.specs.PrintsSeven.{PrintsSeven, EventByEvent};
+ghost use Rattle.examples.specs.StackMoves.{StackMoves};
+ghost use Rattle.examples.specs.WideAndSwitch.{WideAndSwitch};
+ghost use Rattle.examples.specs.WrongOperands.{WrongOperands};
+
+/// A class file whose main prints 7, from its bytes to the end of its run.
+pub fn prints_seven()
+    ensures holds { PrintsSeven }
+{}
+
+/// The same run, event by event.
+pub fn event_by_event()
+    ensures holds { EventByEvent }
+{}
+
+/// A class file whose main returns at once.
+pub fn only_returns()
+    ensures holds { OnlyReturns }
+{}
+
+/// The least int divided by -1, shifts by more than 31, and a sum that wraps.
+pub fn int_arithmetic()
+    ensures holds { IntArithmetic }
+{}
+
+/// A wide `iinc`, and a `lookupswitch` after no, one, two and three bytes of padding.
+pub fn wide_and_switch()
+    ensures holds { WideAndSwitch }
+{}
+
+/// A loop with `goto`, `if_icmplt` and `iinc`, then `dup`, `swap` and `pop`.
+pub fn sum_of_squares()
+    ensures holds { Loop }
+{}
+
+/// Both switches with negative keys and defaults, in a loop closed by `goto_w`.
+pub fn both_switches()
+    ensures holds { Switches }
+{}
+
+/// Instructions by their bytes, with their lengths, and bytes that begin none.
+pub fn instructions()
+    ensures holds { Instructions }
+{}
+
+/// The opcodes by families and by lengths, and those that are left out.
+pub fn opcodes()
+    ensures holds { Opcodes }
+{}
+
+/// Codes that find an instruction or an operand missing, or an operand of another kind.
+pub fn wrong_operands()
+    ensures holds { WrongOperands }
+{}
+
+/// A division by zero, and a call on null.
+pub fn exceptions()
+    ensures holds { Exceptions }
+{}
+
+/// `pop` to `swap`, on any values over any rest of the stack.
+pub fn stack_moves()
+    ensures holds { StackMoves }
+{}
+
+/// Int arithmetic, on ints at the edges.
+pub fn computed()
+    ensures holds { Computed }
+{}
+
+/// Comparisons of two ints.
+pub fn compared()
+    ensures holds { Compared }
+{}
+
+/// `ineg`, `i2b`, `i2c` and `i2s`.
+pub fn converted()
+    ensures holds { Converted }
+{}
+
+/// Where jumps and switches lead.
+pub fn branches()
+    ensures holds { Branches }
+{}
+
+/// A class and its superclass are initialised, the superclass before the class.
+pub fn superclass_first()
+    ensures holds { SuperclassFirst }
+{}
+
+/// The first event of main's thread, where its class was begun already, and under limits of frames.
+pub fn class_at_begin()
+    ensures holds { ClassAtBegin }
+{}
+
+/// A class file that `javac` wrote, with constants of all kinds, fields, handlers and attributes.
+pub fn written_by_javac()
+    ensures holds { WrittenByJavac }
+{}
+
+/// The built-in classes, their superclasses, and subtypes among them and arrays.
+pub fn built_in_classes()
+    ensures holds { BuiltInClasses }
+{}
+
+/// The objects that stand before any event.
+pub fn opening_objects()
+    ensures holds { OpeningObjects }
+{}

@@ -1,0 +1,80 @@
+-- What an engine answers and writes, by the bytes that its devices hold. Where a device says nothing of its
+-- bytes, they are any that it may have handed over.
+use Rattle.std.specs.Prelude.{◌≡◌, ◌⊎◌, ℕ, ◌+◌, List, [], ◌∷◌, Option, IfSome, Result, Ok, Err}
+use Rattle.model.specs.declared.event.Event.{Event}
+use Rattle.model.specs.declared.limits.Limits.{Limits}
+use Rattle.model.specs.declared.report.Report.{Report}
+use Rattle.model.specs.Devices.{AppendsFront}
+use Rattle.jvm.specs.StandIn.{ScheduleFile, IsAccepted, IsReplay, text_of}
+use Rattle.jvm.specs.Choices.{AreChosen}
+use Rattle.jvm.specs.Statuses.{status_of}
+use Rattle.jvm.specs.declared.options.LimitOptions.{LimitOptions}
+use Rattle.jvm.specs.declared.stand_in.End.{End}
+use Rattle.jvm.specs.declared.stand_in.RefusalKind.TheVariants as kinds
+use Rattle.jvm.specs.declared.stand_in.ScheduleFault.TheVariants as schedules
+use Rattle.jvm.specs.declared.fault.Fault.{Fault}
+use Rattle.jvm.specs.declared.fault.Fault.TheVariants as faults
+use Rattle.jvm.specs.declared.status.Status.{Status}
+
+-- these bytes are those of a source that has these left
+abbrev pub Reads : Option (List ℕ) → List ℕ → Type 0
+Reads left bytes = IfSome left (λ known. bytes ≡ known)
+
+-- the bytes of each of the sources, in order
+abbrev pub ReadsEach : List (Option (List ℕ)) → List (List ℕ) → Type 0
+ReadsEach [] [] = Unit {0}
+ReadsEach (left ∷ lefts) (bytes ∷ files) = Reads left bytes × ReadsEach lefts files
+ReadsEach [] (bytes ∷ files) = ⊥
+ReadsEach (left ∷ lefts) [] = ⊥
+
+-- The schedule file spells events, under which the class files have this report within the limits, and this is
+-- its text and its status.
+pub record IsReplayed (schedule : List ℕ) (files : List (List ℕ)) (options : LimitOptions) (text : List ℕ) (status : Status) : Type 0 where
+  pub events : List Event
+  pub spelled : ScheduleFile schedule events
+  pub limits : Limits
+  pub chosen : AreChosen options limits
+  pub report : Report
+  pub end : End
+  pub replayed : IsReplay files events limits report end
+  pub told : text ≡ text_of report end
+  pub ended : status ≡ status_of report.threads.items end
+
+-- the same of what these sources hold
+abbrev pub Replays : Option (List ℕ) → List (Option (List ℕ)) → LimitOptions → List ℕ → Status → Type 0
+Replays left lefts options text status = (schedule : List ℕ) × (files : List (List ℕ)) × Reads left schedule × ReadsEach lefts files × IsReplayed schedule files options text status
+
+-- nothing is written, or a front of what the replay says
+abbrev pub WritesPart : Option (List ℕ) → List (Option (List ℕ)) → LimitOptions → Option (List ℕ) → Option (List ℕ) → Type 0
+WritesPart left lefts options old new = (new ≡ old)
+    ⊎ ((text : List ℕ) × (status : Status) × Replays left lefts options text status × AppendsFront old new text)
+
+-- When a fault is answered, and what is written then.
+abbrev pub IsFaulty : Option (List ℕ) → List (Option (List ℕ)) → LimitOptions → Option (List ℕ) → Option (List ℕ) → Fault → Type 0
+IsFaulty left lefts options old new faults.Device = WritesPart left lefts options old new
+IsFaulty left lefts options old new faults.Memory = WritesPart left lefts options old new
+-- memory apart, the schedule file spells no events
+IsFaulty left lefts options old new (faults.Schedule fault) = (new ≡ old) × ((fault ≡ schedules.OutOfMemory)
+    ⊎ ((schedule : List ℕ) × Reads left schedule × ((events : List Event) → ScheduleFile schedule events → ⊥)))
+-- memory apart, it spells events, and the class files aren't accepted
+IsFaulty left lefts options old new (faults.Refusal refusal) = (new ≡ old) × ((refusal.kind ≡ kinds.OutOfMemory)
+    ⊎ ((schedule : List ℕ) × (files : List (List ℕ)) × (events : List Event) × Reads left schedule × ReadsEach lefts files × ScheduleFile schedule events × (IsAccepted files → ⊥)))
+
+-- the fault is one of the schedule file's
+abbrev pub IsOfSchedule : Fault → Type 0
+IsOfSchedule faults.Device = ⊥
+IsOfSchedule faults.Memory = ⊥
+IsOfSchedule (faults.Schedule fault) = Unit {0}
+IsOfSchedule (faults.Refusal refusal) = ⊥
+
+-- a failure is counted with the fault Device, and with no other
+abbrev pub CountsWith : Fault → ℕ → ℕ → Type 0
+CountsWith faults.Device old new = new ≡ old + 1
+CountsWith faults.Memory old new = new ≡ old
+CountsWith (faults.Schedule fault) old new = new ≡ old
+CountsWith (faults.Refusal refusal) old new = new ≡ old
+
+-- and with no status
+abbrev pub CountsFailure : {A : Type 0} → Result A Fault → ℕ → ℕ → Type 0
+CountsFailure (Ok value) old new = new ≡ old
+CountsFailure (Err fault) old new = CountsWith fault old new

@@ -1,0 +1,6 @@
+pub mod Choices
+pub mod CommandLine
+pub mod Devices
+pub mod Engines
+pub mod StandIn
+pub mod Statuses

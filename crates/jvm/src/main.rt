@@ -1,0 +1,29 @@
+//! The program `jvm`, which runs class files.
+#![tactic(auto)]
+
+mod command;
+mod device;
+mod engine;
+mod fault;
+mod file;
+mod options;
+mod program;
+mod stand_in;
+mod status;
+
+use std::process::ExitCode;
+use std::{env, io};
+
+fn main(rt: HostRuntime) -> ExitCode {
+    let status = match words(&rt) {
+        Ok(words) => program::run(&rt, rt.alloc(), words.as_slice()),
+        Err(error) => program::without_words(&rt, &error),
+    };
+    ExitCode::from(status.code())
+}
+
+/// The words of the command line, the program's name first.
+fn words<R: env::Env + AllocGlobal>(rt: &R) -> io::Result<Vec<String>> {
+    let words = env::args(rt)?;
+    Ok(words.collect(rt.alloc())?)
+}

@@ -1,0 +1,74 @@
+//! What the program does with its words.
+
+use crate::command;
+use crate::command::Usage;
+use crate::device::Counted;
+use crate::engine::replay_engine;
+use crate::fault::Fault;
+use crate::file::NamedFile;
+use crate::options::{Command, Replay};
+use crate::status::Status;
+use std::alloc::Global;
+use std::io;
+use std::io::ErrorKind;
+use std::rt::Files;
+
+/// Does what the words say, the program's name first. A report goes to the standard output, and what kept
+/// the program from one to the standard error.
+pub fn run<R: Files + Print + Eprint>(rt: &R, alloc: Global, words: &[String]) -> Status {
+    match command::command(alloc, words) {
+        Ok(Command::Replay(options)) => told(rt, replay(rt, alloc, &options)),
+        Err(usage) => refused(rt, &usage),
+    }
+}
+
+/// The status where the words can't be had: they aren't text, or there is no memory for them.
+pub fn without_words<R: Eprint>(rt: &R, error: &io::Error) -> Status {
+    if error.kind() == ErrorKind::OutOfMemory {
+        told(rt, Err(Fault::Memory))
+    } else {
+        let _ = rt.eprintln(error);
+        Status::Unusable
+    }
+}
+
+/// The status, after a fault has been told.
+fn told<R: Eprint>(rt: &R, outcome: Result<Status, Fault>) -> Status {
+    match outcome {
+        Ok(status) => status,
+        Err(fault) => {
+            let status = Status::of_fault(&fault);
+            // Where the standard error fails, the status alone tells the fault.
+            let _ = rt.eprintln(fault);
+            status
+        }
+    }
+}
+
+/// The status where the words are no command.
+fn refused<R: Eprint>(rt: &R, usage: &Usage) -> Status {
+    let _ = rt.eprint(usage);
+    Status::of_usage(usage)
+}
+
+/// `jvm replay`.
+fn replay<R: Files + Print>(rt: &R, alloc: Global, options: &Replay) -> Result<Status, Fault> {
+    let mut schedule = source(rt, alloc, &options.schedule);
+    let mut files = Vec::new(alloc);
+    for path in &options.files {
+        files.push(source(rt, alloc, path))?;
+    }
+    let mut report = Counted::new(alloc, io::writer(rt));
+    replay_engine(
+        alloc,
+        &mut schedule,
+        files.as_mut_slice(),
+        &options.limits,
+        &mut report,
+    )
+}
+
+/// The file at a path, as a source.
+fn source<'a, R: Files>(rt: &'a R, alloc: Global, path: &'a String) -> Counted<NamedFile<'a, R>> {
+    Counted::new(alloc, NamedFile::new(rt, path.as_str()))
+}

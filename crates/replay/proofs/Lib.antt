@@ -1,0 +1,4 @@
+pub mod Others
+pub mod Stages
+pub mod Enabled
+pub mod Runs
