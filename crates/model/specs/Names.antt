@@ -1,4 +1,4 @@
--- Names in binary form, as class files spell them (JVMS 4.2), compared by their bytes (own).
+-- Names in internal form, as class files spell them (JVMS 4.2), compared by their bytes (own).
 use Rattle.std.specs.Prelude.{ℕ, List, Option, Some, None, Bool, false, ◌&&◌, codes}
 use Rattle.std.specs.Str.{bytes_eq}
 

@@ -8,7 +8,8 @@ use Rattle.model.specs.Rows.{counting}
 use Rattle.model.specs.State.{State, opening}
 use Rattle.model.specs.Step.{is_enabled, step}
 
--- the state after the events; none from the first on that has no step
+-- The state after the events; none from the first on that has no step. Until there are rules for pending exceptions it
+-- is meant for events of which none throws.
 abbrev pub run_from : Program → ℕ → State → List Event → Option State
 run_from files frames state [] = Some state
 run_from files frames state (event ∷ events) = option_and_then (λ next. run_from files frames next events) (step files frames state event)

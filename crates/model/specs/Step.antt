@@ -103,7 +103,7 @@ abbrev pub look_at : {A : Type 0} → ℕ → WorldOf A → Option Name → Look
 look_at t world None = IsReady
 look_at t world (Some class) = look_by t (status_of world class)
 
--- steps 2 to 6: the thread marks the class and pushes its entry
+-- step 6: the thread marks the class; its entry stands for the steps after that
 abbrev pub begun_class : {A : Type 0} → ℕ → Name → WorldOf A → StackOf A → SteppedOf (PartOf A)
 begun_class t class world stack = on_to (with_status world class (InProgress t)) (Initialisation class Super ∷ stack)
 
@@ -230,7 +230,8 @@ main_event C files frames world =
 
 -- ---- an event
 
--- a thread that runs, with no exception pending
+-- A thread that runs, with no exception pending. What follows a throw is not here yet: these rules speak of a run up to
+-- its first throw.
 abbrev pub running_event : {A : Type 0} → Carrier A → Program → ℕ → Event → WorldOf A → StackOf A → SteppedOf (PartOf A)
 running_event C files frames event world [] = main_event C files frames world
 running_event C files frames event world (Invocation frame ∷ stack) = bytecode_event C files frames event world frame stack
