@@ -1,6 +1,6 @@
 //! What an index of the constant pool names (JVMS 4.4).
 
-ghost use Rattle.std.specs.Prelude.{◌≡◌, List, Option, option_map, unwrap_or};
+ghost use Rattle.std.specs.Prelude.{◌≡◌, ◌&&◌, nat_lt, nat_le, length, List, Option, is_some, option_map, unwrap_or};
 ghost use Rattle.model.specs.Tree.{Entry, Unusable};
 ghost use Rattle.model.specs.Spelling.{entry_at, text_of};
 ghost use Rattle.model.specs.Pool.{utf8_at, class_name_at, string_at, name_and_type_at, reference_at, field_at, method_at, interface_method_at};
@@ -26,7 +26,8 @@ pub struct Reference<'a> {
 
 /// The entry of an index, which counts from 1.
 pub(crate) fn constant(pool: &[Constant], index: u16) -> Option<&Constant>
-    ensures { unwrap_or (option_map (λ c. entry_of c.now) result) Unusable ≡ entry_at (entries_of pool.now) index }
+    ensures entry { unwrap_or (option_map (λ c. entry_of c.now) result) Unusable ≡ entry_at (entries_of pool.now) index }
+    ensures there { is_some result ≡ (nat_lt 0 index && nat_le index (length pool.now)) }
 {
     if index == 0 {
         return None;
@@ -101,7 +102,8 @@ fn member(pool: &[Constant], class: u16, name_and_type_index: u16) -> Option<Ref
 impl ClassFile {
     /// The entry of the constant pool that an index names, which counts from 1.
     pub fn constant(&self, index: u16) -> Option<&Constant>
-        ensures { unwrap_or (option_map (λ c. entry_of c.now) result) Unusable ≡ entry_at (entries_of self.now.pool.items) index }
+        ensures entry { unwrap_or (option_map (λ c. entry_of c.now) result) Unusable ≡ entry_at (entries_of self.now.pool.items) index }
+        ensures there { is_some result ≡ (nat_lt 0 index && nat_le index (length self.now.pool.items)) }
     {
         constant(&self.pool, index)
     }

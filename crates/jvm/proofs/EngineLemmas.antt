@@ -1,9 +1,13 @@
 -- Sources that are read one after another.
-use Rattle.std.proofs.Common.{arith, ◌≡◌, ℕ, ◌+◌, ◌<◌, List, [], ◌∷◌, ◌++◌, length, take, drop, map, sum_by, get_or, set, Option, sym, ◌∙◌}
+use Rattle.std.proofs.Common.{arith, ◌≡◌, ℕ, ◌+◌, ◌<◌, List, [], ◌∷◌, ◌++◌, length, take, drop, map, sum_by, get_or, set, Option, None, ◌⊎◌, inl, inr, refl, sym, ◌∙◌}
 use Rattle.std.proofs.lemmas.List.{drop_more, take_more, map-append}
 use Rattle.std.proofs.lemmas.List.Sums.{sum_by-set}
 use Rattle.model.specs.declared.device.DeviceFault.{DeviceFault}
 use Rattle.model.specs.declared.device.DeviceFault.TheVariants as devices
+use Rattle.model.specs.declared.event.Event.{Event}
+use Rattle.model.specs.Schedule.{ScheduleFile}
+use Rattle.schedule.specs.declared.fault.ScheduleFault.{ScheduleFault}
+use Rattle.schedule.specs.declared.fault.ScheduleFault.TheVariants as schedules
 use Rattle.jvm.specs.Devices.{fault_of}
 use Rattle.jvm.specs.Engines.{Reads, ReadsEach, WritesPart, IsFaulty, CountsWith}
 use Rattle.jvm.specs.declared.options.LimitOptions.{LimitOptions}
@@ -49,3 +53,13 @@ counts_sum faults.Device a b c d sum first second counted = absurd (omega (arith
 counts_sum faults.Memory a b c d sum first second counted = omega (arith, first, second)
 counts_sum (faults.Schedule fault) a b c d sum first second counted = omega (arith, first, second)
 counts_sum (faults.Refusal refusal) a b c d sum first second counted = omega (arith, first, second)
+
+-- a fault of a schedule file whose bytes spell nothing, memory aside
+pub schedule_is_faulty : (fault : ScheduleFault) (left : Option (List ℕ)) (bytes : List ℕ) → Reads left bytes → ((events : List Event) → ScheduleFile bytes None events → fault ≡ schedules.OutOfMemory)
+    → (fault ≡ schedules.OutOfMemory) ⊎ ((schedule : List ℕ) × Reads left schedule × ((events : List Event) → ScheduleFile schedule None events → ⊥))
+schedule_is_faulty schedules.OutOfMemory left bytes read only = inl refl
+schedule_is_faulty schedules.Truncated left bytes read only = inr (bytes, read, λ events h. let e : schedules.Truncated ≡ schedules.OutOfMemory = only events h in absurd cc)
+schedule_is_faulty schedules.Magic left bytes read only = inr (bytes, read, λ events h. let e : schedules.Magic ≡ schedules.OutOfMemory = only events h in absurd cc)
+schedule_is_faulty schedules.Version left bytes read only = inr (bytes, read, λ events h. let e : schedules.Version ≡ schedules.OutOfMemory = only events h in absurd cc)
+schedule_is_faulty schedules.Repeat left bytes read only = inr (bytes, read, λ events h. let e : schedules.Repeat ≡ schedules.OutOfMemory = only events h in absurd cc)
+schedule_is_faulty schedules.Trailing left bytes read only = inr (bytes, read, λ events h. let e : schedules.Trailing ≡ schedules.OutOfMemory = only events h in absurd cc)

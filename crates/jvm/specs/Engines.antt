@@ -1,17 +1,20 @@
 -- What an engine answers and writes, by the bytes that its devices hold. Where a device says nothing of its
 -- bytes, they are any that it may have handed over.
-use Rattle.std.specs.Prelude.{◌≡◌, ◌⊎◌, ℕ, ◌+◌, List, [], ◌∷◌, Option, Some, IfSome, Result, Ok, Err}
+use Rattle.std.specs.Prelude.{◌≡◌, ◌⊎◌, ℕ, ◌+◌, List, [], ◌∷◌, Option, Some, None, IfSome, Result, Ok, Err}
 use Rattle.model.specs.declared.event.Event.{Event}
 use Rattle.model.specs.declared.limits.Limits.{Limits}
 use Rattle.model.specs.declared.report.Report.{Report}
 use Rattle.model.specs.Devices.{AppendsFront}
-use Rattle.jvm.specs.StandIn.{ScheduleFile, IsAccepted, IsReplay, text_of}
+use Rattle.model.specs.Tree.{FileTree}
+use Rattle.model.specs.Schedule.{ScheduleFile}
+use Rattle.replay.specs.Linking.{Links, program_of}
+use Rattle.replay.specs.Replay.{IsReplay, text_of}
 use Rattle.jvm.specs.Choices.{AreChosen}
 use Rattle.jvm.specs.Statuses.{status_of}
 use Rattle.jvm.specs.declared.options.LimitOptions.{LimitOptions}
-use Rattle.jvm.specs.declared.stand_in.End.{End}
-use Rattle.jvm.specs.declared.stand_in.RefusalKind.TheVariants as kinds
-use Rattle.jvm.specs.declared.stand_in.ScheduleFault.TheVariants as schedules
+use Rattle.model.specs.declared.end.End.{End}
+use Rattle.replay.specs.declared.refusal.RefusalKind.TheVariants as kinds
+use Rattle.schedule.specs.declared.fault.ScheduleFault.TheVariants as schedules
 use Rattle.jvm.specs.declared.fault.Fault.{Fault}
 use Rattle.jvm.specs.declared.fault.Fault.TheVariants as faults
 use Rattle.jvm.specs.declared.status.Status.{Status}
@@ -27,16 +30,18 @@ ReadsEach (left ∷ lefts) (bytes ∷ files) = Reads left bytes × ReadsEach lef
 ReadsEach [] (bytes ∷ files) = ⊥
 ReadsEach (left ∷ lefts) [] = ⊥
 
--- The schedule file spells events, under which the class files have this report within the limits, and this is
--- its text and its status.
+-- The schedule file spells events, and the class files are those of a program, which has this report under the
+-- events within the limits; and this is its text and its status.
 pub record IsReplayed (schedule : List ℕ) (files : List (List ℕ)) (options : LimitOptions) (text : List ℕ) (status : Status) : Type 0 where
   pub events : List Event
-  pub spelled : ScheduleFile schedule events
+  pub spelled : ScheduleFile schedule None events
   pub limits : Limits
   pub chosen : AreChosen options limits
   pub report : Report
   pub end : End
-  pub replayed : IsReplay files events limits report end
+  pub file : FileTree
+  pub linked : Links files file
+  pub replayed : IsReplay (program_of file) events limits report end
   pub told : text ≡ text_of report end
   pub ended : status ≡ status_of report.threads.items end
 
@@ -55,10 +60,10 @@ IsFaulty left lefts options old new faults.Device = WritesPart left lefts option
 IsFaulty left lefts options old new faults.Memory = WritesPart left lefts options old new
 -- memory apart, the schedule file spells no events
 IsFaulty left lefts options old new (faults.Schedule fault) = (new ≡ old) × ((fault ≡ schedules.OutOfMemory)
-    ⊎ ((schedule : List ℕ) × Reads left schedule × ((events : List Event) → ScheduleFile schedule events → ⊥)))
--- memory apart, it spells events, and the class files aren't accepted
+    ⊎ ((schedule : List ℕ) × Reads left schedule × ((events : List Event) → ScheduleFile schedule None events → ⊥)))
+-- memory apart, it spells events
 IsFaulty left lefts options old new (faults.Refusal refusal) = (new ≡ old) × ((refusal.kind ≡ kinds.OutOfMemory)
-    ⊎ ((schedule : List ℕ) × (files : List (List ℕ)) × (events : List Event) × Reads left schedule × ReadsEach lefts files × ScheduleFile schedule events × (IsAccepted files → ⊥)))
+    ⊎ ((schedule : List ℕ) × (files : List (List ℕ)) × (events : List Event) × Reads left schedule × ReadsEach lefts files × ScheduleFile schedule None events))
 
 -- the fault is one of the schedule file's
 abbrev pub IsOfSchedule : Fault → Type 0

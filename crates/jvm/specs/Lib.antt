@@ -2,5 +2,4 @@ pub mod Choices
 pub mod CommandLine
 pub mod Devices
 pub mod Engines
-pub mod StandIn
 pub mod Statuses

@@ -3,8 +3,8 @@ use Rattle.std.specs.Prelude.{ℕ, Bool, true, false, List, if◌then◌else◌}
 use Rattle.std.specs.List.{list_all}
 use Rattle.model.specs.declared.report.EndState.{EndState}
 use Rattle.model.specs.declared.report.EndState.TheVariants.{Ended, Threw, Blocked, Waiting, Joining, Initialising, Runnable}
-use Rattle.jvm.specs.declared.stand_in.End.{End}
-use Rattle.jvm.specs.declared.stand_in.End.TheVariants as ends
+use Rattle.model.specs.declared.end.End.{End}
+use Rattle.model.specs.declared.end.End.TheVariants as ends
 use Rattle.jvm.specs.declared.command.Usage.{Usage}
 use Rattle.jvm.specs.declared.command.Usage.TheVariants as usages
 use Rattle.jvm.specs.declared.fault.Fault.{Fault}

@@ -1,19 +1,19 @@
 //! What the program does, over any readers and writers.
 
-ghost use Rattle.std.specs.Prelude.{◌≡◌, ◌+◌, Some, IfOk, IfErr, map, sum_by, vec_items};
+ghost use Rattle.std.specs.Prelude.{◌≡◌, ◌+◌, Some, None, IfOk, IfErr, map, sum_by, vec_items};
 ghost use Rattle.std.specs.Arc.{arc_value};
 ghost use Rattle.std.specs.Io.KnownBytes.{Appends};
 ghost use Rattle.jvm.specs.Engines.{Reads, ReadsEach, Replays, IsReplayed, IsFaulty, IsOfFile, IsOfSchedule, CountsFailure};
-ghost use Rattle.jvm.specs.StandIn.{ScheduleFile, Verifies};
+ghost use Rattle.model.specs.Schedule.{ScheduleFile, events_of};
+ghost use Rattle.replay.specs.Linking.{Links};
 
 use crate::fault::Fault;
 use crate::options::LimitOptions;
-use crate::stand_in::{
-    Refusal, RefusalKind, Schedule, ScheduleFault, Verified, link, read_schedule, replay, text,
-    verify,
-};
 use crate::status::Status;
 use model::{DeviceFault, Sink, Source};
+use replay::{Refusal, RefusalKind, Verified, link, replay, verify};
+use report::text;
+use schedule::{Schedule, ScheduleFault, read_schedule};
 use std::alloc::{AllocError, Global};
 use std::sync::Arc;
 
@@ -50,7 +50,7 @@ pub fn replay_engine<S: Source, W: Sink>(
 /// The schedule of a schedule file.
 fn read_schedule_file<S: Source>(alloc: Global, file: &mut S) -> Result<Schedule, Fault>
     ensures read { IfOk result (λ schedule. (bytes : _) × Reads (S.remaining file.old) bytes
-        × ScheduleFile bytes schedule.events.items) }
+        × ScheduleFile bytes None (events_of schedule)) }
     ensures faulty { IfErr result (λ fault. (lefts : _) (options : _) (sink : _)
         → IsFaulty (S.remaining file.old) lefts options sink sink fault) }
     ensures counted { CountsFailure result (S.failures file.old) (S.failures file.new) }
@@ -103,14 +103,17 @@ fn out_of_memory(file: usize) -> Refusal
     Refusal {
         kind: RefusalKind::OutOfMemory,
         file: Some(file),
+        method: None,
+        offset: None,
+        cause: None,
     }
 }
 
 /// The class files, linked and verified.
 fn verified(alloc: Global, files: &[Vec<u8>]) -> Result<Arc<Verified>, Fault>
-    ensures verified { IfOk result (λ verified. Verifies (map vec_items files.now) (arc_value verified)) }
+    ensures verified { IfOk result (λ verified. Links (map vec_items files.now) (arc_value verified)) }
     ensures faulty { IfErr result (λ fault. (left : _) (lefts : _) (options : _) (sink : _) (schedule : _) (events : _)
-        → Reads left schedule → ReadsEach lefts (map vec_items files.now) → ScheduleFile schedule events
+        → Reads left schedule → ReadsEach lefts (map vec_items files.now) → ScheduleFile schedule None events
         → IsFaulty left lefts options sink sink fault) }
     ensures of_files { IfErr result (λ fault. IsOfSchedule fault → ⊥) }
     ensures counted { (count : _) → CountsFailure result count count }
@@ -126,8 +129,8 @@ fn replayed(
     schedule: &Schedule,
     limits: &LimitOptions,
 ) -> Result<(Vec<u8>, Status), AllocError>
-    ensures { IfOk result (λ told. (bytes : _) (files : _) → ScheduleFile bytes schedule.now.events.items
-        → Verifies files (arc_value verified.now)
+    ensures { IfOk result (λ told. (bytes : _) (files : _) → ScheduleFile bytes None (events_of schedule.now)
+        → Links files (arc_value verified.now)
         → IsReplayed bytes files limits.now told.0.items told.1) }
 {
     let (report, end) = replay(alloc, verified, schedule, limits.limits())?;

@@ -4,9 +4,8 @@ ghost use Rattle.std.specs.Prelude.{◌≡◌};
 ghost use Rattle.jvm.specs.declared.fault.Fault.TheVariants.{Memory, Refusal, Schedule};
 ghost use Rattle.jvm.specs.Devices.{fault_of};
 
-use crate::stand_in;
-use crate::stand_in::ScheduleFault;
 use model::DeviceFault;
+use schedule::ScheduleFault;
 use std::alloc::{AllocError, AllocFailed};
 use thiserror::Error;
 
@@ -21,16 +20,16 @@ pub enum Fault {
     Memory,
     /// The class files are refused.
     #[error("{0}")]
-    Refusal(stand_in::Refusal),
+    Refusal(replay::Refusal),
     /// The schedule file is refused.
     #[error("schedule refused {0}")]
     Schedule(ScheduleFault),
 }
 
-impl From<stand_in::Refusal> for Fault {
+impl From<replay::Refusal> for Fault {
     ghost from_gives = { λ refusal fault. fault ≡ Refusal refusal };
 
-    fn from(refusal: stand_in::Refusal) -> Fault {
+    fn from(refusal: replay::Refusal) -> Fault {
         Fault::Refusal(refusal)
     }
 }

@@ -8,7 +8,6 @@ mod fault;
 mod file;
 mod options;
 mod program;
-mod stand_in;
 mod status;
 
 use std::process::ExitCode;

@@ -6,8 +6,7 @@ ghost use Rattle.jvm.specs.Statuses.{has_ended, has_returned, code_of, fault_sta
 
 use crate::command::Usage;
 use crate::fault::Fault;
-use crate::stand_in::End;
-use model::{EndState, Report};
+use model::{End, EndState, Report};
 
 #[derive(Clone, Copy, Debug, PartialEq, Eq)]
 pub enum Status {

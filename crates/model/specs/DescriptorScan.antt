@@ -1,6 +1,6 @@
 -- The type that a descriptor describes, read from left to right. That it is the one of `Descriptors` is shown by the
 -- parsing functions of the crate `descriptors`.
-use Rattle.std.specs.Prelude.{◌≡◌, ℕ, zero, suc, ◌+◌, List, [], ◌∷◌, length, take, drop, Option, Some, None, is_some, option_map, Bool, true, false, nat_lt, nat_le, ◌==◌, if◌then◌else◌}
+use Rattle.std.specs.Prelude.{ℕ, zero, suc, ◌+◌, List, [], ◌∷◌, length, take, drop, Option, Some, None, is_some, option_map, Bool, nat_lt, nat_le, ◌==◌, if◌then◌else◌}
 use Rattle.model.specs.Descriptors.{is_class_name, ElementType, Byte, Char, Double, Float, Int, Long, Object, Short, Boolean, FieldType, MethodType, parameter_slots}
 
 infixl 10 ◌>>=◌

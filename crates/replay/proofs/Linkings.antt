@@ -12,7 +12,8 @@ use Rattle.model.specs.Tree.{Entry, FileTree, MethodTree, MethodPart, CodeTree, 
 use Rattle.model.specs.BuiltIn.{built_in_classes}
 use Rattle.model.specs.Spelling.{CodeFits, MethodPartFits, MethodFits, FileFits, is_code, is_code_length}
 use Rattle.model.specs.Classes.{Program, Body, is_named, is_method, name_of, super_name_of, body_of, body_in, code_in, declared_in, class_of, superclass_of, is_built_in}
-use Rattle.replay.specs.Linking.{program_of, main_in, main_code, main_body, sole_in, sole_main, IsLinked}
+use Rattle.model.specs.Spells.{Spells}
+use Rattle.replay.specs.Linking.{Links, program_of, main_in, main_code, main_body, sole_in, sole_main, IsLinked}
 use Rattle.replay.proofs.Finds.{find_second}
 use Rattle.replay.proofs.Stages.{same_name}
 
@@ -87,3 +88,9 @@ below_by n h = ltb-true n 65536 (and_right (nat_lt 0 n) (nat_lt n 65536) h)
 
 pub code_short : (file : FileTree) (code : CodeTree) → FileFits file → sole_main file ≡ Some code → length code.code < 2 ^ 16
 code_short file code f h = below_by (length code.code) (sole_fits file.pool file.methods code f.methods.1 h).code
+
+-- what is linked has parts of the lengths that their counts can give
+pub links_fits : (files : List (List ℕ)) (file : FileTree) → Links files file → FileFits file
+links_fits [] file h = absurd h
+links_fits (bytes ∷ []) file h = h.layout.fits
+links_fits (bytes ∷ other ∷ files) file h = absurd h

@@ -42,6 +42,20 @@ fn is_member(reference: Option<Reference<'_>>, class: &[u8], name: &[u8], descri
 }
 
 impl Linked {
+    /// A class file with what main needs at each step.
+    pub(crate) fn new(file: ClassFile, local: MethodCode, max_locals: u16) -> Linked
+        requires linked { IsLinked (file_of file) }
+        requires local { local ≡ local_of (file_of file) }
+        requires max_locals { max_locals ≡ (main_code (file_of file)).max_locals }
+        ensures { result ≡ file_of file }
+    {
+        Linked {
+            file,
+            local,
+            max_locals,
+        }
+    }
+
     /// What the local instructions of main need.
     pub(crate) fn local(&self) -> &MethodCode
         ensures is { result.now ≡ local_of self.now }

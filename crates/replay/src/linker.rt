@@ -6,6 +6,7 @@ ghost use Rattle.model.specs.Tree.{FileTree};
 ghost use Rattle.model.specs.Spelling.{FileFits};
 ghost use Rattle.model.specs.Pool.{integer_of, integers_of};
 ghost use Rattle.model.specs.Classes.{code_in, name_of, super_name_of, is_built_in};
+ghost use Rattle.model.specs.Spells.{Spells};
 ghost use Rattle.classfile.specs.View.{entry_of, entries_of, code_of, method_part_of, file_of};
 ghost use Rattle.replay.specs.Linking.{Links, sole_main};
 
@@ -98,4 +99,66 @@ fn method_code(alloc: Global, file: &ClassFile, code: &Code) -> Result<MethodCod
 {
     let bytes = Vec::from_slice(alloc, &code.code)?;
     Ok(MethodCode::new(bytes, integers(alloc, &file.pool)?, code.max_stack))
+}
+
+/// The class file that bytes are, or why the file with this number is refused.
+fn decoded(alloc: Global, number: usize, bytes: &[u8]) -> Result<ClassFile, Refusal>
+    ensures { IfOk result (λ file. Spells bytes.now (file_of file)) }
+{
+    match decode(alloc, bytes) {
+        Ok(file) => Ok(file),
+        Err(malformed) => match malformed.cause {
+            Cause::OutOfMemory => Err(Refusal::of_file(RefusalKind::OutOfMemory, number)),
+            cause => Err(Refusal::malformed(number, malformed.offset, cause)),
+        },
+    }
+}
+
+/// The one class file. Each file is decoded in order before it is said that there is more than one.
+fn sole_file(alloc: Global, files: &[Vec<u8>]) -> Result<ClassFile, Refusal>
+    ensures { IfOk result (λ file. Links (map vec_items files.now) (file_of file)) }
+{
+    match files {
+        [] => Err(Refusal::of(RefusalKind::NoMain)),
+        [bytes] => decoded(alloc, 0, bytes),
+        _ => {
+            for (number, bytes) in files.iter().enumerate() {
+                decoded(alloc, number, bytes)?;
+            }
+            Err(Refusal::of(RefusalKind::TooLarge))
+        }
+    }
+}
+
+/// Checks the name, the superclass and the profile of a class that stands alone.
+fn check_alone(alloc: Global, file: &ClassFile) -> Result<(), Refusal>
+    ensures name { IfOk result (λ u. is_built_in (name_of (file_of file.now)) ≡ false) }
+    ensures below { IfOk result (λ u. super_name_of (file_of file.now) ≡ Some java_lang_object) }
+{
+    if is_built_in(class_name(file)) {
+        return Err(Refusal::of_file(RefusalKind::DuplicateClass, 0));
+    }
+    if !is_below_object(file) {
+        return Err(Refusal::of_file(RefusalKind::OutsideProfile, 0));
+    }
+    check_class(alloc, file)
+}
+
+/// Links class files: one file, of a class directly below Object whose only method is main, where every instruction
+/// is one that this machine knows.
+///
+/// A refusal is the first of: for no file, `NoMain`; for each file in order, `Malformed`; for more than one file,
+/// `TooLarge`; for the name of a built-in class, `DuplicateClass`; `OutsideProfile`, or `Malformed` with the cause
+/// `Code`, of what the class has; without main, `NoMain`.
+pub fn link(alloc: Global, files: &[Vec<u8>]) -> Result<Linked, Refusal>
+    ensures { IfOk result (λ linked. Links (map vec_items files.now) linked) }
+{
+    let file = sole_file(alloc, files)?;
+    check_alone(alloc, &file)?;
+    let Some(code) = sole_main(&file) else {
+        return Err(Refusal::of(RefusalKind::NoMain));
+    };
+    let max_locals = code.max_locals;
+    let local = method_code(alloc, &file, code)?;
+    Ok(Linked::new(file, local, max_locals))
 }
