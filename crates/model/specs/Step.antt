@@ -191,8 +191,8 @@ ops_of C meaning slots = operands C.over meaning.wants slots
 abbrev pub done : {A : Type 0} → Carrier A → Program → ℕ → Event → WorldOf A → FrameOf A → StackOf A → MeaningOf A → SteppedOf (PartOf A)
 done C files frames event world frame stack meaning =
     enabled_if (meaning.may event world (ops_of C meaning frame.place.slots))
-      (become files frames event.thread world frame stack
-        (meaning.does event world frame.place.slots (ops_of C meaning frame.place.slots) (under meaning.wants frame.place.slots)))
+    (become files frames event.thread world frame stack
+    (meaning.does event world frame.place.slots (ops_of C meaning frame.place.slots) (under meaning.wants frame.place.slots)))
 
 -- the operands first, then the class that it needs, then the rest
 abbrev pub bytecode_by : {A : Type 0} → Carrier A → Program → ℕ → Event → WorldOf A → FrameOf A → StackOf A → ℕ → Option (MeaningOf A) → SteppedOf (PartOf A)
@@ -253,7 +253,7 @@ abbrev pub event_of : {A : Type 0} → Carrier A → Program → ℕ → StateOf
 event_of C files frames state event None = NotEnabled
 event_of C files frames state event (Some stack) =
     enabled_if (event.pick == 0)
-      (put_back state event.thread (settled event.thread (thread_event C files frames event state.world stack (thread_at state.world event.thread).status)))
+    (put_back state event.thread (settled event.thread (thread_event C files frames event state.world stack (thread_at state.world event.thread).status)))
 
 -- what becomes of an event
 abbrev pub stepped : {A : Type 0} → Carrier A → Program → ℕ → StateOf A → Event → SteppedOf (StateOf A)

@@ -4,8 +4,8 @@
 #![tactic(auto)]
 
 mod class_file;
-mod end;
 mod device;
+mod end;
 mod event;
 mod instr;
 mod limits;
@@ -14,9 +14,9 @@ mod report;
 mod value;
 
 pub use class_file::ExceptionEntry;
+pub use device::{DeviceFault, Sink, Source};
 pub use end::{End, RunCause};
 pub use event::{Event, ScheduleEntry};
-pub use device::{DeviceFault, Sink, Source};
 pub use instr::{
     Arithmetic, ArrayKind, Comparison, Conversion, FieldAccess, Instr, Invocation, Kind, Returned,
     StackMove,

@@ -1,11 +1,11 @@
 -- A call is done, or refused: what is shown of the lock that it names, said of all of them.
 use Rattle.std.proofs.Common.{◌≡◌, ℕ, ◌+◌, ◌<◌, ◌≤◌, List, [], ◌∷◌, ◌++◌, length, get_or, set, map, Bool, true, false, refl, sym, ◌∙◌, ap, ◌-◌, Option, Some, None, subst, arith}
 use Rattle.std.specs.List.{remove}
-use Rattle.std.specs.Prelude.{◌==◌, count_by, nat_le, not, ◌&&◌, if◌then◌else◌, Result, Ok, Err, IfOk, OnOk, IfErr}
+use Rattle.std.specs.Prelude.{◌==◌, nat_le, not, ◌&&◌, if◌then◌else◌, Result, Ok, Err, IfOk, OnOk, IfErr}
 use Rattle.std.proofs.lemmas.Bool.Decides.{nat_tests}
 use Rattle.std.proofs.lemmas.List.{set-get_or, length-map}
 use Rattle.lock_word.specs.declared.lock.Lock.{Lock}
-use Rattle.lock_word.specs.declared.lock.Lock.TheVariants.{Unlocked, Thin, Fat}
+use Rattle.lock_word.specs.declared.lock.Lock.TheVariants.{Fat}
 use Rattle.lock_word.specs.Words.{Word}
 use Rattle.model.specs.State.{Monitor}
 use Rattle.model.specs.declared.monitor_answer.MonitorAnswer.{MonitorAnswer}
@@ -13,7 +13,7 @@ use Rattle.model.specs.declared.monitor_answer.MonitorAnswer.TheVariants.{Done, 
 use Rattle.model.specs.Monitors.{Answered, done, owned, owns, released, unlocked, monitor_at, put_back, as_entrant, relock_from, monitor_enter}
 use Rattle.monitor.specs.declared.call.Call.{Call}
 use Rattle.monitor.specs.declared.call.Call.TheVariants.{Enter, Exit, Wait, Notify, NotifyAll, WakeAll, Interrupt, Relock}
-use Rattle.monitor.specs.Locks.{Locks, object_of, answered, answered_by, KeptUnlessDone, is_count_full_by, inflates, inflates_in, fat_after, is_table_full, is_count_full, is_at_most_entries, fat_count, is_fat_at, IsDone, Answers}
+use Rattle.monitor.specs.Locks.{Locks, object_of, answered, answered_by, KeptUnlessDone, is_count_full_by, inflates, inflates_in, is_table_full, is_count_full, is_at_most_entries, fat_count, is_fat_at, IsDone, Answers}
 use Rattle.monitor.specs.declared.refusal.Refusal.{Refusal}
 use Rattle.monitor.specs.declared.refusal.Refusal.TheVariants.{LockCount}
 use Rattle.monitor.specs.Words.{monitor_of, monitors_of, is_fat_lock, is_fat_word, lock_at, AreSound, locks_of}
@@ -154,8 +154,8 @@ done_record call answer t ws n i s h e ans few =
     let all : answered call (monitors_of t ws) ≡ put_back (object_of call) (monitors_of t ws) (answered_by call (monitor_at t i)) =
     answers_is call t ws h ∙ ap (λ (m : Monitor). put_back (object_of call) (monitors_of t ws) (answered_by call m)) it in
     let same : KeptUnlessDone answer (locks_of t ws n) (locks_of (set t i (answered_by call (monitor_at t i)).after) ws n) =
-        record_kept answer t ws n i (answered_by call (monitor_at t i)).after
-          (subst (λ (a : MonitorAnswer). MonitorKept a (monitor_at t i) (answered_by call (monitor_at t i)).after) (sym ans) (monitor_kept call (monitor_at t i))) in
+    record_kept answer t ws n i (answered_by call (monitor_at t i)).after
+    (subst (λ (a : MonitorAnswer). MonitorKept a (monitor_at t i) (answered_by call (monitor_at t i)).after) (sym ans) (monitor_kept call (monitor_at t i))) in
     let shown = locks_record t ws n (object_of call) i (answered_by call (monitor_at t i)).after s h e in
     rw (locks_record t ws n (object_of call) i (answered_by call (monitor_at t i)).after s h e) (record {
       answers = ans ∙ sym (ap (λ (x : Answered (List Monitor)). x.answer) all);

@@ -1,10 +1,9 @@
 -- What becomes of the records of fat locks as waiters join and leave.
-use Rattle.std.proofs.Common.{◌≡◌, ◌≢◌, ℕ, zero, suc, ◌+◌, ◌<◌, ◌⊎◌, inl, inr, List, [], ◌∷◌, ◌++◌, length, get_or, set, map, Option, Some, None, refl, sym, ◌∙◌, ap, subst, arith}
+use Rattle.std.proofs.Common.{◌≡◌, ℕ, zero, suc, ◌<◌, ◌⊎◌, inl, inr, List, [], ◌∷◌, ◌++◌, length, get_or, set, map, Option, Some, None, refl, sym, ◌∙◌, ap, subst, arith}
 use Rattle.std.specs.Prelude.{IsSome, slice_get}
 use Rattle.std.specs.List.{remove}
 use Rattle.std.specs.Option.{option_map}
-use Rattle.std.proofs.lemmas.Bool.{cases_eq}
-use Rattle.std.proofs.lemmas.List.{map-set, map_push, get_or-map, get_or-set_same, get_or-set_other, length-map, get_or_read, ext_get_or}
+use Rattle.std.proofs.lemmas.List.{map-set, map_push, get_or-map, length-map, get_or_read, ext_get_or}
 use Rattle.slab.specs.Slab.{Slab, get, Updates}
 use Rattle.model.specs.State.{Monitor, Waiter}
 use Rattle.model.specs.Monitors.{unlocked, monitor_at}

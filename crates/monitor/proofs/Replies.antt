@@ -1,5 +1,5 @@
 -- One reply more.
-use Rattle.std.proofs.Common.{◌≡◌, ℕ, Bool, List, [], ◌∷◌, ◌++◌, Some, None, Ok, Err, Result, refl, sym, ◌∙◌, ap, subst}
+use Rattle.std.proofs.Common.{◌≡◌, ℕ, Bool, List, [], ◌∷◌, ◌++◌, Some, None, Ok, Err, Result, ◌∙◌, subst}
 use Rattle.model.specs.State.{Monitor}
 use Rattle.model.specs.declared.monitor_answer.MonitorAnswer.{MonitorAnswer}
 use Rattle.monitor.specs.declared.call.Call.{Call}

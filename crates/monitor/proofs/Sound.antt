@@ -1,8 +1,7 @@
 -- What a write to the words or to the table shows.
-use Rattle.std.proofs.Common.{◌≡◌, ◌≢◌, ℕ, zero, suc, ◌+◌, ◌<◌, ◌≤◌, ◌⊎◌, inl, inr, List, [], ◌∷◌, ◌++◌, length, get_or, set, map, Bool, true, false, cond, refl, sym, ◌∙◌, ap, subst, arith}
-use Rattle.std.specs.Prelude.{count_by, Some, None}
+use Rattle.std.proofs.Common.{◌≡◌, ◌≢◌, ℕ, zero, suc, ◌+◌, ◌<◌, ◌⊎◌, inl, inr, List, [], ◌∷◌, ◌++◌, length, get_or, set, map, Bool, true, false, cond, refl, sym, ◌∙◌, ap, arith}
+use Rattle.std.specs.Prelude.{count_by}
 use Rattle.std.proofs.lemmas.Bool.{cases_eq}
-use Rattle.std.proofs.lemmas.Grind.{common_steps}
 use Rattle.std.proofs.lemmas.List.{map-set, get_or-map, get_or-set_same, get_or-set_other, length-set, length-map, length-append, get_or_append_left, get_or_push, ext_get_or}
 use Rattle.std.proofs.lemmas.List.Folds.{fold-map}
 use Rattle.std.proofs.lemmas.List.Sums.{sum_by-set, sum_by_push}

@@ -1,18 +1,16 @@
 -- Entering and leaving by a thin lock.
-use Rattle.std.proofs.Common.{◌≡◌, ℕ, ◌+◌, ◌-◌, ◌<◌, ◌≤◌, List, Bool, true, false, refl, sym, ◌∙◌, ap, arith}
-use Rattle.std.specs.Prelude.{◌==◌, ◌&&◌, nat_lt, not, Some, None, [], ◌∷◌, if◌then◌else◌}
+use Rattle.std.proofs.Common.{◌≡◌, ℕ, ◌-◌, ◌<◌, ◌≤◌, List, Bool, true, false, refl, ap, arith}
+use Rattle.std.specs.Prelude.{◌==◌, ◌&&◌, nat_lt, not, None, [], ◌∷◌, if◌then◌else◌}
 use Rattle.std.proofs.lemmas.Bool.{eqb-true, eq-eqb}
 use Rattle.std.proofs.lemmas.Bool.Decides.{nat_tests}
 use Rattle.lock_word.specs.declared.lock.Lock.{Lock}
 use Rattle.lock_word.specs.declared.lock.Lock.TheVariants.{Unlocked, Thin, Fat}
-use Rattle.lock_word.specs.declared.lock.TryEnter.{TryEnter}
 use Rattle.lock_word.specs.declared.lock.TryEnter.TheVariants as try_enter
-use Rattle.lock_word.specs.declared.lock.TryExit.{TryExit}
 use Rattle.lock_word.specs.declared.lock.TryExit.TheVariants as try_exit
 use Rattle.lock_word.specs.Words.{HasRoomFor}
 use Rattle.lock_word.specs.Locking.{entering, lock_entered, leaving, lock_left}
 use Rattle.model.specs.State.{Monitor}
-use Rattle.model.specs.declared.monitor_answer.MonitorAnswer.TheVariants.{Done, Held, NotOwner}
+use Rattle.model.specs.declared.monitor_answer.MonitorAnswer.TheVariants.{Done, Held}
 use Rattle.model.specs.Monitors.{owns, owned, unlocked, monitor_enter, monitor_exit, monitor_relock, monitor_wait}
 use Rattle.monitor.specs.Locks.{is_at_most_entries}
 use Rattle.monitor.specs.Words.{monitor_of, is_fat_lock}

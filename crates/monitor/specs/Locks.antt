@@ -1,6 +1,6 @@
 -- The locks of objects: their monitors, which of them are inflated, and what a call makes of both.
-use Rattle.std.specs.Prelude.{◌≡◌, ℕ, ◌<◌, ◌≤◌, ◌==◌, ◌&&◌, nat_le, not, List, length, Option, Some, None, Bool, true, false, Result, Ok, Err, slice_index_or, slice_set, count_by, if◌then◌else◌}
-use Rattle.model.specs.State.{Monitor, Waiter}
+use Rattle.std.specs.Prelude.{◌≡◌, ℕ, ◌<◌, ◌≤◌, ◌==◌, ◌&&◌, nat_le, not, List, length, Bool, true, false, Result, Ok, Err, slice_index_or, slice_set, count_by, if◌then◌else◌}
+use Rattle.model.specs.State.{Monitor}
 use Rattle.model.specs.declared.monitor_answer.MonitorAnswer.{MonitorAnswer}
 use Rattle.model.specs.Monitors.{Answered, owns, monitor_at, enter, exit, wait, notify, notify_all, wake_all, interrupt, relock, monitor_enter, monitor_exit, monitor_wait, monitor_notify, monitor_notify_all, monitor_wake_all, monitor_interrupt, monitor_relock}
 use Rattle.model.specs.declared.monitor_answer.MonitorAnswer.TheVariants.{Done}
@@ -92,6 +92,11 @@ is_count_full_by call monitor = false
 
 abbrev pub is_count_full : Call → Locks → Bool
 is_count_full call locks = is_count_full_by call (monitor_at locks.monitors (object_of call))
+
+-- a thread joins the wait set
+abbrev pub joins_by : Call → Monitor → Bool
+joins_by (Wait object thread) monitor = owns thread monitor.owner
+joins_by call monitor = false
 
 -- the lock becomes fat, or a thread joins a wait set
 abbrev pub takes_memory : Call → Locks → Bool

@@ -4,6 +4,8 @@
 
 mod call;
 mod monitors;
+#[cfg(test)]
+mod plain;
 mod records;
 mod refusal;
 mod run;

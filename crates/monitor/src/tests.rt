@@ -1,5 +1,9 @@
-use crate::{Call, MonitorCalls, Monitors, Refusal};
+ghost use Rattle.std.specs.Prelude.{◌<◌};
+
+use crate::plain::PlainMonitors;
+use crate::{Call, MonitorCalls, Monitors, Refusal, run_calls};
 use model::MonitorAnswer;
+use std::alloc::{AllocError, Global};
 use std::process::Abort;
 use std::test::Fail;
 
@@ -22,108 +26,170 @@ fn a_wait_inflates_where_the_table_has_room(rt: HostRuntime) -> Result<(), Fail>
     monitors.add()?;
     monitors.add()?;
     let m = &mut monitors;
-    assert_eq!(rt;
-        call(
-            &rt,
-            m,
-            Call::Enter {
-                object: 0,
-                thread: 0
-            }
-        ),
-        Ok(MonitorAnswer::Done)
-    );
-    assert_eq!(rt;
-        call(
-            &rt,
-            m,
-            Call::Enter {
-                object: 0,
-                thread: 1
-            }
-        ),
-        Ok(MonitorAnswer::Held)
-    );
+    assert_eq!(rt; call(&rt, m, enter(0, 0)), Ok(MonitorAnswer::Done));
+    assert_eq!(rt; call(&rt, m, enter(0, 1)), Ok(MonitorAnswer::Held));
     assert!(rt; !is_fat(&rt, m, 0));
-    assert_eq!(rt;
-        call(
-            &rt,
-            m,
-            Call::Enter {
-                object: 1,
-                thread: 0
-            }
-        ),
-        Ok(MonitorAnswer::Done)
-    );
-    assert_eq!(rt;
-        call(
-            &rt,
-            m,
-            Call::Wait {
-                object: 0,
-                thread: 0
-            }
-        ),
-        Ok(MonitorAnswer::Done)
-    );
+    assert_eq!(rt; call(&rt, m, enter(1, 0)), Ok(MonitorAnswer::Done));
+    assert_eq!(rt; call(&rt, m, wait(0, 0)), Ok(MonitorAnswer::Done));
     assert!(rt; is_fat(&rt, m, 0));
-    assert_eq!(rt;
-        call(
-            &rt,
-            m,
-            Call::Wait {
-                object: 1,
-                thread: 0
-            }
-        ),
-        Err(Refusal::Monitors)
-    );
-    assert_eq!(rt;
-        call(
-            &rt,
-            m,
-            Call::Exit {
-                object: 1,
-                thread: 0
-            }
-        ),
-        Ok(MonitorAnswer::Done)
-    );
-    assert_eq!(rt;
-        call(
-            &rt,
-            m,
-            Call::Enter {
-                object: 0,
-                thread: 1
-            }
-        ),
-        Ok(MonitorAnswer::Done)
-    );
-    let notify = Call::Notify {
+    assert_eq!(rt; call(&rt, m, wait(1, 0)), Err(Refusal::Monitors));
+    assert_eq!(rt; call(&rt, m, exit(1, 0)), Ok(MonitorAnswer::Done));
+    assert_eq!(rt; call(&rt, m, enter(0, 1)), Ok(MonitorAnswer::Done));
+    assert_eq!(rt; call(&rt, m, notify(0, 1, 0)), Ok(MonitorAnswer::Done));
+    assert_eq!(rt; call(&rt, m, relock(0, 0, 1)), Ok(MonitorAnswer::Held));
+    assert_eq!(rt; call(&rt, m, exit(0, 1)), Ok(MonitorAnswer::Done));
+    assert_eq!(rt; call(&rt, m, relock(0, 0, 1)), Ok(MonitorAnswer::Done));
+    Ok(())
+}
+
+fn enter(object: u32, thread: u16) -> Call {
+    Call::Enter { object, thread }
+}
+
+fn exit(object: u32, thread: u16) -> Call {
+    Call::Exit { object, thread }
+}
+
+fn wait(object: u32, thread: u16) -> Call {
+    Call::Wait { object, thread }
+}
+
+fn notify(object: u32, thread: u16, pick: u16) -> Call {
+    Call::Notify {
+        object,
+        thread,
+        pick,
+    }
+}
+
+fn relock(object: u32, thread: u16, count: u32) -> Call {
+    Call::Relock {
+        object,
+        thread,
+        count,
+    }
+}
+
+const OBJECTS: u32 = 4;
+
+const LIMIT: u32 = 3;
+
+/// A list of calls for both bodies.
+fn calls_of(alloc: Global) -> Result<Vec<Call>, AllocError> {
+    let mut calls = Vec::new(alloc);
+    for _ in 0..258 {
+        calls.push(enter(0, 0))?;
+    }
+    for _ in 0..259 {
+        calls.push(exit(0, 0))?;
+    }
+    for _ in 0..300 {
+        calls.push(enter(0, 1))?;
+    }
+    calls.push(wait(0, 1))?;
+    for thread in 2..6 {
+        calls.push(enter(0, thread))?;
+        calls.push(wait(0, thread))?;
+    }
+    calls.push(enter(0, 7))?;
+    calls.push(notify(0, 7, 2))?;
+    calls.push(Call::Interrupt {
         object: 0,
-        thread: 1,
-        pick: 0,
-    };
-    assert_eq!(rt; call(&rt, m, notify), Ok(MonitorAnswer::Done));
-    let relock = Call::Relock {
+        thread: 4,
+    })?;
+    calls.push(Call::Interrupt {
         object: 0,
-        thread: 0,
-        count: 1,
-    };
-    assert_eq!(rt; call(&rt, m, relock), Ok(MonitorAnswer::Held));
-    assert_eq!(rt;
-        call(
-            &rt,
-            m,
-            Call::Exit {
-                object: 0,
-                thread: 1
+        thread: 9,
+    })?;
+    calls.push(relock(0, 4, 300))?;
+    calls.push(exit(0, 7))?;
+    calls.push(relock(0, 1, 300))?;
+    let mut random = Random { state: 17 };
+    for _ in 0..20000 {
+        calls.push(random.call())?;
+    }
+    Ok(calls)
+}
+
+/// Pseudorandom numbers (a linear congruence).
+#[derive(Drop)]
+struct Random {
+    state: u64,
+}
+
+impl Random {
+    fn below(&mut self, limit: u32) -> u32
+        requires { 0 < limit }
+    {
+        self.state = self
+            .state
+            .wrapping_mul(6_364_136_223_846_793_005)
+            .wrapping_add(1_442_695_040_888_963_407);
+        ((self.state >> 33) as u32) % limit
+    }
+
+    fn call(&mut self) -> Call {
+        let object = self.below(OBJECTS + 1);
+        let thread = (self.below(5) & 7) as u16;
+        match self.below(10) {
+            0 | 1 | 2 => enter(object, thread),
+            3 | 4 => exit(object, thread),
+            5 => wait(object, thread),
+            6 => notify(object, thread, (self.below(3) & 3) as u16),
+            7 => match self.below(6) {
+                0 => Call::NotifyAll { object, thread },
+                1 => Call::WakeAll { object },
+                _ => Call::Interrupt { object, thread },
+            },
+            _ => {
+                let count = self.below(302);
+                relock(object, thread, count)
             }
-        ),
-        Ok(MonitorAnswer::Done)
-    );
-    assert_eq!(rt; call(&rt, m, relock), Ok(MonitorAnswer::Done));
+        }
+    }
+}
+
+/// Whether both bodies show the same of an object.
+fn agree(
+    rt: &impl Abort,
+    monitors: &Monitors,
+    plain: &PlainMonitors,
+    alloc: Global,
+    object: u32,
+) -> Result<(), Fail> {
+    assert!(rt; (object as usize) < monitors.len());
+    let other = plain.monitor(object).ok_or("an object")?;
+    assert_eq!(rt; monitors.owner(object), other.owner());
+    assert_eq!(rt; monitors.entries(object), other.count());
+    assert_eq!(rt; monitors.is_fat(object), plain.is_fat(object));
+    assert_eq!(rt; monitors.waiter_count(object), other.waiters().len());
+    let waiters = monitors.waiters(alloc, object)?;
+    for (mine, its) in waiters.iter().zip(other.waiters()) {
+        assert!(rt; mine.thread == its.thread && mine.count == its.count);
+    }
+    Ok(())
+}
+
+#[test]
+fn both_bodies_answer_alike(rt: HostRuntime) -> Result<(), Fail> {
+    let alloc = rt.alloc();
+    let calls = calls_of(alloc)?;
+    let mut monitors = Monitors::new(alloc, LIMIT);
+    let mut plain = PlainMonitors::new(alloc, LIMIT);
+    for _ in 0..OBJECTS {
+        monitors.add()?;
+        plain.add(alloc)?;
+    }
+    for part in calls.chunks(64) {
+        let replies = run_calls(alloc, &mut monitors, part)?;
+        let others = run_calls(alloc, &mut plain, part)?;
+        assert_eq!(rt; replies.len(), others.len());
+        for (mine, its) in replies.iter().zip(others.iter()) {
+            assert!(rt; *mine == *its);
+        }
+        for object in 0..OBJECTS {
+            agree(&rt, &monitors, &plain, alloc, object)?;
+        }
+    }
     Ok(())
 }

@@ -192,8 +192,8 @@ module _ (file : FileTree) (frames : ℕ) (printed : List ℤ) (place : Place) (
   pub invoking_done : (bits : ℕ) (v : Value) (now : List ℤ) (new : Place) → names (method_at file.pool index) println_int ≡ true → is_print_stream v ≡ true → (v ≡ value.Null → ⊥) → has_room 2 0 (main_code file).max_stack place.slots.stack ≡ true → int_at place.slots.stack 0 ≡ Some bits → slice_get place.slots.stack 1 ≡ Some v → now ≡ printed ++ signed bits ∷ [] → new ≡ replaced place 2 [] next → invoking ≡ Next Free (part (world_of file stages.Runs now) (Invocation (frame_of file new) ∷ []))
   invoking_done bits v now new h stream present room int receiver said e =
       invoking_on bits v h stream present room int receiver
-        ∙ ap (λ q. Next Free (part (world_of file stages.Runs q) (Invocation (frame_of file (replaced place 2 [] next)) ∷ []))) (sym said)
-        ∙ ap (λ q. Next Free (part (world_of file stages.Runs now) (Invocation (frame_of file q) ∷ []))) (sym e)
+      ∙ ap (λ q. Next Free (part (world_of file stages.Runs q) (Invocation (frame_of file (replaced place 2 [] next)) ∷ []))) (sym said)
+      ∙ ap (λ q. Next Free (part (world_of file stages.Runs now) (Invocation (frame_of file q) ∷ []))) (sym e)
 
   pub invoking_goes : (bits : ℕ) (v : Value) → names (method_at file.pool index) println_int ≡ true → is_print_stream v ≡ true → (v ≡ value.Null → ⊥) → has_room 2 0 (main_code file).max_stack place.slots.stack ≡ true → int_at place.slots.stack 0 ≡ Some bits → slice_get place.slots.stack 1 ≡ Some v → PartGoesOn invoking
   invoking_goes bits v h stream present room int receiver = rw (invoking_on bits v h stream present room int receiver) (refl, refl, refl)

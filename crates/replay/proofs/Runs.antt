@@ -154,6 +154,7 @@ stopped start m events front left e r answer parts shows reports stop =
   where
     same : meets m shows.state e ≡ stepped values (program_of start.file) start.limits.frames shows.state e
     same = rw (shows.file, shows.limits) refl
+
     by : (a : Stepped) → StopsAt a m e → EndFits (program_of start.file) start.limits.frames shows.state (length front) (e ∷ left) (end_of a (length front))
     by steps.Done h = absurd h
     by steps.NotEnabled h = (refl, sym same ∙ h shows.state shows.shows)

@@ -122,7 +122,7 @@ module _ (file : FileTree) (limits : Limits) (printed now : List ℤ) (place new
 pub super_says : (file : FileTree) (limits : Limits) (place : Place) (printed : List ℤ) → IsLinked file → (s : State) → Shows (record { file = file; limits = limits; stage = stages.Super; place = place; printed = printed }) s → SaysOf steps.Done 0 (meets (record { file = file; limits = limits; stage = stages.Super; place = place; printed = printed }) s main_step) (record { file = file; limits = limits; stage = stages.Super; place = place; printed = printed }) (record { file = file; limits = limits; stage = stages.End; place = place; printed = printed })
 super_says file limits place printed linked =
     says_met steps.Done (record { file = file; limits = limits; stage = stages.Super; place = place; printed = printed }) (record { file = file; limits = limits; stage = stages.End; place = place; printed = printed })
-      (rw (super_step file limits.frames printed place linked) (refl, refl, record { state_is = refl }))
+    (rw (super_step file limits.frames printed place linked) (refl, refl, record { state_is = refl }))
 
 -- an event of the main thread with no pick
 pub event_says : (e : Event) (answer : Stepped) (old new : Machine) → e.thread ≡ 0 → e.pick ≡ 0 → ((s : State) → Shows old s → SaysOf answer 0 (meets old s main_step) old new) → (s : State) → Shows old s → SaysOf answer e.thread (meets old s e) old new

@@ -43,7 +43,14 @@ pub(crate) fn frame_step(
         Ok(LocalStep::Done) => FrameStep::Done,
         Ok(LocalStep::Throws) => FrameStep::Throws,
         Ok(LocalStep::WrongKind) => FrameStep::WrongKind,
-        Ok(LocalStep::Elsewhere) => other_step(linked, limits, instr, offset + length, frame, printed),
+        Ok(LocalStep::Elsewhere) => other_step(
+            linked,
+            limits,
+            instr,
+            offset + length,
+            frame,
+            printed,
+        ),
         Err(_) => FrameStep::NoMemory,
     }
 }

@@ -36,7 +36,9 @@ fn is_member(reference: Option<Reference<'_>>, class: &[u8], name: &[u8], descri
     ensures { result ≡ names (option_map (λ r. reference_of r) reference.entry) (record { class = class.now; name = name.now; descriptor = descriptor.now }) }
 {
     match reference {
-        Some(member) => member.class == class && member.name == name && member.descriptor == descriptor,
+        Some(member) => member.class == class
+            && member.name == name
+            && member.descriptor == descriptor,
         None => false,
     }
 }

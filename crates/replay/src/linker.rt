@@ -70,8 +70,7 @@ fn sole_main(file: &ClassFile) -> Option<&Code>
     match file.methods.as_slice() {
         [method]
             if is_spelled(file.utf8(method.name), b"main")
-                && is_spelled(file.utf8(method.descriptor), b"([Ljava/lang/String;)V") =>
-        {
+                && is_spelled(file.utf8(method.descriptor), b"([Ljava/lang/String;)V") => {
             first_code(&method.attributes)
         }
         _ => None,

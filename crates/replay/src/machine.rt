@@ -117,7 +117,11 @@ impl<'a> Machine<'a> {
                 self.stage = Stage::Ready;
                 Stepped::Done
             }
-            Stage::Ready => match Frame::with_argument(self.alloc, Value::Reference(1), self.linked.max_locals().saturating_sub(1)) {
+            Stage::Ready => match Frame::with_argument(
+                self.alloc,
+                Value::Reference(1),
+                self.linked.max_locals().saturating_sub(1),
+            ) {
                 Ok(frame) => {
                     self.frame = frame;
                     self.stage = Stage::Runs;
@@ -125,7 +129,12 @@ impl<'a> Machine<'a> {
                 }
                 Err(_) => Stepped::Refused(RunCause::Memory),
             },
-            Stage::Runs => match frame_step(self.linked, self.limits, &mut self.frame, &mut self.printed) {
+            Stage::Runs => match frame_step(
+                self.linked,
+                self.limits,
+                &mut self.frame,
+                &mut self.printed,
+            ) {
                 FrameStep::Done => Stepped::Done,
                 FrameStep::Returned => {
                     self.stage = Stage::Ended;

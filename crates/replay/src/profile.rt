@@ -9,9 +9,13 @@ use std::alloc::{AllocError, Global};
 
 /// ACC_STATIC, ACC_SYNCHRONIZED, ACC_NATIVE, ACC_INTERFACE and ACC_ABSTRACT (JVMS tables 4.1-B and 4.6-A).
 const STATIC: u16 = 0x0008;
+
 const SYNCHRONIZED: u16 = 0x0020;
+
 const NATIVE: u16 = 0x0100;
+
 const INTERFACE: u16 = 0x0200;
+
 const ABSTRACT: u16 = 0x0400;
 
 /// What is wrong with an instruction.

@@ -45,11 +45,7 @@ fn end_of(answer: Stepped, done: u64) -> End
 }
 
 /// The report at a stop, after so many events.
-fn stopped(
-    machine: &Machine<'_>,
-    answer: Stepped,
-    done: u64,
-) -> Result<(Report, End), AllocError>
+fn stopped(machine: &Machine<'_>, answer: Stepped, done: u64) -> Result<(Report, End), AllocError>
     ensures { IfOk result (λ r. Reports machine.now done r.0 × (r.1 ≡ end_of answer done)) }
 {
     let report = machine.report(done)?;

@@ -1,4 +1,4 @@
-use Rattle.std.proofs.Common.{◌≡◌, arith, ◌∙◌}
+use Rattle.std.proofs.Common.{arith, ◌∙◌}
 use Rattle.std.proofs.lemmas.List.{take_more}
 use Rattle.monitor.specs.declared.call.Call.TheVariants.{Enter}
 use Rattle.monitor.proofs.Replies.{one_more}

@@ -1,4 +1,4 @@
-use Rattle.std.proofs.Common.{◌≡◌, ◌<◌, sym, ◌∙◌, ap, arith, length}
+use Rattle.std.proofs.Common.{◌<◌, sym, ◌∙◌, ap, arith, length}
 use Rattle.std.proofs.lemmas.Bool.{eq-eqb}
 use Rattle.model.specs.State.{Waiter}
 use Rattle.model.specs.Monitors.{monitor_at}

@@ -1,9 +1,8 @@
-use Rattle.std.proofs.Common.{refl, ap, sym, subst, ◌∙◌, ◌≡◌, ◌<◌, ◌≤◌, length, true, false, List}
+use Rattle.std.proofs.Common.{refl, ap, subst, ◌∙◌, ◌≡◌, List}
 use Rattle.std.proofs.lemmas.Result.{err_from_is_err_and}
 use Rattle.lock_word.specs.Words.{Word, HasRoomFor}
 use Rattle.lock_word.specs.Locking.{lock_entered}
 use Rattle.lock_word.specs.declared.lock.Lock.TheVariants.{Fat}
-use Rattle.model.specs.declared.monitor_answer.MonitorAnswer.TheVariants.{Done}
 use Rattle.model.specs.State.{Monitor}
 use Rattle.monitor.specs.declared.call.Call.TheVariants.{Enter}
 use Rattle.monitor.specs.Words.{monitor_of, is_fat_lock, locks_of}

@@ -1,8 +1,6 @@
 use Rattle.std.proofs.Common.{refl, ap, ◌∙◌, ◌≡◌}
 use Rattle.lock_word.specs.Words.{Word}
 use Rattle.lock_word.specs.Locking.{lock_left}
-use Rattle.lock_word.specs.declared.lock.Lock.TheVariants.{Fat}
-use Rattle.model.specs.declared.monitor_answer.MonitorAnswer.TheVariants.{Done}
 use Rattle.monitor.specs.declared.call.Call.TheVariants.{Exit}
 use Rattle.monitor.specs.Words.{monitor_of, is_fat_lock}
 use Rattle.monitor.proofs.Done.{thin_done, record_done, lock_is}

@@ -1,5 +1,4 @@
 use Rattle.std.proofs.Common.{refl}
-use Rattle.model.specs.declared.monitor_answer.MonitorAnswer.TheVariants.{Done}
 use Rattle.monitor.specs.declared.call.Call.TheVariants.{NotifyAll}
 use Rattle.monitor.proofs.Done.{record_done}
 use Rattle.monitor.proofs.monitors.Monitors.notify_all.Goals as goal

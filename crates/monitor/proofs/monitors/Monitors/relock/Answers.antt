@@ -1,7 +1,6 @@
-use Rattle.std.proofs.Common.{refl, ap, sym, ◌∙◌, ◌≡◌}
+use Rattle.std.proofs.Common.{refl, ap, sym, ◌∙◌}
 use Rattle.lock_word.specs.Words.{Word}
 use Rattle.lock_word.specs.declared.lock.Lock.{Lock}
-use Rattle.model.specs.declared.monitor_answer.MonitorAnswer.TheVariants.{Done}
 use Rattle.model.specs.Monitors.{monitor_relock}
 use Rattle.monitor.specs.declared.call.Call.TheVariants.{Relock}
 use Rattle.monitor.specs.Words.{monitor_of, is_fat_lock}

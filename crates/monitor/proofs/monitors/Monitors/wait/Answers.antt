@@ -1,11 +1,7 @@
-use Rattle.std.proofs.Common.{refl, ap, sym, ◌∙◌, ◌≡◌, List, ◌++◌, ◌∷◌, []}
+use Rattle.std.proofs.Common.{refl, ap, ◌∙◌}
 use Rattle.lock_word.specs.Words.{Word}
 use Rattle.lock_word.specs.declared.lock.Lock.TheVariants.{Fat, Thin}
-use Rattle.model.specs.State.{Monitor, Waiter}
-use Rattle.model.specs.Monitors.{monitor_wait}
-use Rattle.model.specs.declared.monitor_answer.MonitorAnswer.TheVariants.{Done}
 use Rattle.monitor.specs.declared.call.Call.TheVariants.{Wait}
-use Rattle.monitor.specs.Words.{monitor_of, is_fat_lock}
 use Rattle.monitor.proofs.Done.{inflated_done, inflated_sound, record_done, lock_is}
 use Rattle.monitor.proofs.ThinLocks.{waits, Waits}
 use Rattle.monitor.proofs.monitors.Monitors.wait.Goals as goal

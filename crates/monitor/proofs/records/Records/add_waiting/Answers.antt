@@ -1,5 +1,4 @@
-use Rattle.std.proofs.Common.{◌≡◌, ◌<◌, ◌∷◌, ◌++◌, [], ℕ, List, None, length, get_or, sym, ◌∙◌, ap}
-use Rattle.monitor.specs.Records.{Listing}
+use Rattle.std.proofs.Common.{◌≡◌, ◌∷◌, ◌++◌, [], ℕ, List, None, sym, ◌∙◌, ap}
 use Rattle.monitor.proofs.Listed.{listed_added, shown_added, updates_from, vacant_from}
 use Rattle.monitor.proofs.records.Records.add_waiting.Goals as goal
 

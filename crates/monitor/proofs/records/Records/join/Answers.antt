@@ -1,5 +1,4 @@
 use Rattle.std.proofs.Common.{◌≡◌, ◌<◌, ◌∷◌, ◌++◌, [], ℕ, length, get_or, sym, ◌∙◌, ap}
-use Rattle.monitor.specs.Records.{Listing}
 use Rattle.monitor.proofs.Listed.{blank, listed_joined, shown_joined, updates_from, vacant_from, read_listing, listing_in_range}
 use Rattle.monitor.proofs.records.Records.join.Goals as goal
 
