@@ -139,4 +139,6 @@ fn replayed(
 }
 
 #[cfg(test)]
+mod programs;
+#[cfg(test)]
 mod tests;

@@ -21,3 +21,8 @@ LosesFront old new = (front : List ℕ) × Consumes old new front
 -- behind what was held there is now a front of the bytes
 abbrev pub AppendsFront : Option (List ℕ) → Option (List ℕ) → List ℕ → Type 0
 AppendsFront old new bytes = (front rest : List ℕ) × (bytes ≡ front ++ rest) × Appends old new front
+
+-- a call that is to write a text writes it behind what was held, and before an error a front of it
+abbrev pub Writes : {A : Type 0} → Result A DeviceFault → List ℕ → Option (List ℕ) → Option (List ℕ) → Type 0
+Writes (Ok value) text old new = Appends old new text
+Writes (Err fault) text old new = AppendsFront old new text

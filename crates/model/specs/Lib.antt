@@ -27,3 +27,4 @@ pub mod DescriptorScan
 pub mod Conditions
 pub mod Spells
 pub mod Monitors
+pub mod Listing

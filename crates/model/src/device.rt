@@ -3,9 +3,10 @@
 
 ghost use Rattle.std.specs.Prelude.{◌≡◌, ℕ, List, Option, IfOk, IfSome, OnOk, OnErr};
 ghost use Rattle.std.specs.Io.KnownBytes.{Appends, IsAtEnd};
+ghost use Rattle.model.specs.declared.device.DeviceFault.TheVariants.{Memory};
 ghost use Rattle.model.specs.Devices.{Counts, LosesFront, AppendsFront};
 
-use std::alloc::Global;
+use std::alloc::{AllocError, AllocFailed, Global};
 
 /// Why a device didn't do what it was asked for.
 #[derive(Clone, Copy, Debug, PartialEq, Eq)]
@@ -14,6 +15,22 @@ pub enum DeviceFault {
     Device,
     /// There was no memory for the bytes, or for the count.
     Memory,
+}
+
+impl From<AllocError> for DeviceFault {
+    ghost from_gives = { λ _ fault. fault ≡ Memory };
+
+    fn from(_error: AllocError) -> DeviceFault {
+        DeviceFault::Memory
+    }
+}
+
+impl<T: Drop> From<AllocFailed<T>> for DeviceFault {
+    ghost from_gives = { λ _ fault. fault ≡ Memory };
+
+    fn from(_error: AllocFailed<T>) -> DeviceFault {
+        DeviceFault::Memory
+    }
 }
 
 /// A reader that counts its failures.

@@ -13,4 +13,4 @@ mod tests;
 pub use boundaries::starts;
 pub use decoding::{decode_at, length_at, sized_at};
 pub use mnemonics::mnemonic;
-pub use switches::{lookup_pair, table_jump};
+pub use switches::{jump_count, lookup_pair, table_jump};

@@ -26,8 +26,8 @@ fn operands_of(pc: usize) -> usize
     pc + 4 - pc % 4
 }
 
-/// How many jumps a `tableswitch` has.
-fn jump_count(low: i32, high: i32) -> usize
+/// How many jumps a `tableswitch` has, from its lowest value to its highest.
+pub fn jump_count(low: i32, high: i32) -> usize
     ensures value { result ≡ jump_count low high }
     ensures small { result ≤ 2 ^ 33 }
 {

@@ -40,7 +40,7 @@ const REPORT: &str = "7\nthread 0 ended\nevents 8\nend quiet\n";
 /// More calls than a device of these tests gets.
 const MANY: u32 = 1000;
 
-const USUAL: LimitOptions = LimitOptions {
+pub const USUAL: LimitOptions = LimitOptions {
     objects: None,
     cells: None,
     monitors: None,
