@@ -66,7 +66,7 @@ def main():
     events = int(sys.argv[2]) if len(sys.argv) > 2 else 10_000_000
     with tempfile.TemporaryDirectory() as folder:
         seconds, peak = measured(program, folder, events)
-    print(f"{events} events in {seconds:.2f} s: {events / seconds:.0f} events a second, peak resident memory {peak} kB")
+    print(f"{events} events in {seconds:.3f} s: {events / seconds:.0f} events a second, peak resident memory {peak} kB")
 
 
 if __name__ == "__main__":
