@@ -12,7 +12,11 @@ use Rattle.model.specs.BuiltIn.{built_in_classes}
 use Rattle.model.specs.Spelling.{CodeFits, MethodPartFits, MethodFits, FileFits, is_code, is_code_length}
 use Rattle.model.specs.Classes.{Program, Body, is_named, is_method, name_of, super_name_of, body_of, body_in, code_in, declared_in, class_of, superclass_of, is_built_in}
 use Rattle.model.specs.Spells.{Spells}
-use Rattle.replay.specs.Linking.{Links, program_of, main_in, main_code, main_body, sole_in, sole_main, IsLinked}
+use Rattle.reading.specs.declared.fault.Cause.{Cause}
+use Rattle.reading.specs.declared.fault.Cause.TheVariants as causes
+use Rattle.replay.specs.declared.refusal.RefusalKind.{RefusalKind}
+use Rattle.replay.specs.declared.refusal.RefusalKind.TheVariants as kinds
+use Rattle.replay.specs.Linking.{Links, IsMalformed, MayRefuse, RefusesClass, program_of, main_in, main_code, main_body, sole_in, sole_main, IsLinked}
 use Rattle.replay.proofs.Finds.{find_second}
 use Rattle.replay.proofs.Stages.{same_name}
 
@@ -93,3 +97,53 @@ pub links_fits : (files : List (List ℕ)) (file : FileTree) → Links files fil
 links_fits [] file h = absurd h
 links_fits (bytes ∷ []) file h = h.layout.fits
 links_fits (bytes ∷ other ∷ files) file h = absurd h
+
+-- ---- refusals
+
+links_none : (files : List (List ℕ)) (file : FileTree) → 1 < length files → Links files file → ⊥
+links_none [] file more l = l
+links_none (one ∷ []) file more l = omega (arith, more)
+links_none (one ∷ other ∷ files) file more l = l
+
+malformed_more : (files : List (List ℕ)) (cause : Option Cause) → 1 < length files → IsMalformed files cause
+malformed_more files None more = λ file l. links_none files file more l
+malformed_more files (Some causes.Truncated) more = λ file l. links_none files file more l
+malformed_more files (Some causes.Magic) more = λ file l. links_none files file more l
+malformed_more files (Some causes.Version) more = λ file l. links_none files file more l
+malformed_more files (Some causes.Tag) more = λ file l. links_none files file more l
+malformed_more files (Some causes.Index) more = λ file l. links_none files file more l
+malformed_more files (Some causes.Utf8) more = λ file l. links_none files file more l
+malformed_more files (Some causes.Name) more = λ file l. links_none files file more l
+malformed_more files (Some causes.Descriptor) more = λ file l. links_none files file more l
+malformed_more files (Some causes.Attribute) more = λ file l. links_none files file more l
+malformed_more files (Some causes.Trailing) more = λ file l. links_none files file more l
+malformed_more files (Some causes.Duplicate) more = λ file l. links_none files file more l
+malformed_more files (Some causes.OutOfMemory) more = λ file l. links_none files file more l
+malformed_more files (Some causes.Code) more = tt
+
+-- several files are no class file, whatever one of them is refused for
+pub refused_of_more : (one files : List (List ℕ)) (kind : RefusalKind) (cause : Option Cause) → 1 < length files → MayRefuse one kind cause → MayRefuse files kind cause
+refused_of_more one files kinds.OutOfMemory cause more h = tt
+refused_of_more one files kinds.OutsideProfile cause more h = tt
+refused_of_more one files kinds.Malformed cause more h = malformed_more files cause more
+refused_of_more one files kinds.DuplicateClass cause more h = λ file l. absurd (links_none files file more l)
+refused_of_more one files kinds.NoMain cause more h = λ file l. absurd (links_none files file more l)
+refused_of_more one files kinds.TooLarge cause more h = more
+refused_of_more one files kinds.Unresolved cause more h = absurd h
+refused_of_more one files kinds.BadHierarchy cause more h = absurd h
+refused_of_more one files kinds.Unverified cause more h = absurd h
+
+-- what the class of the one file is refused for
+pub refused_of_class : (files : List (List ℕ)) (file : FileTree) (kind : RefusalKind) (cause : Option Cause) → ((c : FileTree) → Links files c → file ≡ c) → RefusesClass file kind cause → MayRefuse files kind cause
+refused_of_class files file kinds.OutOfMemory cause only h = tt
+refused_of_class files file kinds.OutsideProfile cause only h = tt
+refused_of_class files file kinds.Malformed cause only h = rw h tt
+refused_of_class files file kinds.DuplicateClass cause only h = λ c l. subst (λ (f : FileTree). is_built_in (name_of f) ≡ true) (only c l) h
+refused_of_class files file kinds.NoMain cause only h = absurd h
+refused_of_class files file kinds.TooLarge cause only h = absurd h
+refused_of_class files file kinds.Unresolved cause only h = absurd h
+refused_of_class files file kinds.BadHierarchy cause only h = absurd h
+refused_of_class files file kinds.Unverified cause only h = absurd h
+
+pub refused_no_main : (files : List (List ℕ)) (file : FileTree) (cause : Option Cause) → ((c : FileTree) → Links files c → file ≡ c) → sole_main file ≡ None → MayRefuse files kinds.NoMain cause
+refused_no_main files file cause only h = λ c l. subst (λ (f : FileTree). sole_main f ≡ None) (only c l) h

@@ -1,6 +1,6 @@
 //! Linking: what a set of class files is, or why it is refused.
 
-ghost use Rattle.std.specs.Prelude.{◌≡◌, ◌<◌, ◌^◌, IfOk, Some, None, List, length, map, option_map, true, false, IsTrue, ◌↔◌, vec_items};
+ghost use Rattle.std.specs.Prelude.{◌≡◌, ◌<◌, ◌^◌, IfOk, IfErr, [], ◌∷◌, Some, None, List, length, map, option_map, true, false, IsTrue, ◌↔◌, vec_items};
 ghost use Rattle.model.specs.Names.{spells, java_lang_object};
 ghost use Rattle.model.specs.Tree.{FileTree};
 ghost use Rattle.model.specs.Spelling.{FileFits};
@@ -8,7 +8,7 @@ ghost use Rattle.model.specs.Pool.{integer_of, integers_of};
 ghost use Rattle.model.specs.Classes.{code_in, name_of, super_name_of, is_built_in};
 ghost use Rattle.model.specs.Spells.{Spells};
 ghost use Rattle.classfile.specs.View.{entry_of, entries_of, code_of, method_part_of, file_of};
-ghost use Rattle.replay.specs.Linking.{Links, sole_main};
+ghost use Rattle.replay.specs.Linking.{Links, MayRefuse, RefusesClass, sole_main};
 
 use crate::builtin::is_built_in;
 use crate::linked::Linked;
@@ -102,7 +102,9 @@ fn method_code(alloc: Global, file: &ClassFile, code: &Code) -> Result<MethodCod
 
 /// The class file that bytes are, or why the file with this number is refused.
 fn decoded(alloc: Global, number: usize, bytes: &[u8]) -> Result<ClassFile, Refusal>
-    ensures { IfOk result (λ file. Spells bytes.now (file_of file)) }
+    ensures found { IfOk result (λ file. Spells bytes.now (file_of file)) }
+    ensures only { IfOk result (λ file. (c : FileTree) → Spells bytes.now c → file_of file ≡ c) }
+    ensures refused { IfErr result (λ r. MayRefuse (bytes.now ∷ []) r.kind r.cause) }
 {
     match decode(alloc, bytes) {
         Ok(file) => Ok(file),
@@ -115,7 +117,9 @@ fn decoded(alloc: Global, number: usize, bytes: &[u8]) -> Result<ClassFile, Refu
 
 /// The one class file. Each file is decoded in order before it is said that there is more than one.
 fn sole_file(alloc: Global, files: &[Vec<u8>]) -> Result<ClassFile, Refusal>
-    ensures { IfOk result (λ file. Links (map vec_items files.now) (file_of file)) }
+    ensures found { IfOk result (λ file. Links (map vec_items files.now) (file_of file)) }
+    ensures only { IfOk result (λ file. (c : FileTree) → Links (map vec_items files.now) c → file_of file ≡ c) }
+    ensures refused { IfErr result (λ r. MayRefuse (map vec_items files.now) r.kind r.cause) }
 {
     match files {
         [] => Err(Refusal::of(RefusalKind::NoMain)),
@@ -133,6 +137,7 @@ fn sole_file(alloc: Global, files: &[Vec<u8>]) -> Result<ClassFile, Refusal>
 fn check_alone(alloc: Global, file: &ClassFile) -> Result<(), Refusal>
     ensures name { IfOk result (λ u. is_built_in (name_of (file_of file.now)) ≡ false) }
     ensures below { IfOk result (λ u. super_name_of (file_of file.now) ≡ Some java_lang_object) }
+    ensures refused { IfErr result (λ r. RefusesClass (file_of file.now) r.kind r.cause) }
 {
     if is_built_in(class_name(file)) {
         return Err(Refusal::of_file(RefusalKind::DuplicateClass, 0));
@@ -150,7 +155,10 @@ fn check_alone(alloc: Global, file: &ClassFile) -> Result<(), Refusal>
 /// `TooLarge`; for the name of a built-in class, `DuplicateClass`; `OutsideProfile`, or `Malformed` with the cause
 /// `Code`, of what the class has; without main, `NoMain`.
 pub fn link(alloc: Global, files: &[Vec<u8>]) -> Result<Linked, Refusal>
-    ensures { IfOk result (λ linked. Links (map vec_items files.now) linked) }
+    // What is answered is spelled so.
+    ensures linked { IfOk result (λ linked. Links (map vec_items files.now) linked) }
+    // Each kind of refusal but those of the profile is answered only where it stands.
+    ensures refused { IfErr result (λ r. MayRefuse (map vec_items files.now) r.kind r.cause) }
 {
     let file = sole_file(alloc, files)?;
     check_alone(alloc, &file)?;

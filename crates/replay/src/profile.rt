@@ -1,5 +1,8 @@
 //! What of class files this machine leaves out, and what is malformed in their code (JVMS 4.9.1).
 
+ghost use Rattle.std.specs.Prelude.{IfErr};
+ghost use Rattle.replay.specs.Linking.{IsOfProfile};
+
 use crate::refusal::{Refusal, RefusalKind};
 use classfile::{ClassFile, Code, Constant, Method, MethodAttribute};
 use model::{FieldAccess, Instr, Invocation, Kind, Returned};
@@ -27,7 +30,9 @@ enum Flaw {
 
 /// Checks a class that stands alone: a class directly below Object with no interfaces and no fields, whose
 /// methods are main alone.
-pub(crate) fn check_class(alloc: Global, file: &ClassFile) -> Result<(), Refusal> {
+pub(crate) fn check_class(alloc: Global, file: &ClassFile) -> Result<(), Refusal>
+    ensures { IfErr result (λ r. IsOfProfile r.kind r.cause) }
+{
     if file.flags & INTERFACE != 0 || !file.interfaces.is_empty() || !file.fields.is_empty() {
         return Err(Refusal::of_file(RefusalKind::OutsideProfile, 0));
     }
@@ -51,7 +56,9 @@ fn method_text(alloc: Global, file: &ClassFile, method: &Method) -> Result<Strin
 }
 
 /// A method, or an instruction of it at an offset, is outside the profile.
-fn outside(alloc: Global, file: &ClassFile, method: &Method, offset: Option<usize>) -> Refusal {
+fn outside(alloc: Global, file: &ClassFile, method: &Method, offset: Option<usize>) -> Refusal
+    ensures { IsOfProfile result.kind result.cause }
+{
     match method_text(alloc, file, method) {
         Ok(text) => Refusal {
             kind: RefusalKind::OutsideProfile,
@@ -78,7 +85,9 @@ fn check_method(
     file: &ClassFile,
     place: usize,
     method: &Method,
-) -> Result<(), Refusal> {
+) -> Result<(), Refusal>
+    ensures { IfErr result (λ r. IsOfProfile r.kind r.cause) }
+{
     if !is_main(file, method) {
         return Err(outside(alloc, file, method, None));
     }
@@ -96,7 +105,9 @@ fn check_code(
     place: usize,
     method: &Method,
     code: &Code,
-) -> Result<(), Refusal> {
+) -> Result<(), Refusal>
+    ensures { IfErr result (λ r. IsOfProfile r.kind r.cause) }
+{
     let start = file.code_offset(place);
     if code.max_locals < 1 {
         return Err(Refusal::malformed(0, start.saturating_add(2), Cause::Code));

@@ -1,5 +1,8 @@
 //! Why class files are refused.
 
+ghost use Rattle.std.specs.Prelude.{◌≡◌, Some, None};
+ghost use Rattle.replay.specs.declared.refusal.RefusalKind.TheVariants as kinds;
+
 use reading::Cause;
 use std::alloc::{AllocError, AllocFailed};
 use std::fmt;
@@ -57,7 +60,9 @@ pub struct Refusal {
 
 impl Refusal {
     /// A refusal with no place.
-    pub(crate) fn of(kind: RefusalKind) -> Refusal {
+    pub(crate) fn of(kind: RefusalKind) -> Refusal
+        ensures { result.kind ≡ kind }
+    {
         Refusal {
             kind,
             file: None,
@@ -68,7 +73,10 @@ impl Refusal {
     }
 
     /// A refusal of a file.
-    pub(crate) fn of_file(kind: RefusalKind, file: usize) -> Refusal {
+    pub(crate) fn of_file(kind: RefusalKind, file: usize) -> Refusal
+        ensures kind { result.kind ≡ kind }
+        ensures file { result.file ≡ Some file }
+    {
         Refusal {
             kind,
             file: Some(file),
@@ -79,7 +87,12 @@ impl Refusal {
     }
 
     /// A file, or its code, is malformed at an offset.
-    pub(crate) fn malformed(file: usize, offset: usize, cause: Cause) -> Refusal {
+    pub(crate) fn malformed(file: usize, offset: usize, cause: Cause) -> Refusal
+        ensures kind { result.kind ≡ kinds.Malformed }
+        ensures file { result.file ≡ Some file }
+        ensures offset { result.offset ≡ Some offset }
+        ensures cause { result.cause ≡ Some cause }
+    {
         Refusal {
             kind: RefusalKind::Malformed,
             file: Some(file),
@@ -114,12 +127,16 @@ impl fmt::Display for Refusal {
 impl std::error::Error for Refusal {}
 
 impl From<AllocError> for Refusal {
+    ghost from_gives = { λ _ refusal. refusal.kind ≡ kinds.OutOfMemory };
+
     fn from(_error: AllocError) -> Refusal {
         Refusal::of(RefusalKind::OutOfMemory)
     }
 }
 
 impl<T: Drop> From<AllocFailed<T>> for Refusal {
+    ghost from_gives = { λ _ refusal. refusal.kind ≡ kinds.OutOfMemory };
+
     fn from(_error: AllocFailed<T>) -> Refusal {
         Refusal::of(RefusalKind::OutOfMemory)
     }

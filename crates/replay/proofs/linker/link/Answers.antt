@@ -10,7 +10,7 @@ use Rattle.replay.proofs.linker.link.Goals as goal
 pub method_code-requires : goal.method_code-requires
 method_code-requires c =
     code_short (file_of c.in_ok-file.file) (code_of c.in-Some.code.now)
-    (links_fits (map vec_items c.args.files.now) (file_of c.in_ok-file.file) (c.in_ok-file.ensures))
+    (links_fits (map vec_items c.args.files.now) (file_of c.in_ok-file.file) (c.in_ok-file.ensures.found))
     (sym (c.in-Some.ensures))
 
 pub new-requires-clause-linked : goal.new-requires-clause-linked
