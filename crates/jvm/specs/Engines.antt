@@ -7,7 +7,7 @@ use Rattle.model.specs.declared.report.Report.{Report}
 use Rattle.model.specs.Devices.{AppendsFront}
 use Rattle.model.specs.Tree.{FileTree}
 use Rattle.model.specs.Schedule.{ScheduleFile}
-use Rattle.replay.specs.Linking.{Links, program_of}
+use Rattle.replay.specs.Linking.{Links, MayRefuse, program_of}
 use Rattle.replay.specs.Replay.{IsReplay, text_of}
 use Rattle.jvm.specs.Choices.{AreChosen}
 use Rattle.jvm.specs.Statuses.{status_of}
@@ -61,9 +61,9 @@ IsFaulty left lefts options old new faults.Memory = WritesPart left lefts option
 -- memory apart, the schedule file spells no events
 IsFaulty left lefts options old new (faults.Schedule fault) = (new ≡ old) × ((fault ≡ schedules.OutOfMemory)
     ⊎ ((schedule : List ℕ) × Reads left schedule × ((events : List Event) → ScheduleFile schedule None events → ⊥)))
--- memory apart, it spells events
+-- memory apart, it spells events, and the class files may be refused so
 IsFaulty left lefts options old new (faults.Refusal refusal) = (new ≡ old) × ((refusal.kind ≡ kinds.OutOfMemory)
-    ⊎ ((schedule : List ℕ) × (files : List (List ℕ)) × (events : List Event) × Reads left schedule × ReadsEach lefts files × ScheduleFile schedule None events))
+    ⊎ ((schedule : List ℕ) × (files : List (List ℕ)) × (events : List Event) × Reads left schedule × ReadsEach lefts files × ScheduleFile schedule None events × MayRefuse files refusal.kind refusal.cause))
 
 -- the fault is one of the schedule file's
 abbrev pub IsOfSchedule : Fault → Type 0
