@@ -161,7 +161,7 @@ const CASES: [Case; 11] = [
 /// The class file of a class whose main has this code, and room for two operands.
 fn class_file(alloc: Global, locals: u8, code: &[u8]) -> Result<Vec<u8>, AllocError> {
     let mut file = Vec::from_slice(alloc, &FRONT)?;
-    let length = code.len() as u32;
+    let length = u32::try_from(code.len()).unwrap_or(u32::MAX);
     file.extend_from_slice(&length.wrapping_add(12).to_be_bytes())?;
     file.extend_from_slice(&[0, 2, 0, locals])?;
     file.extend_from_slice(&length.to_be_bytes())?;
@@ -172,7 +172,8 @@ fn class_file(alloc: Global, locals: u8, code: &[u8]) -> Result<Vec<u8>, AllocEr
 
 fn schedule_file(alloc: Global, runs: &[Run]) -> Result<Vec<u8>, AllocError> {
     let mut file = Vec::from_slice(alloc, b"JSCH\x01")?;
-    file.extend_from_slice(&(runs.len() as u32).to_be_bytes())?;
+    let length = u32::try_from(runs.len()).unwrap_or(u32::MAX);
+    file.extend_from_slice(&length.to_be_bytes())?;
     for (thread, repeat) in runs {
         file.extend_from_slice(&thread.to_be_bytes())?;
         file.extend_from_slice(&[0, 0])?;
@@ -273,6 +274,19 @@ const REFUSED: [Refused; 7] = [
     },
 ];
 
+/// The bytes with the change.
+fn changed(alloc: Global, bytes: &[u8], change: &Refused) -> Result<Vec<u8>, AllocError> {
+    let mut changed = Vec::new(alloc);
+    for (place, byte) in bytes.iter().enumerate() {
+        changed.push(if place == change.at {
+            change.byte
+        } else {
+            *byte
+        })?;
+    }
+    Ok(changed)
+}
+
 #[test]
 fn names_what_it_refuses(rt: HostRuntime) -> Result<(), Fail> {
     let alloc = rt.alloc();
@@ -280,8 +294,7 @@ fn names_what_it_refuses(rt: HostRuntime) -> Result<(), Fail> {
     let bytes = file.as_slice();
     let events = [(0, 8)];
     for refused in &REFUSED {
-        let mut changed = Vec::from_slice(alloc, bytes)?;
-        changed[refused.at] = refused.byte;
+        let changed = changed(alloc, bytes, refused)?;
         let line = told(alloc, &events, &[changed.as_slice()])?;
         assert_eq!(rt; line.as_str(), refused.line);
     }
