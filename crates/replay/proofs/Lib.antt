@@ -4,3 +4,5 @@ pub mod Enabled
 pub mod Runs
 pub mod Finds
 pub mod Linkings
+pub mod Placed
+pub mod Inside
