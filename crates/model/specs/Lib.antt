@@ -11,6 +11,8 @@ pub mod BuiltIn
 pub mod Classes
 pub mod ReferenceTypes
 pub mod Types
+pub mod DescribedTypes
+pub mod InitialisedTypes
 pub mod Operands
 pub mod Ints
 pub mod Rows
