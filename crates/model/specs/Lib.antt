@@ -7,9 +7,11 @@ pub mod Pool
 pub mod OpcodeTable
 pub mod Instruction
 pub mod InstructionStarts
+pub mod AccessFlags
 pub mod BuiltIn
 pub mod Classes
 pub mod ReferenceTypes
+pub mod Lookup
 pub mod Types
 pub mod DescribedTypes
 pub mod InitialisedTypes
