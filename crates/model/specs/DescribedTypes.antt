@@ -1,12 +1,11 @@
 -- The types that descriptors and class constants name (JVMS 4.3, 4.4.1), and those that the verifier has for them.
-use Rattle.std.specs.Prelude.{ℕ, zero, suc, ◌/◌, ◌%◌, List, [], ◌∷◌, Option, Some, None, Bool, true, false, ◌==◌, if◌then◌else◌, map}
+use Rattle.std.specs.Prelude.{ℕ, zero, suc, List, [], ◌∷◌, Option, Some, None, Bool, true, false, ◌==◌, if◌then◌else◌, map}
 use Rattle.std.specs.Option.{option_map_or}
 use Rattle.model.specs.Names.{Name, java_lang_object}
-use Rattle.model.specs.Tree.{FileTree}
-use Rattle.model.specs.Descriptors.{ElementType, FieldType, MethodType} 
+use Rattle.model.specs.Descriptors.{ElementType, FieldType, MethodType}
 use Rattle.model.specs.Descriptors as descriptors
 use Rattle.model.specs.DescriptorScan.{field_type, method_type}
-use Rattle.model.specs.Classes.{Program, class_of}
+use Rattle.model.specs.Classes.{Program, is_interface}
 use Rattle.model.specs.ReferenceTypes.{Primitive, ReferenceType, ClassType, PrimitiveArray, ReferenceArray}
 use Rattle.model.specs.ReferenceTypes as primitive
 use Rattle.model.specs.Types.{VerificationType, Unusable, IntType, NullType, OfType, Uninitialised, UninitialisedThis, Want, AnInt, AReference}
@@ -83,17 +82,9 @@ type_named (b ∷ bytes) = if b == 91 then reference_declared (b ∷ bytes) (fie
 
 -- ---- as the verifier has them
 
--- ACC_INTERFACE (JVMS table 4.1-A)
-abbrev pub has_interface_flag : FileTree → Bool
-has_interface_flag file = file.flags / 0x0200 % 2 == 1
-
--- the class of a name is there and is an interface
-abbrev pub is_interface_named : Program → Name → Bool
-is_interface_named files name = option_map_or has_interface_flag (class_of files name) false
-
 -- an interface counts as Object wherever a type is made (JVMS 4.10.1.2), in array types too (own)
 abbrev pub made_type : Program → ReferenceType → ReferenceType
-made_type files (ClassType c) = ClassType (if is_interface_named files c then java_lang_object else c)
+made_type files (ClassType c) = ClassType (if is_interface files c then java_lang_object else c)
 made_type files (PrimitiveArray of) = PrimitiveArray of
 made_type files (ReferenceArray of) = ReferenceArray (made_type files of)
 
