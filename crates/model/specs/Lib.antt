@@ -16,6 +16,8 @@ pub mod Types
 pub mod DescribedTypes
 pub mod InitialisedTypes
 pub mod Operands
+pub mod TypeOrder
+pub mod TypeJoin
 pub mod Ints
 pub mod Rows
 pub mod State
@@ -32,6 +34,9 @@ pub mod Run
 pub mod Report
 pub mod Schedule
 pub mod Meaning
+pub mod Typing
+pub mod WellTyped
+pub mod WrongKind
 pub mod Descriptors
 pub mod DescriptorScan
 pub mod Conditions

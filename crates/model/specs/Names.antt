@@ -40,6 +40,12 @@ java_lang_system = codes "java/lang/System"
 abbrev pub java_lang_thread : Name
 java_lang_thread = codes "java/lang/Thread"
 
+abbrev pub java_lang_runnable : Name
+java_lang_runnable = codes "java/lang/Runnable"
+
+abbrev pub java_lang_throwable : Name
+java_lang_throwable = codes "java/lang/Throwable"
+
 abbrev pub java_io_print_stream : Name
 java_io_print_stream = codes "java/io/PrintStream"
 
@@ -49,6 +55,10 @@ java_lang_error = codes "java/lang/Error"
 -- the field System.out
 abbrev pub system_out : Member
 system_out = record { class = java_lang_system; name = codes "out"; descriptor = codes "Ljava/io/PrintStream;" }
+
+-- the field of a Thread that keeps what its constructor was given to run
+abbrev pub thread_target : Member
+thread_target = record { class = java_lang_thread; name = codes "target"; descriptor = codes "Ljava/lang/Runnable;" }
 
 -- PrintStream.println of an int
 abbrev pub println_int : Member

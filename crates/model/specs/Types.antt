@@ -2,7 +2,7 @@
 use Rattle.std.specs.Prelude.{ℕ, List, Option, Some, None, Bool, true, false, slice_get}
 use Rattle.model.specs.Names.{Name, name_eq}
 use Rattle.model.specs.Classes.{Program}
-use Rattle.model.specs.ReferenceTypes.{ReferenceType, ClassType, is_subtype}
+use Rattle.model.specs.ReferenceTypes.{ReferenceType, ClassType, is_assignable}
 use Rattle.model.specs.declared.value.Value.{Value}
 use Rattle.model.specs.declared.value.Value.TheVariants as value
 
@@ -59,7 +59,7 @@ abbrev pub is_of : Program → ReferenceType → VerificationType → Bool
 is_of files want Unusable = false
 is_of files want IntType = false
 is_of files want NullType = true
-is_of files want (OfType t) = is_subtype files t want
+is_of files want (OfType t) = is_assignable files t want
 is_of files want (Uninitialised at c) = false
 is_of files want (UninitialisedThis c) = false
 
@@ -95,7 +95,7 @@ is_reference_value (value.Reference r) = true
 
 abbrev pub is_object_of : Program → ReferenceType → Option ReferenceType → Bool
 is_object_of files want None = false
-is_object_of files want (Some t) = is_subtype files t want
+is_object_of files want (Some t) = is_assignable files t want
 
 -- null, or a reference to an object of a type, by the types of the objects
 abbrev pub is_value_of : Program → List ReferenceType → ReferenceType → Value → Bool
