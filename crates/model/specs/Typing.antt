@@ -123,7 +123,7 @@ flow_by files site t (Some meaning) =
 
 abbrev pub flow_at : Program → FrameType → Option Site → Option (List (ℕ × FrameType))
 flow_at files t None = None
-flow_at files t (Some site) = flow_by files site t (meaning_of values site)
+flow_at files t (Some site) = flow_by files site t (meaning_of values files site)
 
 -- where the instruction at an offset leads from a frame type, its handlers included; none where no instruction begins at
 -- the offset, or where the instruction must not find this frame type

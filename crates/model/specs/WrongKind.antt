@@ -19,7 +19,7 @@ finds_operands files objects max_stack frame (Some meaning) = is_ready (value_me
 abbrev pub finds_in : Program → List ReferenceType → Frame → Option Body → Bool
 finds_in files objects frame None = false
 finds_in files objects frame (Some body) =
-    finds_operands files objects body.code.max_stack frame (option_and_then (meaning_of values) (site_at frame.method body frame.place.offset))
+    finds_operands files objects body.code.max_stack frame (option_and_then (meaning_of values files) (site_at frame.method body frame.place.offset))
 
 -- a frame finds an instruction at its offset, and its operands
 abbrev pub finds : Program → List ReferenceType → Frame → Bool
