@@ -30,6 +30,7 @@ pub mod Schedule
 pub mod Meaning
 pub mod Typing
 pub mod WellTyped
+pub mod Words
 pub mod WrongKind
 pub mod Descriptors
 pub mod DescriptorScan
