@@ -29,7 +29,13 @@ pub mod TypeJoin
 pub mod Ints
 pub mod Rows
 pub mod State
+pub mod Monitors
+pub mod Opening
 pub mod Outcomes
+pub mod Worlds
+pub mod ClassInitialisation
+pub mod Frames
+pub mod Sites
 pub mod Meanings
 pub mod Step
 pub mod Run
@@ -44,5 +50,4 @@ pub mod Descriptors
 pub mod DescriptorScan
 pub mod Conditions
 pub mod Spells
-pub mod Monitors
 pub mod Listing
