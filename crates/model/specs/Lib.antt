@@ -12,6 +12,14 @@ pub mod BuiltIn
 pub mod Classes
 pub mod ReferenceTypes
 pub mod Lookup
+pub mod DescriptorParts
+pub mod CodeParts
+pub mod StringConstants
+pub mod Profile
+pub mod CodeConditions
+pub mod Hierarchy
+pub mod Resolution
+pub mod Linkable
 pub mod Types
 pub mod DescribedTypes
 pub mod InitialisedTypes
@@ -37,6 +45,7 @@ pub mod Schedule
 pub mod Meaning
 pub mod Typing
 pub mod WellTyped
+pub mod Words
 pub mod WrongKind
 pub mod Descriptors
 pub mod DescriptorScan

@@ -23,6 +23,16 @@ pub record Member : Type 0 where
 abbrev pub member_eq : Member → Member → Bool
 member_eq a b = name_eq a.class b.class && (name_eq a.name b.name && name_eq a.descriptor b.descriptor)
 
+-- ---- names of methods that the machine calls by itself
+
+-- of each constructor (JVMS 2.9, instance initialization methods)
+abbrev pub constructor_name : Name
+constructor_name = codes "<init>"
+
+-- of the initialiser of a class (JVMS 2.9, class initialization methods)
+abbrev pub initialiser_name : Name
+initialiser_name = codes "<clinit>"
+
 -- ---- names of built-in classes and members
 
 abbrev pub java_lang_object : Name

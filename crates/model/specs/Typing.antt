@@ -1,6 +1,6 @@
 -- Typings (JVMS 4.10.2): frame types at the offsets of a method's code that agree with each instruction. What is promised is
 -- that such frame types exist; how they are found is no part of the definition.
-use Rattle.std.specs.Prelude.{◌≡◌, ℕ, ◌≤◌, ◌-◌, List, [], ◌∷◌, ◌++◌, Option, Some, None, Bool, true, false, not, ◌&&◌, ◌||◌, ◌==◌, nat_le, nat_lt, if◌then◌else◌, length, map, replicate, unwrap_or, codes, IsTrue}
+use Rattle.std.specs.Prelude.{◌≡◌, ℕ, ◌≤◌, ◌-◌, List, [], ◌∷◌, ◌++◌, Option, Some, None, Bool, true, false, not, ◌&&◌, ◌||◌, ◌==◌, nat_le, nat_lt, if◌then◌else◌, length, map, replicate, unwrap_or, IsTrue}
 use Rattle.std.specs.Option.{option_and_then, option_map_or}
 use Rattle.std.specs.List.{list_any, AllByRecursion}
 use Rattle.model.specs.declared.class_file.ExceptionEntry.{ExceptionEntry}
@@ -8,7 +8,7 @@ use Rattle.model.specs.declared.instr.Instr.{Instr}
 use Rattle.model.specs.declared.instr.Instr.TheVariants as instr
 use Rattle.model.specs.declared.instr.Invocation.TheVariants as invocation
 use Rattle.model.specs.declared.value.Value.{Value}
-use Rattle.model.specs.Names.{Name, name_eq, Member}
+use Rattle.model.specs.Names.{Name, name_eq, Member, constructor_name, java_lang_throwable}
 use Rattle.model.specs.Tree.{Entry, MethodTree}
 use Rattle.model.specs.Pool.{class_name_at, method_at}
 use Rattle.model.specs.AccessFlags.{is_static_method}
@@ -24,9 +24,9 @@ use Rattle.model.specs.Meanings.{MeaningOf, Site, site_at, meaning_of}
 
 -- ---- the entry type
 
--- a method of this name makes objects usable (JVMS 2.9)
+-- an instance initialization method (JVMS 2.9)
 abbrev pub is_constructor : Member → Bool
-is_constructor method = name_eq method.name (codes "<init>")
+is_constructor method = name_eq method.name constructor_name
 
 abbrev pub is_static_of : Program → Member → Bool
 is_static_of files method = option_map_or is_static_method (method_of files method) false
@@ -95,7 +95,7 @@ is_protected_by offset e = nat_le e.start offset && nat_lt offset e.end
 
 -- the class that an entry takes; each Throwable where it names none
 abbrev pub caught_class : List Entry → ExceptionEntry → Name
-caught_class pool e = if e.catch_type == 0 then codes "java/lang/Throwable" else unwrap_or (class_name_at pool e.catch_type) []
+caught_class pool e = if e.catch_type == 0 then java_lang_throwable else unwrap_or (class_name_at pool e.catch_type) []
 
 abbrev pub caught_type : Program → List Entry → ExceptionEntry → VerificationType
 caught_type files pool e = OfType (made_type files (type_named (caught_class pool e)))

@@ -7,7 +7,7 @@ use Rattle.model.specs.declared.value.Value.TheVariants as value
 use Rattle.model.specs.Names.{Name, Member, java_lang_object, java_lang_thread, java_lang_throwable}
 use Rattle.model.specs.Classes.{Program, Body, body_of}
 use Rattle.model.specs.ReferenceTypes.{ReferenceType, ClassType}
-use Rattle.model.specs.Types.{VerificationType, Unusable, IntType, NullType, OfType, Uninitialised, UninitialisedThis, is_int_value, is_value_of}
+use Rattle.model.specs.Types.{VerificationType, Unusable, IntType, NullType, OfType, Uninitialised, UninitialisedThis, is_int_value, is_value_below}
 use Rattle.model.specs.DescribedTypes.{field_declared, results_declared, made_type, verification_type}
 use Rattle.model.specs.Operands.{Slots}
 use Rattle.model.specs.TypeOrder.{FrameType, pairwise}
@@ -28,13 +28,13 @@ abbrev pub has_type : Program → List ReferenceType → VerificationType → Va
 has_type files objects Unusable v = true
 has_type files objects IntType v = is_int_value v
 has_type files objects NullType v = is_null_value v
-has_type files objects (OfType t) v = is_value_of files objects t v
-has_type files objects (Uninitialised at c) v = is_value_of files objects (ClassType c) v
-has_type files objects (UninitialisedThis c) v = is_value_of files objects (ClassType c) v
+has_type files objects (OfType t) v = is_value_below files objects t v
+has_type files objects (Uninitialised at c) v = is_value_below files objects (ClassType c) v
+has_type files objects (UninitialisedThis c) v = is_value_below files objects (ClassType c) v
 
 -- a reference to an object of a class, and not null
 abbrev pub is_object_in : Program → List ReferenceType → Name → ℕ → Bool
-is_object_in files objects class r = is_value_of files objects (ClassType class) (value.Reference r)
+is_object_in files objects class r = is_value_below files objects (ClassType class) (value.Reference r)
 
 -- ---- objects and static fields
 
