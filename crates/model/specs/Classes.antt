@@ -1,9 +1,11 @@
 -- The classes of a program (JVMS 5.3): the built-in ones, and those of its files.
-use Rattle.std.specs.Prelude.{ℕ, zero, suc, List, [], ◌∷◌, ◌++◌, Option, Some, None, Bool, false, ◌&&◌, ◌||◌, find, is_some, length, unwrap_or}
+use Rattle.std.specs.Prelude.{ℕ, zero, suc, List, [], ◌∷◌, ◌++◌, Option, Some, None, Bool, false, ◌&&◌, ◌||◌, ◌==◌, if◌then◌else◌, find, is_some, length, unwrap_or}
 use Rattle.std.specs.Option.{option_and_then, option_map, option_map_or}
+use Rattle.std.specs.List.{filter_map, flat_map, list_any}
 use Rattle.model.specs.Names.{Name, name_eq, spells, Member}
 use Rattle.model.specs.Tree.{Entry, FileTree, MethodTree, MethodPart, CodeTree, CodeOf, SkippedOfMethod}
 use Rattle.model.specs.Pool.{utf8_at, class_name_at}
+use Rattle.model.specs.AccessFlags.{is_interface_class}
 use Rattle.model.specs.BuiltIn.{built_in_classes}
 
 -- the trees of the files, in their order
@@ -42,6 +44,55 @@ is_within files (suc n) c d = name_eq c d || option_map_or (λ s. is_within file
 -- the first class is the second or a subclass of it (JVMS 2.4, 4.10.1.2)
 abbrev pub is_subclass : Program → Name → Name → Bool
 is_subclass files c d = is_within files (length (classes_of files)) c d
+
+-- a class and its superclasses, the nearest first, so many at most
+abbrev pub lineage_of : Program → ℕ → Name → List Name
+lineage_of files zero class = []
+lineage_of files (suc n) class = class ∷ option_map_or (λ s. lineage_of files n s) (superclass_of files class) []
+
+-- all of them: no class is below more than there are
+abbrev pub lineage : Program → Name → List Name
+lineage files class = lineage_of files (length (classes_of files)) class
+
+-- ---- interfaces
+
+-- the names of the direct superinterfaces (JVMS 4.1, interfaces)
+abbrev pub interface_names : FileTree → List Name
+interface_names file = filter_map (class_name_at file.pool) file.interfaces
+
+abbrev pub superinterfaces_of : Program → Name → List Name
+superinterfaces_of files name = option_map_or interface_names (class_of files name) []
+
+-- the class of a name is there and is an interface
+abbrev pub is_interface : Program → Name → Bool
+is_interface files name = option_map_or is_interface_class (class_of files name) false
+
+-- an interface and its superinterfaces, by at most so many steps
+abbrev pub interfaces_from : Program → ℕ → Name → List Name
+interfaces_from files zero interface = interface ∷ []
+interfaces_from files (suc n) interface = interface ∷ flat_map (λ i. interfaces_from files n i) (superinterfaces_of files interface)
+
+-- the direct superinterfaces of a class, each with its own
+abbrev pub interfaces_above : Program → Name → List Name
+interfaces_above files class = flat_map (interfaces_from files (length (classes_of files))) (superinterfaces_of files class)
+
+-- all superinterfaces of a class or of an interface: its own, and those of its superclasses (JVMS 2.4)
+abbrev pub all_superinterfaces : Program → Name → List Name
+all_superinterfaces files class = flat_map (interfaces_above files) (lineage files class)
+
+-- it is the interface, or has it as a superinterface
+abbrev pub implements : Program → Name → Name → Bool
+implements files class interface = name_eq class interface || list_any (λ i. name_eq i interface) (all_superinterfaces files class)
+
+-- ---- packages
+
+-- the package (JVMS 5.3): what stands in a name up to its last slash
+abbrev pub package_of : Name → Name
+package_of [] = []
+package_of (b ∷ bytes) = if list_any (λ c. c == 47) (b ∷ bytes) then b ∷ package_of bytes else []
+
+abbrev pub same_package : Name → Name → Bool
+same_package c d = name_eq (package_of c) (package_of d)
 
 -- ---- methods
 
