@@ -30,7 +30,6 @@ pub mod Ints
 pub mod Rows
 pub mod State
 pub mod Monitors
-pub mod StringConstants
 pub mod Opening
 pub mod Outcomes
 pub mod Worlds

@@ -6,3 +6,4 @@ pub mod Finds
 pub mod Linkings
 pub mod Placed
 pub mod Inside
+pub mod Alone
