@@ -6,7 +6,9 @@ use Rattle.model.specs.declared.value.Value.{Value}
 use Rattle.model.specs.declared.value.Value.TheVariants as value
 use Rattle.model.specs.Types.{value_meets}
 use Rattle.model.specs.Operands.{Slots, operands, is_ready, over_values, word_of}
-use Rattle.model.specs.Rows.{Row, row_wants, after_row, row_target}
+use Rattle.model.specs.declared.instr.Instr.{Instr}
+use Rattle.model.specs.declared.instr.Instr.TheVariants as instr
+use Rattle.model.specs.Rows.{Row, row_wants, after_row, row_target, jump_row, local_row}
 use Rattle.model.specs.State.{Place}
 use Rattle.frames.specs.declared.local.LocalStep.{LocalStep}
 use Rattle.frames.specs.declared.local.LocalStep.TheVariants as steps
@@ -46,6 +48,19 @@ RanLocal (Ok steps.Throws) None max_stack old new = ⊥
 RanLocal (Ok steps.WrongKind) None max_stack old new = ⊥
 RanLocal (Err e) None max_stack old new = ⊥
 RanLocal result (Some row) max_stack old new = Ran result row max_stack old new
+
+-- ---- the instructions that a frame can do by itself
+
+-- `if_acmp` and `ifnull` ask whether a reference is to an object, which is for those to say who know the objects
+abbrev pub own_jump_row : List ℕ → ℕ → ℕ → Instr → Option Row
+own_jump_row code pc next (instr.IfReferences equal by) = None
+own_jump_row code pc next (instr.IfNull null by) = None
+own_jump_row code pc next other = jump_row code pc next other
+
+abbrev pub own_row : List (Option ℕ) → List ℕ → ℕ → ℕ → Instr → Option Row
+own_row integers code pc next (instr.IfReferences equal by) = None
+own_row integers code pc next (instr.IfNull null by) = None
+own_row integers code pc next other = local_row integers code pc next other
 
 -- ---- parts of a frame
 

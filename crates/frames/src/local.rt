@@ -3,9 +3,9 @@
 ghost use Rattle.std.specs.Prelude.{◌≡◌, ℕ, ℤ, ◌<◌, ◌^◌, ◌+◌, [], ◌∷◌, Some, None, pos};
 ghost use Rattle.model.specs.Types.{AnInt, value_meets};
 ghost use Rattle.model.specs.Ints.{bits_of};
-ghost use Rattle.model.specs.Rows.{Number, Copy, Null, plain, branch, first, second, target, want_of, constant_row, compute_row, increment_row, local_row, jump_row};
+ghost use Rattle.model.specs.Rows.{Number, Copy, Null, plain, branch, first, second, target, want_of, constant_row, compute_row, increment_row};
 ghost use Rattle.model.specs.Ints as spec;
-ghost use Rattle.frames.specs.Places.{Ran, RanLocal};
+ghost use Rattle.frames.specs.Places.{Ran, RanLocal, own_row, own_jump_row};
 
 use crate::code::MethodCode;
 use crate::frame::Frame;
@@ -241,7 +241,7 @@ impl Frame {
         next: usize,
     ) -> Result<LocalStep, AllocError>
         requires { self.old.offset < 2 ^ 16 }
-        ensures { RanLocal result (local_row code.now.integers code.now.code self.old.offset next instr) code.now.max_stack self.old self.new }
+        ensures { RanLocal result (own_row code.now.integers code.now.code self.old.offset next instr) code.now.max_stack self.old self.new }
     {
         let max_stack = code.max_stack();
         match instr {
@@ -270,7 +270,7 @@ impl Frame {
         next: usize,
     ) -> Result<LocalStep, AllocError>
         requires { self.old.offset < 2 ^ 16 }
-        ensures { RanLocal result (jump_row code.now.code self.old.offset next instr) code.now.max_stack self.old self.new }
+        ensures { RanLocal result (own_jump_row code.now.code self.old.offset next instr) code.now.max_stack self.old self.new }
     {
         let max_stack = code.max_stack();
         let offset = self.offset();

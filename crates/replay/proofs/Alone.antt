@@ -3,15 +3,16 @@ use Rattle.std.proofs.Common.{◌≡◌, ℕ, zero, suc, ◌+◌, List, [], ◌�
 use Rattle.std.specs.Prelude.{find, nat_lt, codes}
 use Rattle.std.specs.List.{list_any}
 use Rattle.std.specs.Option.{option_map_or, option_and_then, option_map}
+use Rattle.std.proofs.lemmas.Bool.{lt-ltb}
 use Rattle.std.proofs.lemmas.Slice.Eq.{bytes_eq-Decides}
 use Rattle.model.specs.declared.instr.Instr.{Instr}
-use Rattle.model.specs.Names.{Name, spells}
+use Rattle.model.specs.Names.{Name, spells, java_lang_object}
 use Rattle.model.specs.Tree.{Entry, CodeTree, MethodTree, FileTree}
 use Rattle.model.specs.Pool.{utf8_at}
 use Rattle.model.specs.Spelling.{is_static}
 use Rattle.model.specs.Conditions.{is_native, is_abstract}
 use Rattle.model.specs.Listing.{is_interface}
-use Rattle.model.specs.Classes.{is_method, declared_in, code_in}
+use Rattle.model.specs.Classes.{super_name_of, is_method, declared_in, code_in}
 use Rattle.model.specs.Instruction.{instr_at}
 use Rattle.model.specs.InstructionStarts.{is_start}
 use Rattle.replay.specs.Placed.{JumpsFit}
@@ -37,7 +38,11 @@ false_of false h = refl
 
 none_of : {A : Type 0} (xs : List A) → nat_lt 0 (length xs) ≡ false → xs ≡ []
 none_of [] h = refl
-none_of (x ∷ xs) h = absurd cc
+none_of (x ∷ xs) h = let more : nat_lt 0 (length (x ∷ xs)) ≡ true = lt-ltb 0 (length (x ∷ xs)) (omega arith) in absurd cc
+
+spelled : (o : Option Name) (n : Name) → spells o n ≡ true → o ≡ Some n
+spelled None n h = absurd cc
+spelled (Some m) n h = ap (λ q. Some q) ((bytes_eq-Decides m n).0 h)
 
 -- ---- the class
 
@@ -53,6 +58,12 @@ module _ (file : FileTree) (inside : is_outside file ≡ false) where
       right_false (has_other_superclass file) (is_interface file.flags)
       (left_false with_interface (lists_interfaces file) (left_false (with_interface || lists_interfaces file) (has_fields file) without_fields))
 
+  pub below_object : super_name_of file ≡ Some java_lang_object
+  below_object =
+      spelled (super_name_of file) java_lang_object
+      (true_of (spells (super_name_of file) java_lang_object) (left_false (has_other_superclass file) (is_interface file.flags)
+      (left_false with_interface (lists_interfaces file) (left_false (with_interface || lists_interfaces file) (has_fields file) without_fields))))
+
   pub no_fields : file.fields ≡ []
   no_fields = none_of file.fields (right_false (with_interface || lists_interfaces file) (has_fields file) without_fields)
 
@@ -63,10 +74,6 @@ pub methods_whole : (file : FileTree) → is_malformed file ≡ false → list_a
 methods_whole file h = h
 
 -- ---- methods
-
-spelled : (o : Option Name) (n : Name) → spells o n ≡ true → o ≡ Some n
-spelled None n h = absurd cc
-spelled (Some m) n h = ap (λ q. Some q) ((bytes_eq-Decides m n).0 h)
 
 abbrev the_main : List Entry → MethodTree → Bool
 the_main pool m = is_method pool (codes "main") (codes "([Ljava/lang/String;)V") m

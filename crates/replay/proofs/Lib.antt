@@ -3,7 +3,9 @@ pub mod Stages
 pub mod Enabled
 pub mod Runs
 pub mod Finds
+pub mod Profiles
 pub mod Linkings
 pub mod Placed
 pub mod Inside
 pub mod Alone
+pub mod Plain

@@ -10,10 +10,10 @@ use Rattle.model.specs.declared.instr.StackMove.{StackMove}
 use Rattle.model.specs.declared.instr.StackMove.TheVariants.{Pop, Pop2, Dup, DupX1, DupX2, Dup2, Dup2X1, Dup2X2, Swap}
 use Rattle.model.specs.Instruction.{sized_at, length_at, table_jump, lookup_pair}
 use Rattle.model.specs.InstructionStarts.{is_start}
-use Rattle.model.specs.Rows.{Row, row_target, target, constant_row, move_row, jump_row, local_row}
+use Rattle.model.specs.Rows.{Row, row_target, target, constant_row, move_row}
 use Rattle.model.specs.State.{Place}
 use Rattle.model.proofs.StartLaws.{first_start, after_start}
-use Rattle.frames.specs.Places.{Ran, RanLocal, words_at}
+use Rattle.frames.specs.Places.{Ran, RanLocal, own_row, words_at}
 use Rattle.frames.specs.declared.local.LocalStep.{LocalStep}
 use Rattle.frames.specs.declared.local.LocalStep.TheVariants as steps
 use Rattle.replay.specs.Placed.{IsPlaced, Leads, JumpsFit}
@@ -54,28 +54,25 @@ module _ (code : List ℕ) where
   move_fits Dup2X2 next h = (h, tt)
   move_fits Swap next h = (h, tt)
 
-  jump_fits : (pc next : ℕ) (i : Instr) → IsPlaced code next → JumpsFit code pc i → OnRow (jump_row code pc next i)
-  jump_fits pc next (instr.If comparison by) h j = (h, (inl j, tt))
-  jump_fits pc next (instr.IfInts comparison by) h j = (h, (inl j, tt))
-  jump_fits pc next (instr.Goto by) h j = (inl j, tt)
-  jump_fits pc next (instr.TableSwitch default low high at) h j = (inl j.0, all_lead (λ k. target pc (table_jump code at k)) _ j.1)
-  jump_fits pc next (instr.LookupSwitch default pairs at) h j = (inl j.0, all_lead (λ k. target pc (lookup_pair code at k).1) _ j.1)
-  jump_fits pc next _ h j = tt
-
   -- a row of the instruction at pc, before the one at next
-  pub local_fits : (integers : List (Option ℕ)) (pc next : ℕ) (i : Instr) → IsPlaced code next → JumpsFit code pc i → OnRow (local_row integers code pc next i)
-  local_fits integers pc next instr.Nop h j = (h, tt)
-  local_fits integers pc next instr.Null h j = (h, tt)
-  local_fits integers pc next (instr.Const n) h j = (h, tt)
-  local_fits integers pc next (instr.LoadConstant index) h j = constant_fits next (slice_index_or integers index None) h
-  local_fits integers pc next (instr.Load kind local) h j = (h, tt)
-  local_fits integers pc next (instr.Store kind local) h j = (h, tt)
-  local_fits integers pc next (instr.Move move) h j = move_fits move next h
-  local_fits integers pc next (instr.Compute op) h j = (h, tt)
-  local_fits integers pc next instr.Negate h j = (h, tt)
-  local_fits integers pc next (instr.Increment local by) h j = (h, tt)
-  local_fits integers pc next (instr.Convert to) h j = (h, tt)
-  local_fits integers pc next other h j = jump_fits pc next other h j
+  pub own_fits : (integers : List (Option ℕ)) (pc next : ℕ) (i : Instr) → IsPlaced code next → JumpsFit code pc i → OnRow (own_row integers code pc next i)
+  own_fits integers pc next instr.Nop h j = (h, tt)
+  own_fits integers pc next instr.Null h j = (h, tt)
+  own_fits integers pc next (instr.Const n) h j = (h, tt)
+  own_fits integers pc next (instr.LoadConstant index) h j = constant_fits next (slice_index_or integers index None) h
+  own_fits integers pc next (instr.Load kind local) h j = (h, tt)
+  own_fits integers pc next (instr.Store kind local) h j = (h, tt)
+  own_fits integers pc next (instr.Move move) h j = move_fits move next h
+  own_fits integers pc next (instr.Compute op) h j = (h, tt)
+  own_fits integers pc next instr.Negate h j = (h, tt)
+  own_fits integers pc next (instr.Increment local by) h j = (h, tt)
+  own_fits integers pc next (instr.Convert to) h j = (h, tt)
+  own_fits integers pc next (instr.If comparison by) h j = (h, (inl j, tt))
+  own_fits integers pc next (instr.IfInts comparison by) h j = (h, (inl j, tt))
+  own_fits integers pc next (instr.Goto by) h j = (inl j, tt)
+  own_fits integers pc next (instr.TableSwitch default low high at) h j = (inl j.0, all_lead (λ k. target pc (table_jump code at k)) _ j.1)
+  own_fits integers pc next (instr.LookupSwitch default pairs at) h j = (inl j.0, all_lead (λ k. target pc (lookup_pair code at k).1) _ j.1)
+  own_fits integers pc next _ h j = tt
 
   ran_fits : (result : Result LocalStep AllocError) (row : Row) (max_stack : ℕ) (old new : Place) → Ran result row max_stack old new → RowFits row → IsPlaced code old.offset → IsPlaced code new.offset
   ran_fits (Ok steps.Done) row max_stack old new h fits was = subst (λ (p : Place). IsPlaced code p.offset) (sym h.2) (led row (words_at row old) fits)

@@ -15,7 +15,8 @@ use Rattle.model.specs.declared.end.RunCause.{RunCause}
 use Rattle.model.specs.declared.end.RunCause.TheVariants as causes
 use Rattle.model.specs.Classes.{Program}
 use Rattle.model.specs.Operands.{values}
-use Rattle.model.specs.State.{State, opening}
+use Rattle.model.specs.State.{State}
+use Rattle.model.specs.Opening.{opening}
 use Rattle.model.specs.Outcomes.{Cost, Free, Makes, Starts, Enters, Joins}
 use Rattle.model.specs.Step.{SteppedOf, NotEnabled, WrongKind, Next, stepped, step, next_by}
 use Rattle.model.specs.Run.{run_from, is_quiet}
@@ -80,7 +81,7 @@ goes_on start m n es e run kept says =
       file = kept.0 ∙ run.file;
       limits = kept.1 ∙ run.limits;
       state = w.0;
-      plainly = append_one (program_of start.file) start.limits.frames (opening (program_of start.file)) es e ∙ rw (run.plainly, ← same) w.1;
+      plainly = append_one (program_of start.file) start.limits.frames (opening values (program_of start.file)) es e ∙ rw (run.plainly, ← same) w.1;
       shows = w.2;
     }
 
@@ -123,7 +124,7 @@ stays start m n es same run = subst (λ k. ShowsRun start es k) (sym same) run
 pub replayed : (start m : Machine) (events front left : List Event) (r : Report) (end : End) → events ≡ front ++ left → (shows : ShowsRun start front m) → ((s : State) → Shows m s → ReportsOn (program_of m.file) m.limits.frames s (length front) r) → EndFits (program_of start.file) start.limits.frames shows.state (length front) left end → IsReplay (program_of start.file) events start.limits r end
 replayed start m events front left r end parts shows reports ended =
     let on : ReportsOn (program_of start.file) start.limits.frames shows.state (length front) r = subst (λ (q : Limits). ReportsOn (program_of start.file) q.frames shows.state (length front) r) shows.limits (subst (λ q. ReportsOn (program_of q) m.limits.frames shows.state (length front) r) shows.file (reports shows.state shows.shows)) in
-    let reached : run_from (program_of start.file) start.limits.frames (opening (program_of start.file)) front ≡ Some shows.state = plain_run (program_of start.file) start.limits.frames (opening (program_of start.file)) front shows.state shows.plainly in
+    let reached : run_from (program_of start.file) start.limits.frames (opening values (program_of start.file)) front ≡ Some shows.state = plain_run (program_of start.file) start.limits.frames (opening values (program_of start.file)) front shows.state shows.plainly in
     record {
       front = front;
       left = left;

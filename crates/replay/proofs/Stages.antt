@@ -10,11 +10,20 @@ use Rattle.model.specs.declared.value.Value.TheVariants as value
 use Rattle.model.specs.Names.{java_lang_object, name_eq}
 use Rattle.model.specs.Tree.{FileTree}
 use Rattle.model.specs.BuiltIn.{built_in_classes}
-use Rattle.model.specs.Classes.{is_built_in, name_of}
+use Rattle.model.specs.Names.{initialiser_of}
+use Rattle.model.specs.Pool.{class_name_at}
+use Rattle.model.specs.Tree.{MethodTree}
+use Rattle.model.specs.Classes.{Body, Program, is_built_in, is_named, is_interface, name_of, super_name_of, class_of, superclass_of, body_of, code_in}
+use Rattle.model.specs.AccessFlags.{is_synchronized_method}
+use Rattle.model.specs.Frames.{locals_with, is_synchronized_one}
+use Rattle.model.specs.Opening.{opening_heap}
+use Rattle.std.specs.Option.{option_map, option_and_then, option_map_or}
+use Rattle.replay.proofs.Finds.{find_second}
+use Rattle.replay.proofs.Alone.{no_interface, no_fields, none_initialises, methods_inside, main_declared, below_object}
 use Rattle.model.specs.Operands.{values}
 use Rattle.model.specs.State.{Place, State, World, StackOf}
 use Rattle.model.specs.Outcomes.{Free}
-use Rattle.model.specs.Step.{SteppedOf, NotEnabled, WrongKind, Next, PartOf, put_back, settled, end_of, stepped, locals_with}
+use Rattle.model.specs.Step.{SteppedOf, NotEnabled, WrongKind, Next, PartOf, put_back, settled, end_of, stepped}
 use Rattle.replay.specs.declared.machine.Stage.{Stage}
 use Rattle.replay.specs.declared.machine.Stage.TheVariants as stages
 use Rattle.replay.specs.Linking.{program_of, main_in, main_body, main_code, IsLinked}
@@ -33,28 +42,49 @@ pub same_name : (bs : List ℕ) → name_eq bs bs ≡ true
 same_name [] = refl
 same_name (b ∷ bs) = rw (eq-eqb b b refl, same_name bs) refl
 
+-- ---- what the steps look for in the program
+
+module _ (file : FileTree) (linked : IsLinked file) where
+  pub found : class_of (program_of file) (name_of file) ≡ Some file
+  found = find_second (is_named (name_of file)) built_in_classes (file ∷ []) linked.not_built_in ∙ rw (same_name (name_of file)) refl
+
+  pub super_found : superclass_of (program_of file) (name_of file) ≡ Some java_lang_object
+  super_found = ap (option_and_then super_name_of) found ∙ below_object file linked.inside
+
+  pub class_found : is_interface (program_of file) (name_of file) ≡ false
+  class_found = rw found (no_interface file linked.inside)
+
+  pub body_found : body_of (program_of file) (main_in file) ≡ Some (main_body file)
+  body_found = rw (found, linked.main) refl
+
+  pub no_initialiser_found : body_of (program_of file) (initialiser_of (name_of file)) ≡ None
+  no_initialiser_found = rw (found, none_initialises file.pool file.methods (methods_inside file linked.inside)) refl
+
+  pub main_enters_none : is_synchronized_one (program_of file) (main_in file) ≡ false
+  main_enters_none = let m = main_declared file (main_code file) linked.inside linked.whole linked.main in rw (found, m.1) m.2
+
 module _ (file : FileTree) (frames : ℕ) (printed : List ℤ) (place : Place) (linked : IsLinked file) where
   abbrev pub at_stage : Stage → SteppedOf State
   at_stage stage = stepped values (program_of file) frames (state_of file stage place printed) main_step
 
   pub new_step : at_stage stages.New ≡ Next Free (state_of file stages.Super place printed)
-  new_step = rw (linked.not_built_in) refl
+  new_step = rw (linked.not_built_in, found file linked, no_fields file linked.inside, same_name (name_of file)) refl
 
   pub super_step : at_stage stages.Super ≡ Next Free (state_of file stages.End place printed)
-  super_step = rw (linked.super, built_in_object) refl
+  super_step = rw (class_found file linked, super_found file linked, built_in_object, no_initialiser_found file linked) refl
 
   pub end_step : at_stage stages.End ≡ Next Free (state_of file stages.Ready place printed)
-  end_step = refl
+  end_step = rw (same_name (name_of file)) refl
 
   -- main's frame at its first instruction
   abbrev pub first_place : Place
   first_place = record { offset = 0; slots = record { locals = locals_with value.Unset (main_code file).max_locals (value.Reference 1 ∷ []); stack = [] } }
 
   pub ready_step : 1 ≤ frames → at_stage stages.Ready ≡ Next Free (state_of file stages.Runs first_place printed)
-  ready_step h = rw (linked.not_built_in, same_name (name_of file), linked.body, lt-ltb 0 frames (omega arith)) refl
+  ready_step h = rw (linked.not_built_in, same_name (name_of file), body_found file linked, main_enters_none file linked, lt-ltb 0 frames (omega arith)) refl
 
   pub runs_step : at_stage stages.Runs ≡ put_back (state_of file stages.Runs place printed) 0 (settled 0 (frame_event file frames printed place))
-  runs_step = rw (linked.body) refl
+  runs_step = rw (body_found file linked) refl
 
   pub ended_step : at_stage stages.Ended ≡ NotEnabled
   ended_step = refl
@@ -113,6 +143,7 @@ module _ (file : FileTree) (limits : Limits) (printed now : List ℤ) (place new
   runs = runs_step file limits.frames printed place linked
 
   pub bytecode_says : (answer : FrameStep) → FrameSays answer (frame_event file limits.frames printed place) file printed now place new → SaysOf (stepped_of answer) 0 out_of (machine_at stages.Runs place printed) (machine_at (stage_after answer) new now)
+  unfolding opening_heap
   bytecode_says frame_steps.Done h = rw (runs, h) (refl, refl, record { state_is = refl })
   bytecode_says frame_steps.Returned h = rw (runs, h.0) (refl, refl, record { state_is = rw h.1 refl })
   bytecode_says frame_steps.WrongKind h = (rw (runs, h.0) refl, rw (h.1, h.2) refl)

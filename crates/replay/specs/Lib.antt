@@ -1,5 +1,6 @@
+pub mod Checks
 pub mod Linking
 pub mod Placed
-pub mod Profile
 pub mod Machine
+pub mod Profile
 pub mod Replay

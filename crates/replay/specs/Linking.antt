@@ -1,10 +1,10 @@
 -- What linking finds in one class file whose only method is main.
 use Rattle.std.specs.Prelude.{◌≡◌, ◌<◌, ◌⊎◌, length, ℕ, List, [], ◌∷◌, Option, Some, None, IsSome, Any, Bool, true, false, unwrap_or, option_map, option_and_then, codes}
-use Rattle.model.specs.Names.{Member, member_eq, main_of, java_lang_object}
+use Rattle.model.specs.Names.{Member, member_eq, main_of}
 use Rattle.model.specs.Pool.{integers_of}
 use Rattle.model.specs.Tree.{FileTree, MethodTree, CodeTree}
 use Rattle.model.specs.Spells.{Spells}
-use Rattle.model.specs.Classes.{Program, Body, declared_in, code_in, name_of, body_of, is_built_in, superclass_of}
+use Rattle.model.specs.Classes.{Program, Body, declared_in, code_in, name_of, body_of, is_built_in}
 use Rattle.frames.specs.Places.{LocalCode}
 use Rattle.reading.specs.declared.fault.Cause.{Cause}
 use Rattle.reading.specs.declared.fault.Cause.TheVariants as causes
@@ -33,11 +33,17 @@ main_body file = record { pool = file.pool; code = main_code file }
 abbrev pub local_of : FileTree → LocalCode
 local_of file = record { code = (main_code file).code; integers = integers_of file.pool; max_stack = (main_code file).max_stack }
 
--- the class is none of the built-in ones, stands directly below Object, and has a main with code
+-- the method main of a class file, where it declares one with code
+abbrev pub declared_main : FileTree → Option CodeTree
+declared_main file = option_and_then (λ (m : MethodTree). code_in m.parts) (declared_in file (codes "main") (codes "([Ljava/lang/String;)V"))
+
+-- The class is none of the built-in ones; the profile has it, and no code of it is malformed; it has a main with code.
 pub record IsLinked (file : FileTree) : Type 0 where
   pub not_built_in : is_built_in (name_of file) ≡ false
-  pub super : superclass_of (program_of file) (name_of file) ≡ Some java_lang_object
-  pub body : body_of (program_of file) (main_in file) ≡ Some (main_body file)
+  pub inside : is_outside file ≡ false
+  pub whole : is_malformed file ≡ false
+  pub main : declared_main file ≡ Some (main_code file)
+  pub some : 0 < length (main_code file).code
 
 -- a member is named, and is this one
 abbrev pub names : Option Member → Member → Bool
@@ -49,10 +55,6 @@ abbrev pub Links : List (List ℕ) → FileTree → Type 0
 Links [] file = ⊥
 Links (bytes ∷ []) file = Spells bytes file
 Links (bytes ∷ other ∷ files) file = ⊥
-
--- the method main of a class file, where it declares one with code
-abbrev pub declared_main : FileTree → Option CodeTree
-declared_main file = option_and_then (λ (m : MethodTree). code_in m.parts) (declared_in file (codes "main") (codes "([Ljava/lang/String;)V"))
 
 -- ---- which files are accepted
 

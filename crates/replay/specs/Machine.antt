@@ -1,5 +1,5 @@
 -- What a machine of one thread shows, and what its answers say.
-use Rattle.std.specs.Prelude.{◌≡◌, ℕ, ℤ, List, [], ◌∷◌, Option, Some, None, Bool, true, false, ◌==◌, is_some, length}
+use Rattle.std.specs.Prelude.{◌≡◌, ℕ, ℤ, List, [], ◌∷◌, Option, Some, None, Bool, true, false, ◌==◌, is_some, length, map}
 use Rattle.model.specs.declared.event.Event.{Event}
 use Rattle.model.specs.declared.limits.Limits.{Limits}
 use Rattle.model.specs.declared.value.Value.{Value}
@@ -10,19 +10,25 @@ use Rattle.model.specs.declared.end.RunCause.TheVariants as causes
 use Rattle.model.specs.Names.{Name}
 use Rattle.model.specs.Classes.{name_of}
 use Rattle.model.specs.Operands.{values}
-use Rattle.model.specs.State.{ClassStatus, InProgress, Initialised, Running, Ended, Thread, Place, Frame, Super, End, Invocation, Initialisation, print_stream_reference, StackOf, World, State, opening_heap, main_thread_reference, new_thread}
+use Rattle.model.specs.State.{ClassStatus, NotInitialised, InProgress, Initialised, Running, Ended, Thread, Place, Frame, Super, End, Invocation, Initialisation, StackOf, World, State, new_thread}
+use Rattle.model.specs.Monitors.{unlocked}
+use Rattle.model.specs.Opening.{print_stream_reference, opening_heap, main_thread_reference, static_fields, with_first}
 use Rattle.model.specs.Outcomes.{Cost, Free}
-use Rattle.model.specs.Meanings.{meaning_of, other_meaning, site_at}
+use Rattle.model.specs.Meanings.{MeaningOf, meaning_of, other_meaning, site_at}
+use Rattle.model.specs.declared.instr.Instr.{Instr}
+use Rattle.model.specs.declared.instr.Instr.TheVariants as instr
 use Rattle.model.specs.Step.{SteppedOf, NotEnabled, WrongKind, Next, PartOf, part, thread_at, bytecode_by, stepped}
 use Rattle.std.specs.Option.{option_and_then}
 use Rattle.replay.specs.declared.machine.Stage.{Stage}
 use Rattle.replay.specs.declared.machine.Stage.TheVariants as stages
 use Rattle.replay.specs.declared.machine.Stepped.{Stepped}
 use Rattle.replay.specs.declared.machine.Stepped.TheVariants as steps
+use Rattle.replay.specs.declared.bytecode.Other.{Other}
+use Rattle.replay.specs.declared.bytecode.Other.TheVariants as others
 use Rattle.replay.specs.declared.bytecode.FrameStep.{FrameStep}
 use Rattle.replay.specs.declared.bytecode.FrameStep.TheVariants as frame_steps
 use Rattle.model.specs.Tree.{FileTree}
-use Rattle.replay.specs.Linking.{program_of, main_in, main_body}
+use Rattle.replay.specs.Linking.{program_of, main_in, main_body, main_code}
 
 -- ---- the state of a program whose only thread has come so far
 
@@ -35,12 +41,12 @@ thread_of stages.Runs = record (new_thread main_thread_reference) { begun = true
 thread_of stages.Ended = record (new_thread main_thread_reference) { begun = true; status = Ended None }
 
 abbrev pub classes_of : Name → Stage → List (Name × ClassStatus)
-classes_of class stages.New = []
+classes_of class stages.New = (class, NotInitialised) ∷ []
 classes_of class stages.Super = (class, InProgress 0) ∷ []
 classes_of class stages.End = (class, InProgress 0) ∷ []
-classes_of class stages.Ready = (class, Initialised) ∷ (class, InProgress 0) ∷ []
-classes_of class stages.Runs = (class, Initialised) ∷ (class, InProgress 0) ∷ []
-classes_of class stages.Ended = (class, Initialised) ∷ (class, InProgress 0) ∷ []
+classes_of class stages.Ready = (class, Initialised) ∷ []
+classes_of class stages.Runs = (class, Initialised) ∷ []
+classes_of class stages.Ended = (class, Initialised) ∷ []
 
 -- whether the thread has not ended
 abbrev pub is_alive : Stage → Bool
@@ -66,10 +72,10 @@ stack_of file stages.Ended place = []
 abbrev pub world_of : FileTree → Stage → List ℤ → World
 world_of file stage printed =
     record {
-      heap = opening_heap (program_of file);
-      statics = [];
+      heap = opening_heap values (program_of file);
+      statics = map (with_first values) (static_fields (program_of file));
       classes = classes_of (name_of file) stage;
-      monitors = [];
+      monitors = map (λ object. unlocked) (opening_heap values (program_of file));
       threads = thread_of stage ∷ [];
       printed = printed;
     }
@@ -135,15 +141,33 @@ IsKept old new = (new.file ≡ old.file) × (new.limits ≡ old.limits)
 abbrev pub main_step : Event
 main_step = record { thread = 0; pick = 0 }
 
+-- what main does at its place by a meaning, with an event
+abbrev pub frame_by : FileTree → ℕ → List ℤ → Place → Event → Option (MeaningOf Value) → SteppedOf (PartOf Value)
+frame_by file frames printed place event meaning =
+    bytecode_by values (program_of file) frames event (world_of file stages.Runs printed) (frame_of file place) [] (main_code file).max_stack meaning
+
+-- what the instruction at a place means
+abbrev pub meaning_at : FileTree → ℕ → Option (MeaningOf Value)
+meaning_at file offset = option_and_then (meaning_of values (program_of file)) (site_at (main_in file) (main_body file) offset)
+
 -- what the instruction at a place makes of what all share and of the stack
 abbrev pub frame_event : FileTree → ℕ → List ℤ → Place → SteppedOf (PartOf Value)
-frame_event file frames printed place =
-    bytecode_by values (program_of file) frames main_step (world_of file stages.Runs printed) (frame_of file place) [] (main_body file).code.max_stack (option_and_then (meaning_of values) (site_at (main_in file) (main_body file) place.offset))
+frame_event file frames printed place = frame_by file frames printed place main_step (meaning_at file place.offset)
+
+-- what a meaning makes of them
+abbrev pub does_by : FileTree → ℕ → List ℤ → Place → MeaningOf Value → SteppedOf (PartOf Value)
+does_by file frames printed place meaning = frame_by file frames printed place main_step (Some meaning)
 
 -- the same of an instruction that is not local
 abbrev pub other_event : FileTree → ℕ → List ℤ → Place → Instr → ℕ → SteppedOf (PartOf Value)
 other_event file frames printed place instr next =
-    bytecode_by values (program_of file) frames main_step (world_of file stages.Runs printed) (frame_of file place) [] (main_body file).code.max_stack (other_meaning values (record { method = main_in file; body = main_body file; offset = place.offset; instr = instr; next = next }) instr)
+    frame_by file frames printed place main_step (other_meaning values (program_of file) (record { method = main_in file; body = main_body file; offset = place.offset; instr = instr; next = next }) instr)
+
+-- which of the instructions that are not local it is
+abbrev pub other_of : Instr → Other
+other_of (instr.Field access index) = others.GetSystemOut
+other_of (instr.Invoke invocation index) = others.PrintInt
+other_of i = others.Return
 
 -- null, or the PrintStream of System.out
 abbrev pub is_print_stream : Value → Bool

@@ -10,7 +10,8 @@ use Rattle.model.specs.declared.end.RunCause.{RunCause}
 use Rattle.model.specs.declared.end.RunCause.TheVariants as causes
 use Rattle.model.specs.Classes.{Program}
 use Rattle.model.specs.Operands.{values}
-use Rattle.model.specs.State.{State, opening}
+use Rattle.model.specs.State.{State}
+use Rattle.model.specs.Opening.{opening}
 use Rattle.model.specs.Outcomes.{Cost, Free, Makes, Starts, Enters, Joins}
 use Rattle.model.specs.Step.{SteppedOf, NotEnabled, WrongKind, Next, stepped}
 use Rattle.model.specs.Run.{run, is_quiet}
@@ -78,7 +79,7 @@ pub record IsReplay (files : Program) (events : List Event) (limits : Limits) (r
   pub events_are : events ≡ front ++ left
   pub state : State
   pub reached : run files limits.frames front ≡ Some state
-  pub plainly : run_plainly files limits.frames (opening files) front ≡ Some state
+  pub plainly : run_plainly files limits.frames (opening values files) front ≡ Some state
   pub printed : r.printed.items ≡ state.world.printed
   pub threads : map end_state_of r.threads.items ≡ thread_ends files limits.frames state
   pub count : r.events ≡ length front
@@ -92,7 +93,7 @@ pub record ShowsRun (start : Machine) (events : List Event) (m : Machine) : Type
   pub file : m.file ≡ start.file
   pub limits : m.limits ≡ start.limits
   pub state : State
-  pub plainly : run_plainly (program_of start.file) start.limits.frames (opening (program_of start.file)) events ≡ Some state
+  pub plainly : run_plainly (program_of start.file) start.limits.frames (opening values (program_of start.file)) events ≡ Some state
   pub shows : Shows m state
 
 -- a report of a state after so many events

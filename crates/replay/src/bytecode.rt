@@ -1,15 +1,19 @@
 //! One bytecode of main.
 
-ghost use Rattle.std.specs.Prelude.{◌≡◌};
-ghost use Rattle.model.specs.declared.instr.Instr.TheVariants as instructions;
-ghost use Rattle.model.specs.declared.instr.FieldAccess.TheVariants as accesses;
-ghost use Rattle.model.specs.declared.instr.Invocation.TheVariants as invocations;
-ghost use Rattle.model.specs.declared.instr.Returned.TheVariants as returns;
-ghost use Rattle.replay.specs.Machine.{FrameSays, frame_event, other_event, is_print_stream};
+ghost use Rattle.std.specs.Prelude.{◌≡◌, None, false};
+ghost use Rattle.model.specs.Pool.{integers_of};
+ghost use Rattle.model.specs.Meanings.{system_out_meaning, println_meaning, return_meaning};
+ghost use Rattle.model.specs.Operands.{values};
+ghost use Rattle.frames.specs.Places.{own_row};
+ghost use Rattle.replay.specs.Linking.{main_in, main_code};
+ghost use Rattle.replay.specs.Placed.{IsPlaced};
+ghost use Rattle.replay.specs.Profile.{is_outside_instruction, names_wrong_kind};
+ghost use Rattle.replay.specs.Machine.{FrameSays, frame_event, does_by, other_event, is_print_stream};
+ghost use Rattle.replay.specs.Machine as spec;
 
 use crate::linked::Linked;
 use frames::{Frame, LocalStep};
-use model::{FieldAccess, Instr, Invocation, Limits, Returned, Value};
+use model::{Instr, Limits, Value};
 
 /// What became of a bytecode.
 #[derive(Clone, Copy, Debug, PartialEq, Eq)]
@@ -32,7 +36,9 @@ pub(crate) fn frame_step(
     frame: &mut Frame,
     printed: &mut Vec<i32>,
 ) -> FrameStep
-    ensures { FrameSays result (frame_event linked.now limits.frames printed.old.items frame.old) linked.now printed.old.items printed.new.items frame.old frame.new }
+    requires { IsPlaced (main_code linked.now).code frame.old.offset }
+    ensures says { FrameSays result (frame_event linked.now limits.frames printed.old.items frame.old) linked.now printed.old.items printed.new.items frame.old frame.new }
+    ensures placed { IsPlaced (main_code linked.now).code frame.new.offset }
 {
     let local = linked.local();
     let offset = frame.offset();
@@ -55,6 +61,28 @@ pub(crate) fn frame_step(
     }
 }
 
+/// An instruction that is not local, as the profile has it.
+#[derive(Clone, Copy, Debug, PartialEq, Eq)]
+pub(crate) enum Other {
+    /// `getstatic` of System.out.
+    GetSystemOut,
+    /// `invokevirtual` of PrintStream.println of an int.
+    PrintInt,
+    /// `return`.
+    Return,
+}
+
+/// Which one it is.
+fn other_of(instr: Instr) -> Other
+    ensures { result ≡ spec.other_of instr }
+{
+    match instr {
+        Instr::Field { .. } => Other::GetSystemOut,
+        Instr::Invoke { .. } => Other::PrintInt,
+        _ => Other::Return,
+    }
+}
+
 /// Does an instruction that is not local, whose next one begins at `next`.
 fn other_step(
     linked: &Linked,
@@ -64,19 +92,18 @@ fn other_step(
     frame: &mut Frame,
     printed: &mut Vec<i32>,
 ) -> FrameStep
-    ensures { FrameSays result (other_event linked.now limits.frames printed.old.items frame.old instr next) linked.now printed.old.items printed.new.items frame.old frame.new }
+    requires inside { is_outside_instruction linked.now.pool instr ≡ false }
+    requires named { names_wrong_kind linked.now.pool instr ≡ false }
+    requires elsewhere { own_row (integers_of linked.now.pool) (main_code linked.now).code frame.old.offset next instr ≡ None }
+    requires here { IsPlaced (main_code linked.now).code frame.old.offset }
+    requires placed { IsPlaced (main_code linked.now).code next }
+    ensures says { FrameSays result (other_event linked.now limits.frames printed.old.items frame.old instr next) linked.now printed.old.items printed.new.items frame.old frame.new }
+    ensures placed { IsPlaced (main_code linked.now).code frame.new.offset }
 {
-    match instr {
-        Instr::Field {
-            access: FieldAccess::GetStatic,
-            index,
-        } => get_static(linked, limits, index, next, frame, printed),
-        Instr::Invoke {
-            invocation: Invocation::Virtual,
-            index,
-        } => invoke_virtual(linked, limits, index, next, frame, printed),
-        Instr::Return(Returned::Nothing) => return_nothing(linked, limits, next, frame, printed),
-        _ => FrameStep::WrongKind,
+    match other_of(instr) {
+        Other::GetSystemOut => get_static(linked, limits, next, frame, printed),
+        Other::PrintInt => invoke_virtual(linked, limits, next, frame, printed),
+        Other::Return => return_nothing(linked, limits, frame, printed),
     }
 }
 
@@ -84,16 +111,15 @@ fn other_step(
 fn get_static(
     linked: &Linked,
     limits: Limits,
-    index: u16,
     next: usize,
     frame: &mut Frame,
     printed: &mut Vec<i32>,
 ) -> FrameStep
-    ensures { FrameSays result (other_event linked.now limits.frames printed.old.items frame.old (instructions.Field accesses.GetStatic index) next) linked.now printed.old.items printed.new.items frame.old frame.new }
+    requires here { IsPlaced (main_code linked.now).code frame.old.offset }
+    requires placed { IsPlaced (main_code linked.now).code next }
+    ensures says { FrameSays result (does_by linked.now limits.frames printed.old.items frame.old (system_out_meaning values next)) linked.now printed.old.items printed.new.items frame.old frame.new }
+    ensures placed { IsPlaced (main_code linked.now).code frame.new.offset }
 {
-    if !linked.is_system_out(index) {
-        return FrameStep::WrongKind;
-    }
     if !frame.has_room(0, 1, linked.local().max_stack()) {
         return FrameStep::WrongKind;
     }
@@ -114,16 +140,15 @@ fn prints(value: Value) -> bool
 fn invoke_virtual(
     linked: &Linked,
     limits: Limits,
-    index: u16,
     next: usize,
     frame: &mut Frame,
     printed: &mut Vec<i32>,
 ) -> FrameStep
-    ensures { FrameSays result (other_event linked.now limits.frames printed.old.items frame.old (instructions.Invoke invocations.Virtual index) next) linked.now printed.old.items printed.new.items frame.old frame.new }
+    requires here { IsPlaced (main_code linked.now).code frame.old.offset }
+    requires placed { IsPlaced (main_code linked.now).code next }
+    ensures says { FrameSays result (does_by linked.now limits.frames printed.old.items frame.old (println_meaning values next)) linked.now printed.old.items printed.new.items frame.old frame.new }
+    ensures placed { IsPlaced (main_code linked.now).code frame.new.offset }
 {
-    if !linked.is_println_int(index) {
-        return FrameStep::WrongKind;
-    }
     let Some(bits) = frame.int(0) else {
         return FrameStep::WrongKind;
     };
@@ -150,11 +175,12 @@ fn invoke_virtual(
 fn return_nothing(
     linked: &Linked,
     limits: Limits,
-    next: usize,
     frame: &mut Frame,
     printed: &mut Vec<i32>,
 ) -> FrameStep
-    ensures { FrameSays result (other_event linked.now limits.frames printed.old.items frame.old (instructions.Return returns.Nothing) next) linked.now printed.old.items printed.new.items frame.old frame.new }
+    requires here { IsPlaced (main_code linked.now).code frame.old.offset }
+    ensures says { FrameSays result (does_by linked.now limits.frames printed.old.items frame.old (return_meaning (main_in linked.now).descriptor)) linked.now printed.old.items printed.new.items frame.old frame.new }
+    ensures placed { IsPlaced (main_code linked.now).code frame.new.offset }
 {
     if !frame.has_room(0, 0, linked.local().max_stack()) {
         return FrameStep::WrongKind;

@@ -1,12 +1,10 @@
 //! A class file that is linked.
 
-ghost use Rattle.std.specs.Prelude.{◌≡◌, option_map};
-ghost use Rattle.model.specs.Names.{system_out, println_int};
-ghost use Rattle.model.specs.Pool.{field_at, method_at};
-ghost use Rattle.replay.specs.Linking.{names, local_of, main_code, IsLinked};
-ghost use Rattle.classfile.specs.View.{file_of, reference_of};
+ghost use Rattle.std.specs.Prelude.{◌≡◌};
+ghost use Rattle.replay.specs.Linking.{local_of, main_code, IsLinked};
+ghost use Rattle.classfile.specs.View.{file_of};
 
-use classfile::{ClassFile, Reference};
+use classfile::ClassFile;
 use frames::MethodCode;
 use std::marker::Model;
 
@@ -29,18 +27,6 @@ impl Model for Linked {
     ghost view = { λ l. file_of l.file };
 
     ghost invariant = { λ l. IsLinked (file_of l.file) × (l.local ≡ local_of (file_of l.file)) × (l.max_locals ≡ (main_code (file_of l.file)).max_locals) };
-}
-
-/// Whether a reference is to this member.
-fn is_member(reference: Option<Reference<'_>>, class: &[u8], name: &[u8], descriptor: &[u8]) -> bool
-    ensures { result ≡ names (option_map (λ r. reference_of r) reference.entry) (record { class = class.now; name = name.now; descriptor = descriptor.now }) }
-{
-    match reference {
-        Some(member) => member.class == class
-            && member.name == name
-            && member.descriptor == descriptor,
-        None => false,
-    }
 }
 
 impl Linked {
@@ -70,29 +56,5 @@ impl Linked {
         ensures { result ≡ (main_code self.now).max_locals }
     {
         self.max_locals
-    }
-
-    /// Whether an index of the constant pool names the field System.out.
-    pub(crate) fn is_system_out(&self, index: u16) -> bool
-        ensures { result ≡ names (field_at self.now.pool index) system_out }
-    {
-        is_member(
-            self.file.field_reference(index),
-            b"java/lang/System",
-            b"out",
-            b"Ljava/io/PrintStream;",
-        )
-    }
-
-    /// Whether an index of the constant pool names PrintStream.println of an int.
-    pub(crate) fn is_println_int(&self, index: u16) -> bool
-        ensures { result ≡ names (method_at self.now.pool index) println_int }
-    {
-        is_member(
-            self.file.method_reference(index),
-            b"java/io/PrintStream",
-            b"println",
-            b"(I)V",
-        )
     }
 }
