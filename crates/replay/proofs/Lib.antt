@@ -3,4 +3,5 @@ pub mod Stages
 pub mod Enabled
 pub mod Runs
 pub mod Finds
+pub mod Profiles
 pub mod Linkings

@@ -1,15 +1,16 @@
 -- What linking finds in one class file whose only method is main.
-use Rattle.std.specs.Prelude.{◌≡◌, ◌<◌, length, ℕ, List, [], ◌∷◌, Option, Some, None, Bool, true, false, if◌then◌else◌, unwrap_or, option_map, codes}
+use Rattle.std.specs.Prelude.{◌≡◌, ◌<◌, ◌⊎◌, length, ℕ, List, [], ◌∷◌, Option, Some, None, IsSome, Any, Bool, true, false, unwrap_or, option_map, option_and_then, codes}
 use Rattle.model.specs.Names.{Member, member_eq, main_of, java_lang_object}
 use Rattle.model.specs.Pool.{integers_of}
-use Rattle.model.specs.Tree.{Entry, FileTree, MethodTree, CodeTree}
+use Rattle.model.specs.Tree.{FileTree, MethodTree, CodeTree}
 use Rattle.model.specs.Spells.{Spells}
-use Rattle.model.specs.Classes.{Program, Body, is_method, code_in, name_of, body_of, is_built_in, superclass_of}
+use Rattle.model.specs.Classes.{Program, Body, declared_in, code_in, name_of, body_of, is_built_in, superclass_of}
 use Rattle.frames.specs.Places.{LocalCode}
 use Rattle.reading.specs.declared.fault.Cause.{Cause}
 use Rattle.reading.specs.declared.fault.Cause.TheVariants as causes
 use Rattle.replay.specs.declared.refusal.RefusalKind.{RefusalKind}
 use Rattle.replay.specs.declared.refusal.RefusalKind.TheVariants as kinds
+use Rattle.replay.specs.Profile.{is_outside, is_malformed}
 
 -- the program of one file
 abbrev pub program_of : FileTree → Program
@@ -49,50 +50,47 @@ Links [] file = ⊥
 Links (bytes ∷ []) file = Spells bytes file
 Links (bytes ∷ other ∷ files) file = ⊥
 
--- ---- what linking tests
+-- the method main of a class file, where it declares one with code
+abbrev pub declared_main : FileTree → Option CodeTree
+declared_main file = option_and_then (λ (m : MethodTree). code_in m.parts) (declared_in file (codes "main") (codes "([Ljava/lang/String;)V"))
 
-abbrev pub sole_in : List Entry → List MethodTree → Option CodeTree
-sole_in pool [] = None
-sole_in pool (m ∷ []) = if is_method pool (codes "main") (codes "([Ljava/lang/String;)V") m then code_in m.parts else None
-sole_in pool (m ∷ other ∷ methods) = None
+-- ---- which files are accepted
 
--- the code of main, where it is the only method
-abbrev pub sole_main : FileTree → Option CodeTree
-sole_main file = sole_in file.pool file.methods
+-- The bytes are those of one class file, and no condition for a refusal holds of it.
+pub record IsAccepted (files : List (List ℕ)) (file : FileTree) : Type 0 where
+  pub links : Links files file
+  pub not_built_in : is_built_in (name_of file) ≡ false
+  pub inside : is_outside file ≡ false
+  pub whole : is_malformed file ≡ false
+  pub main : IsSome (declared_main file)
 
 -- ---- when files are refused
 
--- Want of memory, and what the profile leaves out or finds malformed in code. No contract says more of these.
-abbrev pub IsOfProfile : RefusalKind → Option Cause → Type 0
-IsOfProfile kinds.OutOfMemory cause = Unit {0}
-IsOfProfile kinds.OutsideProfile cause = Unit {0}
-IsOfProfile kinds.Malformed cause = cause ≡ Some causes.Code
-IsOfProfile kinds.DuplicateClass cause = ⊥
-IsOfProfile kinds.Unresolved cause = ⊥
-IsOfProfile kinds.BadHierarchy cause = ⊥
-IsOfProfile kinds.Unverified cause = ⊥
-IsOfProfile kinds.NoMain cause = ⊥
-IsOfProfile kinds.TooLarge cause = ⊥
+-- the bytes are those of one class file, and it is so
+abbrev pub OfOneFile : List (List ℕ) → (FileTree → Type 0) → Type 0
+OfOneFile files P = ((file : FileTree) × Links files file) × ((file : FileTree) → Links files file → P file)
 
--- the same of a class that is decoded, and the name of a built-in class
-abbrev pub RefusesClass : FileTree → RefusalKind → Option Cause → Type 0
-RefusesClass file kinds.DuplicateClass cause = is_built_in (name_of file) ≡ true
-RefusesClass file kind cause = IsOfProfile kind cause
+-- bytes that are no class file
+abbrev pub IsNoClassFile : List ℕ → Type 0
+IsNoClassFile bytes = (file : FileTree) → Spells bytes file → ⊥
 
--- the files spell no class file, or the cause is one of code
+-- some file is no class file; or there is one file, the cause is Code, and its code is malformed
 abbrev pub IsMalformed : List (List ℕ) → Option Cause → Type 0
-IsMalformed files (Some causes.Code) = Unit {0}
-IsMalformed files cause = (file : FileTree) → Links files file → ⊥
+IsMalformed files cause = Any IsNoClassFile files ⊎ ((cause ≡ Some causes.Code) × OfOneFile files (λ file. is_malformed file ≡ true))
+
+-- there is no main, or no file
+abbrev pub HasNoMain : List (List ℕ) → Type 0
+HasNoMain [] = Unit {0}
+HasNoMain (bytes ∷ files) = OfOneFile (bytes ∷ files) (λ file. declared_main file ≡ None)
 
 -- when files may be refused so
 abbrev pub MayRefuse : List (List ℕ) → RefusalKind → Option Cause → Type 0
 MayRefuse files kinds.OutOfMemory cause = Unit {0}
-MayRefuse files kinds.OutsideProfile cause = Unit {0}
+MayRefuse files kinds.OutsideProfile cause = OfOneFile files (λ file. is_outside file ≡ true)
 MayRefuse files kinds.Malformed cause = IsMalformed files cause
 -- the class has the name of a built-in one
-MayRefuse files kinds.DuplicateClass cause = (file : FileTree) → Links files file → is_built_in (name_of file) ≡ true
--- the only method is not main, or there is no file
-MayRefuse files kinds.NoMain cause = (file : FileTree) → Links files file → sole_main file ≡ None
+MayRefuse files kinds.DuplicateClass cause = OfOneFile files (λ file. is_built_in (name_of file) ≡ true)
+MayRefuse files kinds.NoMain cause = HasNoMain files
 -- there are several files
 MayRefuse files kinds.TooLarge cause = 1 < length files
 MayRefuse files kinds.Unresolved cause = ⊥

@@ -3,6 +3,7 @@
 
 mod builtin;
 mod bytecode;
+mod instruction;
 mod linked;
 mod linker;
 mod machine;

@@ -1,20 +1,18 @@
 //! Linking: what a set of class files is, or why it is refused.
 
-ghost use Rattle.std.specs.Prelude.{◌≡◌, ◌<◌, ◌^◌, IfOk, IfErr, [], ◌∷◌, Some, None, List, length, map, option_map, true, false, IsTrue, ◌↔◌, vec_items};
-ghost use Rattle.model.specs.Names.{spells, java_lang_object};
+ghost use Rattle.std.specs.Prelude.{◌≡◌, ◌<◌, ◌^◌, ◌⊎◌, IfOk, IfErr, List, length, map, option_map, vec_items};
 ghost use Rattle.model.specs.Tree.{FileTree};
-ghost use Rattle.model.specs.Spelling.{FileFits};
 ghost use Rattle.model.specs.Pool.{integer_of, integers_of};
-ghost use Rattle.model.specs.Classes.{code_in, name_of, super_name_of, is_built_in};
+ghost use Rattle.model.specs.Classes.{name_of};
 ghost use Rattle.model.specs.Spells.{Spells};
-ghost use Rattle.classfile.specs.View.{entry_of, entries_of, code_of, method_part_of, file_of};
-ghost use Rattle.replay.specs.Linking.{Links, MayRefuse, RefusesClass, sole_main};
+ghost use Rattle.classfile.specs.View.{entry_of, entries_of, code_of, file_of};
+ghost use Rattle.replay.specs.Linking.{Links, IsAccepted, IsNoClassFile, MayRefuse, declared_main};
 
 use crate::builtin::is_built_in;
 use crate::linked::Linked;
-use crate::profile::check_class;
+use crate::profile::{check_class, first_code, is_main};
 use crate::refusal::{Refusal, RefusalKind};
-use classfile::{ClassFile, Code, Constant, MethodAttribute, decode};
+use classfile::{ClassFile, Code, Constant, decode};
 use frames::MethodCode;
 use reading::Cause;
 use std::alloc::{AllocError, Global};
@@ -41,40 +39,16 @@ fn integers(alloc: Global, pool: &[Constant]) -> Result<Vec<Option<u32>>, AllocE
     Ok(integers)
 }
 
-/// The first Code among attributes.
-fn first_code(attributes: &[MethodAttribute]) -> Option<&Code>
-    ensures { option_map (λ c. code_of c.now) result ≡ code_in (map method_part_of attributes.now) }
+/// The code of main.
+fn main_code(file: &ClassFile) -> Option<&Code>
+    ensures { option_map (λ c. code_of c.now) result ≡ declared_main (file_of file.now) }
 {
-    for attribute in attributes {
-        if let MethodAttribute::Code { code, .. } = attribute {
-            return Some(code);
+    for method in &file.methods {
+        if is_main(file, method) {
+            return first_code(&method.attributes);
         }
     }
     None
-}
-
-/// Whether a name is there, and is this one.
-fn is_spelled(text: Option<&[u8]>, name: &[u8]) -> bool
-    ensures { result ≡ spells (option_map (λ t. t.now) text.entry) name.now }
-{
-    match text {
-        Some(text) => text == name,
-        None => false,
-    }
-}
-
-/// The code of main, where it is the only method.
-fn sole_main(file: &ClassFile) -> Option<&Code>
-    ensures { option_map (λ c. code_of c.now) result ≡ sole_main (file_of file.now) }
-{
-    match file.methods.as_slice() {
-        [method]
-            if is_spelled(file.utf8(method.name), b"main")
-                && is_spelled(file.utf8(method.descriptor), b"([Ljava/lang/String;)V") => {
-            first_code(&method.attributes)
-        }
-        _ => None,
-    }
 }
 
 /// The name of the class that a file declares.
@@ -82,13 +56,6 @@ fn class_name(file: &ClassFile) -> &[u8]
     ensures { result.now ≡ name_of (file_of file.now) }
 {
     file.class_name(file.this_class).unwrap_or(b"")
-}
-
-/// Whether its direct superclass is Object.
-fn is_below_object(file: &ClassFile) -> bool
-    ensures { result ≡ spells (super_name_of (file_of file.now)) java_lang_object }
-{
-    is_spelled(file.class_name(file.super_class), b"java/lang/Object")
 }
 
 /// What main needs at each step.
@@ -104,7 +71,7 @@ fn method_code(alloc: Global, file: &ClassFile, code: &Code) -> Result<MethodCod
 fn decoded(alloc: Global, number: usize, bytes: &[u8]) -> Result<ClassFile, Refusal>
     ensures found { IfOk result (λ file. Spells bytes.now (file_of file)) }
     ensures only { IfOk result (λ file. (c : FileTree) → Spells bytes.now c → file_of file ≡ c) }
-    ensures refused { IfErr result (λ r. MayRefuse (bytes.now ∷ []) r.kind r.cause) }
+    ensures refused { IfErr result (λ r. (r.kind ≡ RefusalKind.OutOfMemory) ⊎ ((r.kind ≡ RefusalKind.Malformed) × IsNoClassFile bytes.now)) }
 {
     match decode(alloc, bytes) {
         Ok(file) => Ok(file),
@@ -133,36 +100,26 @@ fn sole_file(alloc: Global, files: &[Vec<u8>]) -> Result<ClassFile, Refusal>
     }
 }
 
-/// Checks the name, the superclass and the profile of a class that stands alone.
-fn check_alone(alloc: Global, file: &ClassFile) -> Result<(), Refusal>
-    ensures name { IfOk result (λ u. is_built_in (name_of (file_of file.now)) ≡ false) }
-    ensures below { IfOk result (λ u. super_name_of (file_of file.now) ≡ Some java_lang_object) }
-    ensures refused { IfErr result (λ r. RefusesClass (file_of file.now) r.kind r.cause) }
-{
-    if is_built_in(class_name(file)) {
-        return Err(Refusal::of_file(RefusalKind::DuplicateClass, 0));
-    }
-    if !is_below_object(file) {
-        return Err(Refusal::of_file(RefusalKind::OutsideProfile, 0));
-    }
-    check_class(alloc, file)
-}
-
 /// Links class files: one file, of a class directly below Object whose only method is main, where every instruction
-/// is one that this machine knows.
+/// is one that this machine takes.
 ///
 /// A refusal is the first of: for no file, `NoMain`; for each file in order, `Malformed`; for more than one file,
 /// `TooLarge`; for the name of a built-in class, `DuplicateClass`; `OutsideProfile`, or `Malformed` with the cause
 /// `Code`, of what the class has; without main, `NoMain`.
 pub fn link(alloc: Global, files: &[Vec<u8>]) -> Result<Linked, Refusal>
-    // What is answered is spelled so.
-    ensures linked { IfOk result (λ linked. Links (map vec_items files.now) linked) }
-    // Each kind of refusal but those of the profile is answered only where it stands.
+    // What is answered is spelled so, and no condition for a refusal holds of it.
+    ensures linked { IfOk result (λ linked. IsAccepted (map vec_items files.now) linked) }
+    // Files that are accepted are linked, unless memory runs out.
+    ensures only { (file : FileTree) → IsAccepted (map vec_items files.now) file → IfErr result (λ r. r.kind ≡ RefusalKind.OutOfMemory) }
+    // Each kind of refusal is answered only where it stands.
     ensures refused { IfErr result (λ r. MayRefuse (map vec_items files.now) r.kind r.cause) }
 {
     let file = sole_file(alloc, files)?;
-    check_alone(alloc, &file)?;
-    let Some(code) = sole_main(&file) else {
+    if is_built_in(class_name(&file)) {
+        return Err(Refusal::of_file(RefusalKind::DuplicateClass, 0));
+    }
+    check_class(alloc, &file)?;
+    let Some(code) = main_code(&file) else {
         return Err(Refusal::of(RefusalKind::NoMain));
     };
     let max_locals = code.max_locals;

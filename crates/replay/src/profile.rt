@@ -1,12 +1,18 @@
-//! What of class files this machine leaves out, and what is malformed in their code (JVMS 4.9.1).
+//! Whether this machine takes a class (own), and whether its code is malformed (JVMS 4.9.1).
 
-ghost use Rattle.std.specs.Prelude.{IfErr};
-ghost use Rattle.replay.specs.Linking.{IsOfProfile};
+ghost use Rattle.std.specs.Prelude.{◌≡◌, ◌+◌, ◌/◌, ◌%◌, ◌<◌, ◌==◌, true, false, not, map, option_map, OnOk, IfErr, codes};
+ghost use Rattle.std.specs.List.{list_any};
+ghost use Rattle.std.specs.Option.{option_map_or};
+ghost use Rattle.model.specs.Names.{spells};
+ghost use Rattle.model.specs.Classes.{code_in, is_method};
+ghost use Rattle.classfile.specs.View.{entries_of, code_of, method_part_of, method_of, file_of};
+ghost use Rattle.replay.specs.Profile.{has_other_superclass, is_plain_main, is_outside_code, is_outside_method, is_outside, is_malformed_code, is_malformed_method, is_malformed};
+ghost use Rattle.replay.specs.Checks.{Refuses, IsOf};
 
+use crate::instruction::{Flaw, first_flaw, first_missing};
 use crate::refusal::{Refusal, RefusalKind};
-use classfile::{ClassFile, Code, Constant, Method, MethodAttribute};
-use model::{FieldAccess, Instr, Invocation, Kind, Returned};
-use opcodes::{lookup_pair, mnemonic, sized_at, starts, table_jump};
+use classfile::{ClassFile, Code, Method, MethodAttribute};
+use opcodes::starts;
 use reading::Cause;
 use std::alloc::{AllocError, Global};
 
@@ -21,25 +27,52 @@ const INTERFACE: u16 = 0x0200;
 
 const ABSTRACT: u16 = 0x0400;
 
-/// What is wrong with an instruction.
-#[derive(Clone, Copy, Debug, PartialEq, Eq)]
-enum Flaw {
-    OutsideProfile,
-    Malformed,
+/// Whether a flag is set.
+fn has(flags: u16, flag: u16) -> bool
+    requires { 0 < flag }
+    ensures { result ≡ (flags / flag % 2 == 1) }
+{
+    flags / flag % 2 == 1
 }
 
-/// Checks a class that stands alone: a class directly below Object with no interfaces and no fields, whose
-/// methods are main alone.
-pub(crate) fn check_class(alloc: Global, file: &ClassFile) -> Result<(), Refusal>
-    ensures { IfErr result (λ r. IsOfProfile r.kind r.cause) }
+/// Whether a name is there, and is this one.
+pub(crate) fn is_spelled(text: Option<&[u8]>, name: &[u8]) -> bool
+    ensures { result ≡ spells (option_map (λ t. t.now) text.entry) name.now }
 {
-    if file.flags & INTERFACE != 0 || !file.interfaces.is_empty() || !file.fields.is_empty() {
-        return Err(Refusal::of_file(RefusalKind::OutsideProfile, 0));
+    match text {
+        Some(text) => text == name,
+        None => false,
     }
-    for (place, method) in file.methods.iter().enumerate() {
-        check_method(alloc, file, place, method)?;
+}
+
+/// The first Code among attributes.
+pub(crate) fn first_code(attributes: &[MethodAttribute]) -> Option<&Code>
+    ensures { option_map (λ c. code_of c.now) result ≡ code_in (map method_part_of attributes.now) }
+{
+    for attribute in attributes {
+        if let MethodAttribute::Code { code, .. } = attribute {
+            return Some(code);
+        }
     }
-    Ok(())
+    None
+}
+
+/// Whether a method is main.
+pub(crate) fn is_main(file: &ClassFile, method: &Method) -> bool
+    ensures { result ≡ is_method (entries_of file.now.pool.items) (codes "main") (codes "([Ljava/lang/String;)V") (method_of method.now) }
+{
+    is_spelled(file.utf8(method.name), b"main")
+        && is_spelled(file.utf8(method.descriptor), b"([Ljava/lang/String;)V")
+}
+
+/// Whether a method is a main that is static and none of synchronized, native and abstract.
+fn is_plain_main(file: &ClassFile, method: &Method) -> bool
+    ensures { result ≡ is_plain_main (entries_of file.now.pool.items) (method_of method.now) }
+{
+    let flags = method.flags;
+    is_main(file, method)
+        && has(flags, STATIC)
+        && !(has(flags, SYNCHRONIZED) || has(flags, NATIVE) || has(flags, ABSTRACT))
 }
 
 /// The name and the descriptor of a method; what is no text is left out.
@@ -55,9 +88,9 @@ fn method_text(alloc: Global, file: &ClassFile, method: &Method) -> Result<Strin
     Ok(text)
 }
 
-/// A method, or an instruction of it at an offset, is outside the profile.
+/// A method, or an instruction of it at an offset, is outside of what is taken.
 fn outside(alloc: Global, file: &ClassFile, method: &Method, offset: Option<usize>) -> Refusal
-    ensures { IsOfProfile result.kind result.cause }
+    ensures { Refuses true false result.kind result.cause }
 {
     match method_text(alloc, file, method) {
         Ok(text) => Refusal {
@@ -71,34 +104,29 @@ fn outside(alloc: Global, file: &ClassFile, method: &Method, offset: Option<usiz
     }
 }
 
-/// Whether a method is a plain static main.
-fn is_main(file: &ClassFile, method: &Method) -> bool {
-    let flags = method.flags;
-    file.utf8(method.name) == Some(b"main".as_slice())
-        && file.utf8(method.descriptor) == Some(b"([Ljava/lang/String;)V".as_slice())
-        && flags & STATIC != 0
-        && flags & (SYNCHRONIZED | NATIVE | ABSTRACT) == 0
-}
-
-fn check_method(
+/// The refusal for a flaw of the instruction at an offset, where `start` is that of the Code in the file.
+fn flawed(
     alloc: Global,
     file: &ClassFile,
-    place: usize,
     method: &Method,
-) -> Result<(), Refusal>
-    ensures { IfErr result (λ r. IsOfProfile r.kind r.cause) }
+    start: usize,
+    found: (usize, Flaw),
+) -> Refusal
+    ensures { IsOf found.1 result.kind result.cause }
 {
-    if !is_main(file, method) {
-        return Err(outside(alloc, file, method, None));
+    let (offset, flaw) = found;
+    match flaw {
+        Flaw::OutsideProfile => outside(alloc, file, method, Some(offset)),
+        Flaw::Malformed => Refusal::malformed(
+            0,
+            start.saturating_add(8).saturating_add(offset),
+            Cause::Code,
+        ),
     }
-    for attribute in &method.attributes {
-        if let MethodAttribute::Code { code, .. } = attribute {
-            check_code(alloc, file, place, method, code)?;
-        }
-    }
-    Ok(())
 }
 
+/// Checks the code of main, which stands at this place among the methods: max_locals, that each instruction is whole,
+/// then each instruction, then the exception table.
 fn check_code(
     alloc: Global,
     file: &ClassFile,
@@ -106,210 +134,81 @@ fn check_code(
     method: &Method,
     code: &Code,
 ) -> Result<(), Refusal>
-    ensures { IfErr result (λ r. IsOfProfile r.kind r.cause) }
+    ensures inside { OnOk result (is_outside_code (entries_of file.now.pool.items) (code_of code.now) ≡ false) }
+    ensures whole { OnOk result (is_malformed_code (entries_of file.now.pool.items) 1 (code_of code.now) ≡ false) }
+    ensures refused { IfErr result (λ r. Refuses (is_outside_code (entries_of file.now.pool.items) (code_of code.now))
+        (is_malformed_code (entries_of file.now.pool.items) 1 (code_of code.now)) r.kind r.cause) }
 {
     let start = file.code_offset(place);
     if code.max_locals < 1 {
         return Err(Refusal::malformed(0, start.saturating_add(2), Cause::Code));
     }
-    let bytes = code.code.as_slice();
-    let marks = starts(alloc, bytes)?;
-    for check in [Check::Whole, Check::Operands] {
-        for (offset, mark) in marks.iter().enumerate() {
-            if *mark {
-                if let Some(flaw) = check.flaw(file, code, &marks, offset) {
-                    return Err(match flaw {
-                        Flaw::OutsideProfile => outside(alloc, file, method, Some(offset)),
-                        Flaw::Malformed => Refusal::malformed(
-                            0,
-                            start.saturating_add(8).saturating_add(offset),
-                            Cause::Code,
-                        ),
-                    });
-                }
-            }
-        }
+    let marks = starts(alloc, &code.code)?;
+    if let Some(found) = first_missing(&code.code, &marks) {
+        return Err(flawed(alloc, file, method, start, found));
     }
-    if code.exceptions.is_empty() {
-        Ok(())
-    } else {
-        Err(outside(alloc, file, method, None))
+    if let Some(found) = first_flaw(file, code, &marks) {
+        return Err(flawed(alloc, file, method, start, found));
     }
+    if !code.exceptions.is_empty() {
+        return Err(outside(alloc, file, method, None));
+    }
+    Ok(())
 }
 
-/// First that each instruction is whole, and then what it names.
-#[derive(Clone, Copy)]
-enum Check {
-    Whole,
-    Operands,
-}
-
-impl Check {
-    fn flaw(self, file: &ClassFile, code: &Code, starts: &[bool], offset: usize) -> Option<Flaw> {
-        let bytes = code.code.as_slice();
-        match (self, sized_at(bytes, offset)) {
-            (Check::Whole, None) => Some(flaw_of_missing(bytes, offset)),
-            (Check::Operands, Some((instr, _))) => {
-                flaw_of_operands(file, code.max_locals, bytes, starts, offset, instr)
-            }
-            _ => None,
-        }
-    }
-}
-
-/// Bytes that begin no whole instruction: cut, or of an opcode that is left out.
-fn flaw_of_missing(bytes: &[u8], offset: usize) -> Flaw {
-    let known = match bytes.get(offset) {
-        Some(0xc4) => match bytes.get(offset.saturating_add(1)) {
-            Some(widened) => matches!(widened, 0x15 | 0x19 | 0x36 | 0x3a | 0x84),
-            None => true,
-        },
-        Some(opcode) => mnemonic(*opcode).is_some(),
-        None => true,
-    };
-    if known {
-        Flaw::Malformed
-    } else {
-        Flaw::OutsideProfile
-    }
-}
-
-fn flaw_of_operands(
+/// Checks the method at this place: it is main, and its code is taken.
+fn check_method(
+    alloc: Global,
     file: &ClassFile,
-    max_locals: u16,
-    bytes: &[u8],
-    starts: &[bool],
-    offset: usize,
-    instr: Instr,
-) -> Option<Flaw> {
-    match instr {
-        Instr::Nop
-        | Instr::Const(_)
-        | Instr::Move(_)
-        | Instr::Compute(_)
-        | Instr::Negate
-        | Instr::Convert(_)
-        | Instr::Return(Returned::Nothing) => None,
-        Instr::Load {
-            kind: Kind::Int,
-            local,
-        }
-        | Instr::Store {
-            kind: Kind::Int,
-            local,
-        }
-        | Instr::Increment { local, .. } => malformed_unless(local < max_locals),
-        Instr::If { by, .. } | Instr::IfInts { by, .. } | Instr::Goto { by } => {
-            malformed_unless(is_target(starts, offset, by))
-        }
-        Instr::TableSwitch {
-            default,
-            low,
-            high,
-            at,
-        } => flaw_of_table(bytes, starts, offset, default, (low, high), at),
-        Instr::LookupSwitch { default, pairs, at } => {
-            flaw_of_lookup(bytes, starts, offset, default, pairs, at)
-        }
-        Instr::LoadConstant { index } => match file.constant(index) {
-            Some(Constant::Integer(_)) => None,
-            Some(Constant::Float(_) | Constant::String { .. } | Constant::Class { .. }) => {
-                Some(Flaw::OutsideProfile)
-            }
-            _ => Some(Flaw::Malformed),
-        },
-        Instr::Field {
-            access: FieldAccess::GetStatic,
-            index,
-        } => match file.field_reference(index) {
-            Some(field) => outside_unless(
-                field.class == b"java/lang/System".as_slice()
-                    && field.name == b"out".as_slice()
-                    && field.descriptor == b"Ljava/io/PrintStream;".as_slice(),
-            ),
-            None => Some(Flaw::Malformed),
-        },
-        Instr::Invoke {
-            invocation: Invocation::Virtual,
-            index,
-        } => match file.method_reference(index) {
-            Some(method) => outside_unless(
-                method.class == b"java/io/PrintStream".as_slice()
-                    && method.name == b"println".as_slice()
-                    && method.descriptor == b"(I)V".as_slice(),
-            ),
-            None => Some(Flaw::Malformed),
-        },
-        _ => Some(Flaw::OutsideProfile),
+    place: usize,
+    method: &Method,
+) -> Result<(), Refusal>
+    ensures inside { OnOk result (is_outside_method (entries_of file.now.pool.items) (method_of method.now) ≡ false) }
+    ensures whole { OnOk result (is_malformed_method (entries_of file.now.pool.items) (method_of method.now) ≡ false) }
+    ensures refused { IfErr result (λ r. Refuses (is_outside_method (entries_of file.now.pool.items) (method_of method.now))
+        (is_malformed_method (entries_of file.now.pool.items) (method_of method.now)) r.kind r.cause) }
+{
+    if !is_plain_main(file, method) {
+        return Err(outside(alloc, file, method, None));
+    }
+    match first_code(&method.attributes) {
+        Some(code) => check_code(alloc, file, place, method, code),
+        None => Ok(()),
     }
 }
 
-fn malformed_unless(fits: bool) -> Option<Flaw> {
-    if fits { None } else { Some(Flaw::Malformed) }
+/// Checks each method.
+fn check_methods(alloc: Global, file: &ClassFile) -> Result<(), Refusal>
+    ensures inside { OnOk result (list_any (is_outside_method (file_of file.now).pool) (file_of file.now).methods ≡ false) }
+    ensures whole { OnOk result (is_malformed (file_of file.now) ≡ false) }
+    ensures refused { IfErr result (λ r. Refuses (list_any (is_outside_method (file_of file.now).pool) (file_of file.now).methods) (is_malformed (file_of file.now)) r.kind r.cause) }
+{
+    for (place, method) in file.methods.iter().enumerate() {
+        check_method(alloc, file, place, method)?;
+    }
+    Ok(())
 }
 
-fn outside_unless(fits: bool) -> Option<Flaw> {
-    if fits {
-        None
-    } else {
-        Some(Flaw::OutsideProfile)
-    }
+/// Whether the direct superclass is Object.
+fn is_below_object(file: &ClassFile) -> bool
+    ensures { result ≡ not (has_other_superclass (file_of file.now)) }
+{
+    is_spelled(file.class_name(file.super_class), b"java/lang/Object")
 }
 
-/// Whether a jump from an offset leads to an instruction.
-fn is_target(starts: &[bool], offset: usize, by: i32) -> bool {
-    let distance = by.unsigned_abs() as usize;
-    let target = if by < 0 {
-        offset.checked_sub(distance)
-    } else {
-        offset.checked_add(distance)
-    };
-    match target {
-        Some(target) => starts.get(target).copied().unwrap_or(false),
-        None => false,
+/// Checks a class that stands alone: directly below Object, no interface, with no interfaces, no fields, and no method
+/// but main.
+pub(crate) fn check_class(alloc: Global, file: &ClassFile) -> Result<(), Refusal>
+    ensures inside { OnOk result (is_outside (file_of file.now) ≡ false) }
+    ensures whole { OnOk result (is_malformed (file_of file.now) ≡ false) }
+    ensures refused { IfErr result (λ r. Refuses (is_outside (file_of file.now)) (is_malformed (file_of file.now)) r.kind r.cause) }
+{
+    if !is_below_object(file)
+        || has(file.flags, INTERFACE)
+        || !file.interfaces.is_empty()
+        || !file.fields.is_empty()
+    {
+        return Err(Refusal::of_file(RefusalKind::OutsideProfile, 0));
     }
-}
-
-fn flaw_of_table(
-    bytes: &[u8],
-    starts: &[bool],
-    offset: usize,
-    default: i32,
-    range: (i32, i32),
-    at: usize,
-) -> Option<Flaw> {
-    let (low, high) = range;
-    if !is_target(starts, offset, default) {
-        return Some(Flaw::Malformed);
-    }
-    let count = (i64::from(high) - i64::from(low)).unsigned_abs() as usize + 1;
-    for k in 0..count {
-        if !is_target(starts, offset, table_jump(bytes, at, k)) {
-            return Some(Flaw::Malformed);
-        }
-    }
-    None
-}
-
-/// The matches rise strictly.
-fn flaw_of_lookup(
-    bytes: &[u8],
-    starts: &[bool],
-    offset: usize,
-    default: i32,
-    pairs: u32,
-    at: usize,
-) -> Option<Flaw> {
-    if !is_target(starts, offset, default) {
-        return Some(Flaw::Malformed);
-    }
-    let mut before = None;
-    for k in 0..pairs {
-        let (key, by) = lookup_pair(bytes, at, k as usize);
-        if !is_target(starts, offset, by) || before.is_some_and(|before| key <= before) {
-            return Some(Flaw::Malformed);
-        }
-        before = Some(key);
-    }
-    None
+    check_methods(alloc, file)
 }
