@@ -40,3 +40,6 @@ pub returns-in_default-clause-refused : goal.returns-in_default-clause-refused
 returns-in_default-clause-refused c =
     let none : declared_main (file_of c.in_ok-file.file) ≡ None = search rules in
     rw c.of.ensures (refused_no_main (map vec_items c.args.files.now) (file_of c.in_ok-file.file) c.in_ok-file.ensures.found c.in_ok-file.ensures.only none)
+
+pub returns-clause-only : goal.returns-clause-only
+returns-clause-only c = λ file a. c.new.ensures ∙ c.in_ok-file.ensures.only file a.links
