@@ -8,6 +8,11 @@ use Rattle.model.specs.declared.event.Event.{Event}
 use Rattle.model.specs.Schedule.{ScheduleFile}
 use Rattle.schedule.specs.declared.fault.ScheduleFault.{ScheduleFault}
 use Rattle.schedule.specs.declared.fault.ScheduleFault.TheVariants as schedules
+use Rattle.model.specs.Tree.{FileTree}
+use Rattle.replay.specs.declared.refusal.Refusal.{Refusal}
+use Rattle.replay.specs.declared.refusal.RefusalKind.{RefusalKind}
+use Rattle.replay.specs.declared.refusal.RefusalKind.TheVariants as kinds
+use Rattle.replay.specs.Linking.{IsAccepted, MayRefuse}
 use Rattle.jvm.specs.Devices.{fault_of}
 use Rattle.jvm.specs.Engines.{Reads, ReadsEach, WritesPart, IsFaulty, CountsWith}
 use Rattle.jvm.specs.declared.options.LimitOptions.{LimitOptions}
@@ -63,3 +68,24 @@ schedule_is_faulty schedules.Magic left bytes read only = inr (bytes, read, λ e
 schedule_is_faulty schedules.Version left bytes read only = inr (bytes, read, λ events h. let e : schedules.Version ≡ schedules.OutOfMemory = only events h in absurd cc)
 schedule_is_faulty schedules.Repeat left bytes read only = inr (bytes, read, λ events h. let e : schedules.Repeat ≡ schedules.OutOfMemory = only events h in absurd cc)
 schedule_is_faulty schedules.Trailing left bytes read only = inr (bytes, read, λ events h. let e : schedules.Trailing ≡ schedules.OutOfMemory = only events h in absurd cc)
+
+-- whether it was for want of memory
+is_memory : (kind : RefusalKind) → (kind ≡ kinds.OutOfMemory) ⊎ (kind ≡ kinds.OutOfMemory → ⊥)
+is_memory kinds.OutOfMemory = inl refl
+is_memory kinds.Malformed = inr (λ e. cc)
+is_memory kinds.OutsideProfile = inr (λ e. cc)
+is_memory kinds.DuplicateClass = inr (λ e. cc)
+is_memory kinds.Unresolved = inr (λ e. cc)
+is_memory kinds.BadHierarchy = inr (λ e. cc)
+is_memory kinds.Unverified = inr (λ e. cc)
+is_memory kinds.NoMain = inr (λ e. cc)
+is_memory kinds.TooLarge = inr (λ e. cc)
+
+-- class files that are refused, and are accepted at most where there was no memory
+pub refusal_is_faulty : (refusal : Refusal) (left : Option (List ℕ)) (lefts : List (Option (List ℕ))) (options : LimitOptions) (sink : Option (List ℕ)) (schedule : List ℕ) (files : List (List ℕ)) (events : List Event)
+    → ((file : FileTree) → IsAccepted files file → refusal.kind ≡ kinds.OutOfMemory) → MayRefuse files refusal.kind refusal.cause → Reads left schedule → ReadsEach lefts files → ScheduleFile schedule None events → IsFaulty left lefts options sink sink (faults.Refusal refusal)
+refusal_is_faulty refusal left lefts options sink schedule files events only may read reads spelled =
+    (refl, elim (is_memory refusal.kind) [
+      | inl e ↦ inl e
+      | inr other ↦ inr (schedule, files, events, read, reads, spelled, λ file a. other (only file a), may)
+    ])

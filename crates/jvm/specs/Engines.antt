@@ -7,7 +7,7 @@ use Rattle.model.specs.declared.report.Report.{Report}
 use Rattle.model.specs.Devices.{AppendsFront}
 use Rattle.model.specs.Tree.{FileTree}
 use Rattle.model.specs.Schedule.{ScheduleFile}
-use Rattle.replay.specs.Linking.{Links, MayRefuse, program_of}
+use Rattle.replay.specs.Linking.{IsAccepted, MayRefuse, program_of}
 use Rattle.replay.specs.Replay.{IsReplay, text_of}
 use Rattle.jvm.specs.Choices.{AreChosen}
 use Rattle.jvm.specs.Statuses.{status_of}
@@ -30,8 +30,8 @@ ReadsEach (left ∷ lefts) (bytes ∷ files) = Reads left bytes × ReadsEach lef
 ReadsEach [] (bytes ∷ files) = ⊥
 ReadsEach (left ∷ lefts) [] = ⊥
 
--- The schedule file spells events, and the class files are those of a program, which has this report under the
--- events within the limits; and this is its text and its status.
+-- The schedule file spells events, and the class files are accepted and those of a program, which has this report under
+-- the events within the limits; and this is its text and its status.
 pub record IsReplayed (schedule : List ℕ) (files : List (List ℕ)) (options : LimitOptions) (text : List ℕ) (status : Status) : Type 0 where
   pub events : List Event
   pub spelled : ScheduleFile schedule None events
@@ -40,7 +40,7 @@ pub record IsReplayed (schedule : List ℕ) (files : List (List ℕ)) (options :
   pub report : Report
   pub end : End
   pub file : FileTree
-  pub linked : Links files file
+  pub accepted : IsAccepted files file
   pub replayed : IsReplay (program_of file) events limits report end
   pub told : text ≡ text_of report end
   pub ended : status ≡ status_of report.threads.items end
@@ -61,9 +61,10 @@ IsFaulty left lefts options old new faults.Memory = WritesPart left lefts option
 -- memory apart, the schedule file spells no events
 IsFaulty left lefts options old new (faults.Schedule fault) = (new ≡ old) × ((fault ≡ schedules.OutOfMemory)
     ⊎ ((schedule : List ℕ) × Reads left schedule × ((events : List Event) → ScheduleFile schedule None events → ⊥)))
--- memory apart, it spells events, and the class files may be refused so
+-- memory apart, it spells events, and the class files are not accepted and may be refused so
 IsFaulty left lefts options old new (faults.Refusal refusal) = (new ≡ old) × ((refusal.kind ≡ kinds.OutOfMemory)
-    ⊎ ((schedule : List ℕ) × (files : List (List ℕ)) × (events : List Event) × Reads left schedule × ReadsEach lefts files × ScheduleFile schedule None events × MayRefuse files refusal.kind refusal.cause))
+    ⊎ ((schedule : List ℕ) × (files : List (List ℕ)) × (events : List Event) × Reads left schedule × ReadsEach lefts files × ScheduleFile schedule None events
+        × ((file : FileTree) → IsAccepted files file → ⊥) × MayRefuse files refusal.kind refusal.cause))
 
 -- the fault is one of the schedule file's
 abbrev pub IsOfSchedule : Fault → Type 0

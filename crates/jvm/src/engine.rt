@@ -5,7 +5,7 @@ ghost use Rattle.std.specs.Arc.{arc_value};
 ghost use Rattle.std.specs.Io.KnownBytes.{Appends};
 ghost use Rattle.jvm.specs.Engines.{Reads, ReadsEach, Replays, IsReplayed, IsFaulty, IsOfFile, IsOfSchedule, CountsFailure};
 ghost use Rattle.model.specs.Schedule.{ScheduleFile, events_of};
-ghost use Rattle.replay.specs.Linking.{Links};
+ghost use Rattle.replay.specs.Linking.{IsAccepted};
 
 use crate::fault::Fault;
 use crate::options::LimitOptions;
@@ -111,7 +111,7 @@ fn out_of_memory(file: usize) -> Refusal
 
 /// The class files, linked and verified.
 fn verified(alloc: Global, files: &[Vec<u8>]) -> Result<Arc<Verified>, Fault>
-    ensures verified { IfOk result (λ verified. Links (map vec_items files.now) (arc_value verified)) }
+    ensures verified { IfOk result (λ verified. IsAccepted (map vec_items files.now) (arc_value verified)) }
     ensures faulty { IfErr result (λ fault. (left : _) (lefts : _) (options : _) (sink : _) (schedule : _) (events : _)
         → Reads left schedule → ReadsEach lefts (map vec_items files.now) → ScheduleFile schedule None events
         → IsFaulty left lefts options sink sink fault) }
@@ -130,7 +130,7 @@ fn replayed(
     limits: &LimitOptions,
 ) -> Result<(Vec<u8>, Status), AllocError>
     ensures { IfOk result (λ told. (bytes : _) (files : _) → ScheduleFile bytes None (events_of schedule.now)
-        → Links files (arc_value verified.now)
+        → IsAccepted files (arc_value verified.now)
         → IsReplayed bytes files limits.now told.0.items told.1) }
 {
     let (report, end) = replay(alloc, verified, schedule, limits.limits())?;

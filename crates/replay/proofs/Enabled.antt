@@ -1,5 +1,5 @@
 -- Whether the main thread may step, and how it stands.
-use Rattle.std.proofs.Common.{◌≡◌, ℕ, ◌+◌, ◌≤◌, List, [], ◌∷◌, Option, Some, None, Bool, true, false, not, ◌&&◌, cond, eqb, refl, sym, ap, subst, ◌∙◌}
+use Rattle.std.proofs.Common.{◌≡◌, ℕ, zero, suc, ◌+◌, ◌≤◌, List, [], ◌∷◌, Option, Some, None, Bool, true, false, not, ◌&&◌, cond, eqb, refl, sym, ap, subst, ◌∙◌}
 use Rattle.std.specs.Prelude.{ℤ, nat_lt, ◌==◌, if◌then◌else◌}
 use Rattle.model.specs.declared.event.Event.{Event}
 use Rattle.model.specs.declared.value.Value.{Value}
@@ -12,7 +12,7 @@ use Rattle.model.specs.Opening.{opening_heap}
 use Rattle.model.specs.Outcomes.{OutcomeOf, Goes, Raises, Arithmetic, Free, not_null}
 use Rattle.model.specs.Sites.{referent}
 use Rattle.model.specs.Meanings.{MeaningOf, local_meaning, system_out_meaning, println_meaning, return_meaning}
-use Rattle.model.specs.Step.{SteppedOf, NotEnabled, WrongKind, Next, PartOf, is_enabled_by, put_back, settled, stepped, become, ops_of, enabled_if, unpicked}
+use Rattle.model.specs.Step.{SteppedOf, NotEnabled, WrongKind, Next, PartOf, is_enabled_by, put_back, settled, stepped, become, ops_of, bytecode_in, enabled_if, unpicked}
 use Rattle.replay.specs.declared.bytecode.Other.{Other}
 use Rattle.replay.specs.declared.bytecode.Other.TheVariants as others
 use Rattle.replay.specs.declared.machine.Stage.{Stage}
@@ -26,7 +26,7 @@ use Rattle.model.specs.Meaning.{thread_ends}
 use Rattle.replay.specs.Machine.{Shows, is_alive, state_of, world_of, frame_of, main_step, frame_by, meaning_at, frame_event}
 use Rattle.replay.proofs.Others.{built_in_system}
 use Rattle.replay.proofs.Plain.{meaning_by, of_meaning}
-use Rattle.replay.proofs.Stages.{at_stage, new_step, super_step, end_step, ready_step, runs_step, ended_step, body_found}
+use Rattle.replay.proofs.Stages.{at_stage, new_step, super_step, end_step, ready_step, runs_step, ended_step}
 
 settled_enabled : (out : SteppedOf (PartOf Value)) (s : State) → is_enabled_by out ≡ true → is_enabled_by (put_back s 0 (settled 0 out)) ≡ true
 settled_enabled NotEnabled s h = absurd cc
@@ -63,9 +63,9 @@ module _ (file : FileTree) (frames : ℕ) (printed : List ℤ) (place : Place) w
   out_enabled : (next : ℕ) → E (Some (system_out_meaning values next))
   out_enabled next = rw built_in_system (if_enabled (finds (system_out_meaning values next)) (becomes (outcome (system_out_meaning values next))) refl)
 
-  not_null_enabled : (o : Option ℕ) (then : ℕ → OutcomeOf Value) → ((r : ℕ) → is_enabled_by (becomes (then r)) ≡ true) → is_enabled_by (becomes (not_null o then)) ≡ true
-  not_null_enabled None then h = refl
-  not_null_enabled (Some r) then h = h r
+  not_null_enabled : (o : Option ℕ) (go : ℕ → OutcomeOf Value) → ((r : ℕ) → is_enabled_by (becomes (go r)) ≡ true) → is_enabled_by (becomes (not_null o go)) ≡ true
+  not_null_enabled None go h = refl
+  not_null_enabled (Some r) go h = h r
 
   println_enabled : (next : ℕ) → E (Some (println_meaning values next))
   println_enabled next =
@@ -101,14 +101,21 @@ module _ (file : FileTree) (frames : ℕ) (printed : List ℤ) (place : Place) w
     pub frame_not_enabled : IsLinked file → IsPlaced (main_code file).code place.offset → frame_by file frames printed place event (meaning_at file place.offset) ≡ NotEnabled
     frame_not_enabled linked placed = of_meaning file linked place.offset placed N (rw picks refl) (λ row. if_none (finds (local_meaning values row)) _) by_none
 
--- an event with a pick is not enabled at any stage
-pub pick_not_enabled : (file : FileTree) (frames : ℕ) (printed : List ℤ) (place : Place) (event : Event) → IsLinked file → IsPlaced (main_code file).code place.offset → event.thread ≡ 0 → (event.pick == 0) ≡ false → (stage : Stage) → stepped values (program_of file) frames (state_of file stage place printed) event ≡ NotEnabled
-pick_not_enabled file frames printed place event linked placed t picks stages.New = rw (t, picks) refl
-pick_not_enabled file frames printed place event linked placed t picks stages.Super = rw (t, picks) refl
-pick_not_enabled file frames printed place event linked placed t picks stages.End = rw (t, picks) refl
-pick_not_enabled file frames printed place event linked placed t picks stages.Ready = rw (t, picks) refl
-pick_not_enabled file frames printed place event linked placed t picks stages.Runs = rw (t, body_found file linked, frame_not_enabled file frames printed place event picks linked placed) refl
-pick_not_enabled file frames printed place event linked placed t picks stages.Ended = rw t refl
+-- an event of the main thread
+abbrev pub picking : ℕ → Event
+picking pick = record { thread = 0; pick = pick }
+
+-- with a pick it is not enabled at any stage
+pub pick_not_enabled : (file : FileTree) (frames : ℕ) (printed : List ℤ) (place : Place) (pick : ℕ) → IsLinked file → IsPlaced (main_code file).code place.offset → (pick == 0) ≡ false → (stage : Stage) → stepped values (program_of file) frames (state_of file stage place printed) (picking pick) ≡ NotEnabled
+pick_not_enabled file frames printed place pick linked placed picks stages.New = rw picks refl
+pick_not_enabled file frames printed place pick linked placed picks stages.Super = rw picks refl
+pick_not_enabled file frames printed place pick linked placed picks stages.End = rw picks refl
+pick_not_enabled file frames printed place pick linked placed picks stages.Ready = rw picks refl
+pick_not_enabled file frames printed place pick linked placed picks stages.Runs =
+    let back : SteppedOf (PartOf Value) → SteppedOf State = λ out. put_back (state_of file stages.Runs place printed) 0 (settled 0 out) in
+    ap (λ body. back (bytecode_in values (program_of file) frames (picking pick) (world_of file stages.Runs printed) (frame_of file place) [] body)) linked.body
+    ∙ ap back (frame_not_enabled file frames printed place (picking pick) picks linked placed)
+pick_not_enabled file frames printed place pick linked placed picks stages.Ended = refl
 
 pub stage_enabled : (file : FileTree) (frames : ℕ) (printed : List ℤ) (place : Place) → (linked : IsLinked file) → IsPlaced (main_code file).code place.offset → 1 ≤ frames → (stage : Stage) → is_enabled_by (at_stage file frames printed place linked stage) ≡ is_alive stage
 stage_enabled file frames printed place linked placed some stages.New = ap is_enabled_by (new_step file frames printed place linked)
@@ -148,3 +155,15 @@ module _ (file : FileTree) (limits : Limits) (printed : List ℤ) (place : Place
 
   pub ends_says : (stage : Stage) (result : ThreadEnd) → result ≡ (if is_alive stage then Runnable else Ended) → (s : State) → Shows (record { file = file; limits = limits; stage = stage; place = place; printed = printed }) s → thread_ends (program_of file) limits.frames s ≡ result ∷ []
   ends_says stage result e s shows = ap (thread_ends (program_of file) limits.frames) (sym shows.state_is) ∙ ends_are stage ∙ ap (λ q. q ∷ []) (sym e)
+
+  -- an event of another thread, or with a pick
+  pub other_not_enabled : (stage : Stage) (e : Event) → (e.thread ≡ 0 → (e.pick == 0) ≡ false) → (s : State) → Shows (record { file = file; limits = limits; stage = stage; place = place; printed = printed }) s → stepped values (program_of file) limits.frames s e ≡ NotEnabled
+  other_not_enabled stage e other s shows = subst (λ z. stepped values (program_of file) limits.frames z e ≡ NotEnabled) shows.state_is (by e.thread refl)
+    where
+      by : (t : ℕ) → e.thread ≡ t → stepped values (program_of file) limits.frames (shown stage) e ≡ NotEnabled
+      by zero q =
+          let Q : ℕ → Type 0 = λ t. stepped values (program_of file) limits.frames (shown stage) (record { thread = t; pick = e.pick }) ≡ NotEnabled in
+          subst Q (sym q) (pick_not_enabled file limits.frames printed place e.pick linked placed (other q) stage)
+      by (suc t) q =
+          let Q : ℕ → Type 0 = λ n. stepped values (program_of file) limits.frames (shown stage) (record { thread = n; pick = e.pick }) ≡ NotEnabled in
+          subst Q (sym q) refl

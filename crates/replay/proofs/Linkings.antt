@@ -22,6 +22,7 @@ use Rattle.replay.specs.Checks.{Refuses}
 use Rattle.replay.specs.Linking.{Links, IsAccepted, OfOneFile, IsNoClassFile, HasNoMain, MayRefuse, program_of, main_in, main_code, declared_main, IsLinked}
 use Rattle.replay.proofs.Finds.{find_second}
 use Rattle.replay.proofs.Stages.{same_name}
+use Rattle.replay.proofs.Alone.{main_declared}
 
 -- a name that is spelled so is this one
 pub spelled : (o : Option Name) (n : Name) → spells o n ≡ true → o ≡ Some n
@@ -59,14 +60,6 @@ pub main_code_is : (file : FileTree) (code : CodeTree) → is_built_in (name_of 
 unfolding main_code
 main_code_is file code h d = rw (body_found file code h d) refl
 
-pub links : (file : FileTree) (code : CodeTree) → is_built_in (name_of file) ≡ false → is_outside file ≡ false → declared_main file ≡ Some code → IsLinked file
-links file code h inside d =
-    record {
-      not_built_in = h;
-      super = superclass_found file h (below_object file inside);
-      body = body_found file code h d ∙ ap (λ c. Some (body_with file c)) (sym (main_code_is file code h d));
-    }
-
 -- ---- the length of the code
 
 part_fits : (pool : List Entry) (parts : List MethodPart) (code : CodeTree) → AllByRecursion (MethodPartFits pool) parts → code_in parts ≡ Some code → CodeFits code
@@ -101,6 +94,26 @@ below_by n h = ltb-true n 65536 (and_right (nat_lt 0 n) (nat_lt n 65536) h)
 
 pub code_short : (file : FileTree) (code : CodeTree) → FileFits file → declared_main file ≡ Some code → length code.code < 2 ^ 16
 code_short file code f h = below_by (length code.code) (found_fits file.pool file.methods code f.methods.1 h).code
+
+above_none : (n : ℕ) → is_code_length n ≡ true → 0 < n
+above_none n h = ltb-true 0 n (and_left (nat_lt 0 n) (nat_lt n 65536) h)
+  where
+    and_left : (a b : Bool) → (a && b) ≡ true → a ≡ true
+    and_left true b e = refl
+    and_left false b e = absurd cc
+
+pub links : (file : FileTree) (code : CodeTree) → is_built_in (name_of file) ≡ false → is_outside file ≡ false → is_malformed file ≡ false → FileFits file → declared_main file ≡ Some code → IsLinked file
+links file code h inside whole f d =
+    let same = sym (main_code_is file code h d) in
+    record {
+      not_built_in = h;
+      inside = inside;
+      whole = whole;
+      main = d ∙ ap (λ c. Some c) same;
+      body = body_found file code h d ∙ ap (λ c. Some (body_with file c)) same;
+      enters = let m = main_declared file code inside whole d in rw (found file h, m.1) m.2;
+      some = subst (λ (c : CodeTree). 0 < length c.code) same (above_none (length code.code) (found_fits file.pool file.methods code f.methods.1 d).code);
+    }
 
 -- what is linked has parts of the lengths that their counts can give
 pub links_fits : (files : List (List ℕ)) (file : FileTree) → Links files file → FileFits file

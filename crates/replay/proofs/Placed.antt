@@ -93,3 +93,8 @@ module _ (code : List ℕ) where
   -- the instruction after one
   pub next_placed : (pc n : ℕ) → is_start code pc ≡ true → length_at code pc ≡ Some n → IsPlaced code (pc + n)
   next_placed pc n h e = after_start code pc n h e
+
+  -- what is not a frame's own has no row, and leaves the frame
+  pub elsewhere_none : (o : Option Row) (max_stack : ℕ) (old new : Place) → RanLocal (Ok steps.Elsewhere) o max_stack old new → (o ≡ None) × (new ≡ old)
+  elsewhere_none None max_stack old new h = (refl, h)
+  elsewhere_none (Some row) max_stack old new h = absurd h

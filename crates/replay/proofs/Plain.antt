@@ -172,6 +172,11 @@ module _ (file : FileTree) (linked : IsLinked file) (pc : ℕ) (placed : IsPlace
     pub next_is_placed : IsPlaced (main_code file).code (pc + s.1)
     next_is_placed = next_placed (main_code file).code pc s.1 start (ap (option_map (λ (x : Sized). x.1)) e)
 
+    pub elsewhere : own_row (integers_of file.pool) (main_code file).code pc (pc + s.1) s.0 ≡ None → meaning_at file pc ≡ other_meaning values (program_of file) (site file pc (pc + s.1) s.0) s.0
+    elsewhere r =
+        ap (λ o. option_and_then (meaning_of values (program_of file)) (option_map (site_with (main_in file) (main_body file) pc) o)) e
+        ∙ ap (λ q. local_or values (program_of file) (site_with (main_in file) (main_body file) pc s) q) (sym (own_is (integers_of file.pool) (main_code file).code pc (pc + s.1) file.pool s.0 inside) ∙ r)
+
   -- what is so of each meaning that the profile has, is so of that of the instruction at a place
   pub of_meaning : (P : Option (MeaningOf Value) → Type 0) → P None → ((row : Row) → P (Some (local_meaning values row))) → ((other : Other) (next : ℕ) → P (Some (meaning_by other next))) → P (meaning_at file pc)
   of_meaning P none local other = by_sized (sized_at (main_code file).code pc) refl

@@ -1,10 +1,12 @@
 -- What the checks of a class tell of its conditions.
-use Rattle.std.proofs.Common.{◌≡◌, ℕ, zero, suc, ◌+◌, ◌-◌, ◌<◌, ◌≤◌, ℤ, List, [], ◌∷◌, length, map, get_or, Option, Some, None, Bool, true, false, ◌&&◌, ◌||◌, ◌⊎◌, inl, inr, not, refl, sym, ap, subst, ◌∙◌, arith}
+use Rattle.std.proofs.Common.{◌≡◌, ℕ, zero, suc, ◌+◌, ◌-◌, ◌<◌, ◌≤◌, ℤ, List, [], ◌∷◌, length, map, take, get_or, Option, Some, None, Bool, true, false, ◌&&◌, ◌||◌, ◌⊎◌, inl, inr, not, refl, sym, ap, subst, ◌∙◌, arith}
 use Rattle.std.specs.Prelude.{int_lt, codes, IsTrue, is_some, option_map, unwrap_or}
 use Rattle.std.specs.List.{list_any}
 use Rattle.std.specs.Option.{is_none, option_map_or}
 use Rattle.model.specs.declared.instr.Instr.{Instr}
 use Rattle.std.proofs.lemmas.Slice.Eq.{bytes_eq-Decides}
+use Rattle.std.proofs.lemmas.List.{take_all}
+use Rattle.std.proofs.lemmas.List.Folds.{list_any_at}
 use Rattle.model.specs.Names.{spells}
 use Rattle.model.specs.Tree.{Entry, Utf8, Integer, Float, Long, Double, Class, String, Field, Method, InterfaceMethod, NameAndType, Unusable, CodeTree, MethodTree}
 use Rattle.model.specs.Spelling.{entry_at, text_of, is_static}
@@ -175,3 +177,11 @@ malformed_main pool m c plain code = rw (code, main_arguments pool m plain) refl
 pub list_any-map : {A B : Type 0} (p : B → Bool) (f : A → B) (xs : List A) → list_any p (map f xs) ≡ list_any (λ x. p (f x)) xs
 list_any-map p f [] = refl
 list_any-map p f (x ∷ xs) = rw (list_any-map p f xs) refl
+
+-- a method among those of a class
+pub any_method : {V : Type 0} (p : MethodTree → Bool) (f : V → MethodTree) (ms : List V) (k : ℕ) (m : V) → k < length ms → m ≡ get_or ms k m → p (f m) ≡ true → list_any p (map f ms) ≡ true
+any_method p f ms k m below is h = list_any-map p f ms ∙ list_any_at (λ x. p (f x)) ms k m below (subst (λ x. p (f x) ≡ true) is h)
+
+-- all of them were looked at
+pub no_method : {V : Type 0} (p : MethodTree → Bool) (f : V → MethodTree) (ms : List V) (n : ℕ) → length ms ≤ n → list_any (λ x. p (f x)) (take n ms) ≡ false → list_any p (map f ms) ≡ false
+no_method p f ms n all h = list_any-map p f ms ∙ ap (list_any (λ x. p (f x))) (sym (take_all n ms all)) ∙ h

@@ -17,13 +17,14 @@ use Rattle.model.specs.Classes.{Body, Program, is_built_in, is_named, is_interfa
 use Rattle.model.specs.AccessFlags.{is_synchronized_method}
 use Rattle.model.specs.Frames.{locals_with, is_synchronized_one}
 use Rattle.model.specs.Opening.{opening_heap}
+use Rattle.model.specs.ClassInitialisation.{status_of, with_class_status, with_class_begun, with_constants}
 use Rattle.std.specs.Option.{option_map, option_and_then, option_map_or}
 use Rattle.replay.proofs.Finds.{find_second}
 use Rattle.replay.proofs.Alone.{no_interface, no_fields, none_initialises, methods_inside, main_declared, below_object}
 use Rattle.model.specs.Operands.{values}
-use Rattle.model.specs.State.{Place, State, World, StackOf}
+use Rattle.model.specs.State.{Place, State, World, StackOf, NotInitialised, InProgress, Super, Initialisation}
 use Rattle.model.specs.Outcomes.{Free}
-use Rattle.model.specs.Step.{SteppedOf, NotEnabled, WrongKind, Next, PartOf, put_back, settled, end_of, stepped}
+use Rattle.model.specs.Step.{on_to, SteppedOf, NotEnabled, WrongKind, Next, PartOf, put_back, settled, end_of, stepped}
 use Rattle.replay.specs.declared.machine.Stage.{Stage}
 use Rattle.replay.specs.declared.machine.Stage.TheVariants as stages
 use Rattle.replay.specs.Linking.{program_of, main_in, main_body, main_code, IsLinked}
@@ -32,7 +33,7 @@ use Rattle.replay.specs.declared.machine.Stepped.TheVariants as steps
 use Rattle.replay.specs.declared.bytecode.FrameStep.{FrameStep}
 use Rattle.replay.specs.declared.bytecode.FrameStep.TheVariants as frame_steps
 use Rattle.model.specs.declared.end.RunCause.TheVariants as causes
-use Rattle.replay.specs.Machine.{FrameSays, PartGoesOn, PartThrows, Throws, Machine, Shows, GoesOn, SaysOf, meets, state_in, state_of, main_step, frame_event}
+use Rattle.replay.specs.Machine.{world_of, FrameSays, PartGoesOn, PartThrows, Throws, Machine, Shows, GoesOn, SaysOf, meets, state_in, state_of, main_step, frame_event}
 
 pub built_in_object : is_built_in java_lang_object ≡ true
 unfolding built_in_classes
@@ -54,21 +55,31 @@ module _ (file : FileTree) (linked : IsLinked file) where
   pub class_found : is_interface (program_of file) (name_of file) ≡ false
   class_found = rw found (no_interface file linked.inside)
 
-  pub body_found : body_of (program_of file) (main_in file) ≡ Some (main_body file)
-  body_found = rw (found, linked.main) refl
-
   pub no_initialiser_found : body_of (program_of file) (initialiser_of (name_of file)) ≡ None
   no_initialiser_found = rw (found, none_initialises file.pool file.methods (methods_inside file linked.inside)) refl
-
-  pub main_enters_none : is_synchronized_one (program_of file) (main_in file) ≡ false
-  main_enters_none = let m = main_declared file (main_code file) linked.inside linked.whole linked.main in rw (found, m.1) m.2
 
 module _ (file : FileTree) (frames : ℕ) (printed : List ℤ) (place : Place) (linked : IsLinked file) where
   abbrev pub at_stage : Stage → SteppedOf State
   at_stage stage = stepped values (program_of file) frames (state_of file stage place printed) main_step
 
+  abbrev marked : World
+  marked = with_class_status (world_of file stages.New printed) (name_of file) (InProgress 0)
+
+  -- there are no constants to be set
+  begun : with_class_begun values (program_of file) 0 (name_of file) (world_of file stages.New printed) ≡ world_of file stages.Super printed
+  begun =
+      ap (λ o. option_map_or (λ (f : FileTree). with_constants values (program_of file) (name_of file) f.pool marked f.fields) o marked) (found file linked)
+      ∙ ap (λ fs. with_constants values (program_of file) (name_of file) file.pool marked fs) (no_fields file linked.inside)
+      ∙ rw (same_name (name_of file)) refl
+
+  is_new : status_of (world_of file stages.New printed) (name_of file) ≡ NotInitialised
+  is_new = rw (linked.not_built_in, same_name (name_of file)) refl
+
+  new_begins : at_stage stages.New ≡ put_back (state_of file stages.New place printed) 0 (settled 0 (on_to (with_class_begun values (program_of file) 0 (name_of file) (world_of file stages.New printed)) (Initialisation (name_of file) Super ∷ [])))
+  new_begins = rw is_new refl
+
   pub new_step : at_stage stages.New ≡ Next Free (state_of file stages.Super place printed)
-  new_step = rw (linked.not_built_in, found file linked, no_fields file linked.inside, same_name (name_of file)) refl
+  new_step = new_begins ∙ ap (λ w. put_back (state_of file stages.New place printed) 0 (settled 0 (on_to w (Initialisation (name_of file) Super ∷ [])))) begun
 
   pub super_step : at_stage stages.Super ≡ Next Free (state_of file stages.End place printed)
   super_step = rw (class_found file linked, super_found file linked, built_in_object, no_initialiser_found file linked) refl
@@ -81,10 +92,10 @@ module _ (file : FileTree) (frames : ℕ) (printed : List ℤ) (place : Place) (
   first_place = record { offset = 0; slots = record { locals = locals_with value.Unset (main_code file).max_locals (value.Reference 1 ∷ []); stack = [] } }
 
   pub ready_step : 1 ≤ frames → at_stage stages.Ready ≡ Next Free (state_of file stages.Runs first_place printed)
-  ready_step h = rw (linked.not_built_in, same_name (name_of file), body_found file linked, main_enters_none file linked, lt-ltb 0 frames (omega arith)) refl
+  ready_step h = rw (linked.not_built_in, same_name (name_of file), linked.body, linked.enters, lt-ltb 0 frames (omega arith)) refl
 
   pub runs_step : at_stage stages.Runs ≡ put_back (state_of file stages.Runs place printed) 0 (settled 0 (frame_event file frames printed place))
-  runs_step = rw (body_found file linked) refl
+  runs_step = rw linked.body refl
 
   pub ended_step : at_stage stages.Ended ≡ NotEnabled
   ended_step = refl
@@ -154,6 +165,11 @@ pub super_says : (file : FileTree) (limits : Limits) (place : Place) (printed : 
 super_says file limits place printed linked =
     says_met steps.Done (record { file = file; limits = limits; stage = stages.Super; place = place; printed = printed }) (record { file = file; limits = limits; stage = stages.End; place = place; printed = printed })
     (rw (super_step file limits.frames printed place linked) (refl, refl, record { state_is = refl }))
+
+pub new_says : (file : FileTree) (limits : Limits) (place : Place) (printed : List ℤ) → IsLinked file → (s : State) → Shows (record { file = file; limits = limits; stage = stages.New; place = place; printed = printed }) s → SaysOf steps.Done 0 (meets (record { file = file; limits = limits; stage = stages.New; place = place; printed = printed }) s main_step) (record { file = file; limits = limits; stage = stages.New; place = place; printed = printed }) (record { file = file; limits = limits; stage = stages.Super; place = place; printed = printed })
+new_says file limits place printed linked =
+    says_met steps.Done (record { file = file; limits = limits; stage = stages.New; place = place; printed = printed }) (record { file = file; limits = limits; stage = stages.Super; place = place; printed = printed })
+    (rw (new_step file limits.frames printed place linked) (refl, refl, record { state_is = refl }))
 
 -- an event of the main thread with no pick
 pub event_says : (e : Event) (answer : Stepped) (old new : Machine) → e.thread ≡ 0 → e.pick ≡ 0 → ((s : State) → Shows old s → SaysOf answer 0 (meets old s main_step) old new) → (s : State) → Shows old s → SaysOf answer e.thread (meets old s e) old new

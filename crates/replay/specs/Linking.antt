@@ -1,10 +1,11 @@
 -- What linking finds in one class file whose only method is main.
 use Rattle.std.specs.Prelude.{◌≡◌, ◌<◌, ◌⊎◌, length, ℕ, List, [], ◌∷◌, Option, Some, None, IsSome, Any, Bool, true, false, unwrap_or, option_map, option_and_then, codes}
-use Rattle.model.specs.Names.{Member, member_eq, main_of}
+use Rattle.model.specs.Names.{Member, main_of}
 use Rattle.model.specs.Pool.{integers_of}
 use Rattle.model.specs.Tree.{FileTree, MethodTree, CodeTree}
 use Rattle.model.specs.Spells.{Spells}
 use Rattle.model.specs.Classes.{Program, Body, declared_in, code_in, name_of, body_of, is_built_in}
+use Rattle.model.specs.Frames.{is_synchronized_one}
 use Rattle.frames.specs.Places.{LocalCode}
 use Rattle.reading.specs.declared.fault.Cause.{Cause}
 use Rattle.reading.specs.declared.fault.Cause.TheVariants as causes
@@ -44,11 +45,8 @@ pub record IsLinked (file : FileTree) : Type 0 where
   pub whole : is_malformed file ≡ false
   pub main : declared_main file ≡ Some (main_code file)
   pub some : 0 < length (main_code file).code
-
--- a member is named, and is this one
-abbrev pub names : Option Member → Member → Bool
-names None m = false
-names (Some a) m = member_eq a m
+  pub body : body_of (program_of file) (main_in file) ≡ Some (main_body file)
+  pub enters : is_synchronized_one (program_of file) (main_in file) ≡ false
 
 -- the bytes of the one file are those of the class file that is linked
 abbrev pub Links : List (List ℕ) → FileTree → Type 0

@@ -257,8 +257,7 @@ fn jumps_astray(code: &[u8], marks: &[bool], pc: usize, instr: Instr) -> bool
                 || table_leads_astray(code, marks, pc, at, jump_count(low, high))
         }
         Instr::LookupSwitch { default, pairs, at } => {
-            !is_target(marks, pc, default)
-                || pairs_lead_astray(code, marks, pc, at, pairs as usize)
+            !is_target(marks, pc, default) || pairs_lead_astray(code, marks, pc, at, pairs as usize)
         }
         _ => false,
     }

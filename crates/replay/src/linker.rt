@@ -1,6 +1,6 @@
 //! Linking: what a set of class files is, or why it is refused.
 
-ghost use Rattle.std.specs.Prelude.{◌≡◌, ◌<◌, ◌^◌, ◌⊎◌, IfOk, IfErr, List, length, map, option_map, vec_items};
+ghost use Rattle.std.specs.Prelude.{◌≡◌, ◌<◌, ◌^◌, ◌⊎◌, IfOk, IfErr, MatchResult, List, length, map, option_map, vec_items};
 ghost use Rattle.model.specs.Tree.{FileTree};
 ghost use Rattle.model.specs.Pool.{integer_of, integers_of};
 ghost use Rattle.model.specs.Classes.{name_of};
@@ -109,8 +109,8 @@ fn sole_file(alloc: Global, files: &[Vec<u8>]) -> Result<ClassFile, Refusal>
 pub fn link(alloc: Global, files: &[Vec<u8>]) -> Result<Linked, Refusal>
     // What is answered is spelled so, and no condition for a refusal holds of it.
     ensures linked { IfOk result (λ linked. IsAccepted (map vec_items files.now) linked) }
-    // Files that are accepted are linked, unless memory runs out.
-    ensures only { (file : FileTree) → IsAccepted (map vec_items files.now) file → IfErr result (λ r. r.kind ≡ RefusalKind.OutOfMemory) }
+    // A class file that is accepted is answered, unless memory runs out.
+    ensures only { (file : FileTree) → IsAccepted (map vec_items files.now) file → MatchResult result (λ linked. linked ≡ file) (λ r. r.kind ≡ RefusalKind.OutOfMemory) }
     // Each kind of refusal is answered only where it stands.
     ensures refused { IfErr result (λ r. MayRefuse (map vec_items files.now) r.kind r.cause) }
 {

@@ -58,24 +58,32 @@ pub(crate) struct Machine<'a> {
 }
 
 impl<'a> Model for Machine<'a> {
+    ghost use Rattle.replay.specs.Linking.{main_code};
+    ghost use Rattle.replay.specs.Placed.{IsPlaced};
     ghost use Rattle.replay.specs.Machine as spec;
 
     ghost Value = { spec.Machine };
 
     ghost view = { λ m. record { file = m.linked.now; limits = m.limits; stage = m.stage; place = m.frame; printed = m.printed.items } };
+
+    ghost invariant = { λ m. IsPlaced (main_code m.linked.now).code m.frame.offset };
 }
 
 impl<'a> Machine<'a> {
-    ghost use Rattle.model.specs.State.{State, opening};
+    ghost use Rattle.model.specs.State.{State};
+    ghost use Rattle.model.specs.Operands.{values};
+    ghost use Rattle.model.specs.Opening.{opening};
     ghost use Rattle.replay.specs.Linking.{program_of};
     ghost use Rattle.replay.specs.Machine.{SaysOf, meets, Shows, IsKept, main_step};
 
     /// The machine before any event.
     pub(crate) fn open(alloc: Global, linked: &'a Linked, limits: Limits) -> Machine<'a>
-        ensures shows { Shows result (opening (program_of linked.now)) }
+        ensures shows { Shows result (opening values (program_of linked.now)) }
         ensures file { result.file ≡ linked.now }
         ensures limits { result.limits ≡ limits }
     {
+        // what linking found out
+        let _ = linked.local();
         Machine {
             alloc,
             linked,
@@ -91,6 +99,8 @@ impl<'a> Machine<'a> {
         ensures says { (s : State) → Shows self.old s → SaysOf result event.thread (meets self.old s event) self.old self.new }
         ensures kept { IsKept self.old self.new }
     {
+        // what linking found out
+        let _ = self.linked.local();
         if event.thread != 0 || event.pick != 0 {
             return Stepped::NotEnabled;
         }

@@ -3,7 +3,7 @@ use Rattle.std.proofs.lemmas.Result.{err_from_is_err_and}
 use Rattle.std.specs.Io.KnownBytes.{Appends}
 use Rattle.model.specs.Devices.{AppendsFront}
 use Rattle.jvm.specs.Engines.{ReadsEach}
-use Rattle.replay.specs.Linking.{Links}
+use Rattle.replay.specs.Linking.{IsAccepted}
 use Rattle.jvm.proofs.EngineLemmas.{part_is_faulty, counts_sum}
 use Rattle.jvm.proofs.engine.replay_engine.Goals as goal
 
@@ -34,7 +34,7 @@ returns-in_err-write_all-clause-faulty g c =
     let p = err_from_is_err_and c.from_residual-in_err-write_all.result c.from_residual-in_err-write_all.ensures.1 in
     let contents = g.W.Sink.contents in
     let schedule = c.in_ok-schedule.ensures.read in
-    let verified = subst (λ files. Links (map vec_items files) c.in_ok-verified.verified.value) c.as_slice.ensures.value c.in_ok-verified.ensures.verified in
+    let verified = subst (λ files. IsAccepted (map vec_items files) c.in_ok-verified.verified.value) c.as_slice.ensures.value c.in_ok-verified.ensures.verified in
     let written = subst (λ text. AppendsFront (contents c.args.report.now) (contents c.write_all.new.self) text) c.as_slice-2.ensures.value c.in_err-write_all.ensures.part in
     rw (p.1, p.2) (part_is_faulty _ _ _ _ _ _
     (inr (_, _, (schedule.0, _, schedule.1, c.in_ok-files.ensures.read, c.in_ok-text.ensures _ _ schedule.2 verified), written)))
@@ -43,6 +43,6 @@ pub returns-clause-replayed : goal.returns-clause-replayed
 returns-clause-replayed g c =
     let contents = g.W.Sink.contents in
     let schedule = c.in_ok-schedule.ensures.read in
-    let verified = subst (λ files. Links (map vec_items files) c.in_ok-verified.verified.value) c.as_slice.ensures.value c.in_ok-verified.ensures.verified in
+    let verified = subst (λ files. IsAccepted (map vec_items files) c.in_ok-verified.verified.value) c.as_slice.ensures.value c.in_ok-verified.ensures.verified in
     let written = subst (λ text. Appends (contents c.args.report.now) (contents c.write_all.new.self) text) c.as_slice-2.ensures.value c.in_ok-write_all.ensures.written in
     (_, (schedule.0, _, schedule.1, c.in_ok-files.ensures.read, c.in_ok-text.ensures _ _ schedule.2 verified), written)

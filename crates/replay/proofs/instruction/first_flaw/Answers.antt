@@ -24,21 +24,22 @@ loop-pc-preserved c =
     let pc = c.loop-pc.pc in
     elim c.if-is_start.branch [
       | then-is_start+in_default w ↦ record {
-          inside = below_more _ _ c.loop-pc.invariant.inside (λ m. w.in_default.ensures.0);
-          whole = below_more _ _ c.loop-pc.invariant.whole (λ m. w.in_default.ensures.1);
-        }
+        inside = below_more _ _ c.loop-pc.invariant.inside (λ m. w.in_default.ensures.0);
+        whole = below_more _ _ c.loop-pc.invariant.whole (λ m. w.in_default.ensures.1);
+      }
       | else-is_start w ↦
-        let unmarked : get_or marks pc false ≡ false = search rules in
-        record {
-          inside = below_more _ _ c.loop-pc.invariant.inside (λ m. absurd cc);
-          whole = below_more _ _ c.loop-pc.invariant.whole (λ m. absurd cc);
-        }
+          let unmarked : get_or marks pc false ≡ false = search rules in
+          record {
+            inside = below_more _ _ c.loop-pc.invariant.inside (λ m. absurd cc);
+            whole = below_more _ _ c.loop-pc.invariant.whole (λ m. absurd cc);
+          }
     ]
 
 pub returns : goal.returns
 returns c =
     let pool = entries_of c.args.file.now.pool.items in
     let tree = code_of c.args.code.now in
-    let marks = c.args.marks.now in
-    (none_of_marks (is_outside_at pool tree) tree.code marks c.requires (λ k below. c.loop-pc.invariant.inside k (omega (arith, below))),
-     none_of_marks (is_malformed_at pool tree) tree.code marks c.requires (λ k below. c.loop-pc.invariant.whole k (omega (arith, below))))
+    let marks = c.args.marks.now in (
+      none_of_marks (is_outside_at pool tree) tree.code marks c.requires (λ k below. c.loop-pc.invariant.inside k (omega (arith, below))),
+      none_of_marks (is_malformed_at pool tree) tree.code marks c.requires (λ k below. c.loop-pc.invariant.whole k (omega (arith, below))),
+    )

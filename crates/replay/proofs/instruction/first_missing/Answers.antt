@@ -20,16 +20,17 @@ returns-then-is_none c =
     let none : is_none (sized_at code pc) ≡ true = search rules in
     elim c.if-is_known_at.branch [
       | then-is_known_at w ↦
-        let known : is_known_at code pc ≡ true = search rules in
-        rw (w.flaw-is) (any_of_marks (is_cut code) code marks pc c.requires marked (rw (none, known) refl))
+          let known : is_known_at code pc ≡ true = search rules in
+          rw (w.flaw-is) (any_of_marks (is_cut code) code marks pc c.requires marked (rw (none, known) refl))
       | else-is_known_at w ↦
-        let unknown : is_known_at code pc ≡ false = search rules in
-        rw (w.flaw-is) (any_of_marks (is_other_opcode code) code marks pc c.requires marked (rw (none, unknown) refl))
+          let unknown : is_known_at code pc ≡ false = search rules in
+          rw (w.flaw-is) (any_of_marks (is_other_opcode code) code marks pc c.requires marked (rw (none, unknown) refl))
     ]
 
 pub returns : goal.returns
 returns c =
     let code = c.args.code.now in
-    let marks = c.args.marks.now in
-    (none_of_marks (is_other_opcode code) code marks c.requires (λ k below. c.loop-pc.invariant.known k (omega (arith, below))),
-     none_of_marks (is_cut code) code marks c.requires (λ k below. c.loop-pc.invariant.whole k (omega (arith, below))))
+    let marks = c.args.marks.now in (
+      none_of_marks (is_other_opcode code) code marks c.requires (λ k below. c.loop-pc.invariant.known k (omega (arith, below))),
+      none_of_marks (is_cut code) code marks c.requires (λ k below. c.loop-pc.invariant.whole k (omega (arith, below))),
+    )

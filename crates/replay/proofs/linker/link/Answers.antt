@@ -16,7 +16,7 @@ method_code-requires c =
 pub new-requires-clause-linked : goal.new-requires-clause-linked
 new-requires-clause-linked c =
     let other : is_built_in (name_of (file_of c.in_ok-file.file)) ≡ false = search rules in
-    links (file_of c.in_ok-file.file) (code_of c.in-Some.code.now) other c.in_ok-check_class.ensures.inside (sym (c.in-Some.ensures))
+    links (file_of c.in_ok-file.file) (code_of c.in-Some.code.now) other c.in_ok-check_class.ensures.inside c.in_ok-check_class.ensures.whole (links_fits (map vec_items c.args.files.now) (file_of c.in_ok-file.file) (c.in_ok-file.ensures.found)) (sym (c.in-Some.ensures))
 
 pub new-requires-clause-local : goal.new-requires-clause-local
 new-requires-clause-local c =
@@ -39,4 +39,7 @@ returns-in_err-file-clause-only c =
 pub returns-in_default-clause-refused : goal.returns-in_default-clause-refused
 returns-in_default-clause-refused c =
     let none : declared_main (file_of c.in_ok-file.file) ≡ None = search rules in
-    refused_no_main (map vec_items c.args.files.now) (file_of c.in_ok-file.file) c.in_ok-file.ensures.found c.in_ok-file.ensures.only none
+    rw c.of.ensures (refused_no_main (map vec_items c.args.files.now) (file_of c.in_ok-file.file) c.in_ok-file.ensures.found c.in_ok-file.ensures.only none)
+
+pub returns-clause-only : goal.returns-clause-only
+returns-clause-only c = λ file a. c.new.ensures ∙ c.in_ok-file.ensures.only file a.links

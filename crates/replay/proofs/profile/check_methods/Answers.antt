@@ -1,0 +1,29 @@
+use Rattle.std.proofs.Common.{arith, ◌≡◌, ◌<◌, ◌≤◌, length, get_or, ap}
+use Rattle.std.proofs.lemmas.Result.{err_from_is_err_and}
+use Rattle.classfile.specs.View.{entries_of, method_of}
+use Rattle.replay.specs.Profile.{is_outside_method, is_malformed_method}
+use Rattle.replay.proofs.Profiles.{refuses_more, any_method, no_method}
+use Rattle.replay.proofs.profile.check_methods.Goals as goal
+
+pub returns-in_err-check_method-clause-refused : goal.returns-in_err-check_method-clause-refused
+returns-in_err-check_method-clause-refused c =
+    let p = err_from_is_err_and c.from_residual.result c.from_residual.ensures.1 in
+    let e = c.in_err-check_method.field-0.0 in
+    let pool = entries_of c.args.file.now.pool.items in
+    let methods = c.args.file.now.methods.items in
+    let item = c.method-item.result in
+    let below : c.loop-place.place < length methods = omega (arith, c.loop-place-test.true, c.deref-method-items.ensures.len, ap length c.deref-method-items.ensures.value) in
+    let is : item ≡ get_or methods c.loop-place.place item = cc (c.method-item.is, c.deref-method-items.ensures.value) in
+    rw (p.1, p.2) (refuses_more (is_outside_method pool (method_of item)) (is_malformed_method pool (method_of item)) _ _ e.kind e.cause
+    (any_method (is_outside_method pool) method_of methods c.loop-place.place item below is)
+    (any_method (is_malformed_method pool) method_of methods c.loop-place.place item below is) c.in_err-check_method.ensures.refused)
+
+pub returns-clause-inside : goal.returns-clause-inside
+returns-clause-inside c =
+    let all : length c.args.file.now.methods.items ≤ c.loop-place.place = omega (arith, c.loop-place-test.false, ap length c.deref-method-items.ensures.value) in
+    no_method (is_outside_method (entries_of c.args.file.now.pool.items)) method_of c.args.file.now.methods.items c.loop-place.place all c.loop-place.invariant.inside
+
+pub returns-clause-whole : goal.returns-clause-whole
+returns-clause-whole c =
+    let all : length c.args.file.now.methods.items ≤ c.loop-place.place = omega (arith, c.loop-place-test.false, ap length c.deref-method-items.ensures.value) in
+    no_method (is_malformed_method (entries_of c.args.file.now.pool.items)) method_of c.args.file.now.methods.items c.loop-place.place all c.loop-place.invariant.whole
