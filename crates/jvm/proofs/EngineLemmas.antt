@@ -84,8 +84,10 @@ is_memory kinds.TooLarge = inr (λ e. cc)
 -- class files that are refused, and are accepted at most where there was no memory
 pub refusal_is_faulty : (refusal : Refusal) (left : Option (List ℕ)) (lefts : List (Option (List ℕ))) (options : LimitOptions) (sink : Option (List ℕ)) (schedule : List ℕ) (files : List (List ℕ)) (events : List Event)
     → ((file : FileTree) → IsAccepted files file → refusal.kind ≡ kinds.OutOfMemory) → MayRefuse files refusal.kind refusal.cause → Reads left schedule → ReadsEach lefts files → ScheduleFile schedule None events → IsFaulty left lefts options sink sink (faults.Refusal refusal)
-refusal_is_faulty refusal left lefts options sink schedule files events only may read reads spelled =
-    (refl, elim (is_memory refusal.kind) [
-      | inl e ↦ inl e
-      | inr other ↦ inr (schedule, files, events, read, reads, spelled, λ file a. other (only file a), may)
-    ])
+refusal_is_faulty refusal left lefts options sink schedule files events only may read reads spelled = (
+  refl,
+  elim (is_memory refusal.kind) [
+    | inl e ↦ inl e
+    | inr other ↦ inr (schedule, files, events, read, reads, spelled, λ file a. other (only file a), may)
+  ],
+)

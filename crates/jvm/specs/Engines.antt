@@ -64,7 +64,7 @@ IsFaulty left lefts options old new (faults.Schedule fault) = (new ≡ old) × (
 -- memory apart, it spells events, and the class files are not accepted and may be refused so
 IsFaulty left lefts options old new (faults.Refusal refusal) = (new ≡ old) × ((refusal.kind ≡ kinds.OutOfMemory)
     ⊎ ((schedule : List ℕ) × (files : List (List ℕ)) × (events : List Event) × Reads left schedule × ReadsEach lefts files × ScheduleFile schedule None events
-        × ((file : FileTree) → IsAccepted files file → ⊥) × MayRefuse files refusal.kind refusal.cause))
+    × ((file : FileTree) → IsAccepted files file → ⊥) × MayRefuse files refusal.kind refusal.cause))
 
 -- the fault is one of the schedule file's
 abbrev pub IsOfSchedule : Fault → Type 0
