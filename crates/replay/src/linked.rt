@@ -4,7 +4,8 @@ ghost use Rattle.std.specs.Prelude.{◌≡◌, option_map};
 ghost use Rattle.model.specs.Names.{system_out, println_int};
 ghost use Rattle.model.specs.Pool.{field_at, method_at};
 ghost use Rattle.replay.specs.Linking.{names, local_of, main_code, IsLinked};
-ghost use Rattle.classfile.specs.View.{file_of, reference_of};
+ghost use Rattle.constant_pool.specs.View.{reference_of};
+ghost use Rattle.classfile.specs.View.{file_of};
 
 use classfile::{ClassFile, Reference};
 use frames::MethodCode;

@@ -7,7 +7,8 @@ ghost use Rattle.model.specs.Spelling.{FileFits};
 ghost use Rattle.model.specs.Pool.{integer_of, integers_of};
 ghost use Rattle.model.specs.Classes.{code_in, name_of, super_name_of, is_built_in};
 ghost use Rattle.model.specs.Spells.{Spells};
-ghost use Rattle.classfile.specs.View.{entry_of, entries_of, code_of, method_part_of, file_of};
+ghost use Rattle.constant_pool.specs.View.{entry_of, entries_of};
+ghost use Rattle.classfile.specs.View.{code_of, method_part_of, file_of};
 ghost use Rattle.replay.specs.Linking.{Links, MayRefuse, RefusesClass, sole_main};
 
 use crate::builtin::is_built_in;
@@ -94,10 +95,10 @@ fn is_below_object(file: &ClassFile) -> bool
 /// What main needs at each step.
 fn method_code(alloc: Global, file: &ClassFile, code: &Code) -> Result<MethodCode, AllocError>
     requires { length code.now.code.items < 2 ^ 16 }
-    ensures { IfOk result (λ m. m ≡ record { code = code.now.code.items; integers = integers_of (entries_of file.now.pool.items); max_stack = code.now.max_stack }) }
+    ensures { IfOk result (λ m. m ≡ record { code = code.now.code.items; integers = integers_of file.now.pool; max_stack = code.now.max_stack }) }
 {
     let bytes = Vec::from_slice(alloc, &code.code)?;
-    Ok(MethodCode::new(bytes, integers(alloc, &file.pool)?, code.max_stack))
+    Ok(MethodCode::new(bytes, integers(alloc, file.pool.constants())?, code.max_stack))
 }
 
 /// The class file that bytes are, or why the file with this number is refused.
