@@ -2,7 +2,7 @@
 use Rattle.std.proofs.Common.{◌≡◌, Bool, true, false, ◌&&◌, Result}
 use Rattle.reading.specs.declared.fault.Malformed.{Malformed}
 use Rattle.reading.specs.declared.fault.Cause.{Cause}
-use Rattle.classfile.specs.Decoding.{Checks}
+use Rattle.constant_pool.specs.Checking.{Checks}
 
 pub both : (a b : Bool) → a ≡ true → b ≡ true → (a && b) ≡ true
 both true b h k = k

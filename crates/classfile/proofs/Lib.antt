@@ -1,7 +1,7 @@
-mod Places
-mod PoolLaws
 mod MemberLaws
 mod Whole
 mod Promises
 mod Both
+mod Appended
+mod Fronts
 mod Differ

@@ -14,7 +14,7 @@ use Rattle.model.specs.Spelling.{magic, version, parts, file, FileFits, Layout}
 use Rattle.classfile.specs.declared.part.Owner.TheVariants as owners
 use Rattle.classfile.specs.FileReading.{is_version, parts_at, file_at}
 use Rattle.classfile.specs.Decoding.{BeginsWith}
-use Rattle.classfile.proofs.PoolLaws.{pool_laws}
+use Rattle.constant_pool.proofs.PoolLaws.{pool_laws}
 use Rattle.classfile.proofs.MemberLaws.{skipped_laws, field_laws, method_laws}
 
 parts_laws : Laws parts_at parts FileFits

@@ -23,12 +23,7 @@ Decodes (Err e) read = (e.cause ≡ causes.OutOfMemory) ⊎ (read ≡ Err e)
 abbrev pub BeginsWith : List ℕ → List ℕ → Type 0
 BeginsWith front bytes = (rest : List ℕ) × (bytes ≡ front ++ rest)
 
--- a check passes where its condition is met, and else answers a fault of this cause
-abbrev pub Checks : {A : Type 0} → Cause → Result A Malformed → Bool → Type 0
-Checks cause (Ok x) is_met = is_met ≡ true
-Checks cause (Err e) is_met = (is_met ≡ false) × (e.cause ≡ cause)
-
--- the same, unless memory runs out
+-- a check passes where its condition is met, and else answers a fault of this cause, unless memory runs out
 abbrev pub ChecksOrStops : {A : Type 0} → Cause → Result A Stop → Bool → Type 0
 ChecksOrStops cause (Ok x) is_met = is_met ≡ true
 ChecksOrStops cause (Err stops.Memory) is_met = Unit {0}

@@ -6,12 +6,14 @@ ghost use Rattle.reading.specs.declared.fault.Cause.TheVariants as causes;
 ghost use Rattle.model.specs.Tree.{Entry, FieldPart, FieldTree, MethodPart, MethodTree};
 ghost use Rattle.model.specs.Spelling.{entry_at, text_of};
 ghost use Rattle.model.specs.Conditions.{has_code, is_code_part, is_constant_part, method_code, is_constant_of, constant_fits, field_constants, file_attributes};
-ghost use Rattle.classfile.specs.View.{entry_of, entries_of, field_part_of, field_of, method_part_of, method_of, file_of};
-ghost use Rattle.classfile.specs.Decoding.{Checks};
+ghost use Rattle.classfile.specs.View.{field_part_of, field_of, method_part_of, method_of, file_of};
+ghost use Rattle.constant_pool.specs.Checking.{Checks};
+ghost use Rattle.constant_pool.specs.View.{entry_of};
 
-use crate::check::{Checked, Length, check_each, require};
-use crate::lookup::{constant, text};
-use crate::tree::{ClassFile, Constant, Field, FieldAttribute, Method, MethodAttribute};
+use crate::check::{Checked, check_each, require};
+use crate::spelled::Spelled;
+use crate::tree::{ClassFile, Field, FieldAttribute, Method, MethodAttribute};
+use constant_pool::{Constant, Pool};
 use reading::{Cause, Malformed};
 
 /// Each Code and each ConstantValue stands where it has to.
@@ -25,7 +27,7 @@ fn has_code(flags: u16) -> bool
 }
 
 impl MethodAttribute {
-    fn is_code(&self) -> bool
+    pub(crate) fn is_code(&self) -> bool
         ensures { result ≡ is_code_part (method_part_of self.now) }
     {
         matches!(self, MethodAttribute::Code { .. })
@@ -66,7 +68,7 @@ impl Checked<Attributes> for Method {
     ghost is_met = { λ _ m. method_code m };
 
     /// A Code that is missing is a fault of the method, one too many a fault at its name.
-    fn check(&self, _pool: &[Constant], at: usize) -> Result<(), Malformed> {
+    fn check(&self, _pool: &Pool, at: usize) -> Result<(), Malformed> {
         let wanted = if has_code(self.flags) { 1 } else { 0 };
         require(
             self.code_count() == wanted,
@@ -96,10 +98,10 @@ fn is_constant_of(descriptor: &[u8], constant: &Constant) -> bool
     }
 }
 
-fn names_constant_of(pool: &[Constant], descriptor: &[u8], index: u16) -> bool
-    ensures { result ≡ is_constant_of descriptor.now (entry_at (entries_of pool.now) index) }
+fn names_constant_of(pool: &Pool, descriptor: &[u8], index: u16) -> bool
+    ensures { result ≡ is_constant_of descriptor.now (entry_at pool.now index) }
 {
-    match constant(pool, index) {
+    match pool.constant(index) {
         Some(constant) => is_constant_of(descriptor, constant),
         None => false,
     }
@@ -113,8 +115,8 @@ impl FieldAttribute {
     }
 
     /// Whether a field of this descriptor may have the attribute.
-    fn fits(&self, pool: &[Constant], descriptor: &[u8]) -> bool
-        ensures { result ≡ constant_fits (entries_of pool.now) descriptor.now (field_part_of self.now) }
+    fn fits(&self, pool: &Pool, descriptor: &[u8]) -> bool
+        ensures { result ≡ constant_fits pool.now descriptor.now (field_part_of self.now) }
     {
         match self {
             FieldAttribute::ConstantValue { index, .. } => names_constant_of(
@@ -126,8 +128,8 @@ impl FieldAttribute {
 }
 
 /// Whether a field of this descriptor may have each of the attributes.
-fn constants_fit(pool: &[Constant], descriptor: &[u8], parts: &[FieldAttribute]) -> bool
-    ensures { result ≡ list_all (constant_fits (entries_of pool.now) descriptor.now) (map field_part_of parts.now) }
+fn constants_fit(pool: &Pool, descriptor: &[u8], parts: &[FieldAttribute]) -> bool
+    ensures { result ≡ list_all (constant_fits pool.now descriptor.now) (map field_part_of parts.now) }
 {
     'parts: for part in parts {
         if !part.fits(pool, descriptor) {
@@ -149,7 +151,7 @@ impl Field {
 
     /// Where the fault of a field stands whose ConstantValue is another or not the only one. It begins at the offset
     /// `at`.
-    fn constant_fault(&self, pool: &[Constant], descriptor: &[u8], at: usize) -> usize {
+    fn constant_fault(&self, pool: &Pool, descriptor: &[u8], at: usize) -> usize {
         let mut is_second = false;
         let mut place = at.saturating_add(8);
         for part in &self.attributes {
@@ -178,8 +180,8 @@ impl Checked<Attributes> for Field {
     ghost is_met = { λ pool f. field_constants pool f };
 
     /// A second ConstantValue is a fault at its name, one of another kind at its index.
-    fn check(&self, pool: &[Constant], at: usize) -> Result<(), Malformed> {
-        let descriptor = text(pool, self.descriptor);
+    fn check(&self, pool: &Pool, at: usize) -> Result<(), Malformed> {
+        let descriptor = pool.text(self.descriptor);
         let is_met = self.constant_count() <= 1
             && constants_fit(pool, descriptor, &self.attributes);
         require(
@@ -194,7 +196,7 @@ impl Checked<Attributes> for Field {
 pub(crate) fn check_attributes(file: &ClassFile, at: usize) -> Result<(), Malformed>
     ensures { Checks causes.Attribute result (file_attributes (file_of file.now)) }
 {
-    let pool = file.pool.as_slice();
+    let pool = &file.pool;
     let behind = check_each::<Attributes, Field>(pool, &file.fields, at)?;
     check_each::<Attributes, Method>(pool, &file.methods, behind.saturating_add(2))?;
     Ok(())

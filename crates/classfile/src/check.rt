@@ -4,10 +4,10 @@ ghost use Rattle.std.specs.Prelude.{◌≡◌, List, Bool, map, is_ok, IfErr};
 ghost use Rattle.std.specs.List.{list_all};
 ghost use Rattle.model.specs.Tree.{Entry};
 ghost use Rattle.reading.specs.declared.fault.Cause as declared_cause;
-ghost use Rattle.classfile.specs.View.{entry_of, entries_of};
-ghost use Rattle.classfile.specs.Decoding.{Checks};
+ghost use Rattle.constant_pool.specs.Checking.{Checks};
 
-use crate::tree::Constant;
+use crate::spelled::Spelled;
+use constant_pool::Pool;
 use reading::{Cause, Malformed};
 
 /// A part of a class file that has to meet a condition.
@@ -24,23 +24,17 @@ pub(crate) trait Checked<Condition>: Sized {
     ghost is_met: { List Entry → Tree → Bool };
 
     /// `at` is the offset of its first byte.
-    fn check(&self, pool: &[Constant], at: usize) -> Result<(), Malformed>
-        ensures { Checks cause result (is_met (entries_of pool.now) (view self.now)) };
-}
-
-/// What has a length in bytes in a class file.
-pub(crate) trait Length {
-    /// The length, or the highest `usize` where it is above.
-    fn length(&self) -> usize;
+    fn check(&self, pool: &Pool, at: usize) -> Result<(), Malformed>
+        ensures { Checks cause result (is_met pool.now (view self.now)) };
 }
 
 /// Checks each part, of which the first begins at the offset `at`, and gives the offset behind the last.
-pub(crate) fn check_each<Condition, T: Checked<Condition> + Length>(
-    pool: &[Constant],
+pub(crate) fn check_each<Condition, T: Checked<Condition> + Spelled>(
+    pool: &Pool,
     parts: &[T],
     at: usize,
 ) -> Result<usize, Malformed>
-    ensures { Checks T.cause result (list_all (T.is_met (entries_of pool.now)) (map T.view parts.now)) }
+    ensures { Checks T.cause result (list_all (T.is_met pool.now) (map T.view parts.now)) }
 {
     let mut at = at;
     'parts: for part in parts {

@@ -5,32 +5,33 @@ ghost use Rattle.reading.specs.declared.fault.Cause.TheVariants as causes;
 ghost use Rattle.model.specs.Tree.{Entry};
 ghost use Rattle.model.specs.Pool as pool_names;
 ghost use Rattle.model.specs.Conditions.{name_and_descriptor_at, differ, fields_differ, methods_differ, members_differ};
-ghost use Rattle.classfile.specs.View.{entries_of, name_and_descriptor_of, file_of};
+ghost use Rattle.classfile.specs.View.{file_of};
+ghost use Rattle.constant_pool.specs.View.{name_and_descriptor_of};
 ghost use Rattle.classfile.specs.Decoding.{ChecksOrStops};
 
-use crate::check::Length;
-use crate::lookup::{NameAndDescriptor, text};
-use crate::tree::{ClassFile, Constant, Field, Method};
+use crate::spelled::Spelled;
+use crate::tree::{ClassFile, Field, Method};
+use constant_pool::{NameAndDescriptor, Pool};
 use reading::{Cause, Malformed, Stop};
 use std::alloc::Global;
 use std::collections::HashSet;
 
 /// A field or a method.
-pub(crate) trait Member: Length + Sized {
+pub(crate) trait Member: Spelled + Sized {
     /// Its name and its descriptor.
     ghost named: { List Entry → Self → pool_names.NameAndDescriptor };
 
-    fn named<'a>(&self, pool: &'a [Constant]) -> NameAndDescriptor<'a>
-        ensures { name_and_descriptor_of result ≡ named (entries_of pool.now) self.now };
+    fn named<'a>(&self, pool: &'a Pool) -> NameAndDescriptor<'a>
+        ensures { name_and_descriptor_of result ≡ named pool.now self.now };
 }
 
 impl Member for Field {
     ghost named = { λ pool f. name_and_descriptor_at pool f.name f.descriptor };
 
-    fn named<'a>(&self, pool: &'a [Constant]) -> NameAndDescriptor<'a> {
+    fn named<'a>(&self, pool: &'a Pool) -> NameAndDescriptor<'a> {
         NameAndDescriptor {
-            name: text(pool, self.name),
-            descriptor: text(pool, self.descriptor),
+            name: pool.text(self.name),
+            descriptor: pool.text(self.descriptor),
         }
     }
 }
@@ -38,10 +39,10 @@ impl Member for Field {
 impl Member for Method {
     ghost named = { λ pool m. name_and_descriptor_at pool m.name m.descriptor };
 
-    fn named<'a>(&self, pool: &'a [Constant]) -> NameAndDescriptor<'a> {
+    fn named<'a>(&self, pool: &'a Pool) -> NameAndDescriptor<'a> {
         NameAndDescriptor {
-            name: text(pool, self.name),
-            descriptor: text(pool, self.descriptor),
+            name: pool.text(self.name),
+            descriptor: pool.text(self.descriptor),
         }
     }
 }
@@ -50,11 +51,11 @@ impl Member for Method {
 /// two is at fault.
 fn check_differ<T: Member>(
     alloc: Global,
-    pool: &[Constant],
+    pool: &Pool,
     members: &[T],
     at: usize,
 ) -> Result<usize, Stop>
-    ensures { ChecksOrStops causes.Duplicate result (differ (map (T.named (entries_of pool.now)) members.now)) }
+    ensures { ChecksOrStops causes.Duplicate result (differ (map (T.named pool.now) members.now)) }
 {
     let mut seen = HashSet::new(alloc);
     let mut at = at;

@@ -15,11 +15,11 @@ use crate::attribute::check_attributes;
 use crate::descriptor::check_descriptors;
 use crate::duplicate::check_members_differ;
 use crate::index::check_indices;
-use crate::length::first_field;
 use crate::names::check_names;
 use crate::part::{Owner, read_table};
-use crate::pool::read_pool;
+use crate::place::first_field;
 use crate::tree::ClassFile;
+use constant_pool::Pool;
 use reading::{Cause, Malformed, Reader, Stop};
 use std::alloc::Global;
 
@@ -28,7 +28,7 @@ use std::alloc::Global;
 fn read_parts(alloc: Global, reader: &mut Reader<'_>) -> Result<ClassFile, Stop>
     ensures { Gives (λ c. (file_of c, reader.new)) result (parts_at reader.old) }
 {
-    let pool = read_pool(alloc, reader)?;
+    let pool = Pool::read(alloc, reader)?;
     let flags = reader.u2()?;
     let this_class = reader.u2()?;
     let super_class = reader.u2()?;

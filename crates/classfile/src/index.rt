@@ -5,45 +5,25 @@ ghost use Rattle.std.specs.List.{list_all};
 ghost use Rattle.reading.specs.declared.fault.Cause.TheVariants as causes;
 ghost use Rattle.model.specs.declared.class_file.ExceptionEntry.{ExceptionEntry};
 ghost use Rattle.model.specs.Tree.{Entry, SkippedTree, CodeTree, FieldPart, FieldTree, MethodPart, MethodTree};
-ghost use Rattle.model.specs.Conditions.{names_utf8, names_class, names_name_and_type, names_constant, entry_indices, skipped_indices, exception_indices, code_indices, field_part_indices, field_indices, method_part_indices, method_indices, member_indices, file_indices};
-ghost use Rattle.classfile.specs.View.{entry_of, entries_of, skipped_of, code_of, field_part_of, field_of, method_part_of, method_of, file_of};
-ghost use Rattle.classfile.specs.Decoding.{Checks};
+ghost use Rattle.model.specs.Conditions.{names_utf8, names_class, names_constant, skipped_indices, exception_indices, code_indices, field_part_indices, field_indices, method_part_indices, method_indices, member_indices, file_indices};
+ghost use Rattle.classfile.specs.View.{skipped_of, code_of, field_part_of, field_of, method_part_of, method_of, file_of};
+ghost use Rattle.constant_pool.specs.Checking.{Checks};
 
 use crate::check::{Checked, check_each, require};
-use crate::lookup::constant;
-use crate::tree::{
-    Attribute, ClassFile, Code, Constant, Field, FieldAttribute, Method, MethodAttribute,
-};
+use crate::tree::{Attribute, ClassFile, Code, Field, FieldAttribute, Method, MethodAttribute};
+use constant_pool::{Constant, Pool};
 use model::ExceptionEntry;
 use reading::{Cause, Malformed};
 
 /// Each index names an entry of the kind that it has to name.
 pub(crate) struct Indices;
 
-fn names_utf8(pool: &[Constant], index: u16) -> bool
-    ensures { result ≡ names_utf8 (entries_of pool.now) index }
-{
-    matches!(constant(pool, index), Some(Constant::Utf8(_)))
-}
-
-fn names_class(pool: &[Constant], index: u16) -> bool
-    ensures { result ≡ names_class (entries_of pool.now) index }
-{
-    matches!(constant(pool, index), Some(Constant::Class { .. }))
-}
-
-fn names_name_and_type(pool: &[Constant], index: u16) -> bool
-    ensures { result ≡ names_name_and_type (entries_of pool.now) index }
-{
-    matches!(constant(pool, index), Some(Constant::NameAndType { .. }))
-}
-
 /// Whether a ConstantValue may name the entry (JVMS 4.7.2).
-fn names_constant(pool: &[Constant], index: u16) -> bool
-    ensures { result ≡ names_constant (entries_of pool.now) index }
+fn names_constant(pool: &Pool, index: u16) -> bool
+    ensures { result ≡ names_constant pool.now index }
 {
     matches!(
-        constant(pool, index),
+        pool.constant(index),
         Some(
             Constant::Integer(_)
                 | Constant::Float(_)
@@ -55,81 +35,17 @@ fn names_constant(pool: &[Constant], index: u16) -> bool
 }
 
 /// The index of a Utf8 at the offset `at`.
-fn utf8(pool: &[Constant], index: u16, at: usize) -> Result<(), Malformed>
-    ensures { Checks causes.Index result (names_utf8 (entries_of pool.now) index) }
+fn utf8(pool: &Pool, index: u16, at: usize) -> Result<(), Malformed>
+    ensures { Checks causes.Index result (names_utf8 pool.now index) }
 {
-    require(names_utf8(pool, index), Cause::Index, at)
+    require(pool.names_utf8(index), Cause::Index, at)
 }
 
 /// The index of a Class at the offset `at`.
-fn class(pool: &[Constant], index: u16, at: usize) -> Result<(), Malformed>
-    ensures { Checks causes.Index result (names_class (entries_of pool.now) index) }
+fn class(pool: &Pool, index: u16, at: usize) -> Result<(), Malformed>
+    ensures { Checks causes.Index result (names_class pool.now index) }
 {
-    require(names_class(pool, index), Cause::Index, at)
-}
-
-/// The indices of a Class and of a NameAndType.
-fn reference(
-    pool: &[Constant],
-    class_index: u16,
-    name_and_type: u16,
-    at: usize,
-) -> Result<(), Malformed>
-    ensures { Checks causes.Index result (names_class (entries_of pool.now) class_index && names_name_and_type (entries_of pool.now) name_and_type) }
-{
-    class(pool, class_index, at)?;
-    require(
-        names_name_and_type(pool, name_and_type),
-        Cause::Index,
-        at.saturating_add(2),
-    )
-}
-
-/// The indices of two Utf8.
-fn name_and_descriptor(
-    pool: &[Constant],
-    name: u16,
-    descriptor: u16,
-    at: usize,
-) -> Result<(), Malformed>
-    ensures { Checks causes.Index result (names_utf8 (entries_of pool.now) name && names_utf8 (entries_of pool.now) descriptor) }
-{
-    utf8(pool, name, at)?;
-    utf8(pool, descriptor, at.saturating_add(2))
-}
-
-impl Checked<Indices> for Constant {
-    ghost Tree = { Entry };
-
-    ghost view = { λ e. entry_of e };
-
-    ghost cause = { causes.Index };
-
-    ghost is_met = { λ pool e. entry_indices pool e };
-
-    fn check(&self, pool: &[Constant], at: usize) -> Result<(), Malformed> {
-        let index = at.saturating_add(1);
-        match self {
-            Constant::Class { name } => utf8(pool, *name, index),
-            Constant::String { text } => utf8(pool, *text, index),
-            Constant::Field {
-                class,
-                name_and_type,
-            }
-            | Constant::Method {
-                class,
-                name_and_type,
-            }
-            | Constant::InterfaceMethod {
-                class,
-                name_and_type,
-            } => reference(pool, *class, *name_and_type, index),
-            Constant::NameAndType { name, descriptor } => {
-                name_and_descriptor(pool, *name, *descriptor, index)
-            }
-            _ => Ok(()),
-        }
-    }
+    require(pool.names_class(index), Cause::Index, at)
 }
 
 /// An index in the table of interfaces.
@@ -142,7 +58,7 @@ impl Checked<Indices> for u16 {
 
     ghost is_met = { λ pool index. names_class pool index };
 
-    fn check(&self, pool: &[Constant], at: usize) -> Result<(), Malformed> {
+    fn check(&self, pool: &Pool, at: usize) -> Result<(), Malformed> {
         class(pool, *self, at)
     }
 }
@@ -156,7 +72,7 @@ impl Checked<Indices> for Attribute {
 
     ghost is_met = { λ pool a. skipped_indices pool a };
 
-    fn check(&self, pool: &[Constant], at: usize) -> Result<(), Malformed> {
+    fn check(&self, pool: &Pool, at: usize) -> Result<(), Malformed> {
         utf8(pool, self.name, at)
     }
 }
@@ -170,7 +86,7 @@ impl Checked<Indices> for ExceptionEntry {
 
     ghost is_met = { λ pool e. exception_indices pool e };
 
-    fn check(&self, pool: &[Constant], at: usize) -> Result<(), Malformed> {
+    fn check(&self, pool: &Pool, at: usize) -> Result<(), Malformed> {
         if self.catch_type == 0 {
             return Ok(());
         }
@@ -188,7 +104,7 @@ impl Checked<Indices> for Code {
 
     ghost is_met = { λ pool c. code_indices pool c };
 
-    fn check(&self, pool: &[Constant], at: usize) -> Result<(), Malformed> {
+    fn check(&self, pool: &Pool, at: usize) -> Result<(), Malformed> {
         let exceptions = at.saturating_add(self.code.len()).saturating_add(10);
         let behind = check_each::<Indices, ExceptionEntry>(pool, &self.exceptions, exceptions)?;
         check_each::<Indices, Attribute>(pool, &self.attributes, behind.saturating_add(2))?;
@@ -205,7 +121,7 @@ impl Checked<Indices> for FieldAttribute {
 
     ghost is_met = { λ pool p. field_part_indices pool p };
 
-    fn check(&self, pool: &[Constant], at: usize) -> Result<(), Malformed> {
+    fn check(&self, pool: &Pool, at: usize) -> Result<(), Malformed> {
         match self {
             FieldAttribute::ConstantValue { name, index } => {
                 utf8(pool, *name, at)?;
@@ -229,7 +145,7 @@ impl Checked<Indices> for MethodAttribute {
 
     ghost is_met = { λ pool p. method_part_indices pool p };
 
-    fn check(&self, pool: &[Constant], at: usize) -> Result<(), Malformed> {
+    fn check(&self, pool: &Pool, at: usize) -> Result<(), Malformed> {
         match self {
             MethodAttribute::Code { name, code } => {
                 utf8(pool, *name, at)?;
@@ -249,7 +165,7 @@ impl Checked<Indices> for Field {
 
     ghost is_met = { λ pool f. field_indices pool f };
 
-    fn check(&self, pool: &[Constant], at: usize) -> Result<(), Malformed> {
+    fn check(&self, pool: &Pool, at: usize) -> Result<(), Malformed> {
         utf8(pool, self.name, at.saturating_add(2))?;
         utf8(pool, self.descriptor, at.saturating_add(4))?;
         check_each::<Indices, FieldAttribute>(pool, &self.attributes, at.saturating_add(8))?;
@@ -266,7 +182,7 @@ impl Checked<Indices> for Method {
 
     ghost is_met = { λ pool m. method_indices pool m };
 
-    fn check(&self, pool: &[Constant], at: usize) -> Result<(), Malformed> {
+    fn check(&self, pool: &Pool, at: usize) -> Result<(), Malformed> {
         utf8(pool, self.name, at.saturating_add(2))?;
         utf8(pool, self.descriptor, at.saturating_add(4))?;
         check_each::<Indices, MethodAttribute>(pool, &self.attributes, at.saturating_add(8))?;
@@ -278,7 +194,7 @@ impl Checked<Indices> for Method {
 fn check_members(file: &ClassFile, at: usize) -> Result<(), Malformed>
     ensures { Checks causes.Index result (member_indices (file_of file.now)) }
 {
-    let pool = file.pool.as_slice();
+    let pool = &file.pool;
     let behind = check_each::<Indices, Field>(pool, &file.fields, at)?;
     let behind = check_each::<Indices, Method>(pool, &file.methods, behind.saturating_add(2))?;
     check_each::<Indices, Attribute>(pool, &file.attributes, behind.saturating_add(2))?;
@@ -289,8 +205,9 @@ fn check_members(file: &ClassFile, at: usize) -> Result<(), Malformed>
 pub(crate) fn check_indices(file: &ClassFile) -> Result<(), Malformed>
     ensures { Checks causes.Index result (file_indices (file_of file.now)) }
 {
-    let pool = file.pool.as_slice();
-    let behind = check_each::<Indices, Constant>(pool, pool, 10)?;
+    let pool = &file.pool;
+    pool.check_indices(8)?;
+    let behind = pool.length().saturating_add(10);
     class(pool, file.this_class, behind.saturating_add(2))?;
     class(pool, file.super_class, behind.saturating_add(4))?;
     let interfaces = behind.saturating_add(8);

@@ -7,19 +7,18 @@ mod descriptor;
 mod duplicate;
 mod file;
 mod index;
-mod length;
 mod lookup;
 mod member;
 mod names;
 mod part;
-mod pool;
+mod place;
+mod spelled;
 #[cfg(test)]
 mod tests;
 mod tree;
 
+pub use constant_pool::{Constant, NameAndDescriptor, Pool, Reference};
 pub use file::decode;
-pub use lookup::{NameAndDescriptor, Reference};
 pub use reading::{Cause, Malformed};
-pub use tree::{
-    Attribute, ClassFile, Code, Constant, Field, FieldAttribute, Method, MethodAttribute,
-};
+pub use spelled::encode;
+pub use tree::{Attribute, ClassFile, Code, Field, FieldAttribute, Method, MethodAttribute};

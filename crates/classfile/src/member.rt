@@ -5,11 +5,12 @@ ghost use Rattle.model.specs.declared.class_file.ExceptionEntry.{ExceptionEntry}
 ghost use Rattle.model.specs.Tree.{Entry, SkippedTree, CodeTree, FieldPart, FieldTree, MethodPart, MethodTree};
 ghost use Rattle.model.specs.Spelling.{names, is_code, is_static};
 ghost use Rattle.reading.specs.Reading.{Gives, sized_at, whole_at, table_at, filled, filled_at, moved};
-ghost use Rattle.classfile.specs.View.{entry_of, entries_of, skipped_of, code_of, field_part_of, method_part_of, field_of, method_of};
+ghost use Rattle.classfile.specs.View.{skipped_of, code_of, field_part_of, method_part_of, field_of, method_of};
 ghost use Rattle.classfile.specs.FileReading.{is_static_field, attribute_at, skipped_at, exception_at, code_bytes_at, code_at, constant_at, field_part_at, field_at, method_part_at, method_at};
 
 use crate::part::{Owner, Part, read_table};
-use crate::tree::{Attribute, Code, Constant, Field, FieldAttribute, Method, MethodAttribute};
+use crate::tree::{Attribute, Code, Field, FieldAttribute, Method, MethodAttribute};
+use constant_pool::{Constant, Pool};
 use model::ExceptionEntry;
 use reading::{Cause, Reader, Stop};
 use std::alloc::Global;
@@ -24,7 +25,7 @@ impl Part for ExceptionEntry {
     #[tactic(auto, unfolding(crate::specs::FileReading::exception_at))]
     fn read(
         _alloc: Global,
-        _pool: &[Constant],
+        _pool: &Pool,
         _owner: Owner,
         reader: &mut Reader<'_>,
     ) -> Result<Self, Stop> {
@@ -70,7 +71,7 @@ impl Part for Attribute {
     #[tactic(auto, unfolding(crate::specs::FileReading::skipped_at))]
     fn read(
         alloc: Global,
-        _pool: &[Constant],
+        _pool: &Pool,
         owner: Owner,
         reader: &mut Reader<'_>,
     ) -> Result<Self, Stop> {
@@ -112,7 +113,7 @@ fn read_whole_code_bytes(alloc: Global, reader: &mut Reader<'_>) -> Result<Vec<u
 #[tactic(auto, unfolding(reading::specs::Reading::whole_at))]
 fn read_whole_exceptions(
     alloc: Global,
-    pool: &[Constant],
+    pool: &Pool,
     reader: &mut Reader<'_>,
 ) -> Result<Vec<ExceptionEntry>, Stop>
     ensures { Gives (λ x. (x.items, reader.new)) result (whole_at (table_at exception_at) reader.old) }
@@ -125,7 +126,7 @@ fn read_whole_exceptions(
 }
 
 #[tactic(auto, unfolding(crate::specs::FileReading::code_at))]
-fn read_code(alloc: Global, pool: &[Constant], reader: &mut Reader<'_>) -> Result<Code, Stop>
+fn read_code(alloc: Global, pool: &Pool, reader: &mut Reader<'_>) -> Result<Code, Stop>
     ensures { Gives (λ x. (code_of x, reader.new)) result (code_at reader.old) }
 {
     Ok(Code {
@@ -139,7 +140,7 @@ fn read_code(alloc: Global, pool: &[Constant], reader: &mut Reader<'_>) -> Resul
 
 /// A code that fills its attribute.
 #[tactic(auto, unfolding(reading::specs::Reading::filled_at, reading::specs::Reading::filled))]
-fn read_filled_code(alloc: Global, pool: &[Constant], reader: &mut Reader<'_>) -> Result<Code, Stop>
+fn read_filled_code(alloc: Global, pool: &Pool, reader: &mut Reader<'_>) -> Result<Code, Stop>
     ensures { Gives (λ x. (code_of x, reader.new)) result (filled_at code_at reader.old) }
 {
     let fault = reader.fault(Cause::Attribute);
@@ -153,14 +154,11 @@ fn read_filled_code(alloc: Global, pool: &[Constant], reader: &mut Reader<'_>) -
 }
 
 /// Whether the entry of an index is the Utf8 of this text.
-fn names(text: &[u8], pool: &[Constant], index: u16) -> bool
+fn names(text: &[u8], pool: &Pool, index: u16) -> bool
     requires { 0 < length text.now }
-    ensures { result ≡ names text.now (entries_of pool.now) index }
+    ensures { result ≡ names text.now pool.now index }
 {
-    if index == 0 {
-        return false;
-    }
-    match pool.get(index as usize - 1) {
+    match pool.constant(index) {
         Some(Constant::Utf8(name)) => name.as_slice() == text,
         _ => false,
     }
@@ -176,7 +174,7 @@ impl Part for MethodAttribute {
     #[tactic(auto, unfolding(crate::specs::FileReading::method_part_at))]
     fn read(
         alloc: Global,
-        pool: &[Constant],
+        pool: &Pool,
         _owner: Owner,
         reader: &mut Reader<'_>,
     ) -> Result<Self, Stop> {
@@ -201,7 +199,7 @@ impl Part for Method {
     #[tactic(auto, unfolding(crate::specs::FileReading::method_at))]
     fn read(
         alloc: Global,
-        pool: &[Constant],
+        pool: &Pool,
         _owner: Owner,
         reader: &mut Reader<'_>,
     ) -> Result<Self, Stop> {
@@ -236,7 +234,7 @@ impl Part for FieldAttribute {
     #[tactic(auto, unfolding(crate::specs::FileReading::field_part_at))]
     fn read(
         alloc: Global,
-        pool: &[Constant],
+        pool: &Pool,
         owner: Owner,
         reader: &mut Reader<'_>,
     ) -> Result<Self, Stop> {
@@ -272,7 +270,7 @@ impl Part for Field {
     #[tactic(auto, unfolding(crate::specs::FileReading::field_at))]
     fn read(
         alloc: Global,
-        pool: &[Constant],
+        pool: &Pool,
         _owner: Owner,
         reader: &mut Reader<'_>,
     ) -> Result<Self, Stop> {

@@ -5,91 +5,34 @@ ghost use Rattle.std.specs.List.{list_all};
 ghost use Rattle.reading.specs.declared.fault.Cause.TheVariants as causes;
 ghost use Rattle.model.specs.Tree.{Entry, FieldTree, MethodTree};
 ghost use Rattle.model.specs.Spelling.{entry_at};
-ghost use Rattle.model.specs.Conditions.{is_method_byte, is_method_name, is_class_or_array, is_member_name, entry_names, names_no_array, field_name, method_name, member_names, file_names};
-ghost use Rattle.classfile.specs.View.{entry_of, entries_of, field_of, method_of, file_of};
-ghost use Rattle.classfile.specs.Decoding.{Checks};
+ghost use Rattle.model.specs.Conditions.{names_no_array, field_name, method_name, member_names, file_names};
+ghost use Rattle.classfile.specs.View.{field_of, method_of, file_of};
+ghost use Rattle.constant_pool.specs.Checking.{Checks};
 
 use crate::check::{Checked, check_each, require};
-use crate::lookup::{constant, text};
-use crate::tree::{ClassFile, Constant, Field, Method};
-use descriptors::{is_class_name, is_unqualified_name, parse_field};
+use crate::tree::{ClassFile, Field, Method};
+use constant_pool::{Constant, Pool, is_method_name};
+use descriptors::{is_class_name, is_unqualified_name};
 use reading::{Cause, Malformed};
 
 /// Each name is one.
 pub(crate) struct Names;
 
-fn is_method_byte(byte: u8) -> bool
-    ensures { result ≡ is_method_byte byte }
-{
-    !matches!(byte, b'<' | b'>')
-}
-
-fn are_method_bytes(name: &[u8]) -> bool
-    ensures { result ≡ list_all is_method_byte name.now }
-{
-    name.iter().all(|&byte| is_method_byte(byte))
-}
-
-fn is_method_name(name: &[u8]) -> bool
-    ensures { result ≡ is_method_name name.now }
-{
-    name == b"<init>".as_slice()
-        || name == b"<clinit>".as_slice()
-        || is_unqualified_name(name) && are_method_bytes(name)
-}
-
-fn is_class_or_array(text: &[u8]) -> bool
-    ensures { result ≡ is_class_or_array text.now }
-{
-    is_class_name(text) || matches!(text, [b'[', ..]) && parse_field(text).is_some()
-}
-
-/// Whether the member of this descriptor may have the name.
-fn is_member_name(name: &[u8], descriptor: &[u8]) -> bool
-    ensures { result ≡ is_member_name name.now descriptor.now }
-{
-    match descriptor {
-        [b'(', ..] => is_method_name(name),
-        _ => is_unqualified_name(name),
-    }
-}
-
 /// Whether the index names a Class that is no array.
-fn names_no_array(pool: &[Constant], index: u16) -> bool
-    ensures { result ≡ names_no_array (entries_of pool.now) index }
+fn names_no_array(pool: &Pool, index: u16) -> bool
+    ensures { result ≡ names_no_array pool.now index }
 {
-    match constant(pool, index) {
-        Some(Constant::Class { name }) => is_class_name(text(pool, *name)),
+    match pool.constant(index) {
+        Some(Constant::Class { name }) => is_class_name(pool.text(*name)),
         _ => false,
     }
 }
 
 /// The index of a Class that is no array, at the offset `at`.
-fn class(pool: &[Constant], index: u16, at: usize) -> Result<(), Malformed>
-    ensures { Checks causes.Name result (names_no_array (entries_of pool.now) index) }
+fn class(pool: &Pool, index: u16, at: usize) -> Result<(), Malformed>
+    ensures { Checks causes.Name result (names_no_array pool.now index) }
 {
     require(names_no_array(pool, index), Cause::Name, at)
-}
-
-impl Checked<Names> for Constant {
-    ghost Tree = { Entry };
-
-    ghost view = { λ e. entry_of e };
-
-    ghost cause = { causes.Name };
-
-    ghost is_met = { λ pool e. entry_names pool e };
-
-    fn check(&self, pool: &[Constant], at: usize) -> Result<(), Malformed> {
-        let is_met = match self {
-            Constant::Class { name } => is_class_or_array(text(pool, *name)),
-            Constant::NameAndType { name, descriptor } => {
-                is_member_name(text(pool, *name), text(pool, *descriptor))
-            }
-            _ => true,
-        };
-        require(is_met, Cause::Name, at.saturating_add(1))
-    }
 }
 
 /// An index in the table of interfaces.
@@ -102,7 +45,7 @@ impl Checked<Names> for u16 {
 
     ghost is_met = { λ pool index. names_no_array pool index };
 
-    fn check(&self, pool: &[Constant], at: usize) -> Result<(), Malformed> {
+    fn check(&self, pool: &Pool, at: usize) -> Result<(), Malformed> {
         class(pool, *self, at)
     }
 }
@@ -116,8 +59,8 @@ impl Checked<Names> for Field {
 
     ghost is_met = { λ pool f. field_name pool f };
 
-    fn check(&self, pool: &[Constant], at: usize) -> Result<(), Malformed> {
-        let is_met = is_unqualified_name(text(pool, self.name));
+    fn check(&self, pool: &Pool, at: usize) -> Result<(), Malformed> {
+        let is_met = is_unqualified_name(pool.text(self.name));
         require(is_met, Cause::Name, at.saturating_add(2))
     }
 }
@@ -131,8 +74,8 @@ impl Checked<Names> for Method {
 
     ghost is_met = { λ pool m. method_name pool m };
 
-    fn check(&self, pool: &[Constant], at: usize) -> Result<(), Malformed> {
-        let is_met = is_method_name(text(pool, self.name));
+    fn check(&self, pool: &Pool, at: usize) -> Result<(), Malformed> {
+        let is_met = is_method_name(pool.text(self.name));
         require(is_met, Cause::Name, at.saturating_add(2))
     }
 }
@@ -141,7 +84,7 @@ impl Checked<Names> for Method {
 fn check_members(file: &ClassFile, at: usize) -> Result<(), Malformed>
     ensures { Checks causes.Name result (member_names (file_of file.now)) }
 {
-    let pool = file.pool.as_slice();
+    let pool = &file.pool;
     let behind = check_each::<Names, Field>(pool, &file.fields, at)?;
     check_each::<Names, Method>(pool, &file.methods, behind.saturating_add(2))?;
     Ok(())
@@ -151,8 +94,9 @@ fn check_members(file: &ClassFile, at: usize) -> Result<(), Malformed>
 pub(crate) fn check_names(file: &ClassFile) -> Result<(), Malformed>
     ensures { Checks causes.Name result (file_names (file_of file.now)) }
 {
-    let pool = file.pool.as_slice();
-    let behind = check_each::<Names, Constant>(pool, pool, 10)?;
+    let pool = &file.pool;
+    pool.check_names(8)?;
+    let behind = pool.length().saturating_add(10);
     class(pool, file.this_class, behind.saturating_add(2))?;
     class(pool, file.super_class, behind.saturating_add(4))?;
     let interfaces = behind.saturating_add(8);

@@ -5,9 +5,8 @@ ghost use Rattle.model.specs.Tree.{Entry};
 ghost use Rattle.classfile.specs.declared.part.Owner.{Owner};
 ghost use Rattle.reading.specs.Input.{Input};
 ghost use Rattle.reading.specs.Reading.{Gives, Read, number_at, times_at, table_at};
-ghost use Rattle.classfile.specs.View.{entries_of};
 
-use crate::tree::Constant;
+use constant_pool::Pool;
 use reading::{Reader, Stop};
 use std::alloc::Global;
 
@@ -30,13 +29,8 @@ pub(crate) trait Part: Sized + Drop {
 
     ghost read_at: { List Entry → Owner → Input → Read Tree };
 
-    fn read(
-        alloc: Global,
-        pool: &[Constant],
-        owner: Owner,
-        reader: &mut Reader<'_>,
-    ) -> Result<Self, Stop>
-        ensures { Gives (λ x. (view x, reader.new)) result (read_at (entries_of pool.now) owner reader.old) };
+    fn read(alloc: Global, pool: &Pool, owner: Owner, reader: &mut Reader<'_>) -> Result<Self, Stop>
+        ensures { Gives (λ x. (view x, reader.new)) result (read_at pool.now owner reader.old) };
 }
 
 impl Part for u16 {
@@ -48,7 +42,7 @@ impl Part for u16 {
 
     fn read(
         _alloc: Global,
-        _pool: &[Constant],
+        _pool: &Pool,
         _owner: Owner,
         reader: &mut Reader<'_>,
     ) -> Result<Self, Stop> {
@@ -59,12 +53,12 @@ impl Part for u16 {
 /// So many parts.
 fn read_times<T: Part>(
     alloc: Global,
-    pool: &[Constant],
+    pool: &Pool,
     owner: Owner,
     count: u16,
     reader: &mut Reader<'_>,
 ) -> Result<Vec<T>, Stop>
-    ensures { Gives (λ x. (map T.view x.items, reader.new)) result (times_at (T.read_at (entries_of pool.now) owner) count reader.old) }
+    ensures { Gives (λ x. (map T.view x.items, reader.new)) result (times_at (T.read_at pool.now owner) count reader.old) }
 {
     let mut parts = Vec::new(alloc);
     'parts: for _ in 0..count {
@@ -77,11 +71,11 @@ fn read_times<T: Part>(
 #[tactic(auto, unfolding(reading::specs::Reading::table_at))]
 pub(crate) fn read_table<T: Part>(
     alloc: Global,
-    pool: &[Constant],
+    pool: &Pool,
     owner: Owner,
     reader: &mut Reader<'_>,
 ) -> Result<Vec<T>, Stop>
-    ensures { Gives (λ x. (map T.view x.items, reader.new)) result (table_at (T.read_at (entries_of pool.now) owner) reader.old) }
+    ensures { Gives (λ x. (map T.view x.items, reader.new)) result (table_at (T.read_at pool.now owner) reader.old) }
 {
     let count = reader.u2()?;
     read_times(alloc, pool, owner, count, reader)

@@ -1,6 +1,6 @@
 //! Whole files, and the offsets of their faults.
 
-use crate::decode;
+use crate::{decode, encode};
 use reading::{Cause, Malformed};
 use std::alloc::Global;
 use std::test::Fail;
@@ -76,12 +76,98 @@ fn every_shorter_file_is_truncated(rt: HostRuntime) {
 }
 
 #[test]
+fn a_file_is_cut_within_a_field(rt: HostRuntime) {
+    // how many bytes are left, and where the field begins that they cut
+    let rows = [
+        (0, 0),
+        (3, 0),
+        (5, 4),
+        (6, 6),
+        (7, 6),
+        (9, 8),
+        (10, 10),
+        (12, 11),
+        (13, 13),
+        (16, 15),
+        (193, 192),
+        (205, 204),
+        (211, 210),
+        (213, 212),
+        (216, 214),
+        (218, 218),
+        (238, 218),
+        (240, 239),
+    ];
+    for (len, offset) in rows {
+        let found = fault(rt.alloc(), FILE.get(..len).unwrap_or(&[]));
+        assert_eq!(rt; found, at(Cause::Truncated, offset), "{len} bytes");
+    }
+}
+
+#[test]
+fn what_is_read_is_written_back(rt: HostRuntime) -> Result<(), Fail> {
+    let file = decode(rt.alloc(), &FILE).ok().ok_or("the file is refused")?;
+    let written = encode(rt.alloc(), &file)?;
+    assert_eq!(rt; written.as_slice(), FILE.as_slice());
+    Ok(())
+}
+
+/// Whether the bytes are refused, or else written back as they are.
+fn is_kept(alloc: Global, bytes: &[u8]) -> Result<bool, Fail> {
+    match decode(alloc, bytes) {
+        Ok(file) => Ok(encode(alloc, &file)?.as_slice() == bytes),
+        Err(fault) => Ok(fault.offset <= bytes.len()),
+    }
+}
+
+#[test]
+fn each_other_byte_is_refused_or_written_back(rt: HostRuntime) -> Result<(), Fail> {
+    let mut bytes = Vec::from_slice(rt.alloc(), FILE.as_slice())?;
+    for (place, &old) in FILE.iter().enumerate() {
+        for byte in 0..256u32 {
+            let byte = u8::try_from(byte).unwrap_or(0);
+            if let Some(there) = bytes.get_mut(place) {
+                *there = byte;
+            }
+            let kept = is_kept(rt.alloc(), &bytes)?;
+            assert!(rt; kept, "{byte} at {place}");
+        }
+        if let Some(there) = bytes.get_mut(place) {
+            *there = old;
+        }
+    }
+    Ok(())
+}
+
+#[test]
+fn a_code_has_its_offset(rt: HostRuntime) -> Result<(), Fail> {
+    let file = decode(rt.alloc(), &FILE).ok().ok_or("the file is refused")?;
+    assert_eq!(rt; file.code_offset(0), 218);
+    assert_eq!(rt; file.code_offset(1), 239);
+    let string = with_field(rt.alloc(), 8, &[0, 0])?;
+    let file = decode(rt.alloc(), &string)
+        .ok()
+        .ok_or("the file is refused")?;
+    assert_eq!(rt; file.code_offset(0), 264);
+    assert_eq!(rt;
+        file.name_and_type(12).map(|n| n.name),
+        Some(b"out".as_slice())
+    );
+    assert!(rt; file.string(22).is_none());
+    assert!(rt; file.interface_method_reference(19).is_none());
+    assert!(rt; file.constant(24).is_some());
+    assert_eq!(rt; file.utf8(25), Some(b"x".as_slice()));
+    Ok(())
+}
+
+#[test]
 fn faults_have_their_offsets(rt: HostRuntime) -> Result<(), Fail> {
     // an offset, the byte that stands there in place of the file's, and the fault
     let rows = [
         (0, 0, at(Cause::Magic, 0)),
         (5, 1, at(Cause::Version, 4)),
         (7, 50, at(Cause::Version, 4)),
+        (9, 0, at(Cause::Truncated, 8)),
         (14, 2, at(Cause::Tag, 14)),
         // a Long in the last place
         (187, 5, at(Cause::Tag, 187)),
@@ -161,6 +247,62 @@ fn a_second_code_is_refused(rt: HostRuntime) -> Result<(), Fail> {
         &[part(0, 210), &[0, 2], code, code, part(239, 241)],
     )?;
     assert_eq!(rt; fault(rt.alloc(), &bytes), at(Cause::Attribute, 239));
+    Ok(())
+}
+
+/// The file with more interfaces, which stand from the offset 200 on.
+fn with_interfaces(alloc: Global, interfaces: &[u8]) -> Result<Vec<u8>, Fail> {
+    joined(alloc, &[part(0, 198), &[0, 1], interfaces, part(200, 241)])
+}
+
+/// The file whose Code has this length, and these bytes behind its code, from the offset 235 on.
+fn with_code(alloc: Global, length: u8, behind: &[u8]) -> Result<Vec<u8>, Fail> {
+    joined(
+        alloc,
+        &[
+            part(0, 217),
+            &[length],
+            part(218, 235),
+            behind,
+            part(239, 241),
+        ],
+    )
+}
+
+#[test]
+fn tables_have_their_offsets(rt: HostRuntime) -> Result<(), Fail> {
+    assert_eq!(rt;
+        fault(rt.alloc(), &with_interfaces(rt.alloc(), &[0, 2])?),
+        None
+    );
+    let utf8 = with_interfaces(rt.alloc(), &[0, 1])?;
+    assert_eq!(rt; fault(rt.alloc(), &utf8), at(Cause::Index, 200));
+    let rows: [(u8, &[u8], Option<Malformed>); 6] = [
+        // an exception entry that takes any, one of a class, and one of no class
+        (0x1d, &[0, 1, 0, 0, 0, 5, 0, 0, 0, 0, 0, 0], None),
+        (0x1d, &[0, 1, 0, 0, 0, 5, 0, 0, 0, 2, 0, 0], None),
+        (
+            0x1d,
+            &[0, 1, 0, 0, 0, 5, 0, 0, 0, 1, 0, 0],
+            at(Cause::Index, 243),
+        ),
+        // an attribute of the Code, one of no name, and one that is too long
+        (0x1c, &[0, 0, 0, 1, 0, 7, 0, 0, 0, 1, 9], None),
+        (
+            0x1c,
+            &[0, 0, 0, 1, 0, 2, 0, 0, 0, 1, 9],
+            at(Cause::Index, 239),
+        ),
+        (
+            0x1c,
+            &[0, 0, 0, 1, 0, 7, 0, 0, 0, 2, 9],
+            at(Cause::Attribute, 241),
+        ),
+    ];
+    for (length, behind, want) in rows {
+        let bytes = with_code(rt.alloc(), length, behind)?;
+        assert_eq!(rt; fault(rt.alloc(), &bytes), want);
+    }
     Ok(())
 }
 

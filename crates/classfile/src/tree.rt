@@ -1,28 +1,7 @@
 //! A class file as a tree (JVMS 4.1).
 
+use constant_pool::Pool;
 use model::ExceptionEntry;
-
-/// An entry of the constant pool (JVMS 4.4). Indices count the entries from 1.
-#[derive(Debug, Drop)]
-pub enum Constant {
-    Utf8(Vec<u8>),
-    /// By its 32 bits.
-    Integer(u32),
-    /// By its 32 bits.
-    Float(u32),
-    /// By its 64 bits.
-    Long(u64),
-    /// By its 64 bits.
-    Double(u64),
-    Class { name: u16 },
-    String { text: u16 },
-    Field { class: u16, name_and_type: u16 },
-    Method { class: u16, name_and_type: u16 },
-    InterfaceMethod { class: u16, name_and_type: u16 },
-    NameAndType { name: u16, descriptor: u16 },
-    /// The second place of a `Long` or of a `Double`.
-    Unusable,
-}
 
 /// An attribute that is not interpreted (JVMS 4.7): the index of its name, and its bytes.
 #[derive(Debug, Drop)]
@@ -74,10 +53,10 @@ pub struct Method {
     pub attributes: Vec<MethodAttribute>,
 }
 
-/// A class file of version 49.0. The entry of index 1 is the first of the pool.
+/// A class file of version 49.0.
 #[derive(Debug, Drop)]
 pub struct ClassFile {
-    pub pool: Vec<Constant>,
+    pub pool: Pool,
     pub flags: u16,
     pub this_class: u16,
     pub super_class: u16,

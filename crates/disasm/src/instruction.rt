@@ -3,7 +3,6 @@
 ghost use Rattle.std.specs.Prelude.{◌≡◌, ◌<◌, ◌++◌, length, IfOk, OnOk};
 ghost use Rattle.model.specs.Instruction.{sized_at};
 ghost use Rattle.model.specs.Listing.{byte_at, bytes_of, instruction_line, meaning, mnemonic, mnemonic_word};
-ghost use Rattle.classfile.specs.View.{entries_of};
 
 use crate::numbers::{push_hex_bytes, push_offset};
 use crate::operands::push_operands;
@@ -58,7 +57,7 @@ fn push_meaning(
     pc: usize,
 ) -> Result<(), AllocError>
     requires { pc < length code.now }
-    ensures { OnOk result (text.new.items ≡ text.old.items ++ meaning (entries_of file.now.pool.items) code.now pc (sized_at code.now pc)) }
+    ensures { OnOk result (text.new.items ≡ text.old.items ++ meaning file.now.pool code.now pc (sized_at code.now pc)) }
 {
     let Some((instr, length)) = sized_at(code, pc) else {
         text.extend_from_slice(b"unknown")?;
@@ -79,7 +78,7 @@ pub(crate) fn instruction_line(
     pc: usize,
 ) -> Result<Vec<u8>, AllocError>
     requires { pc < length code.now }
-    ensures { IfOk result (λ text. text.items ≡ instruction_line (entries_of file.now.pool.items) code.now pc) }
+    ensures { IfOk result (λ text. text.items ≡ instruction_line file.now.pool code.now pc) }
 {
     let mut text = Vec::new(alloc);
     push_offset(&mut text, pc)?;

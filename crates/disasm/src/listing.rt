@@ -5,7 +5,7 @@ ghost use Rattle.std.specs.List.{flat_map};
 ghost use Rattle.model.specs.Classes.{code_in};
 ghost use Rattle.model.specs.Devices.{Counts, Writes};
 ghost use Rattle.model.specs.Listing.{catch_line, code_lines, field_line, instruction_line, instruction_lines, listing, method_lines};
-ghost use Rattle.classfile.specs.View.{code_of, entries_of, field_of, file_of, method_of, method_part_of};
+ghost use Rattle.classfile.specs.View.{code_of, field_of, file_of, method_of, method_part_of};
 
 use crate::instruction::instruction_line;
 use crate::member::{bare_method_line, catch_line, class_line, field_line, method_line};
@@ -35,7 +35,7 @@ fn list_at<W: Sink>(
     writer: &mut W,
 ) -> Result<(), DeviceFault>
     requires { pc < length code.now }
-    ensures written { Writes result (if begins then instruction_line (entries_of file.now.pool.items) code.now pc else []) (W.contents writer.old) (W.contents writer.new) }
+    ensures written { Writes result (if begins then instruction_line file.now.pool code.now pc else []) (W.contents writer.old) (W.contents writer.new) }
     ensures counted { Counts result (W.failures writer.old) (W.failures writer.new) }
 {
     if !begins {
@@ -57,7 +57,7 @@ fn list_instructions<W: Sink>(
     code: &[u8],
     writer: &mut W,
 ) -> Result<(), DeviceFault>
-    ensures written { Writes result (instruction_lines (entries_of file.now.pool.items) code.now) (W.contents writer.old) (W.contents writer.new) }
+    ensures written { Writes result (instruction_lines file.now.pool code.now) (W.contents writer.old) (W.contents writer.new) }
     ensures counted { Counts result (W.failures writer.old) (W.failures writer.new) }
 {
     let starts = starts(alloc, code)?;
@@ -73,7 +73,7 @@ fn list_handlers<W: Sink>(
     entries: &[ExceptionEntry],
     writer: &mut W,
 ) -> Result<(), DeviceFault>
-    ensures written { Writes result (flat_map (catch_line (entries_of file.now.pool.items)) entries.now) (W.contents writer.old) (W.contents writer.new) }
+    ensures written { Writes result (flat_map (catch_line file.now.pool) entries.now) (W.contents writer.old) (W.contents writer.new) }
     ensures counted { Counts result (W.failures writer.old) (W.failures writer.new) }
 {
     'entries: for entry in entries {
@@ -88,7 +88,7 @@ fn list_code<W: Sink>(
     code: &Code,
     writer: &mut W,
 ) -> Result<(), DeviceFault>
-    ensures written { Writes result (code_lines (entries_of file.now.pool.items) (code_of code.now)) (W.contents writer.old) (W.contents writer.new) }
+    ensures written { Writes result (code_lines file.now.pool (code_of code.now)) (W.contents writer.old) (W.contents writer.new) }
     ensures counted { Counts result (W.failures writer.old) (W.failures writer.new) }
 {
     list_instructions(alloc, file, &code.code, writer)?;
@@ -115,7 +115,7 @@ fn list_method<W: Sink>(
     method: &Method,
     writer: &mut W,
 ) -> Result<(), DeviceFault>
-    ensures written { Writes result (method_lines (entries_of file.now.pool.items) (method_of method.now)) (W.contents writer.old) (W.contents writer.new) }
+    ensures written { Writes result (method_lines file.now.pool (method_of method.now)) (W.contents writer.old) (W.contents writer.new) }
     ensures counted { Counts result (W.failures writer.old) (W.failures writer.new) }
 {
     let Some(code) = code_in(method) else {
@@ -131,7 +131,7 @@ fn list_methods<W: Sink>(
     methods: &[Method],
     writer: &mut W,
 ) -> Result<(), DeviceFault>
-    ensures written { Writes result (flat_map (λ m. method_lines (entries_of file.now.pool.items) (method_of m)) methods.now) (W.contents writer.old) (W.contents writer.new) }
+    ensures written { Writes result (flat_map (λ m. method_lines file.now.pool (method_of m)) methods.now) (W.contents writer.old) (W.contents writer.new) }
     ensures counted { Counts result (W.failures writer.old) (W.failures writer.new) }
 {
     'methods: for method in methods {
@@ -146,7 +146,7 @@ fn list_fields<W: Sink>(
     fields: &[Field],
     writer: &mut W,
 ) -> Result<(), DeviceFault>
-    ensures written { Writes result (flat_map (λ f. field_line (entries_of file.now.pool.items) (field_of f)) fields.now) (W.contents writer.old) (W.contents writer.new) }
+    ensures written { Writes result (flat_map (λ f. field_line file.now.pool (field_of f)) fields.now) (W.contents writer.old) (W.contents writer.new) }
     ensures counted { Counts result (W.failures writer.old) (W.failures writer.new) }
 {
     'fields: for field in fields {

@@ -4,7 +4,7 @@ ghost use Rattle.std.specs.Prelude.{◌≡◌, ◌++◌, IfOk, OnOk};
 ghost use Rattle.std.specs.List.{flat_map};
 ghost use Rattle.model.specs.Listing.{catch_line, caught, class_line, class_word, field_line, flags_word, implements, kind_word, method_head, operand, sizes};
 ghost use Rattle.model.specs.Report.{line, number};
-ghost use Rattle.classfile.specs.View.{code_of, entries_of, field_of, file_of, method_of};
+ghost use Rattle.classfile.specs.View.{code_of, field_of, file_of, method_of};
 
 use crate::names::{push_class, push_utf8};
 use crate::numbers::{push_hex_short, push_number};
@@ -31,7 +31,7 @@ fn kind_word(flags: u16) -> &'static [u8]
 
 /// The names of classes, each behind a space.
 fn push_classes(text: &mut Vec<u8>, file: &ClassFile, classes: &[u16]) -> Result<(), AllocError>
-    ensures { OnOk result (text.new.items ≡ text.old.items ++ flat_map (λ i. operand (class_word (entries_of file.now.pool.items) i)) classes.now) }
+    ensures { OnOk result (text.new.items ≡ text.old.items ++ flat_map (λ i. operand (class_word file.now.pool i)) classes.now) }
 {
     'classes: for index in classes {
         push_class(text, file, *index)?;
@@ -44,7 +44,7 @@ fn push_implements(
     file: &ClassFile,
     interfaces: &[u16],
 ) -> Result<(), AllocError>
-    ensures { OnOk result (text.new.items ≡ text.old.items ++ implements (entries_of file.now.pool.items) interfaces.now) }
+    ensures { OnOk result (text.new.items ≡ text.old.items ++ implements file.now.pool interfaces.now) }
 {
     if interfaces.is_empty() {
         return Ok(());
@@ -72,7 +72,7 @@ pub(crate) fn field_line(
     file: &ClassFile,
     field: &Field,
 ) -> Result<Vec<u8>, AllocError>
-    ensures { IfOk result (λ text. text.items ≡ field_line (entries_of file.now.pool.items) (field_of field.now)) }
+    ensures { IfOk result (λ text. text.items ≡ field_line file.now.pool (field_of field.now)) }
 {
     let mut text = Vec::new(alloc);
     text.extend_from_slice(b"field ")?;
@@ -86,7 +86,7 @@ pub(crate) fn field_line(
 
 /// The line of a method, up to what is said of its code.
 fn push_method(text: &mut Vec<u8>, file: &ClassFile, method: &Method) -> Result<(), AllocError>
-    ensures { OnOk result (text.new.items ≡ text.old.items ++ method_head (entries_of file.now.pool.items) (method_of method.now)) }
+    ensures { OnOk result (text.new.items ≡ text.old.items ++ method_head file.now.pool (method_of method.now)) }
 {
     text.extend_from_slice(b"method ")?;
     push_utf8(text, file, method.name)?;
@@ -109,7 +109,7 @@ pub(crate) fn bare_method_line(
     file: &ClassFile,
     method: &Method,
 ) -> Result<Vec<u8>, AllocError>
-    ensures { IfOk result (λ text. text.items ≡ line (method_head (entries_of file.now.pool.items) (method_of method.now))) }
+    ensures { IfOk result (λ text. text.items ≡ line (method_head file.now.pool (method_of method.now))) }
 {
     let mut text = Vec::new(alloc);
     push_method(&mut text, file, method)?;
@@ -124,7 +124,7 @@ pub(crate) fn method_line(
     method: &Method,
     code: &Code,
 ) -> Result<Vec<u8>, AllocError>
-    ensures { IfOk result (λ text. text.items ≡ line (method_head (entries_of file.now.pool.items) (method_of method.now) ++ sizes (code_of code.now))) }
+    ensures { IfOk result (λ text. text.items ≡ line (method_head file.now.pool (method_of method.now) ++ sizes (code_of code.now))) }
 {
     let mut text = Vec::new(alloc);
     push_method(&mut text, file, method)?;
@@ -135,7 +135,7 @@ pub(crate) fn method_line(
 
 /// The class that a handler takes, behind a space.
 fn push_caught(text: &mut Vec<u8>, file: &ClassFile, catch_type: u16) -> Result<(), AllocError>
-    ensures { OnOk result (text.new.items ≡ text.old.items ++ operand (caught (entries_of file.now.pool.items) catch_type)) }
+    ensures { OnOk result (text.new.items ≡ text.old.items ++ operand (caught file.now.pool catch_type)) }
 {
     if catch_type == 0 {
         text.extend_from_slice(b" any")?;
@@ -150,7 +150,7 @@ pub(crate) fn catch_line(
     file: &ClassFile,
     entry: ExceptionEntry,
 ) -> Result<Vec<u8>, AllocError>
-    ensures { IfOk result (λ text. text.items ≡ catch_line (entries_of file.now.pool.items) entry) }
+    ensures { IfOk result (λ text. text.items ≡ catch_line file.now.pool entry) }
 {
     let mut text = Vec::new(alloc);
     text.extend_from_slice(b"catch ")?;

@@ -4,7 +4,7 @@ ghost use Rattle.std.specs.Prelude.{◌≡◌, ◌++◌, OnOk, option_map};
 ghost use Rattle.model.specs.Pool.{integer_of};
 ghost use Rattle.model.specs.Spelling.{entry_at};
 ghost use Rattle.model.specs.Listing.{operand, index_word, name_or_index, class_or_index, utf8_word, class_word, member_word, constant_word, element_word};
-ghost use Rattle.classfile.specs.View.{entries_of, reference_of};
+ghost use Rattle.constant_pool.specs.View.{reference_of};
 
 use crate::numbers::{push_number, push_signed};
 use classfile::{ClassFile, Constant, Reference};
@@ -29,14 +29,14 @@ fn push_name(text: &mut Vec<u8>, index: u16, name: Option<&[u8]>) -> Result<(), 
 
 /// The bytes of a Utf8.
 pub(crate) fn push_utf8(text: &mut Vec<u8>, file: &ClassFile, index: u16) -> Result<(), AllocError>
-    ensures { OnOk result (text.new.items ≡ text.old.items ++ utf8_word (entries_of file.now.pool.items) index) }
+    ensures { OnOk result (text.new.items ≡ text.old.items ++ utf8_word file.now.pool index) }
 {
     push_name(text, index, file.utf8(index))
 }
 
 /// The name of a Class, behind a space.
 pub(crate) fn push_class(text: &mut Vec<u8>, file: &ClassFile, index: u16) -> Result<(), AllocError>
-    ensures { OnOk result (text.new.items ≡ text.old.items ++ operand (class_word (entries_of file.now.pool.items) index)) }
+    ensures { OnOk result (text.new.items ≡ text.old.items ++ operand (class_word file.now.pool index)) }
 {
     text.push(b' ')?;
     push_name(text, index, file.class_name(index))
@@ -64,7 +64,7 @@ pub(crate) fn push_member(
 
 /// The bits of an Integer.
 fn integer(file: &ClassFile, index: u16) -> Option<u32>
-    ensures { result ≡ integer_of (entry_at (entries_of file.now.pool.items) index) }
+    ensures { result ≡ integer_of (entry_at file.now.pool index) }
 {
     match file.constant(index) {
         Some(Constant::Integer(bits)) => Some(*bits),
@@ -94,7 +94,7 @@ pub(crate) fn push_constant(
     file: &ClassFile,
     index: u16,
 ) -> Result<(), AllocError>
-    ensures { OnOk result (text.new.items ≡ text.old.items ++ operand (constant_word (entries_of file.now.pool.items) index)) }
+    ensures { OnOk result (text.new.items ≡ text.old.items ++ operand (constant_word file.now.pool index)) }
 {
     text.push(b' ')?;
     match integer(file, index) {

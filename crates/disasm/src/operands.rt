@@ -3,7 +3,6 @@
 ghost use Rattle.std.specs.Prelude.{◌≡◌, ◌++◌, OnOk};
 ghost use Rattle.model.specs.Report.{number, signed_number};
 ghost use Rattle.model.specs.Listing.{operand, operands, target};
-ghost use Rattle.classfile.specs.View.{entries_of};
 
 use crate::names::{push_class, push_constant, push_element, push_member};
 use crate::numbers::{push_number, push_signed, push_target};
@@ -41,7 +40,7 @@ pub(crate) fn push_operands(
     pc: usize,
     instr: Instr,
 ) -> Result<(), AllocError>
-    ensures { OnOk result (text.new.items ≡ text.old.items ++ operands (entries_of file.now.pool.items) code.now pc instr) }
+    ensures { OnOk result (text.new.items ≡ text.old.items ++ operands file.now.pool code.now pc instr) }
 {
     match instr {
         Instr::Const(value) => push_signed_operand(text, value),

@@ -3,7 +3,7 @@
 ghost use Rattle.std.specs.Prelude.{Some};
 
 use crate::list;
-use classfile::{ClassFile, Code, Constant, Field, Method, MethodAttribute, decode};
+use classfile::{ClassFile, Code, Constant, Field, Method, MethodAttribute, Pool, decode};
 use model::{DeviceFault, ExceptionEntry, Sink};
 use std::alloc::{AllocError, Global};
 use std::test::Fail;
@@ -121,7 +121,7 @@ fn interface(alloc: Global) -> Result<ClassFile, AllocError> {
         attributes: Vec::new(alloc),
     };
     Ok(ClassFile {
-        pool: vec![in alloc;
+        pool: Pool::new(vec![in alloc;
             Constant::Utf8(b"p/I".to_vec(alloc)?),
             Constant::Class { name: 1 },
             Constant::Utf8(b"java/lang/Object".to_vec(alloc)?),
@@ -132,7 +132,7 @@ fn interface(alloc: Global) -> Result<ClassFile, AllocError> {
             Constant::Utf8(b"()V".to_vec(alloc)?),
             Constant::Integer(0xffff_ffff),
             Constant::String { text: 5 },
-        ]?,
+        ]?),
         flags: 0x0601,
         this_class: 2,
         super_class: 4,

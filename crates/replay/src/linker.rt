@@ -5,7 +5,8 @@ ghost use Rattle.model.specs.Tree.{FileTree};
 ghost use Rattle.model.specs.Pool.{integer_of, integers_of};
 ghost use Rattle.model.specs.Classes.{name_of};
 ghost use Rattle.model.specs.Spells.{Spells};
-ghost use Rattle.classfile.specs.View.{entry_of, entries_of, code_of, file_of};
+ghost use Rattle.constant_pool.specs.View.{entry_of, entries_of};
+ghost use Rattle.classfile.specs.View.{code_of, file_of};
 ghost use Rattle.replay.specs.Linking.{Links, IsAccepted, IsNoClassFile, MayRefuse, declared_main};
 
 use crate::builtin::is_built_in;
@@ -61,10 +62,10 @@ fn class_name(file: &ClassFile) -> &[u8]
 /// What main needs at each step.
 fn method_code(alloc: Global, file: &ClassFile, code: &Code) -> Result<MethodCode, AllocError>
     requires { length code.now.code.items < 2 ^ 16 }
-    ensures { IfOk result (λ m. m ≡ record { code = code.now.code.items; integers = integers_of (entries_of file.now.pool.items); max_stack = code.now.max_stack }) }
+    ensures { IfOk result (λ m. m ≡ record { code = code.now.code.items; integers = integers_of file.now.pool; max_stack = code.now.max_stack }) }
 {
     let bytes = Vec::from_slice(alloc, &code.code)?;
-    Ok(MethodCode::new(bytes, integers(alloc, &file.pool)?, code.max_stack))
+    Ok(MethodCode::new(bytes, integers(alloc, file.pool.constants())?, code.max_stack))
 }
 
 /// The class file that bytes are, or why the file with this number is refused.

@@ -3,13 +3,12 @@ use Rattle.std.specs.List.{list_all}
 use Rattle.std.proofs.lemmas.List.{take_all}
 use Rattle.std.proofs.lemmas.List.Folds.{list_all-map, list_all_at}
 use Rattle.std.proofs.lemmas.Result.{err_from_is_err_and}
-use Rattle.classfile.specs.View.{entries_of}
 use Rattle.classfile.proofs.check.check_each.Goals as goal
 
 pub returns-in_err-check : goal.returns-in_err-check
 returns-in_err-check g c =
     let parts = c.args.parts.now in
-    let met = g.T.Checked.is_met (entries_of c.args.pool.now) in
+    let met = g.T.Checked.is_met c.args.pool.now in
     let view = g.T.Checked.view in
     let p = err_from_is_err_and c.from_residual.result c.from_residual.ensures.1 in
     let here : met (view c.part-item.result) ≡ false = c.in_err-check.ensures.0 in
@@ -19,6 +18,6 @@ returns-in_err-check g c =
 pub returns : goal.returns
 returns g c =
     let parts = c.args.parts.now in
-    let met = g.T.Checked.is_met (entries_of c.args.pool.now) in
+    let met = g.T.Checked.is_met c.args.pool.now in
     let whole : take c.parts.part-index parts ≡ parts = take_all c.parts.part-index parts c.parts-test.false in
     list_all-map met g.T.Checked.view parts ∙ subst (λ l. list_all (λ x. met (g.T.Checked.view x)) l ≡ true) whole c.parts.invariant

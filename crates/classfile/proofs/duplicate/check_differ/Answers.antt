@@ -2,13 +2,13 @@ use Rattle.std.proofs.Common.{◌≡◌, ◌∙◌, ◌||◌, sym, ap, subst, re
 use Rattle.std.specs.List.{list_any}
 use Rattle.model.specs.Pool as mirror
 use Rattle.model.specs.Conditions.{is_same}
-use Rattle.classfile.specs.View.{entries_of, name_and_descriptor_of}
+use Rattle.constant_pool.specs.View.{name_and_descriptor_of}
 use Rattle.classfile.proofs.Differ.{is_same_sym, more_differ, more_any, found_again, not_false, not_true, cond_or}
 use Rattle.classfile.proofs.duplicate.check_differ.Goals as goal
 
 pub returns-then-not-branch : goal.returns-then-not-branch
 returns-then-not-branch g c =
-    let named = g.T.Member.named (entries_of c.args.pool.now) in
+    let named = g.T.Member.named c.args.pool.now in
     let key = c.named.result in
     let is : name_and_descriptor_of key ≡ named (get_or c.args.members.now c.members.member-index c.member-item.result) = c.named.ensures ∙ ap named c.member-item.is in
     let before = map named (take c.members.member-index c.args.members.now) in
@@ -18,7 +18,7 @@ returns-then-not-branch g c =
 
 pub members-preserved : goal.members-preserved
 members-preserved g c =
-    let named = g.T.Member.named (entries_of c.args.pool.now) in
+    let named = g.T.Member.named c.args.pool.now in
     let key = c.named.result in
     let members = c.args.members.now in
     let i = c.members.member-index in

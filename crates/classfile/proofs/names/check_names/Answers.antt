@@ -3,16 +3,15 @@ use Rattle.std.specs.List.{list_all}
 use Rattle.std.proofs.lemmas.List.{map-id}
 use Rattle.reading.specs.declared.fault.Cause.TheVariants as causes
 use Rattle.model.specs.Conditions.{entry_names, names_no_array}
-use Rattle.classfile.specs.View.{entries_of}
 use Rattle.classfile.proofs.Both.{met_first}
 use Rattle.classfile.proofs.names.check_names.Goals as goal
 
 pub returns : goal.returns
 returns c =
     let file = c.args.file.now in
-    let pool = entries_of file.pool.items in
-    let entries : list_all (entry_names pool) pool ≡ true = rw c.as_slice-pool.ensures.value at c.in_ok-behind.ensures in
-    let this : names_no_array pool file.this_class ≡ true = rw c.as_slice-pool.ensures.value at c.in_ok-class.ensures in
-    let super : names_no_array pool file.super_class ≡ true = rw c.as_slice-pool.ensures.value at c.in_ok-class-2.ensures in
-    let interfaces : list_all (names_no_array pool) file.interfaces.items ≡ true = rw (c.as_slice-pool.ensures.value, c.deref.ensures.value, map-id) at c.in_ok-behind-2.ensures in
+    let pool = file.pool in
+    let entries : list_all (entry_names pool) pool ≡ true = c.in_ok-check_names.ensures in
+    let this : names_no_array pool file.this_class ≡ true = c.in_ok-class.ensures in
+    let super : names_no_array pool file.super_class ≡ true = c.in_ok-class-2.ensures in
+    let interfaces : list_all (names_no_array pool) file.interfaces.items ≡ true = rw (c.deref.ensures.value, map-id) at c.in_ok-behind.ensures in
     met_first causes.Name c.check_members.result _ _ entries (met_first causes.Name c.check_members.result _ _ this (met_first causes.Name c.check_members.result _ _ super (met_first causes.Name c.check_members.result _ _ interfaces c.check_members.ensures)))

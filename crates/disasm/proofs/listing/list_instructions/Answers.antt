@@ -5,7 +5,6 @@ use Rattle.std.proofs.lemmas.Result.{err_from_is_err_and}
 use Rattle.model.specs.Devices.{AppendsFront}
 use Rattle.model.specs.Listing.{instruction_line, lines_at}
 use Rattle.model.specs.InstructionStarts.{is_start}
-use Rattle.classfile.specs.View.{entries_of}
 use Rattle.disasm.proofs.Writing.{number_fails, number_written}
 use Rattle.disasm.proofs.listing.list_instructions.Goals as goal
 
@@ -13,7 +12,7 @@ pub returns-in_err-list_at-clause-written : goal.returns-in_err-list_at-clause-w
 returns-in_err-list_at-clause-written g c =
     let p = err_from_is_err_and c.from_residual-in_err-list_at.result c.from_residual-in_err-list_at.ensures.1 in
     let contents = g.W.Sink.contents in
-    let pool = entries_of c.args.file.now.pool.items in
+    let pool = c.args.file.now.pool in
     let code = c.args.code.now in
     let pc = c.offsets.pc in
     let begins : c.is_marked.result ≡ is_start code pc = c.is_marked.ensures ∙ ap (λ (l : List Bool). slice_index_or l pc false) (c.deref.ensures.value ∙ c.in_ok-starts.ensures.marks) in
@@ -24,7 +23,7 @@ returns-in_err-list_at-clause-written g c =
 pub offsets-preserved : goal.offsets-preserved
 offsets-preserved g c =
     let contents = g.W.Sink.contents in
-    let pool = entries_of c.args.file.now.pool.items in
+    let pool = c.args.file.now.pool in
     let code = c.args.code.now in
     let pc = c.offsets.pc in
     let begins : c.is_marked.result ≡ is_start code pc = c.is_marked.ensures ∙ ap (λ (l : List Bool). slice_index_or l pc false) (c.deref.ensures.value ∙ c.in_ok-starts.ensures.marks) in

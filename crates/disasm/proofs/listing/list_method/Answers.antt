@@ -4,7 +4,7 @@ use Rattle.model.specs.Report.{line}
 use Rattle.std.proofs.Common.{◌++◌}
 use Rattle.model.specs.Classes.{code_in}
 use Rattle.model.specs.Listing.{method_head, sizes, code_lines}
-use Rattle.classfile.specs.View.{entries_of, code_of, method_of, method_part_of}
+use Rattle.classfile.specs.View.{code_of, method_of, method_part_of}
 use Rattle.disasm.proofs.Writing.{first_fails, then_writes}
 use Rattle.disasm.proofs.listing.list_method.Goals as goal
 
@@ -12,7 +12,7 @@ pub returns-in_err-write_line-clause-written : goal.returns-in_err-write_line-cl
 returns-in_err-write_line-clause-written g c =
     let p = err_from_is_err_and c.from_residual.result c.from_residual.ensures.1 in
     let contents = g.W.Sink.contents in
-    let pool = entries_of c.args.file.now.pool.items in
+    let pool = c.args.file.now.pool in
     let code = code_of c.in-Some.code.now in
     let head = line (method_head pool (method_of c.args.method.now) ++ sizes code) in
     let found : code_in (map method_part_of c.args.method.now.attributes.items) ≡ Some code = sym c.in-Some.ensures in
@@ -21,7 +21,7 @@ returns-in_err-write_line-clause-written g c =
 pub returns-clause-written : goal.returns-clause-written
 returns-clause-written g c =
     let contents = g.W.Sink.contents in
-    let pool = entries_of c.args.file.now.pool.items in
+    let pool = c.args.file.now.pool in
     let code = code_of c.in-Some.code.now in
     let head = line (method_head pool (method_of c.args.method.now) ++ sizes code) in
     let found : code_in (map method_part_of c.args.method.now.attributes.items) ≡ Some code = sym c.in-Some.ensures in

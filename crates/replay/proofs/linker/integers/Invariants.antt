@@ -1,6 +1,6 @@
 use Rattle.std.proofs.Common.{◌≡◌, take}
 use Rattle.model.specs.Pool.{integers_of}
-use Rattle.classfile.specs.View.{entries_of}
+use Rattle.constant_pool.specs.View.{entries_of}
 use Rattle.replay.proofs.linker.integers.Given as goal
 
 abbrev pub invariant-loop-constant : goal.invariant-loop-constant

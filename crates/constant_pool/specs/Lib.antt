@@ -1,0 +1,5 @@
+pub mod View
+pub mod Checking
+pub mod Lengths
+pub mod PoolReading
+pub mod PoolLayout

@@ -1,0 +1,20 @@
+//! The constant pool of a class file (JVMS 4.4): its entries, what an index names, and the conditions on it.
+#![tactic(auto)]
+
+mod condition;
+mod constant;
+mod descriptor;
+mod index;
+mod lookup;
+mod name;
+mod pool;
+mod read;
+#[cfg(test)]
+mod tests;
+
+pub use constant::Constant;
+pub use lookup::{NameAndDescriptor, Reference};
+pub use name::is_method_name;
+pub use pool::Pool;
+pub use read::read_pool;
+pub use reading::{Cause, Malformed};
