@@ -81,7 +81,11 @@ fn read_class_files<S: Source>(alloc: Global, files: &mut [S]) -> Result<Vec<Vec
 }
 
 /// The bytes of the class file with this number.
-pub(crate) fn read_class_file<S: Source>(alloc: Global, file: &mut S, number: usize) -> Result<Vec<u8>, Fault>
+pub(crate) fn read_class_file<S: Source>(
+    alloc: Global,
+    file: &mut S,
+    number: usize,
+) -> Result<Vec<u8>, Fault>
     ensures read { IfOk result (λ bytes. Reads (S.remaining file.old) bytes.items) }
     ensures faulty { IfErr result (λ fault. (left : _) (lefts : _) (options : _) (sink : _)
         → IsFaulty left lefts options sink sink fault) }
@@ -140,4 +144,4 @@ fn replayed(
 #[cfg(test)]
 mod programs;
 #[cfg(test)]
-mod tests;
+pub(crate) mod tests;

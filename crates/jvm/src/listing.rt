@@ -68,3 +68,6 @@ fn refusal(fault: Malformed) -> Refusal
         },
     }
 }
+
+#[cfg(test)]
+mod tests;
