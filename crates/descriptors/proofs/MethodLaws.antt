@@ -1,8 +1,8 @@
 -- Descriptors of methods: what is parsed is spelled so, and what is spelled so is parsed.
-use Rattle.std.proofs.Common.{◌≡◌, ℕ, zero, suc, ◌+◌, ◌≤◌, Bool, true, false, ◌&&◌, cond, eqb, leb, List, [], ◌∷◌, ◌++◌, length, replicate, Option, Some, None, refl, sym, ap, subst, ◌∙◌, append_assoc, arith}
+use Rattle.std.proofs.Common.{◌≡◌, ℕ, zero, suc, ◌+◌, ◌≤◌, Bool, true, false, ◌&&◌, cond, eqb, leb, List, [], ◌∷◌, ◌++◌, length, replicate, Option, Some, None, refl, sym, ap, subst, ◌∙◌, append_assoc, arith, get_or, ◌<◌}
 use Rattle.std.specs.Prelude.{IfSome, is_some, option_map}
 use Rattle.std.specs.List.{flat_map, sum_by, AllByRecursion}
-use Rattle.std.proofs.lemmas.Bool.{eqb-true, leb-true, le-leb}
+use Rattle.std.proofs.lemmas.Bool.{eqb-true, ne_eqb, leb-true, le-leb}
 use Rattle.std.proofs.lemmas.List.{append-nil, nil_from_length}
 use Rattle.std.proofs.lemmas.List.Concat.{flat_map-cons}
 use Rattle.std.proofs.lemmas.List.Sums.{sum_by-cons}
@@ -27,6 +27,27 @@ chosen {b = false} on off e = off refl e
 
 none_some : {A G : Type 0} (x : A) → ◌≡◌ {A = Option A} None (Some x) → G
 none_some x e = absurd cc
+
+-- ---- a loop over the parameters
+
+-- types, and behind them those that are read
+abbrev pub behind : List FieldType → Option (List FieldType × List ℕ) → Option (List FieldType × List ℕ)
+behind front None = None
+behind front (Some p) = Some (front ++ p.0, p.1)
+
+behind_more : (front : List FieldType) (f : FieldType) (q : Option (List FieldType × List ℕ)) → behind (front ++ f ∷ []) q ≡ behind front (◌>>=◌ {B = List FieldType × List ℕ} q (λ o. Some (f ∷ o.0, o.1)))
+behind_more front f None = refl
+behind_more front f (Some p) = ap (λ (l : List FieldType). given (l, p.1)) (append_assoc front (f ∷ []) p.0)
+
+-- one type is read, and the others follow
+pub behind_step : (front : List FieldType) (left less : ℕ) (bytes : List ℕ) (f : FieldType) (after : List ℕ) (whole : Option (List FieldType × List ℕ)) → left ≡ suc less → 0 < length bytes → (get_or bytes 0 0 ≡ 41 → ⊥) → field_at bytes ≡ Some (f, after)
+    → behind front (parameters_at left bytes) ≡ whole → behind (front ++ f ∷ []) (parameters_at less after) ≡ whole
+unfolding parameters_at
+behind_step front left less [] f after whole is some goes_on read h = absurd (omega (arith, some))
+behind_step front left less (b ∷ bytes) f after whole is some goes_on read h =
+    let other : eqb b 41 ≡ false = ne_eqb b 41 goes_on in
+    let step : parameters_at (suc less) (b ∷ bytes) ≡ ◌>>=◌ {B = List FieldType × List ℕ} (parameters_at less after) (λ o. Some (f ∷ o.0, o.1)) = rw (other, read) refl in
+    behind_more front f (parameters_at less after) ∙ ap (behind front) (sym step ∙ ap (λ (n : ℕ). parameters_at n (b ∷ bytes)) (sym is)) ∙ h
 
 -- ---- slots
 
@@ -229,3 +250,12 @@ found_slots text r h = slots_found text r (method_type text) refl (h ∙ scan_is
 
 pub only_slots : (text : List ℕ) (r : Option ℕ) → r ≡ scan text → (m : MethodType) → IsMethod text m → r ≡ Some (parameter_slots m)
 only_slots text r h m is = h ∙ scan_is text ∙ rw (method_again text m is) refl
+
+-- ---- what parsing promises, from what reading gives
+
+pub found_method : (text : List ℕ) (r : Option MethodType) → r ≡ method_type text → IfSome r (λ m. IsMethod text m)
+found_method text (Some m) h = method_takes text m (sym h)
+found_method text None h = tt
+
+pub only_method : (text : List ℕ) (r : Option MethodType) → r ≡ method_type text → (m : MethodType) → IsMethod text m → r ≡ Some m
+only_method text r h m is = h ∙ method_again text m is

@@ -8,5 +8,5 @@ mod name;
 mod tests;
 
 pub use field::{Element, Field, parse_field};
-pub use method::method_slots;
+pub use method::{Method, method_slots, parse_method};
 pub use name::{is_class_name, is_unqualified_name};

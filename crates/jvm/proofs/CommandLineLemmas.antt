@@ -1,5 +1,5 @@
 -- What the parser found, and the values of a command.
-use Rattle.std.proofs.Common.{◌≡◌, ℕ, ◌≤◌, List, Option, None, Some, option_map, unwrap_or, [], true, codes, inl, refl, sym, ap, subst, ◌∙◌, Box, Global}
+use Rattle.std.proofs.Common.{◌≡◌, ℕ, ◌≤◌, List, Option, None, Some, option_map, unwrap_or, get_or, eqb, [], true, false, codes, inl, refl, sym, ap, subst, ◌∙◌, Box, Global}
 use Rattle.std.specs.Box.{box_value}
 use Rattle.std.specs.Str.Parse.{IsNumeral, digits_value}
 use Rattle.clap.proofs.OnLiterals.{clap_on_literals}
@@ -8,11 +8,12 @@ use Rattle.clap.specs.Words.{HasMatchesOf, Row, Text, all_of, first_of, first_va
 use Rattle.clap.specs.declared.parser.matches.ArgMatches.{ArgMatches}
 use Rattle.clap.specs.declared.parser.matches.ArgMatches.TheViews.{out-ArgMatches, out-SubCommand}
 use Rattle.clap.specs.declared.parser.matches.SubCommand.{SubCommand}
-use Rattle.jvm.specs.CommandLine.{AreValues, IsNumber, Refuses, Spells, SpellsNothing, jvm}
+use Rattle.jvm.specs.CommandLine.{AreValues, IsFile, IsNumber, Refuses, Spells, SpellsNothing, jvm}
 use Rattle.jvm.specs.declared.command.Usage.{Usage}
 use Rattle.jvm.specs.declared.command.Usage.TheVariants.{Parser, OutOfMemory}
 use Rattle.jvm.specs.declared.options.Command.{Command}
 use Rattle.jvm.specs.declared.options.Command.TheVariants as commands
+use Rattle.jvm.specs.declared.options.Disasm.{Disasm}
 use Rattle.jvm.specs.declared.options.Replay.{Replay}
 
 pub refuses : (usage : Usage) (reason : Type 0) → reason → Refuses usage reason
@@ -63,17 +64,42 @@ both_of (Some (x, y)) a b first second = cc
 pub rows_met : (matches : ArgMatches) (words : List Text) (name : Text) (rows : List Row) → HasMatchesOf jvm words matches → subcommand_name_of matches ≡ Some name → option_map (λ p. p.1) (subcommand_rows_of matches) ≡ Some rows → subcommand_of jvm words ≡ Some (name, rows)
 rows_met matches words name rows has met rows_are = sym (has is_simple_jvm).1 ∙ both_of (subcommand_rows_of matches) name rows (named_rows matches ∙ met) rows_are
 
--- where no subcommand has the name, the words spell no command
-pub spells_none : (matches : ArgMatches) (words : List Text) → HasMatchesOf jvm words matches → (subcommand_name_of matches ≡ Some (codes "replay") → ⊥) → (command : Command) → Spells words command → ⊥
-spells_none matches words has none (commands.Replay replay) spelled =
-    none (sym (named_rows matches) ∙ ap (option_map (λ p. p.0)) ((has is_simple_jvm).1 ∙ spelled.1))
+-- where no subcommand is met, the words spell no command
+pub spells_none : (matches : ArgMatches) (words : List Text) → HasMatchesOf jvm words matches → (subcommand_name_of matches ≡ Some (codes "replay") → ⊥) → (subcommand_name_of matches ≡ Some (codes "disasm") → ⊥) → (command : Command) → Spells words command → ⊥
+spells_none matches words has no_replay no_disasm (commands.Replay replay) spelled =
+    no_replay (sym (named_rows matches) ∙ ap (option_map (λ p. p.0)) ((has is_simple_jvm).1 ∙ spelled.1))
+spells_none matches words has no_replay no_disasm (commands.Disasm disasm) spelled =
+    no_disasm (sym (named_rows matches) ∙ ap (option_map (λ p. p.0)) ((has is_simple_jvm).1 ∙ spelled.1))
+
+-- the first byte of the name of a subcommand
+first_byte : Option (Text × List Row) → ℕ
+first_byte met = get_or (unwrap_or (option_map (λ p. p.0) met) []) 0 0
+
+rows_in : Option (Text × List Row) → List Row
+rows_in met = unwrap_or (option_map (λ p. p.1) met) []
 
 -- where the rows are those of no command, the words spell none
-pub spells_other : (words : List Text) (rows : List Row) → subcommand_of jvm words ≡ Some (codes "replay", rows) → ((replay : Replay) → AreValues rows replay → ⊥) → (command : Command) → Spells words command → ⊥
-spells_other words rows met none (commands.Replay replay) spelled =
+pub spells_other_replay : (words : List Text) (rows : List Row) → subcommand_of jvm words ≡ Some (codes "replay", rows) → ((replay : Replay) → AreValues rows replay → ⊥) → (command : Command) → Spells words command → ⊥
+unfolding first_byte rows_in
+spells_other_replay words rows met none (commands.Replay replay) spelled =
     let same : Some (codes "replay", rows) ≡ Some (codes "replay", spelled.0) = sym met ∙ spelled.1 in
-    let rows_are : rows ≡ spelled.0 = ap (λ pair. unwrap_or (option_map (λ p. p.1) pair) []) same in
+    let rows_are : rows ≡ spelled.0 = ap rows_in same in
     none replay (subst (λ r. AreValues r replay) (sym rows_are) spelled.2)
+spells_other_replay words rows met none (commands.Disasm disasm) spelled =
+    let same : Some (codes "replay", rows) ≡ Some (codes "disasm", spelled.0) = sym met ∙ spelled.1 in
+    let bad : true ≡ false = ap (λ met. eqb (first_byte met) 114) same in
+    cc
+
+pub spells_other_disasm : (words : List Text) (rows : List Row) → subcommand_of jvm words ≡ Some (codes "disasm", rows) → ((disasm : Disasm) → IsFile rows disasm → ⊥) → (command : Command) → Spells words command → ⊥
+unfolding first_byte rows_in
+spells_other_disasm words rows met none (commands.Disasm disasm) spelled =
+    let same : Some (codes "disasm", rows) ≡ Some (codes "disasm", spelled.0) = sym met ∙ spelled.1 in
+    let rows_are : rows ≡ spelled.0 = ap rows_in same in
+    none disasm (subst (λ r. IsFile r disasm) (sym rows_are) spelled.2)
+spells_other_disasm words rows met none (commands.Replay replay) spelled =
+    let same : Some (codes "disasm", rows) ≡ Some (codes "replay", spelled.0) = sym met ∙ spelled.1 in
+    let bad : true ≡ false = ap (λ met. eqb (first_byte met) 100) same in
+    cc
 
 pub refuses_more : (usage : Usage) (reason other : Type 0) → (reason → other) → Refuses usage reason → Refuses usage other
 refuses_more OutOfMemory reason other on known = tt

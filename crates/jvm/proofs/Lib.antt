@@ -1,3 +1,4 @@
 pub mod CommandLineLemmas
 pub mod DeviceLemmas
 pub mod EngineLemmas
+pub mod ListingLemmas

@@ -11,6 +11,7 @@ use Rattle.jvm.specs.declared.command.Usage.{Usage}
 use Rattle.jvm.specs.declared.command.Usage.TheVariants.{Parser, OutOfMemory}
 use Rattle.jvm.specs.declared.options.Command.{Command}
 use Rattle.jvm.specs.declared.options.Command.TheVariants as commands
+use Rattle.jvm.specs.declared.options.Disasm.{Disasm}
 use Rattle.jvm.specs.declared.options.LimitOptions.{LimitOptions}
 use Rattle.jvm.specs.declared.options.Replay.{Replay}
 
@@ -52,11 +53,25 @@ with_limits app = with_rule (with_rule (with_rule (with_rule (with_rule app
 abbrev pub jvm_replay : App
 jvm_replay = with_rule (with_limits (with_rule (new_app (codes "replay")) schedule_option)) class_files
 
+-- `FILE`, which has to be there
+abbrev pub class_file : Rule
+class_file = record (new_rule (codes "file")) {
+  value_names = 1;
+  required = true;
+  action = Some Set;
+}
+
+abbrev pub jvm_disasm : App
+jvm_disasm = with_rule (new_app (codes "disasm")) class_file
+
 abbrev pub without_help_subcommand : Shape → Shape
 without_help_subcommand shape = record shape { disable_help_subcommand = true; subcommand_required = true }
 
 abbrev pub jvm : App
-jvm = with_subcommand (record (new_app (codes "jvm")) { top = without_help_subcommand (new_app (codes "jvm")).top }) jvm_replay.top
+jvm = with_subcommand (with_subcommand
+    (record (new_app (codes "jvm")) { top = without_help_subcommand (new_app (codes "jvm")).top })
+    jvm_replay.top)
+    jvm_disasm.top
 
 -- no argument of the parser is one of its subcommands' too
 abbrev pub IsLocal : parser.Command → Type 0
@@ -82,9 +97,14 @@ pub record AreValues (rows : List Row) (replay : Replay) : Type 0 where
   pub limits : AreLimitNumbers rows replay.limits
   pub files : all_of (codes "files") rows ≡ Some (map string_bytes replay.files.items)
 
+-- the value that the words give to `jvm disasm`
+abbrev pub IsFile : List Row → Disasm → Type 0
+IsFile rows disasm = first_of (codes "file") rows ≡ Some (string_bytes disasm.file)
+
 -- the words, the program's name first, spell the command
 abbrev pub Spells : List Text → Command → Type 0
 Spells words (commands.Replay replay) = (rows : List Row) × (subcommand_of jvm words ≡ Some (codes "replay", rows)) × AreValues rows replay
+Spells words (commands.Disasm disasm) = (rows : List Row) × (subcommand_of jvm words ≡ Some (codes "disasm", rows)) × IsFile rows disasm
 
 -- memory apart, there is no command because this holds
 abbrev pub Refuses : Usage → Type 0 → Type 0

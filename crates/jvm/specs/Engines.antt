@@ -13,6 +13,7 @@ use Rattle.jvm.specs.Choices.{AreChosen}
 use Rattle.jvm.specs.Statuses.{status_of}
 use Rattle.jvm.specs.declared.options.LimitOptions.{LimitOptions}
 use Rattle.model.specs.declared.end.End.{End}
+use Rattle.replay.specs.declared.refusal.Refusal.{Refusal}
 use Rattle.replay.specs.declared.refusal.RefusalKind.TheVariants as kinds
 use Rattle.schedule.specs.declared.fault.ScheduleFault.TheVariants as schedules
 use Rattle.jvm.specs.declared.fault.Fault.{Fault}
@@ -73,12 +74,16 @@ IsOfSchedule faults.Memory = ⊥
 IsOfSchedule (faults.Schedule fault) = Unit {0}
 IsOfSchedule (faults.Refusal refusal) = ⊥
 
--- the fault is a device's, or of the class file with this number
+-- there is no memory for the class file with this number
+abbrev pub no_memory : ℕ → Refusal
+no_memory number = record { kind = kinds.OutOfMemory; file = Some number; method = None; offset = None; cause = None }
+
+-- the class file with this number can't be read: its device failed, or there is no memory for it
 abbrev pub IsOfFile : ℕ → Fault → Type 0
 IsOfFile number faults.Device = Unit {0}
 IsOfFile number faults.Memory = ⊥
 IsOfFile number (faults.Schedule fault) = ⊥
-IsOfFile number (faults.Refusal refusal) = refusal.file ≡ Some number
+IsOfFile number (faults.Refusal refusal) = refusal ≡ no_memory number
 
 -- a failure is counted with the fault Device, and with no other
 abbrev pub CountsWith : Fault → ℕ → ℕ → Type 0

@@ -5,11 +5,11 @@ ghost use Rattle.std.specs.Option.{SomeIff};
 ghost use Rattle.clap.specs.Words.{all_of, app_of, first_of, found_of, kind_of, rows_of, rule_of};
 ghost use Rattle.clap.specs.declared.error.kind.ErrorKind.TheVariants.{OutOfMemory as no_memory};
 ghost use Rattle.jvm.specs.declared.command.Usage.TheVariants.{OutOfMemory};
-ghost use Rattle.jvm.specs.CommandLine.{AreLimitNumbers, AreValues, IsLocal, IsNumber, Refuses, Spells, SpellsNothing, class_files, jvm, jvm_replay, number_option, with_limits as limited};
+ghost use Rattle.jvm.specs.CommandLine.{AreLimitNumbers, AreValues, IsFile, IsLocal, IsNumber, Refuses, Spells, SpellsNothing, class_files, class_file, jvm, jvm_disasm, jvm_replay, number_option, with_limits as limited};
 ghost use Rattle.std.specs.Str.Parse.{IsNumeral, digits_value};
 
 use crate::options;
-use crate::options::{LimitOptions, Replay};
+use crate::options::{Disasm, LimitOptions, Replay};
 use clap::builder::ValueParser;
 use clap::error::ErrorKind;
 use clap::{Arg, ArgAction, ArgMatches};
@@ -166,8 +166,11 @@ pub fn command(alloc: Global, words: &[String]) -> Result<options::Command, Usag
     ensures refused { IfErr result (λ usage. Refuses usage (SpellsNothing (map string_bytes words.now))) }
 {
     let matches = program(alloc)?.try_get_matches_from(words)?;
-    match matches.subcommand_matches("replay") {
-        Some(replay) => Ok(options::Command::Replay(replay_of(alloc, replay)?)),
+    if let Some(replay) = matches.subcommand_matches("replay") {
+        return Ok(options::Command::Replay(replay_of(alloc, replay)?));
+    }
+    match matches.subcommand_matches("disasm") {
+        Some(disasm) => Ok(options::Command::Disasm(disasm_of(alloc, disasm)?)),
         None => Err(missing(alloc, "a subcommand is missing")?),
     }
 }
@@ -194,6 +197,19 @@ fn replay_of(alloc: Global, matches: &ArgMatches<'_>) -> Result<Replay, Usage>
         limits,
         files,
     })
+}
+
+fn disasm_of(alloc: Global, matches: &ArgMatches<'_>) -> Result<Disasm, Usage>
+    ensures file { IfOk result (IsFile (rows_of (found_of matches.now))) }
+    ensures none { IfErr result (λ usage. Refuses usage ((disasm : _)
+        → IsFile (rows_of (found_of matches.now)) disasm → ⊥)) }
+{
+    match matches.get_str("file") {
+        Some(path) => Ok(Disasm {
+            file: String::from_str(alloc, path)?,
+        }),
+        None => Err(missing(alloc, "the class file is missing")?),
+    }
 }
 
 fn limits_of(alloc: Global, matches: &ArgMatches<'_>) -> Result<LimitOptions, Usage>
@@ -239,10 +255,11 @@ fn program<'a>(alloc: Global) -> Result<clap::Command<'a>, clap::Error>
     ensures err { IfErr result (λ error. kind_of error ≡ no_memory) }
 {
     let program = clap::Command::new(alloc, "jvm")
-        .about("Runs Java class files under a schedule")
+        .about("Runs Java class files under a schedule, and lists them")
         .disable_help_subcommand(true)
         .subcommand_required(true)
-        .subcommand(replay_parser(alloc)?)?;
+        .subcommand(replay_parser(alloc)?)?
+        .subcommand(disasm_parser(alloc)?)?;
     Ok(program)
 }
 
@@ -259,6 +276,19 @@ fn replay_parser<'a>(alloc: Global) -> Result<clap::Command<'a>, AllocError>
         .about("Runs class files under the schedule of a file")
         .arg(schedule)?;
     with_limits(alloc, replay)?.arg(files_argument(alloc))
+}
+
+fn disasm_parser<'a>(alloc: Global) -> Result<clap::Command<'a>, AllocError>
+    ensures { IfOk result (λ disasm. (app_of disasm ≡ jvm_disasm) × IsLocal disasm) }
+{
+    let file = Arg::new(alloc, "file")
+        .value_name("FILE")
+        .required(true)
+        .action(ArgAction::Set)
+        .help("The class file");
+    clap::Command::new(alloc, "disasm")
+        .about("Lists a class file")
+        .arg(file)
 }
 
 /// The class files, one or more.

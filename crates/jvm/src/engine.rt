@@ -3,7 +3,7 @@
 ghost use Rattle.std.specs.Prelude.{◌≡◌, ◌+◌, Some, None, IfOk, IfErr, map, sum_by, vec_items};
 ghost use Rattle.std.specs.Arc.{arc_value};
 ghost use Rattle.std.specs.Io.KnownBytes.{Appends};
-ghost use Rattle.jvm.specs.Engines.{Reads, ReadsEach, Replays, IsReplayed, IsFaulty, IsOfFile, IsOfSchedule, CountsFailure};
+ghost use Rattle.jvm.specs.Engines.{Reads, ReadsEach, Replays, IsReplayed, IsFaulty, IsOfFile, IsOfSchedule, CountsFailure, no_memory};
 ghost use Rattle.model.specs.Schedule.{ScheduleFile, events_of};
 ghost use Rattle.replay.specs.Linking.{IsAccepted};
 
@@ -81,7 +81,11 @@ fn read_class_files<S: Source>(alloc: Global, files: &mut [S]) -> Result<Vec<Vec
 }
 
 /// The bytes of the class file with this number.
-fn read_class_file<S: Source>(alloc: Global, file: &mut S, number: usize) -> Result<Vec<u8>, Fault>
+pub(crate) fn read_class_file<S: Source>(
+    alloc: Global,
+    file: &mut S,
+    number: usize,
+) -> Result<Vec<u8>, Fault>
     ensures read { IfOk result (λ bytes. Reads (S.remaining file.old) bytes.items) }
     ensures faulty { IfErr result (λ fault. (left : _) (lefts : _) (options : _) (sink : _)
         → IsFaulty left lefts options sink sink fault) }
@@ -96,9 +100,8 @@ fn read_class_file<S: Source>(alloc: Global, file: &mut S, number: usize) -> Res
 }
 
 /// That there is no memory for a class file.
-fn out_of_memory(file: usize) -> Refusal
-    ensures kind { result.kind ≡ RefusalKind.OutOfMemory }
-    ensures file { result.file ≡ Some file }
+pub(crate) fn out_of_memory(file: usize) -> Refusal
+    ensures { result ≡ no_memory file }
 {
     Refusal {
         kind: RefusalKind::OutOfMemory,
@@ -141,4 +144,4 @@ fn replayed(
 #[cfg(test)]
 mod programs;
 #[cfg(test)]
-mod tests;
+pub(crate) mod tests;

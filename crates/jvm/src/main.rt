@@ -6,6 +6,7 @@ mod device;
 mod engine;
 mod fault;
 mod file;
+mod listing;
 mod options;
 mod program;
 mod status;

@@ -8,6 +8,7 @@ use model::Limits;
 #[derive(Debug, Drop, PartialEq, Eq)]
 pub enum Command {
     Replay(Replay),
+    Disasm(Disasm),
 }
 
 /// `jvm replay`: class files are run under a schedule, and what comes of it is reported.
@@ -18,6 +19,13 @@ pub struct Replay {
     pub limits: LimitOptions,
     /// The paths of the class files. The first holds the class whose `main` is run.
     pub files: Vec<String>,
+}
+
+/// `jvm disasm`: the listing of a class file is written.
+#[derive(Debug, Drop, PartialEq, Eq)]
+pub struct Disasm {
+    /// The path of the class file.
+    pub file: String,
 }
 
 /// The limits that are asked for, each in its range, and `None` for the usual one.

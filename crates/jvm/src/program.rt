@@ -9,18 +9,20 @@ use crate::device::Counted;
 use crate::engine::replay_engine;
 use crate::fault::Fault;
 use crate::file::NamedFile;
-use crate::options::{Command, Replay};
+use crate::listing::disasm_engine;
+use crate::options::{Command, Disasm, Replay};
 use crate::status::Status;
 use std::alloc::Global;
 use std::io;
 use std::io::ErrorKind;
 use std::rt::Files;
 
-/// Does what the words say, the program's name first. A report goes to the standard output, and what kept
-/// the program from one to the standard error.
+/// Does what the words say, the program's name first. A report or a listing goes to the standard
+/// output, and what kept the program from one to the standard error.
 pub fn run<R: Files + Print + Eprint>(rt: &R, alloc: Global, words: &[String]) -> Status {
     match command::command(alloc, words) {
         Ok(Command::Replay(options)) => told(rt, replay(rt, alloc, &options)),
+        Ok(Command::Disasm(options)) => told(rt, listed(rt, alloc, &options)),
         Err(usage) => refused(rt, &usage),
     }
 }
@@ -73,6 +75,13 @@ fn replay<R: Files + Print>(rt: &R, alloc: Global, options: &Replay) -> Result<S
         &options.limits,
         &mut report,
     )
+}
+
+/// `jvm disasm`.
+fn listed<R: Files + Print>(rt: &R, alloc: Global, options: &Disasm) -> Result<Status, Fault> {
+    let mut file = source(rt, alloc, &options.file);
+    let mut listing = Counted::new(alloc, io::writer(rt));
+    disasm_engine(alloc, &mut file, &mut listing)
 }
 
 /// The file at a path, as a source.

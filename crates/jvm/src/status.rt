@@ -10,7 +10,7 @@ use model::{End, EndState, Report};
 
 #[derive(Clone, Copy, Debug, PartialEq, Eq)]
 pub enum Status {
-    /// No thread can go on, and all have ended, none with an exception.
+    /// No thread can go on, and all have ended, none with an exception. Of what runs nothing: it is done.
     Returned,
     /// No thread can go on, and all have ended, some with an exception.
     Threw,

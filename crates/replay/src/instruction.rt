@@ -5,7 +5,8 @@ ghost use Rattle.std.specs.List.{list_any};
 ghost use Rattle.model.specs.Instruction.{table_jump, lookup_pair};
 ghost use Rattle.model.specs.InstructionStarts.{starts};
 ghost use Rattle.model.specs.Rows.{counting};
-ghost use Rattle.classfile.specs.View.{entries_of, code_of, reference_of};
+ghost use Rattle.constant_pool.specs.View.{entries_of, reference_of};
+ghost use Rattle.classfile.specs.View.{code_of};
 ghost use Rattle.replay.specs.Profile.{is_widened, is_known, is_known_at, has_other_opcode, has_cut_instruction, is_taken, loads_other_constant, is_other_than, gets_other_field, calls_other_method, is_outside_instruction, lacks_local, is_marked, jumps_astray, matches_of, rise, names_wrong_kind, is_malformed_instruction, some_instruction};
 ghost use Rattle.replay.specs.Checks.{Says, Finds, is_outside_at, is_malformed_at};
 

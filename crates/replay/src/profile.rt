@@ -5,7 +5,8 @@ ghost use Rattle.std.specs.List.{list_any};
 ghost use Rattle.std.specs.Option.{option_map_or};
 ghost use Rattle.model.specs.Names.{spells};
 ghost use Rattle.model.specs.Classes.{code_in, is_method};
-ghost use Rattle.classfile.specs.View.{entries_of, code_of, method_part_of, method_of, file_of};
+ghost use Rattle.constant_pool.specs.View.{entries_of};
+ghost use Rattle.classfile.specs.View.{code_of, method_part_of, method_of, file_of};
 ghost use Rattle.replay.specs.Profile.{has_other_superclass, is_plain_main, is_outside_code, is_outside_method, is_outside, is_malformed_code, is_malformed_method, is_malformed};
 ghost use Rattle.replay.specs.Checks.{Refuses, IsOf};
 

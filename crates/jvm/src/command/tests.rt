@@ -19,6 +19,7 @@ fn replay(alloc: Global, line: &str) -> Result<Replay, Fail> {
     let words = words(alloc, line)?;
     match command(alloc, words.as_slice()) {
         Ok(options::Command::Replay(replay)) => Ok(replay),
+        Ok(_) => Err(Fail::from("another command")),
         Err(_) => Err(Fail::from("no command")),
     }
 }
@@ -49,6 +50,17 @@ fn reads_a_replay(rt: HostRuntime) -> Result<(), Fail> {
 }
 
 #[test]
+fn reads_a_disasm(rt: HostRuntime) -> Result<(), Fail> {
+    let alloc = rt.alloc();
+    let words = words(alloc, "jvm disasm p/A.class")?;
+    match command(alloc, words.as_slice()) {
+        Ok(options::Command::Disasm(disasm)) => assert!(rt; disasm.file.as_str() == "p/A.class"),
+        _ => return Err(Fail::from("no disasm")),
+    }
+    Ok(())
+}
+
+#[test]
 fn refuses_what_is_no_command(rt: HostRuntime) -> Result<(), Fail> {
     let alloc = rt.alloc();
     let lines = [
@@ -72,6 +84,10 @@ fn refuses_what_is_no_command(rt: HostRuntime) -> Result<(), Fail> {
         "jvm replay --schedule s --frames= A.class",
         "jvm replay --schedule s --frames 0x5 A.class",
         "jvm replay --schedule s --frames A.class",
+        "jvm disasm",
+        "jvm disasm A.class B.class",
+        "jvm disasm --frames 5 A.class",
+        "jvm disasm --schedule s A.class",
     ];
     for line in lines {
         let words = words(alloc, line)?;

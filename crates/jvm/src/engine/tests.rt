@@ -10,7 +10,7 @@ use std::alloc::Global;
 use std::test::Fail;
 
 /// A class whose main method prints 7.
-const PRINTS_SEVEN: [u8; 241] = [
+pub const PRINTS_SEVEN: [u8; 241] = [
     0xca, 0xfe, 0xba, 0xbe, 0x00, 0x00, 0x00, 0x31, 0x00, 0x14, 0x01, 0x00, 0x01, 0x41, 0x07, 0x00,
     0x01, 0x01, 0x00, 0x10, 0x6a, 0x61, 0x76, 0x61, 0x2f, 0x6c, 0x61, 0x6e, 0x67, 0x2f, 0x4f, 0x62,
     0x6a, 0x65, 0x63, 0x74, 0x07, 0x00, 0x03, 0x01, 0x00, 0x04, 0x6d, 0x61, 0x69, 0x6e, 0x01, 0x00,
@@ -38,7 +38,7 @@ const EIGHT_EVENTS: [u8; 17] = [
 const REPORT: &str = "7\nthread 0 ended\nevents 8\nend quiet\n";
 
 /// More calls than a device of these tests gets.
-const MANY: u32 = 1000;
+pub const MANY: u32 = 1000;
 
 pub const USUAL: LimitOptions = LimitOptions {
     objects: None,
@@ -93,7 +93,7 @@ fn answers_a_fault_of_the_schedule_file_first(rt: HostRuntime) -> Result<(), Fai
 }
 
 /// The line of a fault.
-fn told(alloc: Global, answer: Result<Status, Fault>) -> Result<String, Fail> {
+pub fn told(alloc: Global, answer: Result<Status, Fault>) -> Result<String, Fail> {
     match answer {
         Ok(_) => Err(Fail::from("a status")),
         Err(fault) => Ok(fault.to_string(alloc)?),
@@ -133,6 +133,6 @@ fn answers_each_failure_of_a_device(rt: HostRuntime) -> Result<(), Fail> {
     Ok(())
 }
 
-fn failed(answer: Result<Status, Fault>) -> bool {
+pub fn failed(answer: Result<Status, Fault>) -> bool {
     matches!(answer, Err(Fault::Device))
 }

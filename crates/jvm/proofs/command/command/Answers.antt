@@ -2,7 +2,7 @@ use Rattle.std.proofs.Common.{◌≡◌, map, string_bytes, codes, inr, refl, su
 use Rattle.std.proofs.lemmas.Result.{err_from_is_err_and}
 use Rattle.clap.specs.Words.{HasMatchesOf, found_of, kind_of, rows_of, takes}
 use Rattle.clap.specs.declared.error.kind.ErrorKind.TheVariants.{OutOfMemory}
-use Rattle.jvm.proofs.CommandLineLemmas.{parser_refuses, refuses, refuses_more, rows_met, spells_none, spells_other}
+use Rattle.jvm.proofs.CommandLineLemmas.{parser_refuses, refuses, refuses_more, rows_met, spells_none, spells_other_disasm, spells_other_replay}
 use Rattle.jvm.proofs.command.command.Goals as goal
 
 pub returns-in_err-matches-clause-refused : goal.returns-in_err-matches-clause-refused
@@ -12,24 +12,35 @@ returns-in_err-matches-clause-refused c =
     let passes = subst (λ app. takes app words ≡ true → kind_of c.in_err-matches.field-0.0 ≡ OutOfMemory) c.in_ok-program.ensures.app c.in_err-matches.ensures.passes in
     rw (p.1) (parser_refuses p.0 words (kind_of c.in_err-matches.field-0.0 ≡ OutOfMemory) p.2 passes)
 
-pub returns-in_err-replay_of-in-Some-clause-refused : goal.returns-in_err-replay_of-in-Some-clause-refused
-returns-in_err-replay_of-in-Some-clause-refused c =
-    let p = err_from_is_err_and c.from_residual-in_err-replay_of-in-Some.result c.from_residual-in_err-replay_of-in-Some.ensures.1 in
+pub returns-in_err-replay_of-clause-refused : goal.returns-in_err-replay_of-clause-refused
+returns-in_err-replay_of-clause-refused c =
+    let p = err_from_is_err_and c.from_residual-in_err-replay_of.result c.from_residual-in_err-replay_of.ensures.1 in
     let words = map string_bytes c.args.words.now in
     let has = subst (λ app. HasMatchesOf app words c.in_ok-matches.matches) c.in_ok-program.ensures.app c.in_ok-matches.ensures.matches in
     let rows = rows_of (found_of c.in-Some.replay.now) in
     let met = rows_met c.in_ok-matches.matches words (codes "replay") rows has (c.in-Some.ensures.found.0 refl) c.in-Some.ensures.rows in
-    rw (p.1, p.2) (refuses_more c.in_err-replay_of-in-Some.field-0.0 _ _ (λ none. inr (spells_other words rows met none)) c.in_err-replay_of-in-Some.ensures.none)
+    rw (p.1, p.2) (refuses_more c.in_err-replay_of.field-0.0 _ _ (λ none. inr (spells_other_replay words rows met none)) c.in_err-replay_of.ensures.none)
+
+pub returns-in_err-disasm_of-in-Some-subcommand_matches-clause-refused : goal.returns-in_err-disasm_of-in-Some-subcommand_matches-clause-refused
+returns-in_err-disasm_of-in-Some-subcommand_matches-clause-refused c =
+    let p = err_from_is_err_and c.from_residual-in_err-disasm_of-in-Some-subcommand_matches.result c.from_residual-in_err-disasm_of-in-Some-subcommand_matches.ensures.1 in
+    let words = map string_bytes c.args.words.now in
+    let has = subst (λ app. HasMatchesOf app words c.in_ok-matches.matches) c.in_ok-program.ensures.app c.in_ok-matches.ensures.matches in
+    let rows = rows_of (found_of c.in-Some-subcommand_matches.disasm.now) in
+    let met = rows_met c.in_ok-matches.matches words (codes "disasm") rows has (c.in-Some-subcommand_matches.ensures.found.0 refl) c.in-Some-subcommand_matches.ensures.rows in
+    rw (p.1, p.2) (refuses_more c.in_err-disasm_of-in-Some-subcommand_matches.field-0.0 _ _ (λ none. inr (spells_other_disasm words rows met none)) c.in_err-disasm_of-in-Some-subcommand_matches.ensures.none)
 
 pub returns-in_err-missing-in-None-clause-refused : goal.returns-in_err-missing-in-None-clause-refused
 returns-in_err-missing-in-None-clause-refused c =
     let p = err_from_is_err_and c.from_residual-in_err-missing-in-None.result c.from_residual-in_err-missing-in-None.ensures.1 in
     let words = map string_bytes c.args.words.now in
     let has = subst (λ app. HasMatchesOf app words c.in_ok-matches.matches) c.in_ok-program.ensures.app c.in_ok-matches.ensures.matches in
-    rw (p.1) (refuses p.0 _ (inr (spells_none c.in_ok-matches.matches words has (λ met. let bad : false ≡ true = c.in-None.ensures.found.1 met in cc))))
+    rw (p.1) (refuses p.0 _ (inr (spells_none c.in_ok-matches.matches words has
+    (λ met. let bad : false ≡ true = c.in_default.ensures.found.1 met in cc) (λ met. let bad : false ≡ true = c.in-None.ensures.found.1 met in cc))))
 
 pub returns-clause-refused : goal.returns-clause-refused
 returns-clause-refused c =
     let words = map string_bytes c.args.words.now in
     let has = subst (λ app. HasMatchesOf app words c.in_ok-matches.matches) c.in_ok-program.ensures.app c.in_ok-matches.ensures.matches in
-    refuses c.in_ok-missing-in-None.field-0 _ (inr (spells_none c.in_ok-matches.matches words has (λ met. let bad : false ≡ true = c.in-None.ensures.found.1 met in cc)))
+    refuses c.in_ok-missing-in-None.field-0 _ (inr (spells_none c.in_ok-matches.matches words has
+    (λ met. let bad : false ≡ true = c.in_default.ensures.found.1 met in cc) (λ met. let bad : false ≡ true = c.in-None.ensures.found.1 met in cc)))

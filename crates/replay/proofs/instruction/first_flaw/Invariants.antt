@@ -1,5 +1,6 @@
 use Rattle.std.proofs.Common.{◌≡◌, ℕ, ◌<◌, get_or, true, false}
-use Rattle.classfile.specs.View.{entries_of, code_of}
+use Rattle.constant_pool.specs.View.{entries_of}
+use Rattle.classfile.specs.View.{code_of}
 use Rattle.replay.specs.Checks.{is_outside_at, is_malformed_at}
 use Rattle.replay.proofs.instruction.first_flaw.Given as goal
 

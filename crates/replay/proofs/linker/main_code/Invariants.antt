@@ -1,7 +1,8 @@
 use Rattle.std.proofs.Common.{◌≡◌, drop, map, codes}
 use Rattle.std.specs.Prelude.{find}
 use Rattle.model.specs.Classes.{is_method}
-use Rattle.classfile.specs.View.{entries_of, method_of}
+use Rattle.constant_pool.specs.View.{entries_of}
+use Rattle.classfile.specs.View.{method_of}
 use Rattle.replay.proofs.linker.main_code.Given as goal
 
 abbrev pub invariant-loop-method : goal.invariant-loop-method

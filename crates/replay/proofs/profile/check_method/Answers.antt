@@ -1,6 +1,7 @@
 use Rattle.std.proofs.Common.{rules, ◌≡◌, map, Some, true, sym, subst}
 use Rattle.model.specs.Classes.{code_in}
-use Rattle.classfile.specs.View.{entries_of, code_of, method_of, method_part_of}
+use Rattle.constant_pool.specs.View.{entries_of}
+use Rattle.classfile.specs.View.{code_of, method_of, method_part_of}
 use Rattle.replay.specs.Profile.{is_plain_main}
 use Rattle.replay.proofs.Profiles.{outside_main, malformed_main}
 use Rattle.replay.proofs.profile.check_method.Goals as goal

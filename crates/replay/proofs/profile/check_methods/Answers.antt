@@ -1,6 +1,7 @@
 use Rattle.std.proofs.Common.{arith, ◌≡◌, ◌<◌, ◌≤◌, length, get_or, ap}
 use Rattle.std.proofs.lemmas.Result.{err_from_is_err_and}
-use Rattle.classfile.specs.View.{entries_of, method_of}
+use Rattle.constant_pool.specs.View.{entries_of}
+use Rattle.classfile.specs.View.{method_of}
 use Rattle.replay.specs.Profile.{is_outside_method, is_malformed_method}
 use Rattle.replay.proofs.Profiles.{refuses_more, any_method, no_method}
 use Rattle.replay.proofs.profile.check_methods.Goals as goal

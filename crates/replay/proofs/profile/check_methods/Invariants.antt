@@ -1,6 +1,7 @@
 use Rattle.std.proofs.Common.{◌≡◌, take, false}
 use Rattle.std.specs.List.{list_any}
-use Rattle.classfile.specs.View.{entries_of, method_of}
+use Rattle.constant_pool.specs.View.{entries_of}
+use Rattle.classfile.specs.View.{method_of}
 use Rattle.replay.specs.Profile.{is_outside_method, is_malformed_method}
 use Rattle.replay.proofs.profile.check_methods.Given as goal
 
