@@ -1,3 +1,2 @@
-pub mod Handed
 pub mod Laid
 pub mod Sound

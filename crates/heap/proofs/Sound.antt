@@ -77,25 +77,26 @@ with_fresh es cells locks opening limit cell_limit kind count laid =
 
 pub allocated : (es : List Entry) (cells : List ℕ) (locks : Locks) (opening limit cell_limit : ℕ) (kind : ObjectKind) (count reference : ℕ) (old : Heap)
     → heap_of es cells locks opening limit cell_limit ≡ old → IsSound es (length cells) (length locks.monitors) opening limit cell_limit
-    → reference ≡ length es → made old < limit → cells_made old + count ≤ cell_limit
+    → reference ≡ length old.objects → made old < old.object_limit → cells_made old + count ≤ old.cell_limit
     → IsAllocated reference kind count old (heap_of (es ++ entry kind (length cells) ∷ []) (cells ++ replicate count 0) (with_lock locks) opening limit cell_limit)
 allocated es cells locks opening limit cell_limit kind count reference old v s r few room =
-    let left : made (heap_of es cells locks opening limit cell_limit) < limit = subst (λ (h : Heap). made h < limit) (sym v) few in
+    let left : made (heap_of es cells locks opening limit cell_limit) < limit = subst (λ (h : Heap). made h < h.object_limit) (sym v) few in
+    let is : reference ≡ length (objects_of es cells) = subst (λ (h : Heap). reference ≡ length h.objects) (sym v) r in
     rw (← v) (record {
-      answer = r ∙ sym (length-objects_of es cells);
-      fits = omega (arith, r, s.opened, s.opening_fits, s.limit_fits, left, made_is es cells locks opening limit cell_limit);
+      answer = is;
+      fits = omega (arith, is, length-objects_of es cells, s.opened, s.opening_fits, s.limit_fits, left, made_is es cells locks opening limit cell_limit);
       objects = left;
-      cells = subst (λ (h : Heap). cells_made h + count ≤ cell_limit) (sym v) room;
+      cells = subst (λ (h : Heap). cells_made h + count ≤ h.cell_limit) (sym v) room;
       after = with_fresh es cells locks opening limit cell_limit kind count s.laid;
     })
 
 pub allocated_sound : (es : List Entry) (cells : List ℕ) (locks : Locks) (opening limit cell_limit : ℕ) (kind : ObjectKind) (count : ℕ) (old : Heap)
     → heap_of es cells locks opening limit cell_limit ≡ old → IsSound es (length cells) (length locks.monitors) opening limit cell_limit
-    → count < 2 ^ 32 → made old < limit → cells_made old + count ≤ cell_limit
+    → count < 2 ^ 32 → made old < old.object_limit → cells_made old + count ≤ old.cell_limit
     → IsSound (es ++ entry kind (length cells) ∷ []) (length (cells ++ replicate count 0)) (length ((with_lock locks).monitors)) opening limit cell_limit
 allocated_sound es cells locks opening limit cell_limit kind count old v s small few room =
-    let left : made (heap_of es cells locks opening limit cell_limit) < limit = subst (λ (h : Heap). made h < limit) (sym v) few in
-    let cells_left : cells_made (heap_of es cells locks opening limit cell_limit) + count ≤ cell_limit = subst (λ (h : Heap). cells_made h + count ≤ cell_limit) (sym v) room in
+    let left : made (heap_of es cells locks opening limit cell_limit) < limit = subst (λ (h : Heap). made h < h.object_limit) (sym v) few in
+    let cells_left : cells_made (heap_of es cells locks opening limit cell_limit) + count ≤ cell_limit = subst (λ (h : Heap). cells_made h + count ≤ h.cell_limit) (sym v) room in
     rw (length_more cells count, length_pushed locks.monitors unlocked) (
     sound_pushed es kind (length cells) count (length locks.monitors) opening limit cell_limit s small
     (omega (arith, s.opened, left, made_is es cells locks opening limit cell_limit))
@@ -104,11 +105,11 @@ allocated_sound es cells locks opening limit cell_limit kind count old v s small
 
 pub opened : (es : List Entry) (cells : List ℕ) (locks : Locks) (opening limit cell_limit : ℕ) (kind : ObjectKind) (count reference : ℕ) (old : Heap)
     → heap_of es cells locks opening limit cell_limit ≡ old → IsSound es (length cells) (length locks.monitors) opening limit cell_limit
-    → reference ≡ length es → length old.objects < 294967295
+    → reference ≡ length old.objects → length old.objects < 294967295
     → IsOpened reference kind count old (heap_of (es ++ entry kind (length cells) ∷ []) (cells ++ replicate count 0) (with_lock locks) (reference + 1) limit cell_limit)
 opened es cells locks opening limit cell_limit kind count reference old v s r few =
     let left : length (objects_of es cells) < 294967295 = subst (λ (h : Heap). length h.objects < 294967295) (sym v) few in
-    let is : reference ≡ length (objects_of es cells) = r ∙ sym (length-objects_of es cells) in
+    let is : reference ≡ length (objects_of es cells) = subst (λ (h : Heap). reference ≡ length h.objects) (sym v) r in
     rw (← v) (record {
       answer = is;
       fits = omega (arith, is, left);
@@ -120,10 +121,11 @@ opened es cells locks opening limit cell_limit kind count reference old v s r fe
 
 pub opened_sound : (es : List Entry) (cells : List ℕ) (locks : Locks) (opening limit cell_limit : ℕ) (kind : ObjectKind) (count reference : ℕ) (old : Heap)
     → heap_of es cells locks opening limit cell_limit ≡ old → IsSound es (length cells) (length locks.monitors) opening limit cell_limit
-    → count < 2 ^ 32 → reference ≡ length es → length old.objects < 294967295
+    → count < 2 ^ 32 → reference ≡ length old.objects → length old.objects < 294967295
     → IsSound (es ++ entry kind (length cells) ∷ []) (length (cells ++ replicate count 0)) (length ((with_lock locks).monitors)) (reference + 1) limit cell_limit
 opened_sound es cells locks opening limit cell_limit kind count reference old v s small r few =
     let left : length (objects_of es cells) < 294967295 = subst (λ (h : Heap). length h.objects < 294967295) (sym v) few in
-    rw (length_more cells count, length_pushed locks.monitors unlocked, r) (
+    let is : reference ≡ length es = subst (λ (h : Heap). reference ≡ length h.objects) (sym v) r ∙ length-objects_of es cells in
+    rw (length_more cells count, length_pushed locks.monitors unlocked, is) (
     sound_opened es kind (length cells) count (length locks.monitors) opening limit cell_limit s small (omega (arith, left, length-objects_of es cells))
     )

@@ -30,6 +30,12 @@ entry_kind entry = entry.kind
 abbrev pub start_at : List Entry → ℕ → ℕ → ℕ
 start_at entries end reference = first_start (drop reference entries) end
 
+-- which cell has the word of this number of an object that has it
+pub record IsPlace (place : ℕ) (entries : List Entry) (end reference number : ℕ) : Type 0 where
+  pub is : place ≡ start_at entries end reference + number
+  pub within : place < start_at entries end (reference + 1)
+  pub there : place < end
+
 -- what a heap shows
 abbrev pub heap_of : List Entry → List ℕ → Locks → (opening object_limit cell_limit : ℕ) → Heap
 heap_of entries cells locks opening object_limit cell_limit =

@@ -60,7 +60,7 @@ impl Heap {
         ensures ok { IfOk result (λ reference. IsOpened reference kind count self.old self.new) }
         ensures err { OnErr result (self.new ≡ self.old) }
     {
-        let reference = self.table.len() as u32;
+        let reference = self.len();
         layout::add(
             &mut self.table,
             &mut self.cells,
@@ -83,9 +83,10 @@ impl Heap {
     fn cells_left(&self) -> usize
         ensures { result + cells_made self.now ≡ self.now.cell_limit }
     {
-        let end = self.cells.len();
-        let opened = layout::start(self.table.as_slice(), end, self.opening as usize);
-        self.cell_limit as usize - (end - opened)
+        let table = self.table.as_slice();
+        let cells = self.cells.as_slice();
+        let opened = layout::start(table, cells, self.opening as usize);
+        self.cell_limit as usize - (cells.len() - opened)
     }
 
     /// One more object, where no limit stands.
@@ -98,7 +99,7 @@ impl Heap {
         if self.cells_left() < count as usize {
             return Err(AllocRefusal::Cells);
         }
-        let reference = self.table.len() as u32;
+        let reference = self.len();
         layout::add(
             &mut self.table,
             &mut self.cells,
@@ -156,26 +157,24 @@ impl Heap {
     pub fn length(&self, object: u32) -> u32
         ensures { result ≡ length (words_at self.now.objects object) }
     {
-        layout::length(self.table.as_slice(), self.cells.len(), object)
+        let table = self.table.as_slice();
+        let cells = self.cells.as_slice();
+        layout::word_count(table, cells, object)
     }
 
     /// A field of an object.
     pub fn get_field(&self, object: u32, field: u32) -> u32
         ensures { result ≡ word_at self.now.objects object field }
     {
-        match layout::place(self.table.as_slice(), self.cells.len(), object, field) {
-            Some(place) => self.cells[place],
-            None => 0,
-        }
+        layout::word(self.table.as_slice(), self.cells.as_slice(), object, field)
     }
 
     /// Writes a field of an object.
     pub fn put_field(&mut self, object: u32, field: u32, word: u32)
         ensures { self.new ≡ record self.old { objects = put_field self.old.objects object field word } }
     {
-        if let Some(place) = layout::place(self.table.as_slice(), self.cells.len(), object, field) {
-            self.cells[place] = word;
-        }
+        let table = self.table.as_slice();
+        layout::set_word(table, &mut self.cells, object, field, word);
     }
 
     /// An element of an array.

@@ -1,12 +1,13 @@
 //! Where the words of objects lie, among the cells of all objects.
 
 ghost use Rattle.std.specs.Prelude.{◌≡◌, ◌+◌, ◌<◌, ◌≤◌, [], ◌∷◌, ◌++◌, OnOk, OnErr, IfSome, IfNone, length, replicate, slice_get, option_map};
-ghost use Rattle.heap.specs.Heap.{with_lock};
-ghost use Rattle.heap.specs.Layout.{AreLaid, start_at, entry_kind};
+ghost use Rattle.heap.specs.Heap.{with_lock, word_at, put_field};
+ghost use Rattle.heap.specs.Layout.{AreLaid, IsPlace, start_at, entry_kind, objects_of};
 
 use crate::kind::ObjectKind;
 use monitor::Monitors;
 use std::alloc::AllocError;
+use std::mem::size_of;
 
 /// An object: what it is, and which of the cells is its first. Its others follow, up to the first of the next object.
 #[derive(Clone, Copy, Debug, PartialEq, Eq)]
@@ -15,15 +16,17 @@ pub struct Entry {
     pub start: usize,
 }
 
-/// Where the words of this object begin; behind the last object that is at the end.
-pub fn start(table: &[Entry], end: usize, object: usize) -> usize
-    ensures { result ≡ start_at table.now end object }
+/// Where the words of this object begin; behind the last object that is at the end of the cells.
+pub fn start(table: &[Entry], cells: &[u32], object: usize) -> usize
+    ensures { result ≡ start_at table.now (length cells.now) object }
 {
     match table.get(object) {
         Some(entry) => entry.start,
-        None => end,
+        None => cells.len(),
     }
 }
+
+const _: () = prove!(size_of::<Entry>() == 16);
 
 /// What this object is.
 pub fn kind(table: &[Entry], object: usize) -> Option<ObjectKind>
@@ -36,27 +39,48 @@ pub fn kind(table: &[Entry], object: usize) -> Option<ObjectKind>
 }
 
 /// How many words this object has.
-pub fn length(table: &[Entry], end: usize, object: u32) -> u32
-    requires { AreLaid table.now end }
-    ensures { result + start_at table.now end object ≡ start_at table.now end (object + 1) }
+pub fn word_count(table: &[Entry], cells: &[u32], object: u32) -> u32
+    requires { AreLaid table.now (length cells.now) }
+    ensures { result + start_at table.now (length cells.now) object ≡ start_at table.now (length cells.now) (object + 1) }
 {
     let object = object as usize;
-    let next = start(table, end, object + 1);
-    let first = start(table, end, object);
+    let next = start(table, cells, object + 1);
+    let first = start(table, cells, object);
     (next - first) as u32
 }
 
 /// Which cell has the word of this number of the object, if there is that word.
-pub fn place(table: &[Entry], end: usize, object: u32, word: u32) -> Option<usize>
-    requires { AreLaid table.now end }
-    ensures there { IfSome result (λ place. (place ≡ start_at table.now end object + word) × (place < start_at table.now end (object + 1)) × (place < end)) }
-    ensures not_there { IfNone result (start_at table.now end (object + 1) ≤ start_at table.now end object + word) }
+fn place(table: &[Entry], cells: &[u32], object: u32, number: u32) -> Option<usize>
+    requires { AreLaid table.now (length cells.now) }
+    ensures there { IfSome result (λ place. IsPlace place table.now (length cells.now) object number) }
+    ensures not_there { IfNone result (start_at table.now (length cells.now) (object + 1) ≤ start_at table.now (length cells.now) object + number) }
 {
-    let first = start(table, end, object as usize);
-    if word < length(table, end, object) {
-        Some(first + word as usize)
+    let first = start(table, cells, object as usize);
+    if number < word_count(table, cells, object) {
+        Some(first + number as usize)
     } else {
         None
+    }
+}
+
+/// The word of this number of the object, or 0.
+pub fn word(table: &[Entry], cells: &[u32], object: u32, number: u32) -> u32
+    requires { AreLaid table.now (length cells.now) }
+    ensures { result ≡ word_at (objects_of table.now cells.now) object number }
+{
+    match place(table, cells, object, number) {
+        Some(place) => cells[place],
+        None => 0,
+    }
+}
+
+/// Writes the word of this number of the object, if there is that word.
+pub fn set_word(table: &[Entry], cells: &mut [u32], object: u32, number: u32, word: u32)
+    requires { AreLaid table.now (length cells.old) }
+    ensures { objects_of table.now cells.new ≡ put_field (objects_of table.now cells.old) object number word }
+{
+    if let Some(place) = place(table, cells, object, number) {
+        cells[place] = word;
     }
 }
 

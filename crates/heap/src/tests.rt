@@ -81,7 +81,10 @@ fn narrow_arrays_keep_what_they_have_room_for(rt: HostRuntime) -> Result<(), Fai
     assert_eq!(rt; narrowed(h, NarrowKind::Boolean, 201), Ok(1));
     assert_eq!(rt; narrowed(h, NarrowKind::Char, -1), Ok(65535));
     assert_eq!(rt; narrowed(h, NarrowKind::Short, 32768), Ok(bits(-32768)));
-    assert_eq!(rt; heap.class_of(2), Some(ObjectKind::Narrow(NarrowKind::Char)));
+    assert_eq!(rt;
+        heap.class_of(2),
+        Some(ObjectKind::Narrow(NarrowKind::Char))
+    );
     Ok(())
 }
 
@@ -109,7 +112,10 @@ fn limits_are_met_exactly(rt: HostRuntime) -> Result<(), Fail> {
     shown(&rt, &heap);
     assert_eq!(rt; heap.alloc_refs(0, 0), Ok(2));
     assert_eq!(rt; heap.alloc_object(0, 0), Err(AllocRefusal::Objects));
-    assert_eq!(rt; heap.alloc_narrow(NarrowKind::Char, 1), Err(AllocRefusal::Objects));
+    assert_eq!(rt;
+        heap.alloc_narrow(NarrowKind::Char, 1),
+        Err(AllocRefusal::Objects)
+    );
     assert_eq!(rt; heap.len(), 3);
     let mut none = heap_of(rt.alloc(), 0, 0)?;
     assert_eq!(rt; open(&rt, &mut none, 0, 0), Ok(0));
@@ -134,14 +140,25 @@ fn wait(rt: &impl Abort, heap: &mut Heap, object: u32, thread: u16) -> Answer {
 
 fn relock(rt: &impl Abort, heap: &mut Heap, object: u32, thread: u16) -> MonitorAnswer {
     let count = 1;
-    assert!(rt; heap.allows(Call::Relock { object, thread, count }));
+    assert!(rt;
+        heap.allows(Call::Relock {
+            object,
+            thread,
+            count
+        })
+    );
     heap.relock(object, thread, count)
 }
 
 /// Owner, entries and wait set of object 0, and whether its lock is fat.
 fn lock(rt: &impl Abort, heap: &Heap) -> (Option<u16>, u32, usize, bool) {
     assert!(rt; heap.len() > 0);
-    (heap.owner(0), heap.entries(0), heap.waiter_count(0), heap.is_fat(0))
+    (
+        heap.owner(0),
+        heap.entries(0),
+        heap.waiter_count(0),
+        heap.is_fat(0),
+    )
 }
 
 /// A heap of one object, for which thread 1 waits, and which thread 0 owns.
@@ -159,10 +176,22 @@ fn monitors_are_handed_on(rt: HostRuntime) -> Result<(), Fail> {
     let mut heap = awaited(&rt, rt.alloc())?;
     assert_eq!(rt; lock(&rt, &heap), (Some(0), 1, 1, true));
     assert!(rt; heap.len() > 0);
-    assert_eq!(rt; heap.waiter(0, 0), Some(Waiter { thread: 1, count: 1 }));
+    assert_eq!(rt;
+        heap.waiter(0, 0),
+        Some(Waiter {
+            thread: 1,
+            count: 1
+        })
+    );
     assert_eq!(rt; heap.waiters(rt.alloc(), 0)?.len(), 1);
     assert_eq!(rt; enter(&rt, &mut heap, 0, 2), Ok(MonitorAnswer::Held));
-    assert!(rt; heap.allows(Call::Notify { object: 0, thread: 0, pick: 0 }));
+    assert!(rt;
+        heap.allows(Call::Notify {
+            object: 0,
+            thread: 0,
+            pick: 0
+        })
+    );
     assert_eq!(rt; heap.notify(0, 0, 0), MonitorAnswer::Done);
     assert_eq!(rt; lock(&rt, &heap), (Some(0), 1, 0, true));
     assert_eq!(rt; relock(&rt, &mut heap, 0, 1), MonitorAnswer::Held);
@@ -170,14 +199,24 @@ fn monitors_are_handed_on(rt: HostRuntime) -> Result<(), Fail> {
     assert_eq!(rt; exit(&rt, &mut heap, 0, 0), MonitorAnswer::NotOwner);
     assert_eq!(rt; relock(&rt, &mut heap, 0, 1), MonitorAnswer::Done);
     assert_eq!(rt; lock(&rt, &heap), (Some(1), 1, 0, true));
-    assert!(rt; !heap.allows(Call::Exit { object: 1, thread: 0 }));
+    assert!(rt;
+        !heap.allows(Call::Exit {
+            object: 1,
+            thread: 0
+        })
+    );
     Ok(())
 }
 
 #[test]
 fn members_leave_a_wait_set(rt: HostRuntime) -> Result<(), Fail> {
     let mut notified = awaited(&rt, rt.alloc())?;
-    assert!(rt; notified.allows(Call::NotifyAll { object: 0, thread: 0 }));
+    assert!(rt;
+        notified.allows(Call::NotifyAll {
+            object: 0,
+            thread: 0
+        })
+    );
     assert_eq!(rt; notified.notify_all(0, 0), MonitorAnswer::Done);
     assert_eq!(rt; lock(&rt, &notified), (Some(0), 1, 0, true));
     let mut woken = awaited(&rt, rt.alloc())?;
@@ -185,7 +224,12 @@ fn members_leave_a_wait_set(rt: HostRuntime) -> Result<(), Fail> {
     woken.wake_all(0);
     assert_eq!(rt; lock(&rt, &woken), (Some(0), 1, 0, true));
     let mut interrupted = awaited(&rt, rt.alloc())?;
-    assert!(rt; interrupted.allows(Call::Interrupt { object: 0, thread: 1 }));
+    assert!(rt;
+        interrupted.allows(Call::Interrupt {
+            object: 0,
+            thread: 1
+        })
+    );
     interrupted.interrupt(0, 1);
     assert_eq!(rt; lock(&rt, &interrupted), (Some(0), 1, 0, true));
     Ok(())

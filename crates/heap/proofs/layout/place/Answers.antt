@@ -1,13 +1,13 @@
-use Rattle.std.proofs.Common.{◌+◌, arith}
+use Rattle.std.proofs.Common.{◌+◌, length, arith}
 use Rattle.heap.proofs.Laid.{start_le_end}
 use Rattle.heap.proofs.layout.place.Goals as goal
 
 pub overflow_add-result : goal.overflow_add-result
-overflow_add-result c = omega (arith, c.start-first.ensures, c.length.ensures, start_le_end c.args.table.now c.args.end (c.args.object + 1) c.requires)
+overflow_add-result c = omega (arith, c.start-first.ensures, c.word_count.ensures, start_le_end c.args.table.now (length c.args.cells.now) (c.args.object + 1) c.requires)
 
-pub returns-then-word-length-clause-there : goal.returns-then-word-length-clause-there
-returns-then-word-length-clause-there c = (
-  omega (arith, c.start-first.ensures),
-  omega (arith, c.start-first.ensures, c.length.ensures),
-  omega (arith, c.start-first.ensures, c.length.ensures, start_le_end c.args.table.now c.args.end (c.args.object + 1) c.requires),
-)
+pub returns-then-number-word_count-clause-there : goal.returns-then-number-word_count-clause-there
+returns-then-number-word_count-clause-there c = record {
+  is = omega (arith, c.start-first.ensures);
+  within = omega (arith, c.start-first.ensures, c.word_count.ensures);
+  there = omega (arith, c.start-first.ensures, c.word_count.ensures, start_le_end c.args.table.now (length c.args.cells.now) (c.args.object + 1) c.requires);
+}
