@@ -1,6 +1,6 @@
 use crate::{AllocRefusal, Heap, NarrowKind, ObjectKind};
 use model::{Limits, MonitorAnswer};
-use monitor::{Call, Refusal, Waiter};
+use monitor::{Call, Refusal};
 use std::alloc::{AllocError, Global};
 use std::process::Abort;
 use std::test::Fail;
@@ -176,13 +176,8 @@ fn monitors_are_handed_on(rt: HostRuntime) -> Result<(), Fail> {
     let mut heap = awaited(&rt, rt.alloc())?;
     assert_eq!(rt; lock(&rt, &heap), (Some(0), 1, 1, true));
     assert!(rt; heap.len() > 0);
-    assert_eq!(rt;
-        heap.waiter(0, 0),
-        Some(Waiter {
-            thread: 1,
-            count: 1
-        })
-    );
+    let waiter = heap.waiter(0, 0).ok_or("waiter")?;
+    assert_eq!(rt; (waiter.thread, waiter.count), (1, 1));
     assert_eq!(rt; heap.waiters(rt.alloc(), 0)?.len(), 1);
     assert_eq!(rt; enter(&rt, &mut heap, 0, 2), Ok(MonitorAnswer::Held));
     assert!(rt;
