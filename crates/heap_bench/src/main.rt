@@ -20,8 +20,7 @@ fn is_made(heap: &mut Heap) -> bool {
 
 /// Whether thread 0 waits for the object now.
 fn is_awaited(heap: &mut Heap, object: u32) -> bool {
-    heap.allows(Call::Wait { object, thread: 0 })
-        && heap.wait(object, 0) == Ok(MonitorAnswer::Done)
+    heap.allows(Call::Wait { object, thread: 0 }) && heap.wait(object, 0) == Ok(MonitorAnswer::Done)
 }
 
 /// How many of so many objects were made.
@@ -52,11 +51,11 @@ fn main(rt: HostRuntime) -> Result<()> {
     let waiters = waiters.as_str().parse::<u32>()?;
     let limits = Limits::new(objects, objects, 8_388_608, 1, 1).context("the limits")?;
     let mut heap = Heap::new(rt.alloc(), limits);
-    let made = made(&mut heap, objects);
-    ensure!(made == objects, "{made} objects");
-    let awaited = awaited(&mut heap, waiters);
-    ensure!(awaited == waiters, "{awaited} waiters");
+    let there = made(&mut heap, objects);
+    ensure!(there == objects, "{there} objects");
+    let waits = awaited(&mut heap, waiters);
+    ensure!(waits == waiters, "{waits} waiters");
     let last = heap.get_field(objects.saturating_sub(1), 0);
-    println!(rt; "{made} objects, {awaited} waiters, the last field is {last}")?;
+    println!(rt; "{there} objects, {waits} waiters, the last field is {last}")?;
     Ok(())
 }
