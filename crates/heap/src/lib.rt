@@ -1,0 +1,16 @@
+//! The objects of a run, with their fields or elements and their monitors. Nothing is ever freed.
+//!
+//! The words of all objects lie in one list of cells; a table says for each object what it is and where its words begin,
+//! and the monitors keep one lock word for each. Callers see a list of objects, each with the list of its words.
+#![tactic(auto)]
+
+mod heap;
+mod kind;
+mod layout;
+mod refusal;
+#[cfg(test)]
+mod tests;
+
+pub use heap::Heap;
+pub use kind::{NarrowKind, ObjectKind};
+pub use refusal::AllocRefusal;

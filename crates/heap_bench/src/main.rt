@@ -1,0 +1,61 @@
+//! Allocates as many objects as the first argument says, each with a field and a monitor that is entered once, and lets
+//! a thread wait for as many of them as the second says. `bench/heap.sh` times it and reads its memory.
+#![tactic(auto)]
+
+use anyhow::{Context, Result, ensure};
+use heap::Heap;
+use model::{Limits, MonitorAnswer};
+use monitor::Call;
+use std::env;
+
+/// Whether one more object was made, whose field holds its reference and which thread 0 has entered.
+fn is_made(heap: &mut Heap) -> bool {
+    let Ok(object) = heap.alloc_object(0, 1) else {
+        return false;
+    };
+    heap.put_field(object, 0, object);
+    heap.allows(Call::Enter { object, thread: 0 })
+        && heap.enter(object, 0) == Ok(MonitorAnswer::Done)
+}
+
+/// Whether thread 0 waits for the object now.
+fn is_awaited(heap: &mut Heap, object: u32) -> bool {
+    heap.allows(Call::Wait { object, thread: 0 }) && heap.wait(object, 0) == Ok(MonitorAnswer::Done)
+}
+
+/// How many of so many objects were made.
+fn made(heap: &mut Heap, objects: u32) -> u32 {
+    for object in 0..objects {
+        if !is_made(heap) {
+            return object;
+        }
+    }
+    objects
+}
+
+/// For how many of so many objects thread 0 waits.
+fn awaited(heap: &mut Heap, objects: u32) -> u32 {
+    for object in 0..objects {
+        if !is_awaited(heap, object) {
+            return object;
+        }
+    }
+    objects
+}
+
+fn main(rt: HostRuntime) -> Result<()> {
+    let mut args = env::args(&rt)?;
+    let objects = args.nth(1).context("how many objects")?;
+    let objects = objects.as_str().parse::<u32>()?;
+    let waiters = args.next().context("how many waiters")?;
+    let waiters = waiters.as_str().parse::<u32>()?;
+    let limits = Limits::new(objects, objects, 8_388_608, 1, 1).context("the limits")?;
+    let mut heap = Heap::new(rt.alloc(), limits);
+    let there = made(&mut heap, objects);
+    ensure!(there == objects, "{there} objects");
+    let waits = awaited(&mut heap, waiters);
+    ensure!(waits == waiters, "{waits} waiters");
+    let last = heap.get_field(objects.saturating_sub(1), 0);
+    println!(rt; "{there} objects, {waits} waiters, the last field is {last}")?;
+    Ok(())
+}
