@@ -1,12 +1,12 @@
 #!/bin/sh
-# Times an uncontended enter and exit of a thin lock, 100,000,000 times, and notifyAll of 32,000 waiters. Prints one line.
+# Times an uncontended enter and exit of a thin lock, 100,000,000 times, notifyAll of 32,000 waiters, and a million
+# objects of which 65,536 get a waiter, and tells the peak resident memory of the last. Prints one line. Times are
+# those of the processor; /usr/bin/time of GNU takes them.
 set -e
 cd "$(dirname "$0")/../crates/monitor_bench"
-rt run -- 1000 100 > /dev/null 2>&1
-now() { date +%s%N; }
-start=$(now)
-./out/monitor_bench 100000000 0 > /dev/null
-middle=$(now)
-./out/monitor_bench 0 32000 > /dev/null
-end=$(now)
-echo "enter and exit: $(( (middle - start) / 1000000 )) ms for 100000000 pairs; 32000 waiters notified: $(( (end - middle) / 1000000 )) ms"
+rt run > /dev/null 2>&1
+measured() { /usr/bin/time -f "%U $1" ./out/monitor_bench $2 2>&1 > /dev/null; }
+pairs=$(measured 's for 100000000 pairs of enter and exit' '100000000 0 2 0')
+crowd=$(measured 's for 32000 waiters of one object that are notified at once' '0 32000 2 0')
+objects=$(measured 's and %M KB for a million objects, 65536 with a waiter' '0 0 1000000 65536')
+echo "$pairs; $crowd; $objects"

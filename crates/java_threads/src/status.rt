@@ -12,7 +12,10 @@ pub enum WakeCause {
 pub enum ThreadStatus {
     Running,
     /// It is in the wait set of an object, whose monitor it had entered so many times.
-    Waiting { object: u32, count: u32 },
+    Waiting {
+        object: u32,
+        count: u32,
+    },
     /// It left the wait set of an object, and is to enter the monitor again as often as before.
     Relock {
         object: u32,

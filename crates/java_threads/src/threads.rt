@@ -149,7 +149,13 @@ impl Threads {
         ensures { self.new ≡ with_thread self.old thread (record (thread_at self.old.threads thread) { interrupted = interrupted }) }
     {
         let value = thread_of(self.threads.as_slice(), thread);
-        self.set(thread, Thread { interrupted, ..value });
+        self.set(
+            thread,
+            Thread {
+                interrupted,
+                ..value
+            },
+        );
     }
 
     pub fn set_status(&mut self, thread: u16, status: ThreadStatus)
