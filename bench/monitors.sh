@@ -4,7 +4,7 @@
 # those of the processor; /usr/bin/time of GNU takes them.
 set -e
 cd "$(dirname "$0")/../crates/monitor_bench"
-rt run > /dev/null 2>&1
+rt run -- 1000 100 50 16 > /dev/null 2>&1
 measured() { /usr/bin/time -f "%U $1" ./out/monitor_bench $2 2>&1 > /dev/null; }
 pairs=$(measured 's for 100000000 pairs of enter and exit' '100000000 0 2 0')
 crowd=$(measured 's for 32000 waiters of one object that are notified at once' '0 32000 2 0')

@@ -1,7 +1,7 @@
 -- The threads of a run (JLS 17), but for their stacks, and how many there may be.
-use Rattle.std.specs.Prelude.{◌≡◌, ℕ, ◌<◌, ◌≤◌, List, [], ◌∷◌, ◌++◌, length, Result, Ok, Err, slice_index_or, slice_set}
+use Rattle.std.specs.Prelude.{◌≡◌, ℕ, ◌<◌, ◌≤◌, ◌==◌, List, [], ◌∷◌, ◌++◌, length, Option, Result, Ok, Err, slice_index_or, slice_set}
+use Rattle.std.specs.List.{position}
 use Rattle.model.specs.State.{Thread, new_thread}
-use Rattle.model.specs.Step.{no_thread}
 use Rattle.java_threads.specs.declared.refusal.Refusal.{Refusal}
 use Rattle.java_threads.specs.declared.refusal.Refusal.TheVariants.{Threads, Memory}
 
@@ -10,9 +10,13 @@ pub record ThreadTable : Type 0 where
   pub threads : List Thread
   pub limit : ℕ
 
--- the thread of this number; there is one for each number, as in the step
+-- the thread of this number; past the last one there stands, as in the definitions of the step, a new thread of object 0
 abbrev pub thread_at : List Thread → ℕ → Thread
-thread_at threads t = slice_index_or threads t no_thread
+thread_at threads t = slice_index_or threads t (new_thread 0)
+
+-- the number of the thread of a Thread object, the first where there are several
+abbrev pub number_of : List Thread → ℕ → Option ℕ
+number_of threads object = position (λ (thread : Thread). thread.object == object) threads
 
 -- another thread in the place of this number, if there is one
 abbrev pub with_thread : ThreadTable → ℕ → Thread → ThreadTable

@@ -7,6 +7,8 @@ fn each_part_is_kept(rt: HostRuntime) -> Result<(), Fail> {
     assert!(rt; !threads.is_full());
     assert_eq!(rt; threads.add(17), Ok(()));
     assert_eq!(rt; threads.add(18), Ok(()));
+    assert_eq!(rt; threads.number(18), Some(2));
+    assert_eq!(rt; threads.number(19), None);
     threads.set_object(1, 19);
     threads.set_begun(1, true);
     threads.set_pending(1, Some(5));

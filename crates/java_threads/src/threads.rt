@@ -1,9 +1,9 @@
 //! The table of threads.
 
-ghost use Rattle.std.specs.Prelude.{◌≡◌, ◌<◌, ◌≤◌, [], ◌∷◌, ◌++◌, ◌↔◌, length, IfOk, IsTrue};
+ghost use Rattle.std.specs.Prelude.{◌≡◌, ◌<◌, ◌≤◌, [], ◌∷◌, ◌++◌, ◌↔◌, length, IfOk, IfSome, IsTrue};
 ghost use Rattle.model.specs.State.{new_thread};
 ghost use Rattle.java_threads.specs.Statuses.{status_of};
-ghost use Rattle.java_threads.specs.Table.{thread_at, with_thread, IsWithin, IsAdded};
+ghost use Rattle.java_threads.specs.Table.{thread_at, number_of, with_thread, IsWithin, IsAdded};
 
 use crate::refusal::Refusal;
 use crate::status::ThreadStatus;
@@ -42,6 +42,14 @@ fn thread_of(threads: &[Thread], thread: u16) -> Thread
         .unwrap_or(Thread::new(0))
 }
 
+/// Where the thread of a Thread object stands.
+fn position(threads: &[Thread], object: u32) -> Option<usize>
+    ensures value { result ≡ number_of threads.now object }
+    ensures there { IfSome result (λ at. at < length threads.now) }
+{
+    threads.iter().position(|thread| thread.object == object)
+}
+
 impl Threads {
     /// The table with main's thread alone, by its Thread object. The limit is 1 to 32,767.
     pub fn new(alloc: Global, limit: u32, object: u32) -> Result<Threads, AllocError>
@@ -78,6 +86,14 @@ impl Threads {
         self.threads.reserve(1)?;
         self.threads.push_reserved(Thread::new(object));
         Ok(())
+    }
+
+    /// The number of the thread of a Thread object, the first where there are several.
+    pub fn number(&self, object: u32) -> Option<u16>
+        ensures { result ≡ number_of self.now.threads object }
+    {
+        let at = position(self.threads.as_slice(), object)?;
+        Some(at as u16)
     }
 
     /// The Thread object of a thread.

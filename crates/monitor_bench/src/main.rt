@@ -52,7 +52,11 @@ fn crowd(monitors: &mut Monitors, threads: u16) -> u16 {
             return thread;
         }
     }
-    if is_notified(monitors, 1, 0) { threads } else { 0 }
+    if is_notified(monitors, 1, 0) {
+        threads
+    } else {
+        0
+    }
 }
 
 /// One thread waits for each of so many objects, the last first, and then each is notified. Says for how many objects
@@ -91,6 +95,8 @@ fn main(rt: HostRuntime) -> Result<()> {
     ensure!(waited == threads, "{waited} threads");
     let held = spread(&mut monitors, objects, fat);
     ensure!(held == fat, "{held} objects");
-    println!(rt; "{done} times entered and left, {waited} threads notified, {objects} objects, {held} with a waiter")?;
+    println!(rt;
+        "{done} times entered and left, {waited} threads notified, {objects} objects, {held} with a waiter"
+    )?;
     Ok(())
 }
