@@ -1,5 +1,4 @@
 -- The threads of the code are those of the definitions.
-use Rattle.std.specs.Prelude.{ℕ, Option}
 use Rattle.model.specs.State as model
 use Rattle.java_threads.specs.declared.status.WakeCause.{WakeCause}
 use Rattle.java_threads.specs.declared.status.WakeCause.TheVariants as causes
