@@ -164,32 +164,44 @@ fn agree(
     assert_eq!(rt; monitors.is_fat(object), plain.is_fat(object));
     assert_eq!(rt; monitors.waiter_count(object), other.waiters().len());
     let waiters = monitors.waiters(alloc, object)?;
+    assert_eq!(rt; waiters.len(), other.waiters().len());
     for (mine, its) in waiters.iter().zip(other.waiters()) {
         assert!(rt; mine.thread == its.thread && mine.count == its.count);
     }
     Ok(())
 }
 
-#[test]
-fn both_bodies_answer_alike(rt: HostRuntime) -> Result<(), Fail> {
-    let alloc = rt.alloc();
-    let calls = calls_of(alloc)?;
+/// Runs the calls by so many at a time on both bodies, which answer alike and show the same after each part. Says whether
+/// one was refused for a full table.
+fn compare(rt: &impl Abort, alloc: Global, calls: &[Call], at_once: usize) -> Result<bool, Fail>
+    requires { 0 < at_once }
+{
     let mut monitors = Monitors::new(alloc, LIMIT);
     let mut plain = PlainMonitors::new(alloc, LIMIT);
     for _ in 0..OBJECTS {
         monitors.add()?;
         plain.add(alloc)?;
     }
-    for part in calls.chunks(64) {
+    let mut was_full = false;
+    for part in calls.chunks(at_once) {
         let replies = run_calls(alloc, &mut monitors, part)?;
         let others = run_calls(alloc, &mut plain, part)?;
         assert_eq!(rt; replies.len(), others.len());
         for (mine, its) in replies.iter().zip(others.iter()) {
             assert!(rt; *mine == *its);
+            was_full |= *mine == Some(Err(Refusal::Monitors));
         }
         for object in 0..OBJECTS {
-            agree(&rt, &monitors, &plain, alloc, object)?;
+            agree(rt, &monitors, &plain, alloc, object)?;
         }
     }
+    Ok(was_full)
+}
+
+#[test]
+fn both_bodies_answer_alike(rt: HostRuntime) -> Result<(), Fail> {
+    let calls = calls_of(rt.alloc())?;
+    assert!(rt; compare(&rt, rt.alloc(), calls.as_slice(), 1)?);
+    assert!(rt; compare(&rt, rt.alloc(), calls.as_slice(), 64)?);
     Ok(())
 }

@@ -1,0 +1,13 @@
+//! The table of Java threads, by their numbers: all of a thread but its stack.
+#![tactic(auto)]
+
+mod refusal;
+mod status;
+#[cfg(test)]
+mod tests;
+mod thread;
+mod threads;
+
+pub use refusal::Refusal;
+pub use status::{ThreadStatus, WakeCause};
+pub use threads::Threads;
