@@ -15,3 +15,5 @@ pub mod Branches
 pub mod Initialisations
 pub mod Javac
 pub mod BuiltInClasses
+pub mod TypeJoins
+pub mod Typings

@@ -14,6 +14,8 @@ ghost use Rattle.examples.specs.Loops.{Loop, Switches};
 ghost use Rattle.examples.specs.OnlyReturns.{OnlyReturns};
 ghost use Rattle.examples.specs.PrintsSeven.{PrintsSeven, EventByEvent};
 ghost use Rattle.examples.specs.StackMoves.{StackMoves};
+ghost use Rattle.examples.specs.TypeJoins.{TypeJoins};
+ghost use Rattle.examples.specs.Typings.{Typings, Untypables};
 ghost use Rattle.examples.specs.WideAndSwitch.{WideAndSwitch};
 ghost use Rattle.examples.specs.WrongOperands.{WrongOperands};
 
@@ -120,4 +122,19 @@ pub fn built_in_classes()
 /// The objects that stand before any event.
 pub fn opening_objects()
     ensures holds { OpeningObjects }
+{}
+
+/// Joins of two types and of two frame types, and the order of types.
+pub fn type_joins()
+    ensures holds { TypeJoins }
+{}
+
+/// Methods with a typing, each by its list of frame types.
+pub fn typings()
+    ensures holds { Typings }
+{}
+
+/// Codes that have no typing.
+pub fn untypables()
+    ensures holds { Untypables }
 {}
