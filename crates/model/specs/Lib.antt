@@ -36,6 +36,12 @@ pub mod Worlds
 pub mod ClassInitialisation
 pub mod Frames
 pub mod Sites
+pub mod Objects
+pub mod Arrays
+pub mod MonitorMeanings
+pub mod ThrowMeaning
+pub mod BuiltInMethods
+pub mod Calls
 pub mod Meanings
 pub mod Step
 pub mod Run

@@ -1,13 +1,13 @@
 -- The opening state of a program (own): the objects, fields and classes that there are before any event.
-use Rattle.std.specs.Prelude.{ℕ, ◌+◌, List, [], ◌∷◌, ◌++◌, Bool, not, map, filter, length}
-use Rattle.std.specs.List.{filter_map, flat_map, position_or_len}
+use Rattle.std.specs.Prelude.{ℕ, ◌+◌, List, [], ◌∷◌, ◌++◌, map, filter, length}
+use Rattle.std.specs.List.{flat_map, position_or_len}
 use Rattle.model.specs.Names.{Name, name_eq, Member, java_lang_class, java_lang_string, java_lang_thread, java_io_print_stream}
 use Rattle.model.specs.Tree.{FileTree}
-use Rattle.model.specs.Pool.{string_of}
 use Rattle.model.specs.Classes.{Program, name_of, is_named, classes_of}
 use Rattle.model.specs.ReferenceTypes.{ClassType}
 use Rattle.model.specs.DescribedTypes.{DeclaredType, DeclaredInt, DeclaredReference, field_declared}
 use Rattle.model.specs.Lookup.{is_static_field, field_member, instance_fields}
+use Rattle.model.specs.StringConstants.{string_texts}
 use Rattle.model.specs.Operands.{Carrier}
 use Rattle.model.specs.State.{ObjectOf, Instance, References, NotInitialised, StateOf, new_thread}
 use Rattle.model.specs.Monitors.{unlocked}
@@ -35,20 +35,6 @@ static_fields_in file = map (field_member (name_of file) file.pool) (filter is_s
 -- the static fields that the files declare, in their order
 abbrev pub static_fields : Program → List Member
 static_fields files = flat_map static_fields_in files
-
--- ---- string constants (JVMS 5.1): one object for each text
-
-abbrev pub is_other_text : List ℕ → List ℕ → Bool
-is_other_text text other = not (name_eq text other)
-
--- each text once, where it stands first
-abbrev pub distinct : List (List ℕ) → List (List ℕ)
-distinct [] = []
-distinct (text ∷ texts) = text ∷ filter (is_other_text text) (distinct texts)
-
--- the texts of the String constants of the files, in their order
-abbrev pub string_texts : Program → List (List ℕ)
-string_texts files = distinct (flat_map (λ (file : FileTree). filter_map (string_of file.pool) file.pool) files)
 
 -- ---- the objects
 

@@ -1,8 +1,9 @@
 -- The verifier's types, and what an instruction wants of a word (JVMS 4.10.1.2, 4.10.1.4).
 use Rattle.std.specs.Prelude.{ℕ, List, Option, Some, None, Bool, true, false, ◌||◌, slice_get}
+use Rattle.std.specs.Option.{option_map_or}
 use Rattle.model.specs.Names.{Name, name_eq, spells}
 use Rattle.model.specs.Classes.{Program, superclass_of}
-use Rattle.model.specs.ReferenceTypes.{ReferenceType, ClassType, is_subtype, is_assignable}
+use Rattle.model.specs.ReferenceTypes.{Primitive, Boolean, Char, Byte, Short, Int, ReferenceType, ClassType, PrimitiveArray, ReferenceArray, is_subtype, is_assignable}
 use Rattle.model.specs.declared.value.Value.{Value}
 use Rattle.model.specs.declared.value.Value.TheVariants as value
 
@@ -30,6 +31,10 @@ pub data Want : Type 0 where
   AReceiver : (class : Name) → Want
   -- the object whose field is put, where a class declares the field and the instruction names that class
   AnOwner : (class : Name) → Want
+  -- an array, or null
+  AnArray : Want
+  -- an array of bytes or one of booleans, or null
+  AByteArray : Want
 
 -- ---- over types
 
@@ -84,6 +89,32 @@ is_owner files class (OfType t) = is_assignable files t (ClassType class)
 is_owner files class (Uninitialised at c) = false
 is_owner files class (UninitialisedThis c) = name_eq c class
 
+abbrev pub is_array_type : ReferenceType → Bool
+is_array_type (ClassType c) = false
+is_array_type (PrimitiveArray of) = true
+is_array_type (ReferenceArray of) = true
+
+abbrev pub is_byte_or_boolean : Primitive → Bool
+is_byte_or_boolean Boolean = true
+is_byte_or_boolean Char = false
+is_byte_or_boolean Byte = true
+is_byte_or_boolean Short = false
+is_byte_or_boolean Int = false
+
+abbrev pub is_byte_array_type : ReferenceType → Bool
+is_byte_array_type (ClassType c) = false
+is_byte_array_type (PrimitiveArray of) = is_byte_or_boolean of
+is_byte_array_type (ReferenceArray of) = false
+
+-- null, or an initialised reference whose type passes a test
+abbrev pub has_type_with : (ReferenceType → Bool) → VerificationType → Bool
+has_type_with test Unusable = false
+has_type_with test IntType = false
+has_type_with test NullType = true
+has_type_with test (OfType t) = test t
+has_type_with test (Uninitialised at c) = false
+has_type_with test (UninitialisedThis c) = false
+
 -- a type is as wanted
 abbrev pub type_meets : Program → Want → VerificationType → Bool
 type_meets files AnyWord t = is_usable t
@@ -92,6 +123,8 @@ type_meets files AnyReference t = is_reference t
 type_meets files (AReference want) t = is_of files want t
 type_meets files (AReceiver class) t = is_receiver files class t
 type_meets files (AnOwner class) t = is_owner files class t
+type_meets files AnArray t = has_type_with is_array_type t
+type_meets files AByteArray t = has_type_with is_byte_array_type t
 
 -- ---- over values
 
@@ -130,6 +163,13 @@ is_value_below files objects want (value.Int bits) = false
 is_value_below files objects want value.Null = true
 is_value_below files objects want (value.Reference r) = is_object_below files want (slice_get objects r)
 
+-- null, or a reference to an object whose type passes a test
+abbrev pub is_value_with : List ReferenceType → (ReferenceType → Bool) → Value → Bool
+is_value_with objects test value.Unset = false
+is_value_with objects test (value.Int bits) = false
+is_value_with objects test value.Null = true
+is_value_with objects test (value.Reference r) = option_map_or test (slice_get objects r) false
+
 -- a value is as wanted; what a constructor or a put takes is of the class
 abbrev pub value_meets : Program → List ReferenceType → Want → Value → Bool
 value_meets files objects AnyWord v = true
@@ -138,3 +178,5 @@ value_meets files objects AnyReference v = is_reference_value v
 value_meets files objects (AReference want) v = is_value_below files objects want v
 value_meets files objects (AReceiver class) v = is_value_below files objects (ClassType class) v
 value_meets files objects (AnOwner class) v = is_value_below files objects (ClassType class) v
+value_meets files objects AnArray v = is_value_with objects is_array_type v
+value_meets files objects AByteArray v = is_value_with objects is_byte_array_type v
