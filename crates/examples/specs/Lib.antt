@@ -17,3 +17,4 @@ pub mod Javac
 pub mod BuiltInClasses
 pub mod TypeJoins
 pub mod Typings
+pub mod Constructors

@@ -4,6 +4,8 @@
 
 ghost use Rattle.examples.specs.Branches.{Branches};
 ghost use Rattle.examples.specs.BuiltInClasses.{BuiltInClasses, OpeningObjects};
+ghost use Rattle.examples.specs.Constructors as constructing;
+ghost use Rattle.examples.specs.Constructors.{Constructors};
 ghost use Rattle.examples.specs.Exceptions.{Exceptions};
 ghost use Rattle.examples.specs.Initialisations.{ClassAtBegin, SuperclassFirst};
 ghost use Rattle.examples.specs.Instructions.{Instructions, Opcodes};
@@ -137,4 +139,14 @@ pub fn typings()
 /// Codes that have no typing.
 pub fn untypables()
     ensures holds { Untypables }
+{}
+
+/// A constructor and a `new`, with typings; and what single instructions do to what is not initialised.
+pub fn constructors()
+    ensures holds { Constructors }
+{}
+
+/// A constructor that calls no other one has no typing.
+pub fn only_returns_unconstructed()
+    ensures holds { constructing.OnlyReturns }
 {}
