@@ -15,3 +15,8 @@ pub mod Branches
 pub mod Initialisations
 pub mod Javac
 pub mod BuiltInClasses
+pub mod Conditions
+pub mod Made
+pub mod Refusals
+pub mod MalformedFiles
+pub mod Lookups
