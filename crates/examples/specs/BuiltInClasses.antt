@@ -8,7 +8,9 @@ use Rattle.model.specs.Spelling.{FileFits}
 use Rattle.model.specs.BuiltIn.{built_in_classes}
 use Rattle.model.specs.Classes.{name_of, super_name_of, class_of, is_subclass}
 use Rattle.model.specs.ReferenceTypes.{ReferenceType, ClassType, PrimitiveArray, ReferenceArray, Byte, Int, is_subtype}
-use Rattle.model.specs.State.{State, opening, types_of}
+use Rattle.model.specs.Operands.{values}
+use Rattle.model.specs.State.{State, types_of}
+use Rattle.model.specs.Opening.{opening}
 use Rattle.examples.specs.OnlyReturns.{only_returns_file}
 
 -- names, superclasses and access flags (JVMS table 4.1-A): 0021 is public, 0031 public and final, 0421 public and abstract,
@@ -82,4 +84,4 @@ pub record BuiltInClasses : Type 0 where
 -- Before any event there are the stream, the arguments, the Thread of main, and a Class for each class.
 abbrev pub OpeningObjects : Type 0
 OpeningObjects =
-    types_of (let s : State = opening (only_returns_file ∷ []) in s).world.heap ≡ ClassType java_io_print_stream ∷ ReferenceArray (ClassType java_lang_string) ∷ ClassType java_lang_thread ∷ replicate 31 (ClassType java_lang_class)
+    types_of (let s : State = opening values (only_returns_file ∷ []) in s).world.heap ≡ ClassType java_io_print_stream ∷ ReferenceArray (ClassType java_lang_string) ∷ ClassType java_lang_thread ∷ replicate 31 (ClassType java_lang_class)

@@ -7,9 +7,12 @@ use Rattle.model.specs.BuiltIn.{public_class, built_in}
 use Rattle.model.specs.Classes.{Program}
 use Rattle.model.specs.ReferenceTypes.{ReferenceType, ClassType}
 use Rattle.model.specs.Operands.{values}
-use Rattle.model.specs.State.{State, Initialisation, Super, End, ClassStatus, InProgress, Initialised, Erroneous, ThreadStatus, Ended, types_of, opening}
+use Rattle.model.specs.State.{State, Initialisation, Super, End, ClassStatus, InProgress, Initialised, Erroneous, ThreadStatus, Ended, types_of}
+use Rattle.model.specs.Opening.{opening}
 use Rattle.model.specs.Run.{run, run_from}
-use Rattle.model.specs.Step.{NotEnabled, stepped, status_of, thread_at}
+use Rattle.model.specs.Worlds.{thread_at}
+use Rattle.model.specs.ClassInitialisation.{status_of}
+use Rattle.model.specs.Step.{NotEnabled, stepped}
 use Rattle.examples.specs.Bytes.{hex}
 use Rattle.examples.specs.Runs.{frames, event_of, with_main, stacks_in, statuses_in}
 use Rattle.examples.specs.OnlyReturns.{only_returns_file}
@@ -40,7 +43,7 @@ pub record SuperclassFirst : Type 0 where
 
 -- the opening state of a program, but that classes have these statuses
 abbrev pub opening_with : Program → List (Name × ClassStatus) → State
-opening_with files classes = let s : State = opening files in record s { world = record s.world { classes = classes } }
+opening_with files classes = let s : State = opening values files in record s { world = record s.world { classes = classes } }
 
 -- the type of the exception with which a thread ended, by the types of the objects
 abbrev pub type_at : List ReferenceType → ThreadStatus → Option ReferenceType

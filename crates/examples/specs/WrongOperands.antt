@@ -4,7 +4,8 @@ use Rattle.std.specs.Option.{option_map}
 use Rattle.model.specs.Names.{java_lang_object}
 use Rattle.model.specs.Tree.{Utf8, Class, FileTree}
 use Rattle.model.specs.Operands.{values}
-use Rattle.model.specs.State.{State, Invocation, opening}
+use Rattle.model.specs.State.{State, Invocation}
+use Rattle.model.specs.Opening.{opening}
 use Rattle.model.specs.Step.{WrongKind, stepped, is_enabled}
 use Rattle.examples.specs.Bytes.{hex}
 use Rattle.examples.specs.Runs.{frames, event_of, after, then_stepped, with_main}
@@ -21,7 +22,7 @@ int_file code = with_main (Utf8 (codes "A") ∷ Class 1 ∷ Utf8 java_lang_objec
 
 abbrev pub in_int : List ℕ → State
 in_int code =
-    let s : State = opening (int_file code ∷ []) in
+    let s : State = opening values (int_file code ∷ []) in
     record s {
       stacks =
           (Invocation (record {

@@ -59,6 +59,9 @@ java_lang_throwable = codes "java/lang/Throwable"
 abbrev pub java_io_print_stream : Name
 java_io_print_stream = codes "java/io/PrintStream"
 
+abbrev pub java_lang_error : Name
+java_lang_error = codes "java/lang/Error"
+
 -- the field System.out
 abbrev pub system_out : Member
 system_out = record { class = java_lang_system; name = codes "out"; descriptor = codes "Ljava/io/PrintStream;" }
@@ -74,3 +77,11 @@ println_int = record { class = java_io_print_stream; name = codes "println"; des
 -- the method with which a program begins, in its initial class (JVMS 5.2)
 abbrev pub main_of : Name → Member
 main_of class = record { class = class; name = codes "main"; descriptor = codes "([Ljava/lang/String;)V" }
+
+-- the initialiser of a class (JVMS 2.9)
+abbrev pub initialiser_of : Name → Member
+initialiser_of class = record { class = class; name = codes "<clinit>"; descriptor = codes "()V" }
+
+-- the method with which a started thread begins (JLS 17.3)
+abbrev pub thread_run : Member
+thread_run = record { class = java_lang_thread; name = codes "run"; descriptor = codes "()V" }

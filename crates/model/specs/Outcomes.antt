@@ -53,8 +53,10 @@ pub data OutcomeOf (A : Type 0) : Type 0 where
   Raises : (fault : Fault) → OutcomeOf A
   -- an exception that is there
   Throws : (exception : ℕ) → OutcomeOf A
+  -- an InterruptedException, by which the thread's interrupt status is cleared (JLS 17.2.1, 17.2.3)
+  Interrupts : OutcomeOf A
   -- a new frame, and what is left on the stack under the arguments
-  Calls : (cost : Cost) (world : WorldOf A) (frame : FrameOf A) (rest : List A) → OutcomeOf A
+  Calls : (frame : FrameOf A) (rest : List A) → OutcomeOf A
   -- back to the invoker, with no result or one
   Returns : (world : WorldOf A) (results : List A) → OutcomeOf A
   -- into a wait set; the call returns when the thread has left it and owns the monitor again

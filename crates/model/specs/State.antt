@@ -1,7 +1,6 @@
 -- What a run keeps (JVMS 2.5, 2.6; JLS 17): at the carrier `values` with the kind of each value, at `words` without.
-use Rattle.std.specs.Prelude.{ℕ, ℤ, List, [], ◌∷◌, Option, None, Bool, false, map}
-use Rattle.model.specs.Names.{Name, Member, java_lang_class, java_lang_string, java_lang_thread, java_io_print_stream}
-use Rattle.model.specs.Classes.{Program, classes_of}
+use Rattle.std.specs.Prelude.{ℕ, ℤ, List, Option, None, Bool, false, map}
+use Rattle.model.specs.Names.{Name, Member}
 use Rattle.model.specs.ReferenceTypes.{Primitive, ReferenceType, ClassType, PrimitiveArray, ReferenceArray}
 use Rattle.model.specs.Operands.{Slots}
 use Rattle.model.specs.declared.value.Value.{Value}
@@ -86,9 +85,8 @@ pub data EntryOf (A : Type 0) : Type 0 where
 abbrev pub StackOf : Type 0 → Type 0
 StackOf A = List (EntryOf A)
 
--- what the threads share: objects by their references, static fields that were written, classes whose
--- initialisation was begun, monitors by the references of their objects, the threads in starting order, and the
--- numbers printed
+-- what the threads share: objects by their references, the static fields of the files, the classes of the files, monitors
+-- by the references of their objects, the threads in starting order, and the numbers printed
 pub record WorldOf (A : Type 0) : Type 0 where
   pub heap : List (ObjectOf A)
   pub statics : List (Member × A)
@@ -114,40 +112,6 @@ World = WorldOf Value
 abbrev pub State : Type 0
 State = StateOf Value
 
--- ---- the opening state (own): the objects that stand before any event
-
-abbrev pub print_stream_reference : ℕ
-print_stream_reference = 0
-
--- the empty array that main gets
-abbrev pub arguments_reference : ℕ
-arguments_reference = 1
-
-abbrev pub main_thread_reference : ℕ
-main_thread_reference = 2
-
--- the PrintStream of System.out, the arguments, the Thread of main, and a Class object for each class
-unfoldable pub opening_heap : {A : Type 0} → Program → List (ObjectOf A)
-opening_heap files =
-    Instance java_io_print_stream []
-    ∷ References (ClassType java_lang_string) []
-    ∷ Instance java_lang_thread []
-    ∷ map (λ file. Instance java_lang_class []) (classes_of files)
-
--- a thread that has not begun
+-- a thread of a Thread object that has not begun
 abbrev pub new_thread : ℕ → Thread
 new_thread object = record { object = object; begun = false; pending = None; interrupted = false; status = Running }
-
-abbrev pub opening : {A : Type 0} → Program → StateOf A
-opening files =
-    record {
-      world = record {
-        heap = opening_heap files;
-        statics = [];
-        classes = [];
-        monitors = [];
-        threads = new_thread main_thread_reference ∷ [];
-        printed = [];
-      };
-      stacks = [] ∷ [];
-    }

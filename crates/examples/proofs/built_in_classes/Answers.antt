@@ -1,7 +1,7 @@
 use Rattle.std.proofs.Common.{refl}
 use Rattle.examples.proofs.Fits.{all_fit}
 use Rattle.model.specs.BuiltIn.{built_in_classes}
-use Rattle.model.specs.State.{opening_heap}
+use Rattle.model.specs.Opening.{opening_heap}
 use Rattle.examples.proofs.built_in_classes.Goals as goal
 
 pub returns : goal.returns

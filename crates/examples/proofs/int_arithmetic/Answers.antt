@@ -4,7 +4,7 @@ use Rattle.model.specs.OpcodeTable.{low_form, high_form}
 use Rattle.model.specs.Instruction.{wide_at, table_switch_at, lookup_switch_at}
 use Rattle.examples.proofs.Fits.{fits}
 use Rattle.model.specs.BuiltIn.{built_in_classes}
-use Rattle.model.specs.State.{opening_heap}
+use Rattle.model.specs.Opening.{opening_heap}
 use Rattle.examples.proofs.int_arithmetic.Goals as goal
 
 pub returns : goal.returns

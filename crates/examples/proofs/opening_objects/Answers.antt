@@ -1,6 +1,6 @@
 use Rattle.std.proofs.Common.{refl}
 use Rattle.model.specs.BuiltIn.{built_in_classes}
-use Rattle.model.specs.State.{opening_heap}
+use Rattle.model.specs.Opening.{opening_heap}
 use Rattle.examples.proofs.opening_objects.Goals as goal
 
 pub returns : goal.returns

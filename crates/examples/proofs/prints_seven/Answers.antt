@@ -2,12 +2,10 @@ use Rattle.std.proofs.Common.{refl}
 use Rattle.std.specs.Fmt.{digits}
 use Rattle.model.specs.OpcodeTable.{low_form, high_form}
 use Rattle.model.specs.Instruction.{wide_at, table_switch_at, lookup_switch_at}
-use Rattle.examples.specs.PrintsSeven.{prints_seven_file}
-use Rattle.examples.specs.Runs.{after}
 use Rattle.examples.proofs.Fits.{fits}
-use Rattle.examples.proofs.Picks.{other_picks}
+use Rattle.examples.proofs.Picks.{is_none}
 use Rattle.model.specs.BuiltIn.{built_in_classes}
-use Rattle.model.specs.State.{opening_heap}
+use Rattle.model.specs.Opening.{opening_heap}
 use Rattle.examples.proofs.prints_seven.Goals as goal
 
 pub returns : goal.returns
@@ -17,7 +15,7 @@ returns c =
       holds = record {
         prints = record { layout = record { spelled = refl; fits = fits _ tt }; numbers = refl; threads = refl; reported = refl; then_over = refl };
         other_thread = λ thread pick. refl;
-        other_pick = λ pick. other_picks prints_seven_file (after prints_seven_file 3) pick;
+        other_pick = λ pick. rw (is_none pick) refl;
         this_one = refl;
       };
     }

@@ -1,7 +1,7 @@
 use Rattle.std.proofs.Common.{refl}
 use Rattle.model.specs.OpcodeTable.{low_form, high_form}
 use Rattle.model.specs.BuiltIn.{built_in_classes}
-use Rattle.model.specs.State.{opening_heap}
+use Rattle.model.specs.Opening.{opening_heap}
 use Rattle.examples.proofs.superclass_first.Goals as goal
 
 pub returns : goal.returns

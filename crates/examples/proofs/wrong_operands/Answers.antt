@@ -3,7 +3,7 @@ use Rattle.model.specs.OpcodeTable.{low_form, high_form}
 use Rattle.model.specs.Instruction.{wide_at, table_switch_at, lookup_switch_at}
 use Rattle.model.specs.InstructionStarts.{starts_from}
 use Rattle.model.specs.BuiltIn.{built_in_classes}
-use Rattle.model.specs.State.{opening_heap}
+use Rattle.model.specs.Opening.{opening_heap}
 use Rattle.examples.proofs.wrong_operands.Goals as goal
 
 pub returns : goal.returns
