@@ -20,3 +20,5 @@ pub mod Made
 pub mod Refusals
 pub mod MalformedFiles
 pub mod Lookups
+pub mod TypeJoins
+pub mod Typings

@@ -17,6 +17,8 @@ ghost use Rattle.examples.specs.OnlyReturns.{OnlyReturns};
 ghost use Rattle.examples.specs.PrintsSeven.{PrintsSeven, EventByEvent};
 ghost use Rattle.examples.specs.Refusals.{BadHierarchies, MalformedCodes, OtherRefusals, OutsideProfiles, Unresolveds};
 ghost use Rattle.examples.specs.StackMoves.{StackMoves};
+ghost use Rattle.examples.specs.TypeJoins.{TypeJoins};
+ghost use Rattle.examples.specs.Typings.{Typings, Untypables};
 ghost use Rattle.examples.specs.WideAndSwitch.{WideAndSwitch};
 ghost use Rattle.examples.specs.WrongOperands.{WrongOperands};
 
@@ -163,4 +165,19 @@ pub fn lookups()
 /// Which types are below which, with interfaces and without.
 pub fn instances()
     ensures holds { Instances }
+{}
+
+/// Joins of two types and of two frame types, and the order of types.
+pub fn type_joins()
+    ensures holds { TypeJoins }
+{}
+
+/// Methods with a typing, each by its list of frame types.
+pub fn typings()
+    ensures holds { Typings }
+{}
+
+/// Codes that have no typing.
+pub fn untypables()
+    ensures holds { Untypables }
 {}

@@ -53,6 +53,7 @@ pub mod Typing
 pub mod WellTyped
 pub mod Words
 pub mod WrongKind
+pub mod Accepted
 pub mod Descriptors
 pub mod DescriptorScan
 pub mod Conditions

@@ -9,9 +9,8 @@ use Rattle.model.specs.Classes.{Program, Body, body_of}
 use Rattle.model.specs.ReferenceTypes.{ReferenceType, ClassType}
 use Rattle.model.specs.Types.{VerificationType, Unusable, IntType, NullType, OfType, Uninitialised, UninitialisedThis, is_int_value, is_value_below}
 use Rattle.model.specs.DescribedTypes.{field_declared, results_declared, made_type, verification_type}
-use Rattle.model.specs.Operands.{Slots}
 use Rattle.model.specs.TypeOrder.{FrameType, pairwise}
-use Rattle.model.specs.State.{ObjectOf, Instance, Primitives, References, types_of, ThreadStatus, Running, Waiting, Relock, Ended, Thread, FrameOf, Frame, Invocation, Initialisation, StackOf, WorldOf, State}
+use Rattle.model.specs.State.{ObjectOf, Instance, Primitives, References, types_of, ThreadStatus, Running, Waiting, Relock, Ended, Thread, Frame, Invocation, Initialisation, StackOf, State}
 use Rattle.model.specs.Step.{next_of}
 use Rattle.model.specs.Typing.{Typing, Reaches, IsTyping}
 
