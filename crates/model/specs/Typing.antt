@@ -8,7 +8,7 @@ use Rattle.model.specs.declared.instr.Instr.{Instr}
 use Rattle.model.specs.declared.instr.Instr.TheVariants as instr
 use Rattle.model.specs.declared.instr.Invocation.TheVariants as invocation
 use Rattle.model.specs.declared.value.Value.{Value}
-use Rattle.model.specs.Names.{Name, name_eq, Member, constructor_name, java_lang_throwable}
+use Rattle.model.specs.Names.{Name, name_eq, Member, constructor_name, initialiser_name, java_lang_throwable}
 use Rattle.model.specs.Tree.{Entry, MethodTree}
 use Rattle.model.specs.Pool.{class_name_at, method_at}
 use Rattle.model.specs.AccessFlags.{is_static_method}
@@ -40,10 +40,14 @@ receiver_type method = if is_constructor method then UninitialisedThis method.cl
 abbrev pub parameter_types : Program → Member → List VerificationType
 parameter_types files method = map (verification_type files) (parameters_declared method.descriptor)
 
+-- a method has no receiver if it is static; the initialiser of a class has none whatever its flags are (own)
+abbrev pub has_no_receiver : Program → Member → Bool
+has_no_receiver files method = is_static_of files method || name_eq method.name initialiser_name
+
 -- what a method is called with: the receiver, if there is one, and the parameters
 abbrev pub argument_types : Program → Member → List VerificationType
 argument_types files method =
-    if is_static_of files method then parameter_types files method else receiver_type method ∷ parameter_types files method
+    if has_no_receiver files method then parameter_types files method else receiver_type method ∷ parameter_types files method
 
 -- the frame type where a method begins: its arguments in the first local variables, the others not usable, nothing on
 -- the operand stack (JVMS 2.6.1, 4.10.1.6)
