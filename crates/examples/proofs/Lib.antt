@@ -1,3 +1,3 @@
 pub mod Fits
 pub mod Picks
-pub mod Typings
+pub mod TypingProofs

@@ -22,3 +22,4 @@ pub mod MalformedFiles
 pub mod Lookups
 pub mod TypeJoins
 pub mod Typings
+pub mod BuiltInMembers

@@ -4,6 +4,7 @@
 
 ghost use Rattle.examples.specs.Branches.{Branches};
 ghost use Rattle.examples.specs.BuiltInClasses.{BuiltInClasses, OpeningObjects};
+ghost use Rattle.examples.specs.BuiltInMembers.{BuiltInMembers};
 ghost use Rattle.examples.specs.Exceptions.{Exceptions};
 ghost use Rattle.examples.specs.Initialisations.{ClassAtBegin, SuperclassFirst};
 ghost use Rattle.examples.specs.Instructions.{Instructions, Opcodes};
@@ -120,6 +121,11 @@ pub fn written_by_javac()
 /// The built-in classes, their superclasses, and subtypes among them and arrays.
 pub fn built_in_classes()
     ensures holds { BuiltInClasses }
+{}
+
+/// The members of the built-in classes.
+pub fn built_in_members()
+    ensures holds { BuiltInMembers }
 {}
 
 /// The objects that stand before any event.

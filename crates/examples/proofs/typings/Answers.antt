@@ -2,7 +2,7 @@ use Rattle.std.proofs.Common.{refl}
 use Rattle.model.specs.OpcodeTable.{low_form, high_form}
 use Rattle.model.specs.BuiltIn.{built_in_classes}
 use Rattle.model.specs.DescriptorScan.{element_at, field_at, field_type, parameters_at, method_type}
-use Rattle.examples.proofs.Typings.{is_typed}
+use Rattle.examples.proofs.TypingProofs.{is_typed}
 use Rattle.examples.proofs.typings.Goals as goal
 
 pub returns : goal.returns

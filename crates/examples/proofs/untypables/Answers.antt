@@ -12,7 +12,7 @@ use Rattle.model.specs.Typing.{Typing, IsTyping, HasTyping, flow}
 use Rattle.examples.specs.Bytes.{hex}
 use Rattle.examples.specs.Printing as printing
 use Rattle.examples.specs.Typings.{body_with, strings, Untypable}
-use Rattle.examples.proofs.Typings.{fails, next, begins, may_lead, always_fails, unequal, with_unusable}
+use Rattle.examples.proofs.TypingProofs.{fails, next, begins, may_lead, always_fails, unequal, with_unusable}
 use Rattle.examples.proofs.untypables.Goals as goal
 
 none_some : {A : Type 0} (o : Option A) (x : A) → o ≡ None → o ≡ Some x → ⊥
