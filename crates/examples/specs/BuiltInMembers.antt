@@ -17,12 +17,12 @@ pub record BuiltInMembers : Type 0 where
   pub runnable : listing runnable_class ≡ codes "interface java/lang/Runnable extends java/lang/Object\nmethod run()V flags 0401\n"
   pub thread : listing thread_class
       ≡ codes "class java/lang/Thread extends java/lang/Object implements java/lang/Runnable\nfield target Ljava/lang/Runnable; flags 0002\n"
-          ++ (codes "method run()V flags 0001 stack 1 locals 1\n00000 2a aload_0\n00001 b4000a getfield java/lang/Thread.target:Ljava/lang/Runnable;\n"
-          ++ (codes "00004 c6000c ifnull 16\n00007 2a aload_0\n00008 b4000a getfield java/lang/Thread.target:Ljava/lang/Runnable;\n"
-          ++ (codes "00011 b9000e0100 invokeinterface java/lang/Runnable.run:()V 1\n00016 b1 return\n"
-          ++ (codes "method <init>()V flags 0101\nmethod <init>(Ljava/lang/Runnable;)V flags 0101\nmethod start()V flags 0101\nmethod interrupt()V flags 0101\n"
-          ++ (codes "method isInterrupted()Z flags 0101\nmethod interrupted()Z flags 0109\nmethod yield()V flags 0109\n"
-          ++ codes "method currentThread()Ljava/lang/Thread; flags 0109\nmethod join()V flags 0111\nmethod isAlive()Z flags 0111\n")))))
+      ++ (codes "method run()V flags 0001 stack 1 locals 1\n00000 2a aload_0\n00001 b4000a getfield java/lang/Thread.target:Ljava/lang/Runnable;\n"
+      ++ (codes "00004 c6000c ifnull 16\n00007 2a aload_0\n00008 b4000a getfield java/lang/Thread.target:Ljava/lang/Runnable;\n"
+      ++ (codes "00011 b9000e0100 invokeinterface java/lang/Runnable.run:()V 1\n00016 b1 return\n"
+      ++ (codes "method <init>()V flags 0101\nmethod <init>(Ljava/lang/Runnable;)V flags 0101\nmethod start()V flags 0101\nmethod interrupt()V flags 0101\n"
+      ++ (codes "method isInterrupted()Z flags 0101\nmethod interrupted()Z flags 0109\nmethod yield()V flags 0109\n"
+      ++ codes "method currentThread()Ljava/lang/Thread; flags 0109\nmethod join()V flags 0111\nmethod isAlive()Z flags 0111\n")))))
   pub system : listing system_class ≡ codes "class java/lang/System extends java/lang/Object\nfield out Ljava/io/PrintStream; flags 0019\n"
   pub print_stream : listing print_stream_class ≡ codes "class java/io/PrintStream extends java/lang/Object\nmethod println(I)V flags 0101\n"
   -- each throwable has its constructor alone
