@@ -15,6 +15,12 @@ pub mod Branches
 pub mod Initialisations
 pub mod Javac
 pub mod BuiltInClasses
+pub mod Conditions
+pub mod Made
+pub mod Refusals
+pub mod MalformedFiles
+pub mod Lookups
 pub mod TypeJoins
 pub mod Typings
 pub mod Constructors
+pub mod BuiltInMembers

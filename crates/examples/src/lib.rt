@@ -6,6 +6,7 @@ ghost use Rattle.examples.specs.Branches.{Branches};
 ghost use Rattle.examples.specs.BuiltInClasses.{BuiltInClasses, OpeningObjects};
 ghost use Rattle.examples.specs.Constructors as constructing;
 ghost use Rattle.examples.specs.Constructors.{Constructors};
+ghost use Rattle.examples.specs.BuiltInMembers.{BuiltInMembers};
 ghost use Rattle.examples.specs.Exceptions.{Exceptions};
 ghost use Rattle.examples.specs.Initialisations.{ClassAtBegin, SuperclassFirst};
 ghost use Rattle.examples.specs.Instructions.{Instructions, Opcodes};
@@ -13,8 +14,11 @@ ghost use Rattle.examples.specs.IntArithmetic.{IntArithmetic};
 ghost use Rattle.examples.specs.IntValues.{Compared, Computed, Converted};
 ghost use Rattle.examples.specs.Javac.{WrittenByJavac};
 ghost use Rattle.examples.specs.Loops.{Loop, Switches};
+ghost use Rattle.examples.specs.Lookups.{Instances, Lookups};
+ghost use Rattle.examples.specs.MalformedFiles.{MalformedFiles};
 ghost use Rattle.examples.specs.OnlyReturns.{OnlyReturns};
 ghost use Rattle.examples.specs.PrintsSeven.{PrintsSeven, EventByEvent};
+ghost use Rattle.examples.specs.Refusals.{BadHierarchies, MalformedCodes, OtherRefusals, OutsideProfiles, Unresolveds};
 ghost use Rattle.examples.specs.StackMoves.{StackMoves};
 ghost use Rattle.examples.specs.TypeJoins.{TypeJoins};
 ghost use Rattle.examples.specs.Typings.{Typings, Untypables};
@@ -121,9 +125,54 @@ pub fn built_in_classes()
     ensures holds { BuiltInClasses }
 {}
 
+/// The members of the built-in classes.
+pub fn built_in_members()
+    ensures holds { BuiltInMembers }
+{}
+
 /// The objects that stand before any event.
 pub fn opening_objects()
     ensures holds { OpeningObjects }
+{}
+
+/// A file for each condition of OutsideProfile.
+pub fn outside_profiles()
+    ensures holds { OutsideProfiles }
+{}
+
+/// A file for each condition of Malformed with cause Code.
+pub fn malformed_codes()
+    ensures holds { MalformedCodes }
+{}
+
+/// A program for each condition of BadHierarchy.
+pub fn bad_hierarchies()
+    ensures holds { BadHierarchies }
+{}
+
+/// A program for each condition of Unresolved.
+pub fn unresolveds()
+    ensures holds { Unresolveds }
+{}
+
+/// Programs that are refused as DuplicateClass, NoMain or TooLarge, and which of several refusals is answered.
+pub fn other_refusals()
+    ensures holds { OtherRefusals }
+{}
+
+/// A tree for each condition that `decode` tests.
+pub fn malformed_files()
+    ensures holds { MalformedFiles }
+{}
+
+/// Fields and methods that symbolic references name, and methods that are selected.
+pub fn lookups()
+    ensures holds { Lookups }
+{}
+
+/// Which types are below which, with interfaces and without.
+pub fn instances()
+    ensures holds { Instances }
 {}
 
 /// Joins of two types and of two frame types, and the order of types.

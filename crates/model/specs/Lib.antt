@@ -48,6 +48,7 @@ pub mod Run
 pub mod Report
 pub mod Schedule
 pub mod Meaning
+pub mod LimitStands
 pub mod Typing
 pub mod WellTyped
 pub mod Words
