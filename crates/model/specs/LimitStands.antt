@@ -1,5 +1,5 @@
 -- When a limit forbids an event (own): the event is enabled, and what it takes would pass the limit.
-use Rattle.std.specs.Prelude.{◌≡◌, ℕ, ◌+◌, ◌-◌, List, [], ◌∷◌, Option, Some, None, Bool, true, false, not, ◌&&◌, ◌==◌, if◌then◌else◌, nat_lt, nat_le, drop, length, sum_by}
+use Rattle.std.specs.Prelude.{◌≡◌, ℕ, ◌+◌, ◌-◌, List, [], ◌∷◌, Option, Some, None, Bool, true, false, not, ◌&&◌, ◌==◌, if◌then◌else◌, nat_lt, nat_le, drop, length, sum_by, is_none}
 use Rattle.std.specs.Option.{option_and_then}
 use Rattle.std.specs.List.{list_any}
 use Rattle.model.specs.declared.event.Event.{Event}
@@ -111,6 +111,17 @@ abbrev pub limit_after : Program → Bounds → List Event → Event → Option 
 limit_after files bounds events event =
     option_and_then (λ state. limit_at files bounds (is_crowded bounds.monitors (inflated files bounds.frames events)) state (stepped values files bounds.frames state event))
     (run files bounds.frames events)
+
+-- no limit stands at any of the events from a state, with these monitors inflated
+abbrev pub within_limits_from : Program → Bounds → State → List Event → List ℕ → Bool
+within_limits_from files bounds state [] inflated = true
+within_limits_from files bounds state (event ∷ events) inflated =
+    if_next (stepped values files bounds.frames state event) true
+    (λ cost next. is_none (limit_of files bounds (is_crowded bounds.monitors inflated) state cost) && within_limits_from files bounds next events (inflated_by cost inflated))
+
+-- at none of the events a limit stands
+abbrev pub within_limits : Program → Bounds → List Event → Bool
+within_limits files bounds events = within_limits_from files bounds (opening values files) events []
 
 -- after the events, this limit stands at the event
 abbrev pub LimitStands : Program → Limits → List Event → Event → RunCause → Type 0
