@@ -6,7 +6,8 @@ use Rattle.std.proofs.lemmas.Bool.{false≢true, and_parts, eqb-true, leb-true}
 use Rattle.model.specs.Names.{Member}
 use Rattle.model.specs.Classes.{Program, Body}
 use Rattle.model.specs.Types.{VerificationType, Unusable, IntType, NullType, OfType, Uninitialised, UninitialisedThis}
-use Rattle.model.specs.TypeOrder.{FrameType, pairwise, is_stack_below, is_local_below, is_frame_below}
+use Rattle.model.specs.Operands.{Slots}
+use Rattle.model.specs.TypeOrder.{FrameType, pairwise, is_stack_below, is_local_below, is_mark_below, is_frame_below}
 use Rattle.model.specs.Typing.{Typing, Reaches, IsSized, Rule, IsTyping, entry_type, flow}
 use Rattle.examples.specs.Typings.{typing_in}
 
@@ -139,7 +140,7 @@ module _ (files : Program) (method : Member) (body : Body) (F : Typing) (holds :
       let none = flow_known k n at None h in
       absurd cc
 
-  each_at : (i : ℕ) (locals : List VerificationType) (d : Bool) (js : List ℕ) → AllByRecursion (λ lead. Reaches files F lead.0 lead.1) (map (λ j. (j, frame locals i d)) js) → AllByRecursion (λ j. At j i) js
+  each_at : (i : ℕ) (locals : List VerificationType) (d : Bool) (js : List ℕ) → AllByRecursion (λ (lead : ℕ × FrameType). Reaches files F lead.0 lead.1) (map (λ j. (j, frame locals i d)) js) → AllByRecursion (λ j. At j i) js
   each_at i locals d [] h = tt
   each_at i locals d (j ∷ js) h = (from_reaches j i locals d h.0, each_at i locals d js h.1)
 
@@ -151,7 +152,7 @@ module _ (files : Program) (method : Member) (body : Body) (F : Typing) (holds :
       let flows : flow files method body k at.type ≡ Some (map (λ j. (j, frame at.type.slots.locals i known.0)) js) =
           subst (λ s. flow files method body k (record { slots = record { locals = at.type.slots.locals; stack = s }; constructed = at.type.constructed }) ≡ Some (map (λ j. (j, frame at.type.slots.locals i known.0)) js)) (sym at.stack) known.1 in
       let same : rule.leads ≡ map (λ j. (j, frame at.type.slots.locals i known.0)) js = some_same _ _ _ rule.flows flows in
-      each_at i at.type.slots.locals known.0 js (subst (AllByRecursion (λ lead. Reaches files F lead.0 lead.1)) same rule.reached)
+      each_at i at.type.slots.locals known.0 js (subst (AllByRecursion (λ (lead : ℕ × FrameType). Reaches files F lead.0 lead.1)) same rule.reached)
     where
       some_same : (o : Option (List (ℕ × FrameType))) (xs ys : List (ℕ × FrameType)) → o ≡ Some xs → o ≡ Some ys → xs ≡ ys
       some_same o xs ys p q = cc
@@ -164,7 +165,7 @@ module _ (files : Program) (method : Member) (body : Body) (F : Typing) (holds :
       let flows : flow files method body k at.type ≡ (if known.0 then Some ((j, known.1) ∷ []) else None) =
           subst (λ s. flow files method body k (record { slots = record { locals = at.type.slots.locals; stack = s }; constructed = at.type.constructed }) ≡ (if known.0 then Some ((j, known.1) ∷ []) else None)) (sym at.stack) known.2 in
       let same : rule.leads ≡ (j, known.1) ∷ [] = leads_of_if known.0 _ _ (sym flows ∙ rule.flows) in
-      let r = subst (AllByRecursion (λ lead. Reaches files F lead.0 lead.1)) same rule.reached in
+      let r = subst (AllByRecursion (λ (lead : ℕ × FrameType). Reaches files F lead.0 lead.1)) same rule.reached in
       (r.0.there, r.0.typed)
 
   -- the instruction fails on every frame type
@@ -195,3 +196,17 @@ module _ (files : Program) (method : Member) (body : Body) (F : Typing) (holds :
   -- the begin of a method
   pub begins : (locals : List VerificationType) (c : Bool) → entry_type files method body ≡ frame locals 0 c → At 0 0
   begins locals c e = from_reaches 0 0 locals c (subst (λ t. Reaches files F 0 t) e holds.begins)
+
+  -- the first instruction fails where no constructor was called on `this`
+  pub unconstructed : (entry_type files method body).constructed ≡ false → ((slots : Slots VerificationType) → flow files method body 0 (record { slots = slots; constructed = false }) ≡ None) → ⊥
+  unconstructed e h =
+      let r = holds.begins in
+      let mark : r.there.constructed ≡ false = mark_below _ _ e (and_parts _ _ (and_parts _ _ r.above).1).1 in
+      let rule = holds.agrees 0 r.there r.typed in
+      let none : flow files method body 0 r.there ≡ None = subst (λ c. flow files method body 0 (record { slots = r.there.slots; constructed = c }) ≡ None) (sym mark) (h r.there.slots) in
+      absurd cc
+    where
+      mark_below : (a b : Bool) → a ≡ false → is_mark_below a b ≡ true → b ≡ false
+      mark_below true b p q = absurd (false≢true (sym p))
+      mark_below false true p q = absurd (false≢true q)
+      mark_below false false p q = refl

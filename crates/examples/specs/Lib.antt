@@ -22,6 +22,7 @@ pub mod MalformedFiles
 pub mod Lookups
 pub mod TypeJoins
 pub mod Typings
+pub mod Constructors
 pub mod BuiltInMembers
 pub mod ClassFiles
 pub mod Reports
@@ -48,3 +49,4 @@ pub mod SameString
 pub mod WaiterOfAThread
 pub mod UncaughtException
 pub mod Entry257
+pub mod ProgramsLink

@@ -35,45 +35,58 @@ pub record IsMainTyped (files : Program) (body : Body) (types : List (ℕ × Fra
   pub typed : IsTyping files (main_of (codes "A")) body (typing_in types)
 
 -- getstatic System.out, bipush 7, invokevirtual println, return
+abbrev pub prints_seven_types : List (ℕ × FrameType)
+prints_seven_types =
+    (0, frame (strings ∷ []) []) ∷ (3, frame (strings ∷ []) (stream ∷ [])) ∷ (5, frame (strings ∷ []) (IntType ∷ stream ∷ [])) ∷ (8, frame (strings ∷ []) []) ∷ []
+
 abbrev pub PrintsSevenTyped : Type 0
-PrintsSevenTyped =
-    IsMainTyped (prints_seven_file ∷ []) (body_with pool 2 1 (hex (codes "b2000d 1007 b60013 b1")))
-    ((0, frame (strings ∷ []) []) ∷ (3, frame (strings ∷ []) (stream ∷ [])) ∷ (5, frame (strings ∷ []) (IntType ∷ stream ∷ [])) ∷ (8, frame (strings ∷ []) []) ∷ [])
+PrintsSevenTyped = IsMainTyped (prints_seven_file ∷ []) (body_with pool 2 1 (hex (codes "b2000d 1007 b60013 b1"))) prints_seven_types
 
 -- aload_0, pop, return
+abbrev pub pop_types : List (ℕ × FrameType)
+pop_types = (0, frame (strings ∷ []) []) ∷ (1, frame (strings ∷ []) (strings ∷ [])) ∷ (2, frame (strings ∷ []) []) ∷ []
+
 abbrev pub PopTyped : Type 0
-PopTyped =
-    IsMainTyped (file_with (hex (codes "2a57b1")) ∷ []) (body_with pool 2 1 (hex (codes "2a57b1")))
-    ((0, frame (strings ∷ []) []) ∷ (1, frame (strings ∷ []) (strings ∷ [])) ∷ (2, frame (strings ∷ []) []) ∷ [])
+PopTyped = IsMainTyped (file_with (hex (codes "2a57b1")) ∷ []) (body_with pool 2 1 (hex (codes "2a57b1"))) pop_types
 
 -- return, iadd: what no path reaches needs no types
+abbrev pub unreached_types : List (ℕ × FrameType)
+unreached_types = (0, frame (strings ∷ []) []) ∷ []
+
 abbrev pub UnreachedTyped : Type 0
-UnreachedTyped =
-    IsMainTyped (file_with (hex (codes "b160")) ∷ []) (body_with pool 2 1 (hex (codes "b160"))) ((0, frame (strings ∷ []) []) ∷ [])
+UnreachedTyped = IsMainTyped (file_with (hex (codes "b160")) ∷ []) (body_with pool 2 1 (hex (codes "b160"))) unreached_types
 
 -- 0 iconst_0, 1 istore_1, 2 iload_1, 3 iconst_5, 4 if_icmpge 13, 7 iinc 1 1, 10 goto 2, 13 return: at 2 two paths meet
 abbrev pub loop_code : List ℕ
 loop_code = hex (codes "03 3c 1b 08 a20009 840101 a7fff8 b1")
 
+-- the second local variable was not written, or holds an int
+abbrev pub unset_with : List VerificationType → FrameType
+unset_with stack = frame (strings ∷ Unusable ∷ []) stack
+
+abbrev pub int_with : List VerificationType → FrameType
+int_with stack = frame (strings ∷ IntType ∷ []) stack
+
+abbrev pub loop_types : List (ℕ × FrameType)
+loop_types =
+    (0, unset_with []) ∷ (1, unset_with (IntType ∷ [])) ∷ (2, int_with []) ∷ (3, int_with (IntType ∷ []))
+    ∷ (4, int_with (IntType ∷ IntType ∷ [])) ∷ (7, int_with []) ∷ (10, int_with []) ∷ (13, int_with []) ∷ []
+
 abbrev pub LoopTyped : Type 0
-LoopTyped =
-    let start = frame (strings ∷ Unusable ∷ []) [] in
-    let counting = frame (strings ∷ IntType ∷ []) [] in
-    IsMainTyped (printing.file_with 2 2 loop_code ∷ []) (body_with printing.pool 2 2 loop_code)
-    ((0, start) ∷ (1, frame (strings ∷ Unusable ∷ []) (IntType ∷ [])) ∷ (2, counting) ∷ (3, frame (strings ∷ IntType ∷ []) (IntType ∷ []))
-    ∷ (4, frame (strings ∷ IntType ∷ []) (IntType ∷ IntType ∷ [])) ∷ (7, counting) ∷ (10, counting) ∷ (13, counting) ∷ [])
+LoopTyped = IsMainTyped (printing.file_with 2 2 loop_code ∷ []) (body_with printing.pool 2 2 loop_code) loop_types
 
 -- 0 iconst_0, 1 ifeq 9, 4 iconst_1, 5 istore_1, 6 goto 11, 9 aconst_null, 10 astore_1, 11 return: at 11 the local variable
 -- holds an int on one path and null on the other, and cannot be used
 abbrev pub fork_code : List ℕ
 fork_code = hex (codes "03 990008 04 3c a70005 01 4c b1")
 
+abbrev pub fork_types : List (ℕ × FrameType)
+fork_types =
+    (0, unset_with []) ∷ (1, unset_with (IntType ∷ [])) ∷ (4, unset_with []) ∷ (5, unset_with (IntType ∷ []))
+    ∷ (6, int_with []) ∷ (9, unset_with []) ∷ (10, unset_with (NullType ∷ [])) ∷ (11, unset_with []) ∷ []
+
 abbrev pub ForkTyped : Type 0
-ForkTyped =
-    let start = frame (strings ∷ Unusable ∷ []) [] in
-    IsMainTyped (printing.file_with 2 2 fork_code ∷ []) (body_with printing.pool 2 2 fork_code)
-    ((0, start) ∷ (1, frame (strings ∷ Unusable ∷ []) (IntType ∷ [])) ∷ (4, start) ∷ (5, frame (strings ∷ Unusable ∷ []) (IntType ∷ []))
-    ∷ (6, frame (strings ∷ IntType ∷ []) []) ∷ (9, start) ∷ (10, frame (strings ∷ Unusable ∷ []) (NullType ∷ [])) ∷ (11, start) ∷ [])
+ForkTyped = IsMainTyped (printing.file_with 2 2 fork_code ∷ []) (body_with printing.pool 2 2 fork_code) fork_types
 
 pub record Typings : Type 0 where
   pub prints_seven : PrintsSevenTyped

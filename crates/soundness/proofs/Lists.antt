@@ -1,7 +1,7 @@
 -- Two lists side by side, and what holds of each element.
 use Rattle.std.proofs.Common.{◌≡◌, ℕ, zero, suc, List, [], ◌∷◌, ◌++◌, map, length, take, drop, Bool, true, Some, refl, sym, ap, ◌∙◌, subst}
 use Rattle.std.specs.Prelude.{slice_get, replicate, slice_index_or, slice_set}
-use Rattle.std.specs.List.{AllByRecursion}
+use Rattle.std.specs.List.{AllByRecursion, list_all}
 use Rattle.std.proofs.lemmas.Bool.{false≢true, and_parts, and_from}
 use Rattle.model.specs.TypeOrder.{pairwise}
 
@@ -169,3 +169,12 @@ pair_unmap R S f w (x ∷ xs) (y ∷ ys) h = (w x y h.0, pair_unmap R S f w xs y
 pub every_unmap : {A B : Type 0} (P : B → Type 0) (f : A → B) (xs : List A) → AllByRecursion P (map f xs) → AllByRecursion (λ x. P (f x)) xs
 every_unmap P f [] h = tt
 every_unmap P f (x ∷ xs) h = (h.0, every_unmap P f xs h.1)
+
+-- ---- the same of tests
+
+pub pairwise_weaken : {A B : Type 0} (R S : A → B → Bool) (xs : List A) (ys : List B) → ((x : A) (y : B) → R x y ≡ true → S x y ≡ true) → pairwise R xs ys ≡ true → pairwise S xs ys ≡ true
+pairwise_weaken R S xs ys w h = of_pairs S xs ys (pair_weaken R S xs ys w (pairs_of R xs ys h))
+
+pub all_weaken : {A : Type 0} (p q : A → Bool) (xs : List A) → ((x : A) → p x ≡ true → q x ≡ true) → list_all p xs ≡ true → list_all q xs ≡ true
+all_weaken p q [] w h = refl
+all_weaken p q (x ∷ xs) w h = let g = and_parts _ _ h in and_from _ _ (w x g.0) (all_weaken p q xs w g.1)

@@ -7,8 +7,8 @@ use Rattle.model.specs.declared.value.Value.{Value}
 use Rattle.model.specs.declared.value.Value.TheVariants as value
 use Rattle.model.specs.Names.{Name, name_eq, spells, java_lang_object}
 use Rattle.model.specs.Classes.{Program, superclass_of, is_within, is_subclass}
-use Rattle.model.specs.ReferenceTypes.{Primitive, primitive_number, ReferenceType, ClassType, PrimitiveArray, ReferenceArray, is_assignable}
-use Rattle.model.specs.Types.{VerificationType, Unusable, IntType, NullType, OfType, Uninitialised, UninitialisedThis, Want, AnyWord, AnInt, AnyReference, AReference, AReceiver, AnOwner, is_int, is_reference, is_of, is_receiver, is_owner, type_meets, is_int_value, is_reference_value, is_object_below, is_value_below, value_meets}
+use Rattle.model.specs.ReferenceTypes.{Primitive, Boolean, Char, Byte, Short, Int, primitive_number, ReferenceType, ClassType, PrimitiveArray, ReferenceArray, is_assignable}
+use Rattle.model.specs.Types.{VerificationType, Unusable, IntType, NullType, OfType, Uninitialised, UninitialisedThis, Want, AnyWord, AnInt, AnyReference, AReference, AReceiver, AnOwner, AnArray, AByteArray, is_array_type, is_byte_or_boolean, is_byte_array_type, has_type_with, is_value_with, is_int, is_reference, is_of, is_receiver, is_owner, type_meets, is_int_value, is_reference_value, is_object_below, is_value_below, value_meets}
 use Rattle.model.specs.InitialisedTypes.{is_made_at, is_uninitialised, is_uninitialised_this, forgotten, initialised}
 use Rattle.model.specs.TypeOrder.{is_null, is_unusable, is_stack_below, is_local_below}
 use Rattle.model.specs.WellTyped.{is_null_value, has_type}
@@ -39,6 +39,44 @@ module _ (files : Program) where
   object_above b c p q =
       let is : java_lang_object ≡ c = above_object files c (subst (λ n. is_subclass files n c ≡ true) (names_same b java_lang_object p) q) in
       subst (λ n. name_eq n java_lang_object ≡ true) is (name_self java_lang_object)
+
+  -- below an array there are arrays alone, and below one of bytes or booleans such arrays alone
+  array_down : (u t : ReferenceType) → is_assignable files u t ≡ true → is_array_type t ≡ true → is_array_type u ≡ true
+  array_down (ClassType c) (ClassType d) p q = q
+  array_down (ClassType c) (PrimitiveArray b) p q = p
+  array_down (ClassType c) (ReferenceArray b) p q = p
+  array_down (PrimitiveArray a) t p q = refl
+  array_down (ReferenceArray a) t p q = refl
+
+  byte_down : (a b : Primitive) → (primitive_number a == primitive_number b) ≡ true → is_byte_or_boolean b ≡ true → is_byte_or_boolean a ≡ true
+  byte_down Boolean b p q = refl
+  byte_down Byte b p q = refl
+  byte_down Char Boolean p q = p
+  byte_down Char Char p q = q
+  byte_down Char Byte p q = p
+  byte_down Char Short p q = q
+  byte_down Char Int p q = q
+  byte_down Short Boolean p q = p
+  byte_down Short Char p q = q
+  byte_down Short Byte p q = p
+  byte_down Short Short p q = q
+  byte_down Short Int p q = q
+  byte_down Int Boolean p q = p
+  byte_down Int Char p q = q
+  byte_down Int Byte p q = p
+  byte_down Int Short p q = q
+  byte_down Int Int p q = q
+
+  byte_array_down : (u t : ReferenceType) → is_assignable files u t ≡ true → is_byte_array_type t ≡ true → is_byte_array_type u ≡ true
+  byte_array_down (ClassType c) (ClassType d) p q = q
+  byte_array_down (ClassType c) (PrimitiveArray b) p q = p
+  byte_array_down (ClassType c) (ReferenceArray b) p q = p
+  byte_array_down (PrimitiveArray a) (ClassType d) p q = absurd (false≢true q)
+  byte_array_down (PrimitiveArray a) (PrimitiveArray b) p q = byte_down a b p q
+  byte_array_down (PrimitiveArray a) (ReferenceArray b) p q = absurd (false≢true q)
+  byte_array_down (ReferenceArray a) (ClassType d) p q = q
+  byte_array_down (ReferenceArray a) (PrimitiveArray b) p q = p
+  byte_array_down (ReferenceArray a) (ReferenceArray b) p q = q
 
   module _ (rooted : Rooted files) where
     pub assignable_trans : (a b c : ReferenceType) → is_assignable files a b ≡ true → is_assignable files b c ≡ true → is_assignable files a c ≡ true
@@ -183,6 +221,31 @@ module _ (files : Program) where
       owner_from class (Uninitialised at c) v p q = absurd (false≢true p)
       owner_from class (UninitialisedThis c) v p q = of_class c class v p q
 
+      module _ (test : ReferenceType → Bool) (down : (u t : ReferenceType) → is_assignable files u t ≡ true → test t ≡ true → test u ≡ true) where
+        object_with : (o : Option ReferenceType) (t : ReferenceType) → test t ≡ true → is_object_below files t o ≡ true → option_map_or test o false ≡ true
+        object_with None t p q = absurd (false≢true q)
+        object_with (Some u) t p q = down u t q p
+
+        below_with : (t : ReferenceType) (v : Value) → test t ≡ true → is_value_below files objects t v ≡ true → is_value_with objects test v ≡ true
+        below_with t value.Unset p q = q
+        below_with t (value.Int bits) p q = q
+        below_with t value.Null p q = q
+        below_with t (value.Reference r) p q = object_with (slice_get objects r) t p q
+
+        null_with : (v : Value) → is_null_value v ≡ true → is_value_with objects test v ≡ true
+        null_with value.Unset q = q
+        null_with (value.Int bits) q = q
+        null_with value.Null q = q
+        null_with (value.Reference r) q = absurd (false≢true q)
+
+        with_from : (s : VerificationType) (v : Value) → has_type_with test s ≡ true → has_type files objects s v ≡ true → is_value_with objects test v ≡ true
+        with_from Unusable v p q = absurd (false≢true p)
+        with_from IntType v p q = absurd (false≢true p)
+        with_from NullType v p q = null_with v q
+        with_from (OfType t) v p q = below_with t v p q
+        with_from (Uninitialised at c) v p q = absurd (false≢true p)
+        with_from (UninitialisedThis c) v p q = absurd (false≢true p)
+
       -- where the verifier finds what is wanted, the run does
       pub meets_both : (w : Want) (s : VerificationType) (v : Value) → type_meets files w s ≡ true → has_type files objects s v ≡ true → value_meets files objects w v ≡ true
       meets_both AnyWord s v p q = refl
@@ -191,6 +254,8 @@ module _ (files : Program) where
       meets_both (AReference t) s v p q = of_from s t v p q
       meets_both (AReceiver class) s v p q = receiver_from class s v p q
       meets_both (AnOwner class) s v p q = owner_from class s v p q
+      meets_both AnArray s v p q = with_from is_array_type array_down s v p q
+      meets_both AByteArray s v p q = with_from is_byte_array_type byte_array_down s v p q
 
       -- what is forgotten or initialised goes on being of its type
       pub forgotten_typed : (offset : ℕ) (s : VerificationType) (v : Value) → has_type files objects s v ≡ true → has_type files objects (forgotten offset s) v ≡ true
