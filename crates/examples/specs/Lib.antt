@@ -49,3 +49,4 @@ pub mod SameString
 pub mod WaiterOfAThread
 pub mod UncaughtException
 pub mod Entry257
+pub mod ProgramsLink

@@ -33,6 +33,7 @@ ghost use Rattle.examples.specs.NarrowArrays.{NarrowArrays};
 ghost use Rattle.examples.specs.NotARunnable.{NotARunnable};
 ghost use Rattle.examples.specs.OnlyReturns.{OnlyReturns};
 ghost use Rattle.examples.specs.PrintsSeven.{PrintsSeven, EventByEvent};
+ghost use Rattle.examples.specs.ProgramsLink.{ProgramsLink};
 ghost use Rattle.examples.specs.Refusals.{BadHierarchies, MalformedCodes, OtherRefusals, OutsideProfiles, Unresolveds};
 ghost use Rattle.examples.specs.SameString.{SameString};
 ghost use Rattle.examples.specs.ShadowedFields.{ShadowedFields};
@@ -336,4 +337,9 @@ pub fn constructors()
 /// A constructor that calls no other one has no typing.
 pub fn only_returns_unconstructed()
     ensures holds { constructing.OnlyReturns }
+{}
+
+/// The programs of the other examples link: no condition stands in them.
+pub fn programs_link()
+    ensures holds { ProgramsLink }
 {}
