@@ -3,7 +3,7 @@ use Rattle.std.specs.Prelude.{◌≡◌, ℕ, List, [], ◌∷◌, Option, Some,
 use Rattle.std.specs.Option.{option_map, option_and_then}
 use Rattle.model.specs.Names.{Name, java_lang_object}
 use Rattle.model.specs.Tree.{Utf8, Class}
-use Rattle.model.specs.BuiltIn.{below}
+use Rattle.model.specs.BuiltIn.{public_class, built_in}
 use Rattle.model.specs.Classes.{Program}
 use Rattle.model.specs.ReferenceTypes.{ReferenceType, ClassType}
 use Rattle.model.specs.Operands.{values}
@@ -21,7 +21,7 @@ use Rattle.examples.specs.OnlyReturns.{only_returns_file}
 abbrev pub two_classes : Program
 two_classes =
     with_main (Utf8 (codes "A") ∷ Class 1 ∷ Utf8 (codes "B") ∷ Class 3 ∷ Utf8 (codes "main") ∷ Utf8 (codes "([Ljava/lang/String;)V") ∷ Utf8 (codes "Code") ∷ []) 2 4 5 6 7 0 1 (hex (codes "b1"))
-    ∷ below java_lang_object (codes "B") ∷ []
+    ∷ built_in public_class (codes "B") java_lang_object [] ∷ []
 
 abbrev pub both_after : ℕ → Option State
 both_after n = run two_classes frames (replicate n (event_of 0))

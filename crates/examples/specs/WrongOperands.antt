@@ -84,7 +84,7 @@ pub record WrongOperands : Type 0 where
   pub reversed_table : GoesWrong (hex (codes "03 aa0000 00000000 00000001 00000000 b1")) 5
   -- iconst_0, lookupswitch of -1 pairs
   pub negative_count : GoesWrong (hex (codes "03 ab0000 00000000 ffffffff b1")) 5
-  -- ldc of a Class, return
-  pub ldc_of_class : GoesWrong (hex (codes "1202 b1")) 4
+  -- ldc of a NameAndType, return
+  pub ldc_of_name_and_type : GoesWrong (hex (codes "120c b1")) 4
   -- getstatic of what is a Methodref, return
   pub getstatic_of_method : GoesWrong (hex (codes "b20013 b1")) 4

@@ -2,18 +2,52 @@
 //! theorem, and does nothing.
 #![tactic(auto)]
 
+ghost use Rattle.examples.specs.ArrayStore.{ArrayStore};
 ghost use Rattle.examples.specs.Branches.{Branches};
 ghost use Rattle.examples.specs.BuiltInClasses.{BuiltInClasses, OpeningObjects};
+ghost use Rattle.examples.specs.BuiltInMembers.{BuiltInMembers};
+ghost use Rattle.examples.specs.Constructors as constructing;
+ghost use Rattle.examples.specs.Constructors.{Constructors};
+ghost use Rattle.examples.specs.CounterUnderLock.{CounterUnderLock};
+ghost use Rattle.examples.specs.Entry257.{Entry257};
+ghost use Rattle.examples.specs.ExceptionReleases.{ExceptionReleases};
 ghost use Rattle.examples.specs.Exceptions.{Exceptions};
+ghost use Rattle.examples.specs.ExitOfWhatIsNotOwned.{ExitOfWhatIsNotOwned};
+ghost use Rattle.examples.specs.FailingInitialClass.{FailingInitialClass};
+ghost use Rattle.examples.specs.FailingInitialiser.{FailingInitialiser};
+ghost use Rattle.examples.specs.HandlerOrder.{HandlerOrder};
+ghost use Rattle.examples.specs.HeldInitialiser.{HeldInitialiser};
 ghost use Rattle.examples.specs.Initialisations.{ClassAtBegin, SuperclassFirst};
+ghost use Rattle.examples.specs.InitialisersInOrder.{InitialisersInOrder};
 ghost use Rattle.examples.specs.Instructions.{Instructions, Opcodes};
 ghost use Rattle.examples.specs.IntArithmetic.{IntArithmetic};
 ghost use Rattle.examples.specs.IntValues.{Compared, Computed, Converted};
+ghost use Rattle.examples.specs.InterruptedWaits.{InterruptedWaits};
+ghost use Rattle.examples.specs.JavaObjects.{JavaObjects};
+ghost use Rattle.examples.specs.JavaThreads.{JavaThreads};
 ghost use Rattle.examples.specs.Javac.{WrittenByJavac};
+ghost use Rattle.examples.specs.LockOrderDeadlock.{LockOrderDeadlock};
+ghost use Rattle.examples.specs.Lookups.{Instances, Lookups};
 ghost use Rattle.examples.specs.Loops.{Loop, Switches};
+ghost use Rattle.examples.specs.LostUpdate.{LostUpdate};
+ghost use Rattle.examples.specs.MalformedFiles.{MalformedFiles};
+ghost use Rattle.examples.specs.NarrowArrays.{NarrowArrays};
+ghost use Rattle.examples.specs.NotARunnable.{NotARunnable};
 ghost use Rattle.examples.specs.OnlyReturns.{OnlyReturns};
 ghost use Rattle.examples.specs.PrintsSeven.{PrintsSeven, EventByEvent};
+ghost use Rattle.examples.specs.ProgramsLink.{ProgramsLink};
+ghost use Rattle.examples.specs.Refusals.{BadHierarchies, MalformedCodes, OtherRefusals, OutsideProfiles, Unresolveds};
+ghost use Rattle.examples.specs.SameString.{SameString};
+ghost use Rattle.examples.specs.ShadowedFields.{ShadowedFields};
 ghost use Rattle.examples.specs.StackMoves.{StackMoves};
+ghost use Rattle.examples.specs.StackOverflow.{StackOverflow};
+ghost use Rattle.examples.specs.SuperCall.{SuperCall};
+ghost use Rattle.examples.specs.SuperclassConstant.{SuperclassConstant};
+ghost use Rattle.examples.specs.TypeJoins.{TypeJoins};
+ghost use Rattle.examples.specs.Typings.{Typings, Untypables};
+ghost use Rattle.examples.specs.UncaughtException.{UncaughtException};
+ghost use Rattle.examples.specs.WaitKeepsCount.{WaitKeepsCount};
+ghost use Rattle.examples.specs.WaiterOfAThread.{WaiterOfAThread};
 ghost use Rattle.examples.specs.WideAndSwitch.{WideAndSwitch};
 ghost use Rattle.examples.specs.WrongOperands.{WrongOperands};
 
@@ -120,4 +154,204 @@ pub fn built_in_classes()
 /// The objects that stand before any event.
 pub fn opening_objects()
     ensures holds { OpeningObjects }
+{}
+
+/// Two threads that add 1 to a static field with no monitor (JLS 17.4): by the order of their steps it is 1 or 2.
+pub fn lost_update()
+    ensures holds { LostUpdate }
+{}
+
+/// Two threads that count under the monitor of a Class object: while one is inside, the other may not enter.
+pub fn counter_under_lock()
+    ensures holds { CounterUnderLock }
+{}
+
+/// An exception that leaves a synchronized static method releases its monitor (JVMS 2.11.10).
+pub fn exception_releases()
+    ensures holds { ExceptionReleases }
+{}
+
+/// A synchronized method that releases its own monitor: its return finds that the thread does not own it.
+pub fn exit_of_what_is_not_owned()
+    ensures holds { ExitOfWhatIsNotOwned }
+{}
+
+/// invokeinterface on an object that does not implement the interface (JVMS 6.5).
+pub fn not_a_runnable()
+    ensures holds { NotARunnable }
+{}
+
+/// An Object stored into an array of X (JVMS 6.5, aastore).
+pub fn array_store()
+    ensures holds { ArrayStore }
+{}
+
+/// A thread that entered a monitor three times waits, and owns it three times again (JLS 17.2.1). Of two waiting threads one is notified and the other is not.
+pub fn wait_keeps_count()
+    ensures holds { WaitKeepsCount }
+{}
+
+/// A thread is interrupted while it waits, and another time before it waits (JLS 17.2.1, 17.2.3).
+pub fn interrupted_waits()
+    ensures holds { InterruptedWaits }
+{}
+
+/// Two threads enter two monitors in opposite orders.
+pub fn lock_order_deadlock()
+    ensures holds { LockOrderDeadlock }
+{}
+
+/// The initialiser of F divides by zero (JVMS 5.5): an ExceptionInInitializerError, then a NoClassDefFoundError.
+pub fn failing_initialiser()
+    ensures holds { FailingInitialiser }
+{}
+
+/// A class that one thread initialises, while another asks for it.
+pub fn held_initialiser()
+    ensures holds { HeldInitialiser }
+{}
+
+/// The initialiser of the initial class fails: main does not begin.
+pub fn failing_initial_class()
+    ensures holds { FailingInitialClass }
+{}
+
+/// Three handlers for one division by zero (JVMS 2.10): the first in the table whose range and class fit takes it.
+pub fn handler_order()
+    ensures holds { HandlerOrder }
+{}
+
+/// A method that calls itself, with three frames allowed.
+pub fn stack_overflow()
+    ensures holds { StackOverflow }
+{}
+
+/// Q.f calls P.f by invokespecial; main calls P.f by invokevirtual on a Q.
+pub fn super_call()
+    ensures holds { SuperCall }
+{}
+
+/// Class C below B: a static call initialises B before C, and then runs.
+pub fn initialisers_in_order()
+    ensures holds { InitialisersInOrder }
+{}
+
+/// A constant of C, which is below B (JVMS 5.5, step 6).
+pub fn superclass_constant()
+    ensures holds { SuperclassConstant }
+{}
+
+/// P and Q below it each declare a field x (JVMS 5.4.3.2): a Q has both.
+pub fn shadowed_fields()
+    ensures holds { ShadowedFields }
+{}
+
+/// Arrays of byte, boolean, char and short keep a part of what is stored.
+pub fn narrow_arrays()
+    ensures holds { NarrowArrays }
+{}
+
+/// Two String constants of one text are one object (JVMS 5.1).
+pub fn same_string()
+    ensures holds { SameString }
+{}
+
+/// main waits on the object of a thread, which ends.
+pub fn waiter_of_a_thread()
+    ensures holds { WaiterOfAThread }
+{}
+
+/// A division by zero that nobody catches.
+pub fn uncaught_exception()
+    ensures holds { UncaughtException }
+{}
+
+/// A monitor that is entered 257 times and left as often.
+pub fn entry_257()
+    ensures holds { Entry257 }
+{}
+
+/// The members of the built-in classes.
+pub fn built_in_members()
+    ensures holds { BuiltInMembers }
+{}
+
+/// A file for each condition of OutsideProfile.
+pub fn outside_profiles()
+    ensures holds { OutsideProfiles }
+{}
+
+/// A file for each condition of Malformed with cause Code.
+pub fn malformed_codes()
+    ensures holds { MalformedCodes }
+{}
+
+/// A program for each condition of BadHierarchy.
+pub fn bad_hierarchies()
+    ensures holds { BadHierarchies }
+{}
+
+/// A program for each condition of Unresolved.
+pub fn unresolveds()
+    ensures holds { Unresolveds }
+{}
+
+/// Programs that are refused as DuplicateClass, NoMain or TooLarge, and which of several refusals is answered.
+pub fn other_refusals()
+    ensures holds { OtherRefusals }
+{}
+
+/// A tree for each condition that `decode` tests.
+pub fn malformed_files()
+    ensures holds { MalformedFiles }
+{}
+
+/// Fields and methods that symbolic references name, and methods that are selected.
+pub fn lookups()
+    ensures holds { Lookups }
+{}
+
+/// Which types are below which, with interfaces and without.
+pub fn instances()
+    ensures holds { Instances }
+{}
+
+/// Joins of two types and of two frame types, and the order of types.
+pub fn type_joins()
+    ensures holds { TypeJoins }
+{}
+
+/// Methods with a typing, each by its list of frame types.
+pub fn typings()
+    ensures holds { Typings }
+{}
+
+/// Codes that have no typing.
+pub fn untypables()
+    ensures holds { Untypables }
+{}
+
+/// A constructor and a `new`, with typings; and what single instructions do to what is not initialised.
+pub fn constructors()
+    ensures holds { Constructors }
+{}
+
+/// A constructor that calls no other one has no typing.
+pub fn only_returns_unconstructed()
+    ensures holds { constructing.OnlyReturns }
+{}
+
+/// The programs of the other examples link: no condition stands in them.
+pub fn programs_link()
+    ensures holds { ProgramsLink }
+{}
+
+/// A program in Java with objects, fields, arrays, calls and exceptions: it prints what `java` prints.
+pub fn java_objects()
+    ensures holds { JavaObjects }
+{}
+
+/// A program in Java with threads, monitors, wait sets and interrupts: it prints what `java` prints.
+pub fn java_threads()
+    ensures holds { JavaThreads }
 {}

@@ -48,10 +48,12 @@ pub mod Run
 pub mod Report
 pub mod Schedule
 pub mod Meaning
+pub mod LimitStands
 pub mod Typing
 pub mod WellTyped
 pub mod Words
 pub mod WrongKind
+pub mod Accepted
 pub mod Descriptors
 pub mod DescriptorScan
 pub mod Conditions

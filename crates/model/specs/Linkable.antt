@@ -107,6 +107,11 @@ AreSpelled [] (tree ∷ trees) = ⊥
 AreSpelled (bytes ∷ files) [] = ⊥
 AreSpelled (bytes ∷ files) (tree ∷ trees) = Spells bytes tree × AreSpelled files trees
 
+-- What a refusal for a condition says. A file that spells no tree is refused before any condition is asked.
+pub record IsRefusedFor (condition : LinkCondition) (files : List (List ℕ)) (trees : Program) : Type 0 where
+  pub spelled : AreSpelled files trees
+  pub first : stands_first trees condition ≡ true
+
 -- The files spell these trees, and no condition stands in them.
 pub record IsLinkable (files : List (List ℕ)) (trees : Program) : Type 0 where
   pub spelled : AreSpelled files trees

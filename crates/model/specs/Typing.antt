@@ -1,6 +1,6 @@
 -- Typings (JVMS 4.10.2): frame types at the offsets of a method's code that agree with each instruction. What is promised is
 -- that such frame types exist; how they are found is no part of the definition.
-use Rattle.std.specs.Prelude.{◌≡◌, ℕ, ◌≤◌, ◌-◌, List, [], ◌∷◌, ◌++◌, Option, Some, None, Bool, true, false, not, ◌&&◌, ◌||◌, ◌==◌, nat_le, nat_lt, if◌then◌else◌, length, map, replicate, unwrap_or, IsTrue}
+use Rattle.std.specs.Prelude.{◌≡◌, ℕ, ◌≤◌, ◌-◌, List, [], ◌∷◌, ◌++◌, Option, Some, None, Bool, true, false, not, ◌&&◌, ◌||◌, ◌==◌, if◌then◌else◌, length, map, replicate, unwrap_or, IsTrue}
 use Rattle.std.specs.Option.{option_and_then, option_map_or}
 use Rattle.std.specs.List.{list_any, AllByRecursion}
 use Rattle.model.specs.declared.class_file.ExceptionEntry.{ExceptionEntry}
@@ -8,7 +8,7 @@ use Rattle.model.specs.declared.instr.Instr.{Instr}
 use Rattle.model.specs.declared.instr.Instr.TheVariants as instr
 use Rattle.model.specs.declared.instr.Invocation.TheVariants as invocation
 use Rattle.model.specs.declared.value.Value.{Value}
-use Rattle.model.specs.Names.{Name, name_eq, Member, constructor_name, java_lang_throwable}
+use Rattle.model.specs.Names.{Name, name_eq, Member, constructor_name, initialiser_name, java_lang_throwable}
 use Rattle.model.specs.Tree.{Entry, MethodTree}
 use Rattle.model.specs.Pool.{class_name_at, method_at}
 use Rattle.model.specs.AccessFlags.{is_static_method}
@@ -20,7 +20,9 @@ use Rattle.model.specs.DescribedTypes.{parameters_declared, type_named, made_typ
 use Rattle.model.specs.InitialisedTypes.{is_made_at}
 use Rattle.model.specs.Operands.{Slots, values, over_types, is_ready, operands, under}
 use Rattle.model.specs.TypeOrder.{FrameType, is_frame_below}
-use Rattle.model.specs.Meanings.{MeaningOf, Site, site_at, meaning_of}
+use Rattle.model.specs.Sites.{MeaningOf, Site, site_at}
+use Rattle.model.specs.Meanings.{meaning_of}
+use Rattle.model.specs.Step.{covers}
 
 -- ---- the entry type
 
@@ -38,10 +40,14 @@ receiver_type method = if is_constructor method then UninitialisedThis method.cl
 abbrev pub parameter_types : Program → Member → List VerificationType
 parameter_types files method = map (verification_type files) (parameters_declared method.descriptor)
 
+-- a method has no receiver if it is static; the initialiser of a class has none whatever its flags are (own)
+abbrev pub has_no_receiver : Program → Member → Bool
+has_no_receiver files method = is_static_of files method || name_eq method.name initialiser_name
+
 -- what a method is called with: the receiver, if there is one, and the parameters
 abbrev pub argument_types : Program → Member → List VerificationType
 argument_types files method =
-    if is_static_of files method then parameter_types files method else receiver_type method ∷ parameter_types files method
+    if has_no_receiver files method then parameter_types files method else receiver_type method ∷ parameter_types files method
 
 -- the frame type where a method begins: its arguments in the first local variables, the others not usable, nothing on
 -- the operand stack (JVMS 2.6.1, 4.10.1.6)
@@ -89,10 +95,6 @@ successors site meaning t =
 
 -- ---- handlers (JVMS 4.7.3, 4.10.1.6)
 
--- an offset lies in the range of an entry of the exception table
-abbrev pub is_protected_by : ℕ → ExceptionEntry → Bool
-is_protected_by offset e = nat_le e.start offset && nat_lt offset e.end
-
 -- the class that an entry takes; each Throwable where it names none
 abbrev pub caught_class : List Entry → ExceptionEntry → Name
 caught_class pool e = if e.catch_type == 0 then java_lang_throwable else unwrap_or (class_name_at pool e.catch_type) []
@@ -108,7 +110,7 @@ handler_type files pool t e =
 abbrev pub handlers_from : Program → List Entry → ℕ → FrameType → List ExceptionEntry → List (ℕ × FrameType)
 handlers_from files pool offset t [] = []
 handlers_from files pool offset t (e ∷ es) =
-    if is_protected_by offset e
+    if covers offset e
     then handler_type files pool t e ∷ handlers_from files pool offset t es
     else handlers_from files pool offset t es
 

@@ -1,17 +1,18 @@
 -- Well-typed states: what holds of each state that an accepted program reaches (JVMS 4.10). Values stand where their types
 -- say, each frame stands where a typing of its method says, and so do the values that it waits for.
-use Rattle.std.specs.Prelude.{◌≡◌, ℕ, List, [], ◌∷◌, ◌++◌, Option, Some, None, Bool, true, false, map, length, IsTrue}
-use Rattle.std.specs.List.{list_all, AllByRecursion}
+use Rattle.std.specs.Prelude.{◌≡◌, ℕ, suc, List, [], ◌∷◌, ◌++◌, Option, Some, None, Bool, true, false, not, ◌&&◌, ◌==◌, length, slice_get, IsTrue}
+use Rattle.std.specs.Option.{option_map_or}
+use Rattle.std.specs.List.{list_all, list_any}
 use Rattle.model.specs.declared.value.Value.{Value}
 use Rattle.model.specs.declared.value.Value.TheVariants as value
 use Rattle.model.specs.Names.{Name, Member, java_lang_object, java_lang_thread, java_lang_throwable}
 use Rattle.model.specs.Classes.{Program, Body, body_of}
 use Rattle.model.specs.ReferenceTypes.{ReferenceType, ClassType}
 use Rattle.model.specs.Types.{VerificationType, Unusable, IntType, NullType, OfType, Uninitialised, UninitialisedThis, is_int_value, is_value_below}
-use Rattle.model.specs.DescribedTypes.{field_declared, results_declared, made_type, verification_type}
-use Rattle.model.specs.Operands.{Slots}
+use Rattle.model.specs.DescribedTypes.{field_declared, made_type, verification_type}
 use Rattle.model.specs.TypeOrder.{FrameType, pairwise}
-use Rattle.model.specs.State.{ObjectOf, Instance, Primitives, References, types_of, ThreadStatus, Running, Waiting, Relock, Ended, Thread, FrameOf, Frame, Invocation, Initialisation, StackOf, WorldOf, State}
+use Rattle.model.specs.State.{ObjectOf, Instance, Primitives, References, types_of, Waiter, Monitor, ThreadStatus, Running, Waiting, Relock, Ended, Thread, Frame, Invocation, Initialisation, StackOf, State}
+use Rattle.model.specs.Calls.{result_types}
 use Rattle.model.specs.Step.{next_of}
 use Rattle.model.specs.Typing.{Typing, Reaches, IsTyping}
 
@@ -89,10 +90,6 @@ pub data Above : Type 0 where
   Results : (types : List VerificationType) → Above
   Instruction : Above
 
--- the types of what a method returns
-abbrev pub result_types : Program → Member → List VerificationType
-result_types files method = map (verification_type files) (results_declared method.descriptor)
-
 -- a class is initialised before an instruction is done, which is then done
 abbrev pub Beneath : Program → List ReferenceType → Above → StackOf Value → Type 0
 Beneath files objects above [] = Unit {0}
@@ -139,6 +136,29 @@ AreThreadsTyped files objects (thread ∷ threads) [] = ⊥
 AreThreadsTyped files objects (thread ∷ threads) (stack ∷ stacks) =
     IsThreadTyped files objects thread stack × AreThreadsTyped files objects threads stacks
 
+-- ---- wait sets (JLS 17.2)
+
+abbrev pub is_waiting_for : ℕ → ThreadStatus → Bool
+is_waiting_for object Running = false
+is_waiting_for object (Waiting other count) = other == object
+is_waiting_for object (Relock other count cause) = false
+is_waiting_for object (Ended exception) = false
+
+-- what a wait set has is a thread that waits for its object
+abbrev pub is_waiter : List Thread → ℕ → Waiter → Bool
+is_waiter threads object waiter = option_map_or (λ (thread : Thread). is_waiting_for object thread.status) (slice_get threads waiter.thread) false
+
+-- no thread stands twice in it
+abbrev pub are_distinct : List Waiter → Bool
+are_distinct [] = true
+are_distinct (waiter ∷ waiters) = not (list_any (λ (other : Waiter). other.thread == waiter.thread) waiters) && are_distinct waiters
+
+-- the wait sets of the objects from a reference on
+abbrev pub are_wait_sets : List Thread → ℕ → List Monitor → Bool
+are_wait_sets threads object [] = true
+are_wait_sets threads object (monitor ∷ monitors) =
+    (list_all (is_waiter threads object) monitor.waiters && are_distinct monitor.waiters) && are_wait_sets threads (suc object) monitors
+
 -- ---- states
 
 -- each object has a monitor
@@ -146,4 +166,5 @@ pub record IsWellTyped (files : Program) (state : State) : Type 0 where
   pub heap : IsTrue (list_all (is_object_typed files (types_of state.world.heap)) state.world.heap)
   pub statics : IsTrue (list_all (is_field_typed files (types_of state.world.heap)) state.world.statics)
   pub monitors : length state.world.monitors ≡ length state.world.heap
+  pub wait_sets : IsTrue (are_wait_sets state.world.threads 0 state.world.monitors)
   pub threads : AreThreadsTyped files (types_of state.world.heap) state.world.threads state.stacks

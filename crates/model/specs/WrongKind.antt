@@ -1,13 +1,14 @@
 -- When a thread meets a missing instruction, or an operand that is missing or of a wrong kind: what verification rules out.
-use Rattle.std.specs.Prelude.{ℕ, List, [], ◌∷◌, Option, Some, None, Bool, true, false, not, slice_get, slice_index_or}
+use Rattle.std.specs.Prelude.{ℕ, List, [], ◌∷◌, Option, Some, None, Bool, true, false, not, slice_get}
 use Rattle.std.specs.Option.{option_and_then}
 use Rattle.model.specs.declared.value.Value.{Value}
 use Rattle.model.specs.Classes.{Program, Body, body_of}
 use Rattle.model.specs.ReferenceTypes.{ReferenceType}
 use Rattle.model.specs.Types.{value_meets}
 use Rattle.model.specs.Operands.{values, over_values, is_ready}
-use Rattle.model.specs.State.{types_of, ThreadStatus, Running, Waiting, Relock, Ended, Thread, Frame, FrameOf, Invocation, Initialisation, StackOf, State}
-use Rattle.model.specs.Meanings.{MeaningOf, site_at, meaning_of}
+use Rattle.model.specs.State.{types_of, ThreadStatus, Running, Waiting, Relock, Ended, Thread, Frame, Invocation, Initialisation, StackOf, State}
+use Rattle.model.specs.Sites.{MeaningOf, site_at}
+use Rattle.model.specs.Meanings.{meaning_of}
 
 -- The operands are there and as wanted: a reference where one is wanted, an int where one is, of the class or array that
 -- the instruction names; and the stack does not pass max_stack. An instruction that is to stand elsewhere, as a return

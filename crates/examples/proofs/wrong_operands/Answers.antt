@@ -37,7 +37,7 @@ returns c =
         wide_iadd = refl;
         reversed_table = refl;
         negative_count = refl;
-        ldc_of_class = refl;
+        ldc_of_name_and_type = refl;
         getstatic_of_method = refl;
       };
     }
