@@ -23,6 +23,8 @@ ghost use Rattle.examples.specs.Instructions.{Instructions, Opcodes};
 ghost use Rattle.examples.specs.IntArithmetic.{IntArithmetic};
 ghost use Rattle.examples.specs.IntValues.{Compared, Computed, Converted};
 ghost use Rattle.examples.specs.InterruptedWaits.{InterruptedWaits};
+ghost use Rattle.examples.specs.JavaObjects.{JavaObjects};
+ghost use Rattle.examples.specs.JavaThreads.{JavaThreads};
 ghost use Rattle.examples.specs.Javac.{WrittenByJavac};
 ghost use Rattle.examples.specs.LockOrderDeadlock.{LockOrderDeadlock};
 ghost use Rattle.examples.specs.Lookups.{Instances, Lookups};
@@ -342,4 +344,14 @@ pub fn constructors()
 /// A constructor that calls no other one has no typing.
 pub fn only_returns_unconstructed()
     ensures holds { constructing.OnlyReturns }
+{}
+
+/// A program in Java with objects, fields, arrays, calls and exceptions: it prints what `java` prints.
+pub fn java_objects()
+    ensures holds { JavaObjects }
+{}
+
+/// A program in Java with threads, monitors, wait sets and interrupts: it prints what `java` prints.
+pub fn java_threads()
+    ensures holds { JavaThreads }
 {}
