@@ -1,18 +1,17 @@
 -- What linking tested is what the machine needs.
-use Rattle.std.proofs.Common.{get_or, ◌⊎◌, inl, inr, not, ◌≡◌, ℕ, ◌<◌, ◌^◌, List, [], ◌∷◌, ◌++◌, length, map, Option, Some, None, Bool, true, false, ◌&&◌, ◌||◌, cond, refl, sym, ap, subst, ◌∙◌, arith}
-use Rattle.std.specs.Prelude.{IsSome, Any, unwrap_or, option_map, codes, IsTrue, MatchBool, nat_lt, find}
+use Rattle.std.proofs.Common.{get_or, ◌⊎◌, inl, inr, not, ◌≡◌, ℕ, ◌<◌, ◌^◌, List, [], ◌∷◌, length, map, Option, Some, None, Bool, true, false, ◌&&◌, ◌||◌, cond, refl, sym, ap, subst, ◌∙◌, arith}
+use Rattle.std.specs.Prelude.{IsSome, Any, codes, MatchBool, nat_lt, find}
 use Rattle.std.specs.Option.{option_and_then}
 use Rattle.std.specs.List.{AllByRecursion}
-use Rattle.std.specs.Str.{bytes_eq}
 use Rattle.std.proofs.lemmas.Slice.Eq.{bytes_eq-Decides}
 use Rattle.std.proofs.lemmas.Bool.{ltb-true}
 use Rattle.std.proofs.lemmas.List.{get_or-map, length-map}
-use Rattle.model.specs.Names.{Name, name_eq, spells, java_lang_object, main_of}
+use Rattle.model.specs.Names.{Name, spells, java_lang_object}
 use Rattle.model.specs.Tree.{Entry, FileTree, MethodTree, MethodPart, CodeTree, CodeOf, SkippedOfMethod}
 use Rattle.model.specs.BuiltIn.{built_in_classes}
 use Rattle.model.specs.Spelling.{CodeFits, MethodPartFits, MethodFits, FileFits, is_code, is_code_length}
 use Rattle.model.specs.Listing.{is_interface}
-use Rattle.model.specs.Classes.{Program, Body, is_named, is_method, name_of, super_name_of, body_of, body_in, code_in, declared_in, class_of, superclass_of, is_built_in}
+use Rattle.model.specs.Classes.{Body, is_named, is_method, name_of, super_name_of, body_of, code_in, class_of, superclass_of, is_built_in}
 use Rattle.model.specs.Spells.{Spells}
 use Rattle.reading.specs.declared.fault.Cause.{Cause}
 use Rattle.replay.specs.declared.refusal.RefusalKind.{RefusalKind}

@@ -1,6 +1,6 @@
 -- Which class files this machine takes so far (own: the conditions of `is_outside`), and what of their code is malformed
 -- (JVMS 4.9.1: the conditions of `is_malformed`). Each condition is a sentence of its own.
-use Rattle.std.specs.Prelude.{ℕ, zero, suc, ◌+◌, ◌/◌, ◌%◌, ℤ, pos, negsuc, ◌+ℤ◌, List, [], ◌∷◌, length, map, Option, Some, None, Bool, true, false, not, ◌&&◌, ◌||◌, ◌==◌, nat_lt, nat_le, int_lt, if◌then◌else◌, is_some, unwrap_or, slice_get, slice_index_or, codes}
+use Rattle.std.specs.Prelude.{ℕ, suc, ◌+◌, ◌/◌, ◌%◌, ℤ, pos, negsuc, ◌+ℤ◌, List, [], ◌∷◌, length, map, Option, Some, None, Bool, true, false, not, ◌&&◌, ◌||◌, ◌==◌, nat_lt, nat_le, int_lt, if◌then◌else◌, is_some, unwrap_or, slice_get, slice_index_or, codes}
 use Rattle.std.specs.List.{list_any}
 use Rattle.std.specs.Option.{is_none, option_map_or}
 use Rattle.model.specs.declared.instr.Kind.TheVariants as kinds

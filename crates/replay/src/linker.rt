@@ -1,6 +1,6 @@
 //! Linking: what a set of class files is, or why it is refused.
 
-ghost use Rattle.std.specs.Prelude.{◌≡◌, ◌<◌, ◌^◌, ◌⊎◌, IfOk, IfErr, MatchResult, List, length, map, option_map, vec_items};
+ghost use Rattle.std.specs.Prelude.{◌≡◌, ◌<◌, ◌^◌, ◌⊎◌, IfOk, IfErr, MatchResult, length, map, option_map, vec_items};
 ghost use Rattle.model.specs.Tree.{FileTree};
 ghost use Rattle.model.specs.Pool.{integer_of, integers_of};
 ghost use Rattle.model.specs.Classes.{name_of};

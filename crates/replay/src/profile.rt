@@ -1,8 +1,7 @@
 //! Whether this machine takes a class (own), and whether its code is malformed (JVMS 4.9.1).
 
-ghost use Rattle.std.specs.Prelude.{◌≡◌, ◌+◌, ◌/◌, ◌%◌, ◌<◌, ◌==◌, true, false, not, map, option_map, OnOk, IfErr, codes};
+ghost use Rattle.std.specs.Prelude.{◌≡◌, ◌/◌, ◌%◌, ◌<◌, ◌==◌, true, false, not, map, option_map, OnOk, IfErr, codes};
 ghost use Rattle.std.specs.List.{list_any};
-ghost use Rattle.std.specs.Option.{option_map_or};
 ghost use Rattle.model.specs.Names.{spells};
 ghost use Rattle.model.specs.Classes.{code_in, is_method};
 ghost use Rattle.constant_pool.specs.View.{entries_of};

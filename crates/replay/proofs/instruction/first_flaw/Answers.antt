@@ -1,4 +1,4 @@
-use Rattle.std.proofs.Common.{rules, arith, ◌≡◌, ◌<◌, get_or, length, true, false, refl, below_more}
+use Rattle.std.proofs.Common.{rules, arith, ◌≡◌, get_or, true, false, below_more}
 use Rattle.constant_pool.specs.View.{entries_of}
 use Rattle.classfile.specs.View.{code_of}
 use Rattle.replay.specs.Checks.{is_outside_at, is_malformed_at}

@@ -1,7 +1,6 @@
-use Rattle.std.proofs.Common.{rules, arith, ◌≡◌, ◌<◌, get_or, length, true, false, refl, ap}
+use Rattle.std.proofs.Common.{rules, arith, ◌≡◌, get_or, length, true, false, refl, ap}
 use Rattle.std.specs.Option.{is_none}
 use Rattle.model.specs.Instruction.{sized_at}
-use Rattle.model.specs.InstructionStarts.{starts}
 use Rattle.model.proofs.StartLaws.{length-starts}
 use Rattle.replay.specs.Profile.{is_known_at, is_other_opcode, is_cut}
 use Rattle.replay.proofs.Profiles.{any_of_marks, none_of_marks}

@@ -1,4 +1,4 @@
-use Rattle.std.proofs.Common.{rules, arith, ◌≡◌, ℕ, ℤ, ◌-◌, ◌<◌, true, false, sym, below_more}
+use Rattle.std.proofs.Common.{rules, arith, ◌≡◌, ℕ, ℤ, ◌-◌, true, false, sym, below_more}
 use Rattle.std.specs.Prelude.{int_lt}
 use Rattle.model.specs.Instruction.{lookup_pair}
 use Rattle.replay.proofs.Profiles.{rises, falls}

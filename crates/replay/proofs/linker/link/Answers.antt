@@ -4,7 +4,7 @@ use Rattle.model.specs.Classes.{name_of, is_built_in}
 use Rattle.model.specs.Pool.{integers_of}
 use Rattle.std.proofs.lemmas.Result.{err_from_is_err_and}
 use Rattle.replay.specs.Linking.{declared_main}
-use Rattle.replay.proofs.Linkings.{refused_of_class, refused_no_main, accepted_memory, links, main_code_is, code_short, links_fits}
+use Rattle.replay.proofs.Linkings.{refused_no_main, accepted_memory, links, main_code_is, code_short, links_fits}
 use Rattle.replay.proofs.linker.link.Goals as goal
 
 pub method_code-requires : goal.method_code-requires
