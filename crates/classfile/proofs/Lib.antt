@@ -4,4 +4,5 @@ mod Promises
 mod Both
 mod Appended
 mod Fronts
+mod Stands
 mod Differ

@@ -1,8 +1,12 @@
 //! Where the parts of a class file stand in it.
 
-ghost use Rattle.std.specs.Prelude.{◌≡◌, ◌++◌, List, length, map};
+ghost use Rattle.std.specs.Prelude.{◌≡◌, ◌<◌, ◌^◌, ◌++◌, ℕ, List, length, map, drop, slice_get};
+ghost use Rattle.model.specs.Tree.{CodeTree, MethodTree};
+ghost use Rattle.model.specs.Spelling.{code, Layout};
+ghost use Rattle.model.specs.Classes.{code_in};
 ghost use Rattle.constant_pool.specs.Checking.{saturated};
 ghost use Rattle.classfile.specs.View.{method_part_of, method_of, file_of};
+ghost use Rattle.classfile.specs.Decoding.{BeginsWith};
 ghost use Rattle.classfile.specs.CodePlace.{before_fields, before_methods, before_parts, before_code, methods_front, front_of_code};
 
 use crate::spelled::{Spelled, length_of};
@@ -68,7 +72,9 @@ impl ClassFile {
     /// has no Code it is the offset behind its attributes, and where there is no such method that behind them all. No
     /// file in memory is so long that the highest `usize` is answered in its place.
     pub fn code_offset(&self, method: usize) -> usize
-        ensures { result ≡ saturated (length (front_of_code (file_of self.now) method)) }
+        ensures place { result ≡ saturated (length (front_of_code (file_of self.now) method)) }
+        // Where the tree is that of bytes in memory, what the Code holds stands there.
+        ensures stands { (bytes : List ℕ) (m : MethodTree) (c : CodeTree) → Layout bytes (file_of self.now) → length bytes < 2 ^ 64 → slice_get (file_of self.now).methods method ≡ Some m → code_in m.parts ≡ Some c → BeginsWith (code c) (drop result bytes) }
     {
         first_method(self).saturating_add(length_before(&self.methods, method))
     }
