@@ -175,7 +175,7 @@ fn shows_unknown_bytes(rt: HostRuntime) -> Result<(), Fail> {
         // A jump to a subroutine, which this machine has not.
         (
             &[0xa8, 0, 3],
-            "00000 a8 unknown\n00001 00 nop\n00002 06 iconst_3\n",
+            "00000 a8 unknown\n00001 00 nop\n00002 03 iconst_0\n",
         ),
         // A switch cut by the end.
         (
