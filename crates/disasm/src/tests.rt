@@ -95,6 +95,128 @@ fn stops_where_the_writer_fails(rt: HostRuntime) -> Result<(), Fail> {
     Ok(())
 }
 
+/// What is listed of a class with this code, behind the lines of the class and of the method.
+fn instructions(alloc: Global, bytes: &[u8]) -> Result<Vec<u8>, Fail> {
+    let Ok(mut file) = decode(alloc, &PRINTS_SEVEN) else {
+        return Err(Fail::new("no class file"));
+    };
+    for method in &mut file.methods {
+        for attribute in &mut method.attributes {
+            if let MethodAttribute::Code { name: _, code } = attribute {
+                code.code = bytes.to_vec(alloc)?;
+            }
+        }
+    }
+    let mut kept = Kept {
+        text: Vec::new(alloc),
+        room: 2000,
+        failures: 0,
+    };
+    if list(alloc, &file, &mut kept).is_err() {
+        return Err(Fail::new("no listing"));
+    }
+    match kept.text.as_slice().strip_prefix(HEAD.as_bytes()) {
+        Some(lines) => Ok(lines.to_vec(alloc)?),
+        None => Err(Fail::new("another head")),
+    }
+}
+
+/// The lines of the class and of its method.
+const HEAD: &str = "class A extends java/lang/Object\n\
+    method main([Ljava/lang/String;)V flags 0009 stack 2 locals 1\n";
+
+#[test]
+fn names_element_types(rt: HostRuntime) -> Result<(), Fail> {
+    let code = [
+        0xbc, 4, 0xbc, 5, 0xbc, 6, 0xbc, 7, 0xbc, 8, 0xbc, 9, 0xbc, 10, 0xbc, 11, 0xbc, 0, 0xbc,
+        255,
+    ];
+    let want = "00000 bc04 newarray boolean\n\
+        00002 bc05 newarray char\n\
+        00004 bc06 newarray #6\n\
+        00006 bc07 newarray #7\n\
+        00008 bc08 newarray byte\n\
+        00010 bc09 newarray short\n\
+        00012 bc0a newarray int\n\
+        00014 bc0b newarray #11\n\
+        00016 bc00 newarray #0\n\
+        00018 bcff newarray #255\n";
+    assert!(rt; instructions(rt.alloc(), &code)?.as_slice() == want.as_bytes());
+    Ok(())
+}
+
+#[test]
+fn shows_indices_of_other_kinds(rt: HostRuntime) -> Result<(), Fail> {
+    let code = [
+        0xb2, 0, 19, 0xb6, 0, 13, 0xb9, 0, 19, 3, 0, 0xbb, 0, 1, 0xbd, 0, 0, 0xc0, 0xff, 0xff,
+        0xc1, 0, 1, 0x12, 1, 0x13, 0, 19,
+    ];
+    let want = "00000 b20013 getstatic #19\n\
+        00003 b6000d invokevirtual #13\n\
+        00006 b900130300 invokeinterface #19 3\n\
+        00011 bb0001 new #1\n\
+        00014 bd0000 anewarray #0\n\
+        00017 c0ffff checkcast #65535\n\
+        00020 c10001 instanceof #1\n\
+        00023 1201 ldc #1\n\
+        00025 130013 ldc_w #19\n";
+    assert!(rt; instructions(rt.alloc(), &code)?.as_slice() == want.as_bytes());
+    Ok(())
+}
+
+#[test]
+fn shows_unknown_bytes(rt: HostRuntime) -> Result<(), Fail> {
+    let alloc = rt.alloc();
+    let rows: [(&[u8], &str); 5] = [
+        (&[0x10], "00000 10 unknown\n"),
+        (&[0xca, 0xb1], "00000 ca unknown\n00001 b1 return\n"),
+        // What `wide` can't widen.
+        (&[0xc4, 0x10, 7], "00000 c4 unknown\n00001 1007 bipush 7\n"),
+        // A jump to a subroutine, which this machine has not.
+        (
+            &[0xa8, 0, 3],
+            "00000 a8 unknown\n00001 00 nop\n00002 03 iconst_0\n",
+        ),
+        // A switch cut by the end.
+        (
+            &[0xab, 0, 0, 0],
+            "00000 ab unknown\n00001 00 nop\n00002 00 nop\n00003 00 nop\n",
+        ),
+    ];
+    for (code, want) in rows {
+        assert!(rt;
+            instructions(alloc, code)?.as_slice() == want.as_bytes(),
+            "{want}"
+        );
+    }
+    Ok(())
+}
+
+#[test]
+fn lists_wide_and_switches(rt: HostRuntime) -> Result<(), Fail> {
+    let alloc = rt.alloc();
+    let code = [
+        0, 0, 0xc4, 0x84, 0, 1, 0x80, 0, 0xc8, 0xff, 0xff, 0xff, 0xfe,
+    ];
+    let want = "00000 00 nop\n00001 00 nop\n00002 c48400018000 wide iinc 1 -32768\n\
+        00008 c8fffffffe goto_w 6\n";
+    assert!(rt; instructions(alloc, &code)?.as_slice() == want.as_bytes());
+    let code = [
+        8, 0xab, 0, 0, 0, 0, 0, 0x1b, 0, 0, 0, 1, 0, 0, 0, 5, 0, 0, 0, 0x13,
+    ];
+    let want = "00000 08 iconst_5\n\
+        00001 ab00000000001b000000010000000500000013 lookupswitch default 28 5:20\n";
+    assert!(rt; instructions(alloc, &code)?.as_slice() == want.as_bytes());
+    let code = [
+        0xaa, 0, 0, 0, 0, 0, 0, 20, 0xff, 0xff, 0xff, 0xff, 0, 0, 0, 0, 0, 0, 0, 21, 0xff, 0xff,
+        0xff, 0xff,
+    ];
+    let want =
+        "00000 aa00000000000014ffffffff0000000000000015ffffffff tableswitch default 20 -1:21 0:-1\n";
+    assert!(rt; instructions(alloc, &code)?.as_slice() == want.as_bytes());
+    Ok(())
+}
+
 /// An interface with a field, a method without code, and one with handlers and the corners of instructions.
 fn interface(alloc: Global) -> Result<ClassFile, AllocError> {
     let code = Code {

@@ -5,7 +5,7 @@ ghost use Rattle.std.specs.Io.KnownBytes.{Appends};
 ghost use Rattle.model.specs.Spells.{Spells};
 ghost use Rattle.classfile.specs.View.{file_of};
 ghost use Rattle.reading.specs.declared.fault.Cause.TheVariants as causes;
-ghost use Rattle.jvm.specs.Engines.{CountsFailure, Reads, no_memory};
+ghost use Rattle.jvm.specs.Engines.{CountsFailure, no_memory};
 ghost use Rattle.jvm.specs.Listings.{IsMalformed, IsUnlisted, Lists, malformed};
 
 use crate::engine::{out_of_memory, read_class_file};
