@@ -150,7 +150,7 @@ module _ (files : Program) (method : Member) (body : Body) (F : Typing) (holds :
       let rule = holds.agrees k at.type at.typed in
       let known = h at.type.slots.locals at.type.constructed in
       let flows : flow files method body k at.type ≡ Some (map (λ j. (j, frame at.type.slots.locals i known.0)) js) =
-          subst (λ s. flow files method body k (record { slots = record { locals = at.type.slots.locals; stack = s }; constructed = at.type.constructed }) ≡ Some (map (λ j. (j, frame at.type.slots.locals i known.0)) js)) (sym at.stack) known.1 in
+      subst (λ s. flow files method body k (record { slots = record { locals = at.type.slots.locals; stack = s }; constructed = at.type.constructed }) ≡ Some (map (λ j. (j, frame at.type.slots.locals i known.0)) js)) (sym at.stack) known.1 in
       let same : rule.leads ≡ map (λ j. (j, frame at.type.slots.locals i known.0)) js = some_same _ _ _ rule.flows flows in
       each_at i at.type.slots.locals known.0 js (subst (AllByRecursion (λ (lead : ℕ × FrameType). Reaches files F lead.0 lead.1)) same rule.reached)
     where
@@ -163,7 +163,7 @@ module _ (files : Program) (method : Member) (body : Body) (F : Typing) (holds :
       let rule = holds.agrees k at.type at.typed in
       let known = h at.type.slots.locals at.type.constructed in
       let flows : flow files method body k at.type ≡ (if known.0 then Some ((j, known.1) ∷ []) else None) =
-          subst (λ s. flow files method body k (record { slots = record { locals = at.type.slots.locals; stack = s }; constructed = at.type.constructed }) ≡ (if known.0 then Some ((j, known.1) ∷ []) else None)) (sym at.stack) known.2 in
+      subst (λ s. flow files method body k (record { slots = record { locals = at.type.slots.locals; stack = s }; constructed = at.type.constructed }) ≡ (if known.0 then Some ((j, known.1) ∷ []) else None)) (sym at.stack) known.2 in
       let same : rule.leads ≡ (j, known.1) ∷ [] = leads_of_if known.0 _ _ (sym flows ∙ rule.flows) in
       let r = subst (AllByRecursion (λ (lead : ℕ × FrameType). Reaches files F lead.0 lead.1)) same rule.reached in
       (r.0.there, r.0.typed)
@@ -183,6 +183,7 @@ module _ (files : Program) (method : Member) (body : Body) (F : Typing) (holds :
     where
       types_same : (o : Option FrameType) (s t : FrameType) → o ≡ Some s → o ≡ Some t → s ≡ t
       types_same o s t p q = cc
+
       empty_int : ints 0 ≡ ints 1 → ⊥
       empty_int q = absurd cc
 

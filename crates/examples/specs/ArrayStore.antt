@@ -18,12 +18,12 @@ abbrev pub class_x : FileTree
 class_x =
     class_with class_x_pool 2 4 []
     (
-      -- static main([Ljava/lang/String;)V: 0 iconst_1, 1 anewarray X, 4 astore_1, 5 aload_1, 6 iconst_0,
-      -- 7 new Object, 10 dup, 11 invokespecial Object.<init>, 14 aastore, 15 return
-      method 0x0009 9 10 11 4 2
-          (hex (codes "04bd00024c2b03bb000459b7000853b1"))
-          []
-      ∷ []
+    -- static main([Ljava/lang/String;)V: 0 iconst_1, 1 anewarray X, 4 astore_1, 5 aload_1, 6 iconst_0,
+    -- 7 new Object, 10 dup, 11 invokespecial Object.<init>, 14 aastore, 15 return
+    method 0x0009 9 10 11 4 2
+    (hex (codes "04bd00024c2b03bb000459b7000853b1"))
+    []
+    ∷ []
     )
 
 abbrev pub class_x_bytes : List ℕ

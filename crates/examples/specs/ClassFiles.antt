@@ -43,3 +43,22 @@ AreLaidOut [] [] = Unit {0}
 AreLaidOut [] (file ∷ files) = ⊥
 AreLaidOut (bytes ∷ others) [] = ⊥
 AreLaidOut (bytes ∷ others) (file ∷ files) = Layout bytes file × AreLaidOut others files
+
+-- a method with no code
+abbrev pub no_code : ℕ → ℕ → ℕ → MethodTree
+no_code flags name descriptor = record { flags = flags; name = name; descriptor = descriptor; parts = [] }
+
+-- a class by its access flags, its constant pool, the indices of itself, of its superclass and of its interfaces, its fields and
+-- its methods
+abbrev pub file_with : ℕ → List Entry → ℕ → ℕ → List ℕ → List FieldTree → List MethodTree → FileTree
+file_with flags pool this_class super_class interfaces fields methods =
+    record {
+      pool = pool;
+      flags = flags;
+      this_class = this_class;
+      super_class = super_class;
+      interfaces = interfaces;
+      fields = fields;
+      methods = methods;
+      attributes = [];
+    }

@@ -21,25 +21,25 @@ abbrev pub class_t : FileTree
 class_t =
     class_with class_t_pool 8 2 (field 0x0008 9 10 [] ∷ [])
     (
-      -- <init>()V: 0 aload_0, 1 invokespecial Thread.<init>, 4 return
-      method 0x0001 3 4 32 1 1
-          (hex (codes "2ab70006b1"))
-          []
-      -- run()V: 0 iconst_0, 1 istore_1, 2 iload_1, 3 sipush 1000, 6 if_icmpge 38, 9 ldc T, 11 dup, 12 astore_2,
-      -- 13 monitorenter, 14 getstatic T.n, 17 iconst_1, 18 iadd, 19 putstatic T.n, 22 aload_2, 23 monitorexit,
-      -- 24 goto 32, 27 astore_3, 28 aload_2, 29 monitorexit, 30 aload_3, 31 athrow, 32 iinc 1 1, 35 goto 2,
-      -- 38 return
-      ∷ method 0x0001 33 4 32 2 4
-          (hex (codes "033c1b1103e8a200201208594dc2b2000c0460b3000c2cc3a700084e2cc32dbf840101a7ffdfb1"))
-          (handler 14 24 27 0 ∷ handler 27 30 27 0 ∷ [])
-      -- static main([Ljava/lang/String;)V: 0 new T, 3 dup, 4 invokespecial T.<init>, 7 astore_1, 8 new T, 11 dup,
-      -- 12 invokespecial T.<init>, 15 astore_2, 16 aload_1, 17 invokevirtual T.start, 20 aload_2,
-      -- 21 invokevirtual T.start, 24 aload_1, 25 invokevirtual T.join, 28 aload_2, 29 invokevirtual T.join,
-      -- 32 getstatic System.out, 35 getstatic T.n, 38 invokevirtual PrintStream.println, 41 return
-      ∷ method 0x0009 34 35 32 2 3
-          (hex (codes "bb000859b7000d4cbb000859b7000d4d2bb600102cb600102bb600132cb60013b20019b2000cb6001fb1"))
-          []
-      ∷ []
+    -- <init>()V: 0 aload_0, 1 invokespecial Thread.<init>, 4 return
+    method 0x0001 3 4 32 1 1
+    (hex (codes "2ab70006b1"))
+    []
+    -- run()V: 0 iconst_0, 1 istore_1, 2 iload_1, 3 sipush 1000, 6 if_icmpge 38, 9 ldc T, 11 dup, 12 astore_2,
+    -- 13 monitorenter, 14 getstatic T.n, 17 iconst_1, 18 iadd, 19 putstatic T.n, 22 aload_2, 23 monitorexit,
+    -- 24 goto 32, 27 astore_3, 28 aload_2, 29 monitorexit, 30 aload_3, 31 athrow, 32 iinc 1 1, 35 goto 2,
+    -- 38 return
+    ∷ method 0x0001 33 4 32 2 4
+    (hex (codes "033c1b1103e8a200201208594dc2b2000c0460b3000c2cc3a700084e2cc32dbf840101a7ffdfb1"))
+    (handler 14 24 27 0 ∷ handler 27 30 27 0 ∷ [])
+    -- static main([Ljava/lang/String;)V: 0 new T, 3 dup, 4 invokespecial T.<init>, 7 astore_1, 8 new T, 11 dup,
+    -- 12 invokespecial T.<init>, 15 astore_2, 16 aload_1, 17 invokevirtual T.start, 20 aload_2,
+    -- 21 invokevirtual T.start, 24 aload_1, 25 invokevirtual T.join, 28 aload_2, 29 invokevirtual T.join,
+    -- 32 getstatic System.out, 35 getstatic T.n, 38 invokevirtual PrintStream.println, 41 return
+    ∷ method 0x0009 34 35 32 2 3
+    (hex (codes "bb000859b7000d4cbb000859b7000d4d2bb600102cb600102bb600132cb60013b20019b2000cb6001fb1"))
+    []
+    ∷ []
     )
 
 abbrev pub class_t_bytes : List ℕ

@@ -18,14 +18,14 @@ abbrev pub class_a : FileTree
 class_a =
     class_with class_a_pool 8 2 []
     (
-      -- static main([Ljava/lang/String;)V: 0 new Object, 3 dup, 4 invokespecial Object.<init>, 7 astore_1,
-      -- 8 iconst_0, 9 istore_2, 10 iload_2, 11 sipush 257, 14 if_icmpge 25, 17 aload_1, 18 monitorenter,
-      -- 19 iinc 2 1, 22 goto 10, 25 iload_2, 26 ifeq 37, 29 aload_1, 30 monitorexit, 31 iinc 2 -1, 34 goto 25,
-      -- 37 return
-      method 0x0009 9 10 11 2 3
-          (hex (codes "bb000259b700064c033d1c110101a2000b2bc2840201a7fff41c99000b2bc38402ffa7fff7b1"))
-          []
-      ∷ []
+    -- static main([Ljava/lang/String;)V: 0 new Object, 3 dup, 4 invokespecial Object.<init>, 7 astore_1,
+    -- 8 iconst_0, 9 istore_2, 10 iload_2, 11 sipush 257, 14 if_icmpge 25, 17 aload_1, 18 monitorenter,
+    -- 19 iinc 2 1, 22 goto 10, 25 iload_2, 26 ifeq 37, 29 aload_1, 30 monitorexit, 31 iinc 2 -1, 34 goto 25,
+    -- 37 return
+    method 0x0009 9 10 11 2 3
+    (hex (codes "bb000259b700064c033d1c110101a2000b2bc2840201a7fff41c99000b2bc38402ffa7fff7b1"))
+    []
+    ∷ []
     )
 
 abbrev pub class_a_bytes : List ℕ

@@ -22,25 +22,25 @@ abbrev pub class_v : FileTree
 class_v =
     class_with class_v_pool 8 2 []
     (
-      -- <init>()V: 0 aload_0, 1 invokespecial Thread.<init>, 4 return
-      method 0x0001 3 4 33 1 1
-          (hex (codes "2ab70006b1"))
-          []
-      -- static synchronized f()V: 0 iconst_1, 1 iconst_0, 2 idiv, 3 pop, 4 return
-      ∷ method 0x0028 9 4 33 2 0
-          (hex (codes "04036c57b1"))
-          []
-      -- run()V: 0 invokestatic V.f, 3 return, 4 pop, 5 getstatic System.out, 8 iconst_3,
-      -- 9 invokevirtual PrintStream.println, 12 return
-      ∷ method 0x0001 30 4 33 2 1
-          (hex (codes "b8000bb157b2001106b60017b1"))
-          (handler 0 3 4 25 ∷ [])
-      -- static main([Ljava/lang/String;)V: 0 new V, 3 dup, 4 invokespecial V.<init>, 7 astore_1, 8 aload_1,
-      -- 9 invokevirtual V.start, 12 aload_1, 13 invokevirtual V.run, 16 return
-      ∷ method 0x0009 34 35 33 2 2
-          (hex (codes "bb000859b7001a4c2bb6001d2bb60020b1"))
-          []
-      ∷ []
+    -- <init>()V: 0 aload_0, 1 invokespecial Thread.<init>, 4 return
+    method 0x0001 3 4 33 1 1
+    (hex (codes "2ab70006b1"))
+    []
+    -- static synchronized f()V: 0 iconst_1, 1 iconst_0, 2 idiv, 3 pop, 4 return
+    ∷ method 0x0028 9 4 33 2 0
+    (hex (codes "04036c57b1"))
+    []
+    -- run()V: 0 invokestatic V.f, 3 return, 4 pop, 5 getstatic System.out, 8 iconst_3,
+    -- 9 invokevirtual PrintStream.println, 12 return
+    ∷ method 0x0001 30 4 33 2 1
+    (hex (codes "b8000bb157b2001106b60017b1"))
+    (handler 0 3 4 25 ∷ [])
+    -- static main([Ljava/lang/String;)V: 0 new V, 3 dup, 4 invokespecial V.<init>, 7 astore_1, 8 aload_1,
+    -- 9 invokevirtual V.start, 12 aload_1, 13 invokevirtual V.run, 16 return
+    ∷ method 0x0009 34 35 33 2 2
+    (hex (codes "bb000859b7001a4c2bb6001d2bb60020b1"))
+    []
+    ∷ []
     )
 
 abbrev pub class_v_bytes : List ℕ

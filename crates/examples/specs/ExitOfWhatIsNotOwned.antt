@@ -17,15 +17,15 @@ abbrev pub class_w : FileTree
 class_w =
     class_with class_w_pool 2 8 []
     (
-      -- static synchronized g()V: 0 ldc W, 2 monitorexit, 3 return
-      method 0x0028 3 4 9 1 0
-          (hex (codes "1202c3b1"))
-          []
-      -- static main([Ljava/lang/String;)V: 0 invokestatic W.g, 3 return
-      ∷ method 0x0009 10 11 9 0 1
-          (hex (codes "b80006b1"))
-          []
-      ∷ []
+    -- static synchronized g()V: 0 ldc W, 2 monitorexit, 3 return
+    method 0x0028 3 4 9 1 0
+    (hex (codes "1202c3b1"))
+    []
+    -- static main([Ljava/lang/String;)V: 0 invokestatic W.g, 3 return
+    ∷ method 0x0009 10 11 9 0 1
+    (hex (codes "b80006b1"))
+    []
+    ∷ []
     )
 
 abbrev pub class_w_bytes : List ℕ

@@ -17,15 +17,15 @@ abbrev pub class_e : FileTree
 class_e =
     class_with class_e_pool 2 4 []
     (
-      -- static <clinit>()V: 0 iconst_1, 1 iconst_0, 2 idiv, 3 pop, 4 return
-      method 0x0008 5 6 7 2 0
-          (hex (codes "04036c57b1"))
-          []
-      -- static main([Ljava/lang/String;)V: 0 return
-      ∷ method 0x0009 8 9 7 0 1
-          (hex (codes "b1"))
-          []
-      ∷ []
+    -- static <clinit>()V: 0 iconst_1, 1 iconst_0, 2 idiv, 3 pop, 4 return
+    method 0x0008 5 6 7 2 0
+    (hex (codes "04036c57b1"))
+    []
+    -- static main([Ljava/lang/String;)V: 0 return
+    ∷ method 0x0009 8 9 7 0 1
+    (hex (codes "b1"))
+    []
+    ∷ []
     )
 
 abbrev pub class_e_bytes : List ℕ

@@ -20,12 +20,12 @@ abbrev pub class_e : FileTree
 class_e =
     class_with class_e_pool 22 24 []
     (
-      -- static main([Ljava/lang/String;)V: 0 invokestatic F.g, 3 return, 4 pop, 5 getstatic System.out, 8 iconst_1,
-      -- 9 invokevirtual PrintStream.println, 12 invokestatic F.g, 15 return
-      method 0x0009 25 26 27 2 1
-          (hex (codes "b80006b157b2000c04b60012b80006b1"))
-          (handler 0 3 4 20 ∷ [])
-      ∷ []
+    -- static main([Ljava/lang/String;)V: 0 invokestatic F.g, 3 return, 4 pop, 5 getstatic System.out, 8 iconst_1,
+    -- 9 invokevirtual PrintStream.println, 12 invokestatic F.g, 15 return
+    method 0x0009 25 26 27 2 1
+    (hex (codes "b80006b157b2000c04b60012b80006b1"))
+    (handler 0 3 4 20 ∷ [])
+    ∷ []
     )
 
 abbrev pub class_e_bytes : List ℕ
@@ -47,15 +47,15 @@ abbrev pub class_f : FileTree
 class_f =
     class_with class_f_pool 2 4 []
     (
-      -- static <clinit>()V: 0 iconst_1, 1 iconst_0, 2 idiv, 3 pop, 4 return
-      method 0x0008 5 6 7 2 0
-          (hex (codes "04036c57b1"))
-          []
-      -- static g()V: 0 return
-      ∷ method 0x0008 8 6 7 0 0
-          (hex (codes "b1"))
-          []
-      ∷ []
+    -- static <clinit>()V: 0 iconst_1, 1 iconst_0, 2 idiv, 3 pop, 4 return
+    method 0x0008 5 6 7 2 0
+    (hex (codes "04036c57b1"))
+    []
+    -- static g()V: 0 return
+    ∷ method 0x0008 8 6 7 0 0
+    (hex (codes "b1"))
+    []
+    ∷ []
     )
 
 abbrev pub class_f_bytes : List ℕ

@@ -19,13 +19,13 @@ abbrev pub class_a : FileTree
 class_a =
     class_with class_a_pool 16 18 []
     (
-      -- static main([Ljava/lang/String;)V: 0 iconst_1, 1 iconst_0, 2 idiv, 3 pop, 4 return, 5 pop,
-      -- 6 getstatic System.out, 9 iconst_1, 10 invokevirtual PrintStream.println, 13 return, 14 pop,
-      -- 15 getstatic System.out, 18 iconst_2, 19 invokevirtual PrintStream.println, 22 return
-      method 0x0009 19 20 21 2 1
-          (hex (codes "04036c57b157b2000604b6000cb157b2000605b6000cb1"))
-          (handler 0 2 14 0 ∷ handler 0 3 5 14 ∷ handler 0 3 14 0 ∷ [])
-      ∷ []
+    -- static main([Ljava/lang/String;)V: 0 iconst_1, 1 iconst_0, 2 idiv, 3 pop, 4 return, 5 pop,
+    -- 6 getstatic System.out, 9 iconst_1, 10 invokevirtual PrintStream.println, 13 return, 14 pop,
+    -- 15 getstatic System.out, 18 iconst_2, 19 invokevirtual PrintStream.println, 22 return
+    method 0x0009 19 20 21 2 1
+    (hex (codes "04036c57b157b2000604b6000cb157b2000605b6000cb1"))
+    (handler 0 2 14 0 ∷ handler 0 3 5 14 ∷ handler 0 3 14 0 ∷ [])
+    ∷ []
     )
 
 abbrev pub class_a_bytes : List ℕ

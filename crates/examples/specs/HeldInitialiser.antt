@@ -19,20 +19,20 @@ abbrev pub class_e : FileTree
 class_e =
     class_with class_e_pool 13 2 []
     (
-      -- <init>()V: 0 aload_0, 1 invokespecial Thread.<init>, 4 return
-      method 0x0001 3 4 18 1 1
-          (hex (codes "2ab70006b1"))
-          []
-      -- run()V: 0 invokestatic F.g, 3 return
-      ∷ method 0x0001 19 4 18 0 1
-          (hex (codes "b8000bb1"))
-          []
-      -- static main([Ljava/lang/String;)V: 0 new E, 3 dup, 4 invokespecial E.<init>, 7 astore_1, 8 aload_1,
-      -- 9 invokevirtual E.start, 12 invokestatic F.g, 15 return
-      ∷ method 0x0009 20 21 18 2 2
-          (hex (codes "bb000d59b7000e4c2bb60011b8000bb1"))
-          []
-      ∷ []
+    -- <init>()V: 0 aload_0, 1 invokespecial Thread.<init>, 4 return
+    method 0x0001 3 4 18 1 1
+    (hex (codes "2ab70006b1"))
+    []
+    -- run()V: 0 invokestatic F.g, 3 return
+    ∷ method 0x0001 19 4 18 0 1
+    (hex (codes "b8000bb1"))
+    []
+    -- static main([Ljava/lang/String;)V: 0 new E, 3 dup, 4 invokespecial E.<init>, 7 astore_1, 8 aload_1,
+    -- 9 invokevirtual E.start, 12 invokestatic F.g, 15 return
+    ∷ method 0x0009 20 21 18 2 2
+    (hex (codes "bb000d59b7000e4c2bb60011b8000bb1"))
+    []
+    ∷ []
     )
 
 abbrev pub class_e_bytes : List ℕ
@@ -53,15 +53,15 @@ abbrev pub class_f : FileTree
 class_f =
     class_with class_f_pool 2 4 []
     (
-      -- static <clinit>()V: 0 iconst_1, 1 iconst_0, 2 idiv, 3 pop, 4 return
-      method 0x0008 5 6 7 2 0
-          (hex (codes "04036c57b1"))
-          []
-      -- static g()V: 0 return
-      ∷ method 0x0008 8 6 7 0 0
-          (hex (codes "b1"))
-          []
-      ∷ []
+    -- static <clinit>()V: 0 iconst_1, 1 iconst_0, 2 idiv, 3 pop, 4 return
+    method 0x0008 5 6 7 2 0
+    (hex (codes "04036c57b1"))
+    []
+    -- static g()V: 0 return
+    ∷ method 0x0008 8 6 7 0 0
+    (hex (codes "b1"))
+    []
+    ∷ []
     )
 
 abbrev pub class_f_bytes : List ℕ

@@ -17,11 +17,11 @@ abbrev pub class_a : FileTree
 class_a =
     class_with class_a_pool 8 10 []
     (
-      -- static main([Ljava/lang/String;)V: 0 invokestatic C.g, 3 return
-      method 0x0009 11 12 13 0 1
-          (hex (codes "b80006b1"))
-          []
-      ∷ []
+    -- static main([Ljava/lang/String;)V: 0 invokestatic C.g, 3 return
+    method 0x0009 11 12 13 0 1
+    (hex (codes "b80006b1"))
+    []
+    ∷ []
     )
 
 abbrev pub class_a_bytes : List ℕ
@@ -42,11 +42,11 @@ abbrev pub class_b : FileTree
 class_b =
     class_with class_b_pool 14 16 []
     (
-      -- static <clinit>()V: 0 getstatic System.out, 3 iconst_1, 4 invokevirtual PrintStream.println, 7 return
-      method 0x0008 17 18 19 2 0
-          (hex (codes "b2000604b6000cb1"))
-          []
-      ∷ []
+    -- static <clinit>()V: 0 getstatic System.out, 3 iconst_1, 4 invokevirtual PrintStream.println, 7 return
+    method 0x0008 17 18 19 2 0
+    (hex (codes "b2000604b6000cb1"))
+    []
+    ∷ []
     )
 
 abbrev pub class_b_bytes : List ℕ
@@ -69,15 +69,15 @@ abbrev pub class_c : FileTree
 class_c =
     class_with class_c_pool 14 16 []
     (
-      -- static <clinit>()V: 0 getstatic System.out, 3 iconst_2, 4 invokevirtual PrintStream.println, 7 return
-      method 0x0008 17 18 19 2 0
-          (hex (codes "b2000605b6000cb1"))
-          []
-      -- static g()V: 0 return
-      ∷ method 0x0008 20 18 19 0 0
-          (hex (codes "b1"))
-          []
-      ∷ []
+    -- static <clinit>()V: 0 getstatic System.out, 3 iconst_2, 4 invokevirtual PrintStream.println, 7 return
+    method 0x0008 17 18 19 2 0
+    (hex (codes "b2000605b6000cb1"))
+    []
+    -- static g()V: 0 return
+    ∷ method 0x0008 20 18 19 0 0
+    (hex (codes "b1"))
+    []
+    ∷ []
     )
 
 abbrev pub class_c_bytes : List ℕ

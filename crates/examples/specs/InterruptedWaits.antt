@@ -23,24 +23,24 @@ abbrev pub class_q : FileTree
 class_q =
     class_with class_q_pool 8 2 []
     (
-      -- <init>()V: 0 aload_0, 1 invokespecial Thread.<init>, 4 return
-      method 0x0001 3 4 39 1 1
-          (hex (codes "2ab70006b1"))
-          []
-      -- run()V: 0 ldc Q, 2 monitorenter, 3 ldc Q, 5 invokevirtual Object.wait, 8 return, 9 pop,
-      -- 10 getstatic System.out, 13 aload_0, 14 invokevirtual Q.isInterrupted, 17 invokevirtual PrintStream.println,
-      -- 20 ldc Q, 22 invokevirtual Object.wait, 25 return, 26 pop, 27 getstatic System.out, 30 aload_0,
-      -- 31 invokevirtual Q.isInterrupted, 34 invokevirtual PrintStream.println, 37 ldc Q, 39 monitorexit, 40 return
-      ∷ method 0x0001 40 4 39 2 1
-          (hex (codes "1208c21208b6000db157b200132ab60017b6001d1208b6000db157b200132ab60017b6001d1208c3b1"))
-          (handler 3 8 9 31 ∷ handler 20 25 26 31 ∷ [])
-      -- static main([Ljava/lang/String;)V: 0 new Q, 3 dup, 4 invokespecial Q.<init>, 7 astore_1, 8 aload_1,
-      -- 9 invokevirtual Q.start, 12 aload_1, 13 invokevirtual Q.interrupt, 16 aload_1, 17 invokevirtual Q.interrupt,
-      -- 20 return
-      ∷ method 0x0009 41 42 39 2 2
-          (hex (codes "bb000859b700204c2bb600232bb600262bb60026b1"))
-          []
-      ∷ []
+    -- <init>()V: 0 aload_0, 1 invokespecial Thread.<init>, 4 return
+    method 0x0001 3 4 39 1 1
+    (hex (codes "2ab70006b1"))
+    []
+    -- run()V: 0 ldc Q, 2 monitorenter, 3 ldc Q, 5 invokevirtual Object.wait, 8 return, 9 pop,
+    -- 10 getstatic System.out, 13 aload_0, 14 invokevirtual Q.isInterrupted, 17 invokevirtual PrintStream.println,
+    -- 20 ldc Q, 22 invokevirtual Object.wait, 25 return, 26 pop, 27 getstatic System.out, 30 aload_0,
+    -- 31 invokevirtual Q.isInterrupted, 34 invokevirtual PrintStream.println, 37 ldc Q, 39 monitorexit, 40 return
+    ∷ method 0x0001 40 4 39 2 1
+    (hex (codes "1208c21208b6000db157b200132ab60017b6001d1208b6000db157b200132ab60017b6001d1208c3b1"))
+    (handler 3 8 9 31 ∷ handler 20 25 26 31 ∷ [])
+    -- static main([Ljava/lang/String;)V: 0 new Q, 3 dup, 4 invokespecial Q.<init>, 7 astore_1, 8 aload_1,
+    -- 9 invokevirtual Q.start, 12 aload_1, 13 invokevirtual Q.interrupt, 16 aload_1, 17 invokevirtual Q.interrupt,
+    -- 20 return
+    ∷ method 0x0009 41 42 39 2 2
+    (hex (codes "bb000859b700204c2bb600232bb600262bb60026b1"))
+    []
+    ∷ []
     )
 
 abbrev pub class_q_bytes : List ℕ

@@ -49,3 +49,10 @@ pub mod SameString
 pub mod WaiterOfAThread
 pub mod UncaughtException
 pub mod Entry257
+pub mod ProgramsLink
+pub mod Schedulers
+pub mod JavaObjectsMain
+pub mod JavaObjectsClasses
+pub mod JavaObjects
+pub mod JavaThreadsClasses
+pub mod JavaThreads

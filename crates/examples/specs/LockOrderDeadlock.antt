@@ -19,20 +19,20 @@ abbrev pub class_d : FileTree
 class_d =
     class_with class_d_pool 8 2 []
     (
-      -- <init>()V: 0 aload_0, 1 invokespecial Thread.<init>, 4 return
-      method 0x0001 3 4 15 1 1
-          (hex (codes "2ab70006b1"))
-          []
-      -- run()V: 0 ldc D, 2 monitorenter, 3 ldc Object, 5 monitorenter, 6 return
-      ∷ method 0x0001 16 4 15 1 1
-          (hex (codes "1208c2120ac2b1"))
-          []
-      -- static main([Ljava/lang/String;)V: 0 new D, 3 dup, 4 invokespecial D.<init>, 7 astore_1, 8 aload_1,
-      -- 9 invokevirtual D.start, 12 ldc Object, 14 monitorenter, 15 ldc D, 17 monitorenter, 18 return
-      ∷ method 0x0009 17 18 15 2 2
-          (hex (codes "bb000859b7000b4c2bb6000e120ac21208c2b1"))
-          []
-      ∷ []
+    -- <init>()V: 0 aload_0, 1 invokespecial Thread.<init>, 4 return
+    method 0x0001 3 4 15 1 1
+    (hex (codes "2ab70006b1"))
+    []
+    -- run()V: 0 ldc D, 2 monitorenter, 3 ldc Object, 5 monitorenter, 6 return
+    ∷ method 0x0001 16 4 15 1 1
+    (hex (codes "1208c2120ac2b1"))
+    []
+    -- static main([Ljava/lang/String;)V: 0 new D, 3 dup, 4 invokespecial D.<init>, 7 astore_1, 8 aload_1,
+    -- 9 invokevirtual D.start, 12 ldc Object, 14 monitorenter, 15 ldc D, 17 monitorenter, 18 return
+    ∷ method 0x0009 17 18 15 2 2
+    (hex (codes "bb000859b7000b4c2bb6000e120ac21208c2b1"))
+    []
+    ∷ []
     )
 
 abbrev pub class_d_bytes : List ℕ

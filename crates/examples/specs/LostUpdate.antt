@@ -21,22 +21,22 @@ abbrev pub class_t : FileTree
 class_t =
     class_with class_t_pool 8 2 (field 0x0008 9 10 [] ∷ [])
     (
-      -- <init>()V: 0 aload_0, 1 invokespecial Thread.<init>, 4 return
-      method 0x0001 3 4 32 1 1
-          (hex (codes "2ab70006b1"))
-          []
-      -- run()V: 0 getstatic T.n, 3 iconst_1, 4 iadd, 5 putstatic T.n, 8 return
-      ∷ method 0x0001 33 4 32 2 1
-          (hex (codes "b2000c0460b3000cb1"))
-          []
-      -- static main([Ljava/lang/String;)V: 0 new T, 3 dup, 4 invokespecial T.<init>, 7 astore_1, 8 new T, 11 dup,
-      -- 12 invokespecial T.<init>, 15 astore_2, 16 aload_1, 17 invokevirtual T.start, 20 aload_2,
-      -- 21 invokevirtual T.start, 24 aload_1, 25 invokevirtual T.join, 28 aload_2, 29 invokevirtual T.join,
-      -- 32 getstatic System.out, 35 getstatic T.n, 38 invokevirtual PrintStream.println, 41 return
-      ∷ method 0x0009 34 35 32 2 3
-          (hex (codes "bb000859b7000d4cbb000859b7000d4d2bb600102cb600102bb600132cb60013b20019b2000cb6001fb1"))
-          []
-      ∷ []
+    -- <init>()V: 0 aload_0, 1 invokespecial Thread.<init>, 4 return
+    method 0x0001 3 4 32 1 1
+    (hex (codes "2ab70006b1"))
+    []
+    -- run()V: 0 getstatic T.n, 3 iconst_1, 4 iadd, 5 putstatic T.n, 8 return
+    ∷ method 0x0001 33 4 32 2 1
+    (hex (codes "b2000c0460b3000cb1"))
+    []
+    -- static main([Ljava/lang/String;)V: 0 new T, 3 dup, 4 invokespecial T.<init>, 7 astore_1, 8 new T, 11 dup,
+    -- 12 invokespecial T.<init>, 15 astore_2, 16 aload_1, 17 invokevirtual T.start, 20 aload_2,
+    -- 21 invokevirtual T.start, 24 aload_1, 25 invokevirtual T.join, 28 aload_2, 29 invokevirtual T.join,
+    -- 32 getstatic System.out, 35 getstatic T.n, 38 invokevirtual PrintStream.println, 41 return
+    ∷ method 0x0009 34 35 32 2 3
+    (hex (codes "bb000859b7000d4cbb000859b7000d4d2bb600102cb600102bb600132cb60013b20019b2000cb6001fb1"))
+    []
+    ∷ []
     )
 
 abbrev pub class_t_bytes : List ℕ

@@ -20,20 +20,20 @@ abbrev pub class_a : FileTree
 class_a =
     class_with class_a_pool 15 17 []
     (
-      -- static main([Ljava/lang/String;)V: 0 iconst_1, 1 newarray byte, 3 astore_1, 4 aload_1, 5 iconst_0,
-      -- 6 sipush 200, 9 bastore, 10 getstatic System.out, 13 aload_1, 14 iconst_0, 15 baload,
-      -- 16 invokevirtual PrintStream.println, 19 iconst_1, 20 newarray boolean, 22 astore_1, 23 aload_1,
-      -- 24 iconst_0, 25 sipush 201, 28 bastore, 29 getstatic System.out, 32 aload_1, 33 iconst_0, 34 baload,
-      -- 35 invokevirtual PrintStream.println, 38 iconst_1, 39 newarray char, 41 astore_1, 42 aload_1, 43 iconst_0,
-      -- 44 iconst_m1, 45 castore, 46 getstatic System.out, 49 aload_1, 50 iconst_0, 51 caload,
-      -- 52 invokevirtual PrintStream.println, 55 iconst_1, 56 newarray short, 58 astore_1, 59 aload_1, 60 iconst_0,
-      -- 61 ldc 32768, 63 sastore, 64 getstatic System.out, 67 aload_1, 68 iconst_0, 69 saload,
-      -- 70 invokevirtual PrintStream.println, 73 return
-      method 0x0009 18 19 20 3 2
-          (hex (codes "04bc084c2b031100c854b200062b0333b6000c04bc044c2b031100c954b200062b0333b6000c04bc054c2b030255b200062b0334b6000c04")
-          ++ hex (codes "bc094c2b03120d56b200062b0335b6000cb1"))
-          []
-      ∷ []
+    -- static main([Ljava/lang/String;)V: 0 iconst_1, 1 newarray byte, 3 astore_1, 4 aload_1, 5 iconst_0,
+    -- 6 sipush 200, 9 bastore, 10 getstatic System.out, 13 aload_1, 14 iconst_0, 15 baload,
+    -- 16 invokevirtual PrintStream.println, 19 iconst_1, 20 newarray boolean, 22 astore_1, 23 aload_1,
+    -- 24 iconst_0, 25 sipush 201, 28 bastore, 29 getstatic System.out, 32 aload_1, 33 iconst_0, 34 baload,
+    -- 35 invokevirtual PrintStream.println, 38 iconst_1, 39 newarray char, 41 astore_1, 42 aload_1, 43 iconst_0,
+    -- 44 iconst_m1, 45 castore, 46 getstatic System.out, 49 aload_1, 50 iconst_0, 51 caload,
+    -- 52 invokevirtual PrintStream.println, 55 iconst_1, 56 newarray short, 58 astore_1, 59 aload_1, 60 iconst_0,
+    -- 61 ldc 32768, 63 sastore, 64 getstatic System.out, 67 aload_1, 68 iconst_0, 69 saload,
+    -- 70 invokevirtual PrintStream.println, 73 return
+    method 0x0009 18 19 20 3 2
+    (hex (codes "04bc084c2b031100c854b200062b0333b6000c04bc044c2b031100c954b200062b0333b6000c04bc054c2b030255b200062b0334b6000c04")
+    ++ hex (codes "bc094c2b03120d56b200062b0335b6000cb1"))
+    []
+    ∷ []
     )
 
 abbrev pub class_a_bytes : List ℕ

@@ -20,16 +20,16 @@ abbrev pub class_a : FileTree
 class_a =
     class_with class_a_pool 13 8 []
     (
-      -- static h(Ljava/lang/Runnable;)V: 0 aload_0, 1 invokeinterface Runnable.run, 6 return
-      method 0x0008 14 15 18 1 1
-          (hex (codes "2ab900060100b1"))
-          []
-      -- static main([Ljava/lang/String;)V: 0 new Object, 3 dup, 4 invokespecial Object.<init>, 7 invokestatic A.h,
-      -- 10 return
-      ∷ method 0x0009 19 20 18 2 1
-          (hex (codes "bb000859b7000bb80011b1"))
-          []
-      ∷ []
+    -- static h(Ljava/lang/Runnable;)V: 0 aload_0, 1 invokeinterface Runnable.run, 6 return
+    method 0x0008 14 15 18 1 1
+    (hex (codes "2ab900060100b1"))
+    []
+    -- static main([Ljava/lang/String;)V: 0 new Object, 3 dup, 4 invokespecial Object.<init>, 7 invokestatic A.h,
+    -- 10 return
+    ∷ method 0x0009 19 20 18 2 1
+    (hex (codes "bb000859b7000bb80011b1"))
+    []
+    ∷ []
     )
 
 abbrev pub class_a_bytes : List ℕ

@@ -19,13 +19,13 @@ abbrev pub class_a : FileTree
 class_a =
     class_with class_a_pool 17 19 []
     (
-      -- static main([Ljava/lang/String;)V: 0 ldc "text", 2 ldc "text", 4 if_acmpne 15, 7 getstatic System.out,
-      -- 10 iconst_1, 11 invokevirtual PrintStream.println, 14 return, 15 getstatic System.out, 18 iconst_0,
-      -- 19 invokevirtual PrintStream.println, 22 return
-      method 0x0009 20 21 22 2 1
-          (hex (codes "12021203a6000bb2000904b6000fb1b2000903b6000fb1"))
-          []
-      ∷ []
+    -- static main([Ljava/lang/String;)V: 0 ldc "text", 2 ldc "text", 4 if_acmpne 15, 7 getstatic System.out,
+    -- 10 iconst_1, 11 invokevirtual PrintStream.println, 14 return, 15 getstatic System.out, 18 iconst_0,
+    -- 19 invokevirtual PrintStream.println, 22 return
+    method 0x0009 20 21 22 2 1
+    (hex (codes "12021203a6000bb2000904b6000fb1b2000903b6000fb1"))
+    []
+    ∷ []
     )
 
 abbrev pub class_a_bytes : List ℕ

@@ -21,14 +21,14 @@ abbrev pub class_a : FileTree
 class_a =
     class_with class_a_pool 27 29 []
     (
-      -- static main([Ljava/lang/String;)V: 0 new Q, 3 dup, 4 invokespecial Q.<init>, 7 astore_1, 8 aload_1,
-      -- 9 iconst_1, 10 putfield P.x, 13 aload_1, 14 iconst_2, 15 putfield Q.x, 18 getstatic System.out, 21 aload_1,
-      -- 22 getfield P.x, 25 invokevirtual PrintStream.println, 28 getstatic System.out, 31 aload_1, 32 getfield Q.x,
-      -- 35 invokevirtual PrintStream.println, 38 return
-      method 0x0009 30 31 32 2 2
-          (hex (codes "bb000259b700064c2b04b5000c2b05b5000db200132bb4000cb60019b200132bb4000db60019b1"))
-          []
-      ∷ []
+    -- static main([Ljava/lang/String;)V: 0 new Q, 3 dup, 4 invokespecial Q.<init>, 7 astore_1, 8 aload_1,
+    -- 9 iconst_1, 10 putfield P.x, 13 aload_1, 14 iconst_2, 15 putfield Q.x, 18 getstatic System.out, 21 aload_1,
+    -- 22 getfield P.x, 25 invokevirtual PrintStream.println, 28 getstatic System.out, 31 aload_1, 32 getfield Q.x,
+    -- 35 invokevirtual PrintStream.println, 38 return
+    method 0x0009 30 31 32 2 2
+    (hex (codes "bb000259b700064c2b04b5000c2b05b5000db200132bb4000cb60019b200132bb4000db60019b1"))
+    []
+    ∷ []
     )
 
 abbrev pub class_a_bytes : List ℕ
@@ -51,15 +51,15 @@ abbrev pub class_p : FileTree
 class_p =
     class_with class_p_pool 8 2 (field 0x0000 9 10 [] ∷ [])
     (
-      -- <init>()V: 0 aload_0, 1 invokespecial Object.<init>, 4 return
-      method 0x0001 3 4 13 1 1
-          (hex (codes "2ab70006b1"))
-          []
-      -- f()I: 0 aload_0, 1 getfield P.x, 4 ireturn
-      ∷ method 0x0000 14 15 13 1 1
-          (hex (codes "2ab4000cac"))
-          []
-      ∷ []
+    -- <init>()V: 0 aload_0, 1 invokespecial Object.<init>, 4 return
+    method 0x0001 3 4 13 1 1
+    (hex (codes "2ab70006b1"))
+    []
+    -- f()I: 0 aload_0, 1 getfield P.x, 4 ireturn
+    ∷ method 0x0000 14 15 13 1 1
+    (hex (codes "2ab4000cac"))
+    []
+    ∷ []
     )
 
 abbrev pub class_p_bytes : List ℕ
@@ -80,15 +80,15 @@ abbrev pub class_q : FileTree
 class_q =
     class_with class_q_pool 12 2 (field 0x0000 13 14 [] ∷ [])
     (
-      -- <init>()V: 0 aload_0, 1 invokespecial P.<init>, 4 return
-      method 0x0001 3 4 15 1 1
-          (hex (codes "2ab70006b1"))
-          []
-      -- f()I: 0 aload_0, 1 invokespecial P.f, 4 iconst_1, 5 iadd, 6 ireturn
-      ∷ method 0x0000 7 8 15 2 1
-          (hex (codes "2ab7000a0460ac"))
-          []
-      ∷ []
+    -- <init>()V: 0 aload_0, 1 invokespecial P.<init>, 4 return
+    method 0x0001 3 4 15 1 1
+    (hex (codes "2ab70006b1"))
+    []
+    -- f()I: 0 aload_0, 1 invokespecial P.f, 4 iconst_1, 5 iadd, 6 ireturn
+    ∷ method 0x0000 7 8 15 2 1
+    (hex (codes "2ab7000a0460ac"))
+    []
+    ∷ []
     )
 
 abbrev pub class_q_bytes : List ℕ

@@ -17,15 +17,15 @@ abbrev pub class_a : FileTree
 class_a =
     class_with class_a_pool 2 8 []
     (
-      -- static r()V: 0 invokestatic A.r, 3 return
-      method 0x0008 3 4 9 0 0
-          (hex (codes "b80006b1"))
-          []
-      -- static main([Ljava/lang/String;)V: 0 invokestatic A.r, 3 return
-      ∷ method 0x0009 10 11 9 0 1
-          (hex (codes "b80006b1"))
-          []
-      ∷ []
+    -- static r()V: 0 invokestatic A.r, 3 return
+    method 0x0008 3 4 9 0 0
+    (hex (codes "b80006b1"))
+    []
+    -- static main([Ljava/lang/String;)V: 0 invokestatic A.r, 3 return
+    ∷ method 0x0009 10 11 9 0 1
+    (hex (codes "b80006b1"))
+    []
+    ∷ []
     )
 
 abbrev pub class_a_bytes : List ℕ

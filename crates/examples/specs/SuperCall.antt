@@ -22,13 +22,13 @@ abbrev pub class_a : FileTree
 class_a =
     class_with class_a_pool 30 32 []
     (
-      -- static main([Ljava/lang/String;)V: 0 new Q, 3 dup, 4 invokespecial Q.<init>, 7 astore_1, 8 aload_1,
-      -- 9 bipush 41, 11 putfield P.x, 14 getstatic System.out, 17 aload_1, 18 invokevirtual P.f,
-      -- 21 invokevirtual PrintStream.println, 24 return
-      method 0x0009 33 34 35 2 2
-          (hex (codes "bb000259b700064c2b1029b5000cb200122bb60016b6001cb1"))
-          []
-      ∷ []
+    -- static main([Ljava/lang/String;)V: 0 new Q, 3 dup, 4 invokespecial Q.<init>, 7 astore_1, 8 aload_1,
+    -- 9 bipush 41, 11 putfield P.x, 14 getstatic System.out, 17 aload_1, 18 invokevirtual P.f,
+    -- 21 invokevirtual PrintStream.println, 24 return
+    method 0x0009 33 34 35 2 2
+    (hex (codes "bb000259b700064c2b1029b5000cb200122bb60016b6001cb1"))
+    []
+    ∷ []
     )
 
 abbrev pub class_a_bytes : List ℕ
@@ -51,15 +51,15 @@ abbrev pub class_p : FileTree
 class_p =
     class_with class_p_pool 8 2 (field 0x0000 9 10 [] ∷ [])
     (
-      -- <init>()V: 0 aload_0, 1 invokespecial Object.<init>, 4 return
-      method 0x0001 3 4 13 1 1
-          (hex (codes "2ab70006b1"))
-          []
-      -- f()I: 0 aload_0, 1 getfield P.x, 4 ireturn
-      ∷ method 0x0000 14 15 13 1 1
-          (hex (codes "2ab4000cac"))
-          []
-      ∷ []
+    -- <init>()V: 0 aload_0, 1 invokespecial Object.<init>, 4 return
+    method 0x0001 3 4 13 1 1
+    (hex (codes "2ab70006b1"))
+    []
+    -- f()I: 0 aload_0, 1 getfield P.x, 4 ireturn
+    ∷ method 0x0000 14 15 13 1 1
+    (hex (codes "2ab4000cac"))
+    []
+    ∷ []
     )
 
 abbrev pub class_p_bytes : List ℕ
@@ -79,15 +79,15 @@ abbrev pub class_q : FileTree
 class_q =
     class_with class_q_pool 12 2 []
     (
-      -- <init>()V: 0 aload_0, 1 invokespecial P.<init>, 4 return
-      method 0x0001 3 4 13 1 1
-          (hex (codes "2ab70006b1"))
-          []
-      -- f()I: 0 aload_0, 1 invokespecial P.f, 4 iconst_1, 5 iadd, 6 ireturn
-      ∷ method 0x0000 7 8 13 2 1
-          (hex (codes "2ab7000a0460ac"))
-          []
-      ∷ []
+    -- <init>()V: 0 aload_0, 1 invokespecial P.<init>, 4 return
+    method 0x0001 3 4 13 1 1
+    (hex (codes "2ab70006b1"))
+    []
+    -- f()I: 0 aload_0, 1 invokespecial P.f, 4 iconst_1, 5 iadd, 6 ireturn
+    ∷ method 0x0000 7 8 13 2 1
+    (hex (codes "2ab7000a0460ac"))
+    []
+    ∷ []
     )
 
 abbrev pub class_q_bytes : List ℕ

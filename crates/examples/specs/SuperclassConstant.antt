@@ -19,12 +19,12 @@ abbrev pub class_a : FileTree
 class_a =
     class_with class_a_pool 20 22 []
     (
-      -- static main([Ljava/lang/String;)V: 0 getstatic System.out, 3 getstatic C.k,
-      -- 6 invokevirtual PrintStream.println, 9 return
-      method 0x0009 23 24 25 2 1
-          (hex (codes "b20006b2000cb60012b1"))
-          []
-      ∷ []
+    -- static main([Ljava/lang/String;)V: 0 getstatic System.out, 3 getstatic C.k,
+    -- 6 invokevirtual PrintStream.println, 9 return
+    method 0x0009 23 24 25 2 1
+    (hex (codes "b20006b2000cb60012b1"))
+    []
+    ∷ []
     )
 
 abbrev pub class_a_bytes : List ℕ

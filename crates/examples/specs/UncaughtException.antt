@@ -19,11 +19,11 @@ abbrev pub class_a : FileTree
 class_a =
     record (class_with class_a_pool 2 4 []
     (
-      -- static main([Ljava/lang/String;)V: 0 iconst_1, 1 iconst_0, 2 idiv, 3 pop, 4 return
-      method 0x0009 5 6 7 2 1
-          (hex (codes "04036c57b1"))
-          []
-      ∷ []
+    -- static main([Ljava/lang/String;)V: 0 iconst_1, 1 iconst_0, 2 idiv, 3 pop, 4 return
+    method 0x0009 5 6 7 2 1
+    (hex (codes "04036c57b1"))
+    []
+    ∷ []
     )) { flags = 0x0020 }
 
 abbrev pub class_a_bytes : List ℕ

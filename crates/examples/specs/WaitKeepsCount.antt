@@ -25,25 +25,25 @@ abbrev pub class_n : FileTree
 class_n =
     class_with class_n_pool 8 2 []
     (
-      -- <init>()V: 0 aload_0, 1 invokespecial Thread.<init>, 4 return
-      method 0x0001 3 4 40 1 1
-          (hex (codes "2ab70006b1"))
-          []
-      -- run()V: 0 ldc N, 2 monitorenter, 3 ldc N, 5 monitorenter, 6 ldc N, 8 monitorenter, 9 ldc N,
-      -- 11 invokevirtual Object.wait, 14 getstatic System.out, 17 aload_0, 18 invokevirtual N.isInterrupted,
-      -- 21 invokevirtual PrintStream.println, 24 ldc N, 26 monitorexit, 27 ldc N, 29 monitorexit, 30 ldc N,
-      -- 32 monitorexit, 33 ldc N, 35 monitorexit, 36 return
-      ∷ method 0x0001 41 4 40 2 1
-          (hex (codes "1208c21208c21208c21208b6000db200132ab60017b6001d1208c31208c31208c31208c3b1"))
-          []
-      -- static main([Ljava/lang/String;)V: 0 new N, 3 dup, 4 invokespecial N.<init>, 7 astore_1, 8 new N, 11 dup,
-      -- 12 invokespecial N.<init>, 15 astore_2, 16 aload_1, 17 invokevirtual N.start, 20 aload_2,
-      -- 21 invokevirtual N.start, 24 ldc N, 26 monitorenter, 27 ldc N, 29 invokevirtual Object.notify, 32 aload_2,
-      -- 33 invokevirtual N.interrupt, 36 ldc N, 38 monitorexit, 39 return
-      ∷ method 0x0009 42 43 40 2 3
-          (hex (codes "bb000859b7001e4cbb000859b7001e4d2bb600212cb600211208c21208b600242cb600271208c3b1"))
-          []
-      ∷ []
+    -- <init>()V: 0 aload_0, 1 invokespecial Thread.<init>, 4 return
+    method 0x0001 3 4 40 1 1
+    (hex (codes "2ab70006b1"))
+    []
+    -- run()V: 0 ldc N, 2 monitorenter, 3 ldc N, 5 monitorenter, 6 ldc N, 8 monitorenter, 9 ldc N,
+    -- 11 invokevirtual Object.wait, 14 getstatic System.out, 17 aload_0, 18 invokevirtual N.isInterrupted,
+    -- 21 invokevirtual PrintStream.println, 24 ldc N, 26 monitorexit, 27 ldc N, 29 monitorexit, 30 ldc N,
+    -- 32 monitorexit, 33 ldc N, 35 monitorexit, 36 return
+    ∷ method 0x0001 41 4 40 2 1
+    (hex (codes "1208c21208c21208c21208b6000db200132ab60017b6001d1208c31208c31208c31208c3b1"))
+    []
+    -- static main([Ljava/lang/String;)V: 0 new N, 3 dup, 4 invokespecial N.<init>, 7 astore_1, 8 new N, 11 dup,
+    -- 12 invokespecial N.<init>, 15 astore_2, 16 aload_1, 17 invokevirtual N.start, 20 aload_2,
+    -- 21 invokevirtual N.start, 24 ldc N, 26 monitorenter, 27 ldc N, 29 invokevirtual Object.notify, 32 aload_2,
+    -- 33 invokevirtual N.interrupt, 36 ldc N, 38 monitorexit, 39 return
+    ∷ method 0x0009 42 43 40 2 3
+    (hex (codes "bb000859b7001e4cbb000859b7001e4d2bb600212cb600211208c21208b600242cb600271208c3b1"))
+    []
+    ∷ []
     )
 
 abbrev pub class_n_bytes : List ℕ

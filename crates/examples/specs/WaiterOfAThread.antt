@@ -19,21 +19,21 @@ abbrev pub class_z : FileTree
 class_z =
     class_with class_z_pool 8 2 []
     (
-      -- <init>()V: 0 aload_0, 1 invokespecial Thread.<init>, 4 return
-      method 0x0001 3 4 18 1 1
-          (hex (codes "2ab70006b1"))
-          []
-      -- run()V: 0 return
-      ∷ method 0x0001 19 4 18 0 1
-          (hex (codes "b1"))
-          []
-      -- static main([Ljava/lang/String;)V: 0 new Z, 3 dup, 4 invokespecial Z.<init>, 7 astore_1, 8 aload_1,
-      -- 9 invokevirtual Z.start, 12 aload_1, 13 monitorenter, 14 aload_1, 15 invokevirtual Object.wait, 18 aload_1,
-      -- 19 monitorexit, 20 return
-      ∷ method 0x0009 20 21 18 2 2
-          (hex (codes "bb000859b700094c2bb6000c2bc22bb600112bc3b1"))
-          []
-      ∷ []
+    -- <init>()V: 0 aload_0, 1 invokespecial Thread.<init>, 4 return
+    method 0x0001 3 4 18 1 1
+    (hex (codes "2ab70006b1"))
+    []
+    -- run()V: 0 return
+    ∷ method 0x0001 19 4 18 0 1
+    (hex (codes "b1"))
+    []
+    -- static main([Ljava/lang/String;)V: 0 new Z, 3 dup, 4 invokespecial Z.<init>, 7 astore_1, 8 aload_1,
+    -- 9 invokevirtual Z.start, 12 aload_1, 13 monitorenter, 14 aload_1, 15 invokevirtual Object.wait, 18 aload_1,
+    -- 19 monitorexit, 20 return
+    ∷ method 0x0009 20 21 18 2 2
+    (hex (codes "bb000859b700094c2bb6000c2bc22bb600112bc3b1"))
+    []
+    ∷ []
     )
 
 abbrev pub class_z_bytes : List ℕ

@@ -23,6 +23,8 @@ ghost use Rattle.examples.specs.Instructions.{Instructions, Opcodes};
 ghost use Rattle.examples.specs.IntArithmetic.{IntArithmetic};
 ghost use Rattle.examples.specs.IntValues.{Compared, Computed, Converted};
 ghost use Rattle.examples.specs.InterruptedWaits.{InterruptedWaits};
+ghost use Rattle.examples.specs.JavaObjects.{JavaObjects};
+ghost use Rattle.examples.specs.JavaThreads.{JavaThreads};
 ghost use Rattle.examples.specs.Javac.{WrittenByJavac};
 ghost use Rattle.examples.specs.LockOrderDeadlock.{LockOrderDeadlock};
 ghost use Rattle.examples.specs.Lookups.{Instances, Lookups};
@@ -33,6 +35,7 @@ ghost use Rattle.examples.specs.NarrowArrays.{NarrowArrays};
 ghost use Rattle.examples.specs.NotARunnable.{NotARunnable};
 ghost use Rattle.examples.specs.OnlyReturns.{OnlyReturns};
 ghost use Rattle.examples.specs.PrintsSeven.{PrintsSeven, EventByEvent};
+ghost use Rattle.examples.specs.ProgramsLink.{ProgramsLink};
 ghost use Rattle.examples.specs.Refusals.{BadHierarchies, MalformedCodes, OtherRefusals, OutsideProfiles, Unresolveds};
 ghost use Rattle.examples.specs.SameString.{SameString};
 ghost use Rattle.examples.specs.ShadowedFields.{ShadowedFields};
@@ -336,4 +339,19 @@ pub fn constructors()
 /// A constructor that calls no other one has no typing.
 pub fn only_returns_unconstructed()
     ensures holds { constructing.OnlyReturns }
+{}
+
+/// The programs of the other examples link: no condition stands in them.
+pub fn programs_link()
+    ensures holds { ProgramsLink }
+{}
+
+/// A program in Java with objects, fields, arrays, calls and exceptions: it prints what `java` prints.
+pub fn java_objects()
+    ensures holds { JavaObjects }
+{}
+
+/// A program in Java with threads, monitors, wait sets and interrupts: it prints what `java` prints.
+pub fn java_threads()
+    ensures holds { JavaThreads }
 {}

@@ -151,11 +151,13 @@ special_call C files site named method =
 
 -- a constructor leaves all copies of its receiver initialised
 abbrev pub constructed_leads : Site → Member → Slots VerificationType → List VerificationType → List VerificationType → List (ℕ × Slots VerificationType)
-constructed_leads site method ts ops rest =
-    (site.next, record {
-      locals = map (initialised (slice_index_or ops (parameter_count method) NullType)) ts.locals;
-      stack = map (initialised (slice_index_or ops (parameter_count method) NullType)) rest;
-    })
+constructed_leads site method ts ops rest = (
+  site.next,
+  record {
+    locals = map (initialised (slice_index_or ops (parameter_count method) NullType)) ts.locals;
+    stack = map (initialised (slice_index_or ops (parameter_count method) NullType)) rest;
+  },
+)
     ∷ []
 
 -- A constructor is the one that the named class declares.

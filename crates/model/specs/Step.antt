@@ -165,7 +165,7 @@ bytecode_by C files frames event world frame stack max_stack None = unpicked eve
 bytecode_by C files frames event world frame stack max_stack (Some meaning) =
     if C.finds files (types_of world.heap) meaning.wants max_stack frame.place.slots
     then enabled_if (meaning.may event world (ops_of C meaning frame.place.slots))
-        (needing_class C files event.thread meaning.looks world (Invocation frame ∷ stack) (done C files frames event world frame stack meaning))
+    (needing_class C files event.thread meaning.looks world (Invocation frame ∷ stack) (done C files frames event world frame stack meaning))
     else unpicked event WrongKind
 
 abbrev pub bytecode_in : {A : Type 0} → Carrier A → Program → ℕ → Event → WorldOf A → FrameOf A → StackOf A → Option Body → SteppedOf (PartOf A)

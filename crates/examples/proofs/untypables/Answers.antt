@@ -44,7 +44,7 @@ returns c =
             let t = start.0 in
             let rule = h.holds.agrees 0 t start.2 in
             let none : flow (printing.file_with 2 2 (hex (codes "1bb1")) ∷ []) (main_of (codes "A")) (body_with printing.pool 2 2 (hex (codes "1bb1"))) 0 t ≡ None =
-                subst (λ ls. flow (printing.file_with 2 2 (hex (codes "1bb1")) ∷ []) (main_of (codes "A")) (body_with printing.pool 2 2 (hex (codes "1bb1"))) 0 (record { slots = record { locals = ls; stack = t.slots.stack }; constructed = t.constructed }) ≡ None) (sym start.3) refl in
+            subst (λ ls. flow (printing.file_with 2 2 (hex (codes "1bb1")) ∷ []) (main_of (codes "A")) (body_with printing.pool 2 2 (hex (codes "1bb1"))) 0 (record { slots = record { locals = ls; stack = t.slots.stack }; constructed = t.constructed }) ≡ None) (sym start.3) refl in
             absurd (none_some _ _ none rule.flows);
         unequal_depths = λ h.
             let tested = next _ _ _ _ h.holds 0 0 1 (1 ∷ []) (λ l c. (c || false, refl)) (begins _ _ _ _ h.holds (strings ∷ []) true refl) in
