@@ -27,6 +27,8 @@ use Rattle.examples.specs.SuperclassConstant as superclass_constant
 use Rattle.examples.specs.UncaughtException as uncaught_exception
 use Rattle.examples.specs.WaitKeepsCount as wait_keeps_count
 use Rattle.examples.specs.WaiterOfAThread as waiter_of_a_thread
+use Rattle.examples.specs.JavaObjects as java_objects
+use Rattle.examples.specs.JavaThreads as java_threads
 
 -- the conditions of class files, and those of linking
 abbrev pub all_standing : Program → List Name
@@ -56,3 +58,5 @@ pub record ProgramsLink : Type 0 where
   pub uncaught_exception_links : all_standing uncaught_exception.files ≡ []
   pub wait_keeps_count_links : all_standing wait_keeps_count.files ≡ []
   pub waiter_of_a_thread_links : all_standing waiter_of_a_thread.files ≡ []
+  pub java_objects_links : all_standing java_objects.files ≡ []
+  pub java_threads_links : all_standing java_threads.files ≡ []

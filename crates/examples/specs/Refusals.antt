@@ -1,5 +1,5 @@
 -- Files in which a condition of linking stands, and no other one.
-use Rattle.std.specs.Prelude.{◌≡◌, ℕ, List, [], ◌∷◌, ◌++◌, replicate, codes}
+use Rattle.std.specs.Prelude.{◌≡◌, ℕ, List, [], ◌∷◌, ◌++◌, Bool, true, false, replicate, codes}
 use Rattle.model.specs.Names.{Name, java_lang_object}
 use Rattle.model.specs.Tree.{ConstantOf, FileTree}
 use Rattle.model.specs.Classes.{Program}
@@ -142,6 +142,8 @@ pub record OtherRefusals : Type 0 where
   -- main is an instance method; main stands in the second file
   pub instance_main : Meets (class 0x0021 2 4 [] [] (method 0x0001 5 6 returns ∷ []) ∷ []) (codes "no_static_main")
   pub second : Meets (b_below 4 [] [] ∷ a_alone ∷ []) (codes "no_static_main")
+  pub files : too_many_files (replicate 65001 a_alone) ≡ true
+  pub files_at_most : too_many_files (replicate 65000 a_alone) ≡ false
   pub fields : refused_as (with_fields 65536 ∷ []) ≡ codes "TooLarge by fields" ∷ []
   pub fields_at_most : refused_as (with_fields 65535 ∷ []) ≡ []
   pub linkable : standing (prints_seven_file ∷ []) ≡ []

@@ -151,9 +151,69 @@ pub fn built_in_classes()
     ensures holds { BuiltInClasses }
 {}
 
+/// The members of the built-in classes.
+pub fn built_in_members()
+    ensures holds { BuiltInMembers }
+{}
+
 /// The objects that stand before any event.
 pub fn opening_objects()
     ensures holds { OpeningObjects }
+{}
+
+/// A file for each condition of OutsideProfile.
+pub fn outside_profiles()
+    ensures holds { OutsideProfiles }
+{}
+
+/// A file for each condition of Malformed with cause Code.
+pub fn malformed_codes()
+    ensures holds { MalformedCodes }
+{}
+
+/// A program for each condition of BadHierarchy.
+pub fn bad_hierarchies()
+    ensures holds { BadHierarchies }
+{}
+
+/// A program for each condition of Unresolved.
+pub fn unresolveds()
+    ensures holds { Unresolveds }
+{}
+
+/// Programs that are refused as DuplicateClass, NoMain or TooLarge, and which of several refusals is answered.
+pub fn other_refusals()
+    ensures holds { OtherRefusals }
+{}
+
+/// A tree for each condition that `decode` tests.
+pub fn malformed_files()
+    ensures holds { MalformedFiles }
+{}
+
+/// Fields and methods that symbolic references name, and methods that are selected.
+pub fn lookups()
+    ensures holds { Lookups }
+{}
+
+/// Which types are below which, with interfaces and without.
+pub fn instances()
+    ensures holds { Instances }
+{}
+
+/// Joins of two types and of two frame types, and the order of types.
+pub fn type_joins()
+    ensures holds { TypeJoins }
+{}
+
+/// Methods with a typing, each by its list of frame types.
+pub fn typings()
+    ensures holds { Typings }
+{}
+
+/// Codes that have no typing.
+pub fn untypables()
+    ensures holds { Untypables }
 {}
 
 /// Two threads that add 1 to a static field with no monitor (JLS 17.4): by the order of their steps it is 1 or 2.
@@ -271,64 +331,9 @@ pub fn entry_257()
     ensures holds { Entry257 }
 {}
 
-/// The members of the built-in classes.
-pub fn built_in_members()
-    ensures holds { BuiltInMembers }
-{}
-
-/// A file for each condition of OutsideProfile.
-pub fn outside_profiles()
-    ensures holds { OutsideProfiles }
-{}
-
-/// A file for each condition of Malformed with cause Code.
-pub fn malformed_codes()
-    ensures holds { MalformedCodes }
-{}
-
-/// A program for each condition of BadHierarchy.
-pub fn bad_hierarchies()
-    ensures holds { BadHierarchies }
-{}
-
-/// A program for each condition of Unresolved.
-pub fn unresolveds()
-    ensures holds { Unresolveds }
-{}
-
-/// Programs that are refused as DuplicateClass, NoMain or TooLarge, and which of several refusals is answered.
-pub fn other_refusals()
-    ensures holds { OtherRefusals }
-{}
-
-/// A tree for each condition that `decode` tests.
-pub fn malformed_files()
-    ensures holds { MalformedFiles }
-{}
-
-/// Fields and methods that symbolic references name, and methods that are selected.
-pub fn lookups()
-    ensures holds { Lookups }
-{}
-
-/// Which types are below which, with interfaces and without.
-pub fn instances()
-    ensures holds { Instances }
-{}
-
-/// Joins of two types and of two frame types, and the order of types.
-pub fn type_joins()
-    ensures holds { TypeJoins }
-{}
-
-/// Methods with a typing, each by its list of frame types.
-pub fn typings()
-    ensures holds { Typings }
-{}
-
-/// Codes that have no typing.
-pub fn untypables()
-    ensures holds { Untypables }
+/// The programs of the other examples link: no condition stands in them.
+pub fn programs_link()
+    ensures holds { ProgramsLink }
 {}
 
 /// A constructor and a `new`, with typings; and what single instructions do to what is not initialised.
@@ -339,11 +344,6 @@ pub fn constructors()
 /// A constructor that calls no other one has no typing.
 pub fn only_returns_unconstructed()
     ensures holds { constructing.OnlyReturns }
-{}
-
-/// The programs of the other examples link: no condition stands in them.
-pub fn programs_link()
-    ensures holds { ProgramsLink }
 {}
 
 /// A program in Java with objects, fields, arrays, calls and exceptions: it prints what `java` prints.

@@ -34,5 +34,7 @@ returns c =
         uncaught_exception_links = refl;
         wait_keeps_count_links = refl;
         waiter_of_a_thread_links = refl;
+        java_objects_links = refl;
+        java_threads_links = refl;
       };
     }
