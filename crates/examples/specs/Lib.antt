@@ -56,3 +56,5 @@ pub mod JavaObjectsClasses
 pub mod JavaObjects
 pub mod JavaThreadsClasses
 pub mod JavaThreads
+pub mod JavaCallsClasses
+pub mod JavaCalls

@@ -23,6 +23,7 @@ ghost use Rattle.examples.specs.Instructions.{Instructions, Opcodes};
 ghost use Rattle.examples.specs.IntArithmetic.{IntArithmetic};
 ghost use Rattle.examples.specs.IntValues.{Compared, Computed, Converted};
 ghost use Rattle.examples.specs.InterruptedWaits.{InterruptedWaits};
+ghost use Rattle.examples.specs.JavaCalls.{JavaCalls};
 ghost use Rattle.examples.specs.JavaObjects.{JavaObjects};
 ghost use Rattle.examples.specs.JavaThreads.{JavaThreads};
 ghost use Rattle.examples.specs.Javac.{WrittenByJavac};
@@ -354,4 +355,9 @@ pub fn java_objects()
 /// A program in Java with threads, monitors, wait sets and interrupts: it prints what `java` prints.
 pub fn java_threads()
     ensures holds { JavaThreads }
+{}
+
+/// Calls in Java of methods that are abstract, private or a superclass's: it prints what `java` prints.
+pub fn java_calls()
+    ensures holds { JavaCalls }
 {}
