@@ -58,3 +58,5 @@ pub mod JavaThreadsClasses
 pub mod JavaThreads
 pub mod JavaCallsClasses
 pub mod JavaCalls
+pub mod ThreadsThatWaitClasses
+pub mod ThreadsThatWait

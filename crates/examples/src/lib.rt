@@ -44,6 +44,7 @@ ghost use Rattle.examples.specs.StackMoves.{StackMoves};
 ghost use Rattle.examples.specs.StackOverflow.{StackOverflow};
 ghost use Rattle.examples.specs.SuperCall.{SuperCall};
 ghost use Rattle.examples.specs.SuperclassConstant.{SuperclassConstant};
+ghost use Rattle.examples.specs.ThreadsThatWait.{ThreadsThatWait};
 ghost use Rattle.examples.specs.TypeJoins.{TypeJoins};
 ghost use Rattle.examples.specs.Typings.{Typings, Untypables};
 ghost use Rattle.examples.specs.UncaughtException.{UncaughtException};
@@ -360,4 +361,9 @@ pub fn java_threads()
 /// Calls in Java of methods that are abstract, private or a superclass's: it prints what `java` prints.
 pub fn java_calls()
     ensures holds { JavaCalls }
+{}
+
+/// Threads in Java each of which waits for something else, and how they stand then.
+pub fn threads_that_wait()
+    ensures holds { ThreadsThatWait }
 {}
