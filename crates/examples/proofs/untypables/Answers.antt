@@ -1,18 +1,31 @@
-use Rattle.std.proofs.Common.{◌≡◌, refl, [], ◌∷◌, Option, Some, None, true, ◌||◌, false, subst, sym}
+use Rattle.std.proofs.Common.{◌≡◌, refl, ℕ, List, [], ◌∷◌, Option, Some, None, Bool, true, ◌||◌, false, subst, sym, ap}
+use Rattle.std.proofs.lemmas.Bool.{and_parts}
 use Rattle.model.specs.OpcodeTable.{low_form, high_form}
 use Rattle.model.specs.BuiltIn.{built_in_classes}
-use Rattle.std.specs.Prelude.{codes}
+use Rattle.std.specs.Prelude.{codes, slice_index_or}
+use Rattle.model.specs.Operands.{over_types, is_ready}
 use Rattle.model.specs.DescriptorScan.{element_at, field_at, field_type, parameters_at, method_type}
-use Rattle.model.specs.Names.{main_of}
-use Rattle.model.specs.Typing.{flow}
+use Rattle.model.specs.Names.{Member, main_of}
+use Rattle.model.specs.Classes.{Program, Body}
+use Rattle.model.specs.Types.{VerificationType, Unusable, AnyReference, type_meets}
+use Rattle.model.specs.TypeOrder.{FrameType}
+use Rattle.model.specs.Typing.{Typing, IsTyping, HasTyping, flow}
 use Rattle.examples.specs.Bytes.{hex}
 use Rattle.examples.specs.Printing as printing
-use Rattle.examples.specs.Typings.{body_with, strings}
+use Rattle.examples.specs.Typings.{body_with, strings, Untypable}
 use Rattle.examples.proofs.TypingProofs.{fails, next, begins, may_lead, always_fails, unequal, with_unusable}
 use Rattle.examples.proofs.untypables.Goals as goal
 
 none_some : {A : Type 0} (o : Option A) (x : A) → o ≡ None → o ≡ Some x → ⊥
 none_some o x p q = absurd cc
+
+-- aload_0 finds a reference in the first local variable
+abbrev loads : List VerificationType → Bool
+loads l =
+    is_ready (type_meets []) over_types (record { allowed = true; reads = (0, AnyReference) ∷ []; pops = []; grows = 1 }) 2 (record { locals = l; stack = [] })
+
+abbrev frame_with : List VerificationType → Bool → FrameType
+frame_with l c = record { slots = record { locals = l; stack = slice_index_or l 0 Unusable ∷ [] }; constructed = c || false }
 
 pub returns : goal.returns
 unfolding low_form high_form built_in_classes element_at field_at field_type parameters_at method_type
@@ -22,7 +35,7 @@ returns c =
         missing_operand = λ h. fails _ _ _ _ h.holds 1 1 (λ l c. refl) (next _ _ _ _ h.holds 0 0 1 (1 ∷ []) (λ l c. (c || false, refl)) (begins _ _ _ _ h.holds (strings ∷ []) true refl)).0;
         past_the_end = λ h. fails _ _ _ _ h.holds 1 0 (λ l c. refl) (next _ _ _ _ h.holds 0 0 0 (1 ∷ []) (λ l c. (c || false, refl)) (begins _ _ _ _ h.holds (strings ∷ []) true refl)).0;
         other_return = λ h.
-            let one = may_lead _ _ _ _ h.holds 0 0 1 (λ l c. (_, _, refl)) (begins _ _ _ _ h.holds (strings ∷ []) true refl) in
+            let one = may_lead _ _ _ _ h.holds 0 0 1 (λ l c. (loads l, frame_with l c, refl)) (begins _ _ _ _ h.holds (strings ∷ []) true refl) in
             always_fails _ _ _ _ h.holds 1 (λ t. refl) one.0 one.1;
         too_deep = λ h. fails _ _ _ _ h.holds 2 2 (λ l c. refl)
             (next _ _ _ _ h.holds 1 1 2 (2 ∷ []) (λ l c. (c || false, refl)) (next _ _ _ _ h.holds 0 0 1 (1 ∷ []) (λ l c. (c || false, refl)) (begins _ _ _ _ h.holds (strings ∷ []) true refl)).0).0;
