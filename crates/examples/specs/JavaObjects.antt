@@ -115,7 +115,7 @@
 --     }
 --     class Run implements Runnable { public void run() { System.out.println(99); } }
 --     class Sub extends Thread { public synchronized void run() { System.out.println(98); throw new MyEx(1); } }
-use Rattle.std.specs.Prelude.{ℕ, ℤ, pos, negsuc, List, [], ◌∷◌, codes}
+use Rattle.std.specs.Prelude.{ℤ, pos, negsuc, List, [], ◌∷◌, codes}
 use Rattle.model.specs.Classes.{Program}
 use Rattle.model.specs.Report as report
 use Rattle.model.specs.Report.{ThreadEnd}

@@ -1,5 +1,5 @@
 -- The classes of the program of JavaObjects but the initial one, as javac compiles them.
-use Rattle.std.specs.Prelude.{ℕ, List, [], ◌∷◌, codes}
+use Rattle.std.specs.Prelude.{List, [], ◌∷◌, codes}
 use Rattle.model.specs.Tree.{Entry, Utf8, Integer, Class, Field, Method, NameAndType, ConstantOf, FileTree}
 use Rattle.examples.specs.Bytes.{hex}
 use Rattle.examples.specs.ClassFiles.{field, method, file_with, no_code}

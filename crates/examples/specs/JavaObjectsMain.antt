@@ -1,5 +1,5 @@
 -- The initial class of the program of JavaObjects, as javac compiles it.
-use Rattle.std.specs.Prelude.{ℕ, List, [], ◌∷◌, ◌++◌, codes}
+use Rattle.std.specs.Prelude.{List, [], ◌∷◌, ◌++◌, codes}
 use Rattle.model.specs.Tree.{Entry, Utf8, Integer, Class, String, Field, Method, InterfaceMethod, NameAndType, FileTree}
 use Rattle.examples.specs.Bytes.{hex}
 use Rattle.examples.specs.ClassFiles.{method, handler, file_with}

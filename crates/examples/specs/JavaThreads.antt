@@ -56,7 +56,7 @@
 --             Thread x = new Producer(box, 20); synchronized (x) { x.start(); x.wait(); } p(x.isAlive()); p(box.full);
 --         }
 --     }
-use Rattle.std.specs.Prelude.{ℕ, ℤ, pos, negsuc, List, [], ◌∷◌, codes}
+use Rattle.std.specs.Prelude.{ℤ, pos, List, [], ◌∷◌, codes}
 use Rattle.model.specs.Classes.{Program}
 use Rattle.model.specs.Report as report
 use Rattle.model.specs.Report.{ThreadEnd}

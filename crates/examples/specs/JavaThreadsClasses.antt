@@ -1,5 +1,5 @@
 -- The classes of the program of JavaThreads, as javac compiles them.
-use Rattle.std.specs.Prelude.{ℕ, List, [], ◌∷◌, ◌++◌, codes}
+use Rattle.std.specs.Prelude.{List, [], ◌∷◌, ◌++◌, codes}
 use Rattle.model.specs.Tree.{Entry, Utf8, Class, Field, Method, NameAndType, FileTree}
 use Rattle.examples.specs.Bytes.{hex}
 use Rattle.examples.specs.ClassFiles.{field, method, handler, file_with}

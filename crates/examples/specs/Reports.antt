@@ -1,6 +1,6 @@
 -- What is said of a run of class files under a schedule, from their bytes to the text of the report.
-use Rattle.std.specs.Prelude.{◌≡◌, ℕ, List, [], ◌∷◌, Option, Some, None, Bool, true, not, if◌then◌else◌, length, replicate}
-use Rattle.std.specs.Option.{option_map, option_and_then}
+use Rattle.std.specs.Prelude.{◌≡◌, ℕ, List, Option, Some, None, true, if◌then◌else◌, length, replicate}
+use Rattle.std.specs.Option.{option_and_then}
 use Rattle.model.specs.declared.event.Event.{Event}
 use Rattle.model.specs.declared.end.End.{End}
 use Rattle.model.specs.declared.end.End.TheVariants as ends

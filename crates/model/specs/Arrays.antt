@@ -1,6 +1,6 @@
 -- What instructions on arrays mean (JVMS 6.5). An element is one cell; the tests come in the order null, index, kind of what is
 -- stored.
-use Rattle.std.specs.Prelude.{ℕ, suc, List, [], ◌∷◌, Option, Some, None, Bool, true, false, ◌&&◌, ◌==◌, if◌then◌else◌, nat_lt, nat_le, length, map, replicate, slice_index_or, ◌^◌}
+use Rattle.std.specs.Prelude.{ℕ, List, [], ◌∷◌, Option, Some, None, Bool, true, false, ◌==◌, if◌then◌else◌, nat_lt, nat_le, length, replicate, slice_index_or, ◌^◌}
 use Rattle.std.specs.Option.{option_map}
 use Rattle.model.specs.declared.instr.ArrayKind.{ArrayKind}
 use Rattle.model.specs.declared.instr.ArrayKind.TheVariants as array_kind
@@ -10,9 +10,9 @@ use Rattle.model.specs.Classes.{Program}
 use Rattle.model.specs.ReferenceTypes.{Primitive, Boolean, Char, Byte, Short, Int, ReferenceType, PrimitiveArray, ReferenceArray}
 use Rattle.model.specs.Types.{VerificationType, IntType, NullType, OfType, Want, AnInt, AReference, AnArray, AByteArray}
 use Rattle.model.specs.DescribedTypes.{type_named, made_type, component_type}
-use Rattle.model.specs.Operands.{Slots, Wants, Carrier}
+use Rattle.model.specs.Operands.{Slots, Carrier}
 use Rattle.model.specs.State.{ObjectOf, Instance, Primitives, References, types_of, WorldOf}
-use Rattle.model.specs.Outcomes.{OutcomeOf, Raises, NullPointer, ArrayIndexOutOfBounds, NegativeArraySize, ArrayStore, Makes, not_null}
+use Rattle.model.specs.Outcomes.{OutcomeOf, Raises, ArrayIndexOutOfBounds, NegativeArraySize, ArrayStore, Makes, not_null}
 use Rattle.model.specs.Worlds.{allocated, object_at, with_object, elements_of, with_element, kept_value}
 use Rattle.model.specs.Sites.{MeaningOf, Site, picks_none, wants_of, to_next, pushing, pushing_at, operand, referent, int_operand}
 use Rattle.model.specs.Objects.{any_object}

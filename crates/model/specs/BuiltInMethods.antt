@@ -1,13 +1,13 @@
 -- What the built-in methods without code do (own: an event each, with no frame; JLS 17.2, and the API of Object and Thread). The
 -- receiver is not null here.
-use Rattle.std.specs.Prelude.{ℕ, List, [], ◌∷◌, ◌++◌, Option, Some, None, Bool, true, false, not, ◌&&◌, ◌||◌, ◌==◌, if◌then◌else◌, nat_lt, codes, find, is_some, length, slice_get, unwrap_or}
+use Rattle.std.specs.Prelude.{ℕ, List, [], ◌∷◌, ◌++◌, Option, Some, None, Bool, true, false, not, ◌&&◌, ◌||◌, if◌then◌else◌, nat_lt, codes, find, is_some, length, slice_get, unwrap_or}
 use Rattle.std.specs.Option.{option_map}
 use Rattle.model.specs.declared.event.Event.{Event}
-use Rattle.model.specs.Names.{Name, name_eq, Member, member_eq, java_lang_object, java_lang_thread, thread_target, println_int, constructor_name}
+use Rattle.model.specs.Names.{Name, Member, member_eq, java_lang_object, java_lang_thread, thread_target, println_int, constructor_name}
 use Rattle.model.specs.Ints.{signed}
 use Rattle.model.specs.Operands.{Slots, Carrier}
 use Rattle.model.specs.State.{Waiter, Notified, Interrupted, ThreadStatus, Running, Waiting, Relock, Ended, Thread, WorldOf, new_thread}
-use Rattle.model.specs.Outcomes.{OutcomeOf, Raises, Interrupts, Waits, IllegalMonitorState, IllegalThreadState, Free, Starts, Joins}
+use Rattle.model.specs.Outcomes.{OutcomeOf, Raises, Interrupts, Waits, IllegalMonitorState, IllegalThreadState, Starts, Joins}
 use Rattle.model.specs.Monitors as monitors
 use Rattle.model.specs.Monitors.{monitor_at}
 use Rattle.model.specs.Worlds.{thread_at, with_status, with_interrupted, thread_of, is_alive, is_interrupted, object_at, with_object, with_field, is_owner, with_monitors, woken, all_woken, waiters_of}

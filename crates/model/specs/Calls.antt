@@ -1,14 +1,14 @@
 -- What the invoking instructions and the returns mean (JVMS 6.5, 2.6.4, 2.11.10).
 use Rattle.std.specs.Prelude.{ℕ, List, [], ◌∷◌, ◌++◌, Option, Some, None, Bool, true, false, not, ◌&&◌, ◌||◌, ◌==◌, if◌then◌else◌, length, map, reverse, slice_index, slice_index_or, unwrap_or}
-use Rattle.std.specs.Option.{option_map, option_map_or, option_and_then}
+use Rattle.std.specs.Option.{option_map_or, option_and_then}
 use Rattle.model.specs.declared.event.Event.{Event}
 use Rattle.model.specs.declared.instr.Returned.{Returned}
 use Rattle.model.specs.declared.instr.Returned.TheVariants as returned
-use Rattle.model.specs.Names.{Name, name_eq, Member, java_lang_object, constructor_name}
+use Rattle.model.specs.Names.{Name, name_eq, Member, constructor_name}
 use Rattle.model.specs.Tree.{MethodTree}
 use Rattle.model.specs.Pool.{method_at, interface_method_at}
 use Rattle.model.specs.Classes.{Program, Body, body_of, superclass_of, is_subclass}
-use Rattle.model.specs.ReferenceTypes.{ReferenceType, ClassType, is_subtype}
+use Rattle.model.specs.ReferenceTypes.{ClassType, is_subtype}
 use Rattle.model.specs.Lookup.{find_method, find_interface_method, method_of, select, is_static_method, is_private_method, is_abstract_method}
 use Rattle.model.specs.Types.{VerificationType, NullType, Want, AnInt, AReference, AReceiver}
 use Rattle.model.specs.DescribedTypes.{made_type, parameters_declared, results_declared, declared_want, verification_type}

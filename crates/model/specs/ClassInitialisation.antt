@@ -1,7 +1,7 @@
 -- How far the initialisation of a class is (JVMS 5.5), and what the constants of a class are (JVMS 4.7.2).
 use Rattle.std.specs.Prelude.{ℕ, List, [], ◌∷◌, Option, Some, None, Bool, true, false, ◌==◌, if◌then◌else◌}
 use Rattle.std.specs.Option.{option_map, option_map_or, option_and_then}
-use Rattle.model.specs.Names.{Name, name_eq, Member}
+use Rattle.model.specs.Names.{Name, name_eq}
 use Rattle.model.specs.Tree.{Entry, Utf8, Integer, Float, Long, Double, Class, String, Field, Method, InterfaceMethod, NameAndType, Unusable, FieldPart, ConstantOf, SkippedOfField, FieldTree, FileTree}
 use Rattle.model.specs.Spelling.{entry_at}
 use Rattle.model.specs.Pool.{utf8_at}

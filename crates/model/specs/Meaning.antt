@@ -1,6 +1,6 @@
 -- What class files mean under a schedule: the text of the report of a run (own).
-use Rattle.std.specs.Prelude.{ℕ, zero, suc, List, [], ◌∷◌, Option, Some, None, Bool, true, false, if◌then◌else◌, length, slice_get, slice_index_or}
-use Rattle.std.specs.Option.{option_map, option_map_or, option_and_then}
+use Rattle.std.specs.Prelude.{ℕ, zero, suc, List, [], ◌∷◌, Option, Some, None, if◌then◌else◌, length, slice_get, slice_index_or}
+use Rattle.std.specs.Option.{option_map, option_map_or}
 use Rattle.model.specs.declared.event.Event.{Event}
 use Rattle.model.specs.declared.end.End.{End}
 use Rattle.model.specs.declared.instr.Instr.{Instr}
@@ -10,7 +10,7 @@ use Rattle.model.specs.Names.{Name}
 use Rattle.model.specs.Classes.{Program, Body, body_of}
 use Rattle.model.specs.Operands.{values}
 use Rattle.model.specs.State as state
-use Rattle.model.specs.State.{State, Thread, ThreadStatus, ObjectOf, Instance, Primitives, References, Frame, FrameOf, StackOf, Invocation, Initialisation, World, WorldOf}
+use Rattle.model.specs.State.{State, Thread, ThreadStatus, ObjectOf, Instance, Primitives, References, Frame, StackOf, Invocation, Initialisation, World, WorldOf}
 use Rattle.model.specs.ClassInitialisation.{look_at, is_held}
 use Rattle.model.specs.Meanings.{MeaningOf, Site, site_at, meaning_of}
 use Rattle.model.specs.Step.{ops_of, initial_class}

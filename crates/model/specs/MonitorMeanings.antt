@@ -1,6 +1,5 @@
 -- What the instructions on monitors mean (JVMS 6.5, JLS 17.1). Structured locking is not asked for (own).
-use Rattle.std.specs.Prelude.{ℕ, List, [], ◌∷◌, Option, Some, None, Bool, true, false, ◌&&◌, ◌==◌, if◌then◌else◌}
-use Rattle.model.specs.declared.event.Event.{Event}
+use Rattle.std.specs.Prelude.{ℕ, List, [], ◌∷◌, Option, Some, None, Bool, true, false, ◌&&◌}
 use Rattle.model.specs.Types.{AReference}
 use Rattle.model.specs.Operands.{Slots, Carrier}
 use Rattle.model.specs.State.{WorldOf}

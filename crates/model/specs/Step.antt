@@ -1,6 +1,6 @@
 -- One event (JVMS 2.6, 5.5, chapter 6; JLS 17): enabled or not, and the one next state.
 use Rattle.std.specs.Prelude.{ℕ, zero, suc, ◌+◌, ◌-◌, nat_lt, nat_le, List, [], ◌∷◌, ◌++◌, Option, Some, None, Bool, true, false, ◌&&◌, ◌||◌, ◌==◌, if◌then◌else◌, slice_get, slice_set, length, find, replicate, is_some, unwrap_or}
-use Rattle.std.specs.Option.{option_and_then, option_map_or}
+use Rattle.std.specs.Option.{option_and_then}
 use Rattle.model.specs.declared.class_file.ExceptionEntry.{ExceptionEntry}
 use Rattle.model.specs.declared.event.Event.{Event}
 use Rattle.model.specs.Names.{Name, Member, main_of, thread_run, initialiser_of, java_lang_error}
@@ -11,7 +11,7 @@ use Rattle.model.specs.Classes.{Program, Body, name_of, body_of, superclass_of, 
 use Rattle.model.specs.ReferenceTypes.{ReferenceType, ClassType}
 use Rattle.model.specs.Types.{is_object_of}
 use Rattle.model.specs.Operands.{Slots, Carrier, values, operands, under}
-use Rattle.model.specs.State.{Instance, type_of, types_of, Initialised, InProgress, Erroneous, WakeCause, Notified, Interrupted, ThreadStatus, Running, Waiting, Relock, Ended, Thread, FrameOf, Phase, Super, End, Invocation, Initialisation, StackOf, WorldOf, StateOf, State}
+use Rattle.model.specs.State.{Instance, types_of, Initialised, Erroneous, WakeCause, Notified, Interrupted, ThreadStatus, Running, Waiting, Relock, Ended, Thread, FrameOf, Phase, Super, End, Invocation, Initialisation, StackOf, WorldOf, StateOf, State}
 use Rattle.model.specs.Opening.{arguments_reference, class_reference}
 use Rattle.model.specs.Outcomes.{Fault, fault_class, NoClassDefFound, StackOverflow, IllegalMonitorState, InterruptedWait, AbstractMethod, ExceptionInInitializer, Cost, Free, Makes, OutcomeOf, Goes, Raises, Throws, Interrupts, Calls, Returns, Waits}
 use Rattle.model.specs.Monitors as monitors

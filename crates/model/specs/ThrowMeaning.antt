@@ -1,5 +1,5 @@
 -- What `athrow` means (JVMS 6.5).
-use Rattle.std.specs.Prelude.{ℕ, [], ◌∷◌, None}
+use Rattle.std.specs.Prelude.{[], ◌∷◌, None}
 use Rattle.model.specs.Names.{java_lang_throwable}
 use Rattle.model.specs.ReferenceTypes.{ClassType}
 use Rattle.model.specs.Types.{AReference}

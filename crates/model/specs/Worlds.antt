@@ -1,7 +1,7 @@
 -- Reading and changing what the threads share (JVMS 2.5; JLS 17): threads, objects and their fields, and monitors.
-use Rattle.std.specs.Prelude.{ℕ, ◌+◌, ◌%◌, ◌^◌, List, [], ◌∷◌, ◌++◌, Option, Some, None, Bool, true, false, ◌&&◌, ◌==◌, if◌then◌else◌, slice_get, slice_index_or, slice_set, is_some, map}
+use Rattle.std.specs.Prelude.{ℕ, ◌+◌, ◌%◌, ◌^◌, List, [], ◌∷◌, ◌++◌, Option, Some, None, Bool, true, false, ◌==◌, if◌then◌else◌, slice_get, slice_index_or, slice_set}
 use Rattle.std.specs.Option.{option_map_or}
-use Rattle.std.specs.List.{list_any, position}
+use Rattle.std.specs.List.{position}
 use Rattle.model.specs.Names.{Name, Member, member_eq, java_lang_object}
 use Rattle.model.specs.declared.instr.Conversion.TheVariants.{ToByte, ToShort}
 use Rattle.model.specs.declared.monitor_answer.MonitorAnswer.{MonitorAnswer}
