@@ -56,3 +56,7 @@ pub mod JavaObjectsClasses
 pub mod JavaObjects
 pub mod JavaThreadsClasses
 pub mod JavaThreads
+pub mod JavaCallsClasses
+pub mod JavaCalls
+pub mod ThreadsThatWaitClasses
+pub mod ThreadsThatWait

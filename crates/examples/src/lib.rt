@@ -23,6 +23,7 @@ ghost use Rattle.examples.specs.Instructions.{Instructions, Opcodes};
 ghost use Rattle.examples.specs.IntArithmetic.{IntArithmetic};
 ghost use Rattle.examples.specs.IntValues.{Compared, Computed, Converted};
 ghost use Rattle.examples.specs.InterruptedWaits.{InterruptedWaits};
+ghost use Rattle.examples.specs.JavaCalls.{JavaCalls};
 ghost use Rattle.examples.specs.JavaObjects.{JavaObjects};
 ghost use Rattle.examples.specs.JavaThreads.{JavaThreads};
 ghost use Rattle.examples.specs.Javac.{WrittenByJavac};
@@ -43,6 +44,7 @@ ghost use Rattle.examples.specs.StackMoves.{StackMoves};
 ghost use Rattle.examples.specs.StackOverflow.{StackOverflow};
 ghost use Rattle.examples.specs.SuperCall.{SuperCall};
 ghost use Rattle.examples.specs.SuperclassConstant.{SuperclassConstant};
+ghost use Rattle.examples.specs.ThreadsThatWait.{ThreadsThatWait};
 ghost use Rattle.examples.specs.TypeJoins.{TypeJoins};
 ghost use Rattle.examples.specs.Typings.{Typings, Untypables};
 ghost use Rattle.examples.specs.UncaughtException.{UncaughtException};
@@ -354,4 +356,14 @@ pub fn java_objects()
 /// A program in Java with threads, monitors, wait sets and interrupts: it prints what `java` prints.
 pub fn java_threads()
     ensures holds { JavaThreads }
+{}
+
+/// Calls in Java of methods that are abstract, private or a superclass's: it prints what `java` prints.
+pub fn java_calls()
+    ensures holds { JavaCalls }
+{}
+
+/// Threads in Java each of which waits for something else, and how they stand then.
+pub fn threads_that_wait()
+    ensures holds { ThreadsThatWait }
 {}
