@@ -1,5 +1,5 @@
 -- The members of the built-in classes, as a listing shows them, and the conditions that they meet.
-use Rattle.std.specs.Prelude.{◌≡◌, ℕ, List, [], ◌∷◌, ◌++◌, map, codes}
+use Rattle.std.specs.Prelude.{◌≡◌, List, [], ◌∷◌, ◌++◌, map, codes}
 use Rattle.std.specs.List.{flat_map}
 use Rattle.model.specs.Names.{Name}
 use Rattle.model.specs.Tree.{MethodTree, FileTree}

@@ -4,7 +4,7 @@ use Rattle.std.specs.List.{filter, flat_map, list_any}
 use Rattle.model.specs.declared.instr.Instr.{Instr}
 use Rattle.model.specs.declared.class_file.ExceptionEntry.{ExceptionEntry}
 use Rattle.model.specs.Names.{Name}
-use Rattle.model.specs.Tree.{Entry, FieldTree, MethodTree, CodeTree, FileTree}
+use Rattle.model.specs.Tree.{Entry, CodeTree, FileTree}
 use Rattle.model.specs.Conditions.{file_indices, file_names, file_descriptors, file_attributes, members_differ}
 use Rattle.model.specs.Classes.{Program}
 use Rattle.model.specs.CodeParts.{boundaries, any_code, any_instruction, any_instruction_in}

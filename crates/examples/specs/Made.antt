@@ -2,7 +2,7 @@
 use Rattle.std.specs.Prelude.{ℕ, List, [], ◌∷◌, ◌++◌, replicate, codes}
 use Rattle.model.specs.declared.class_file.ExceptionEntry.{ExceptionEntry}
 use Rattle.model.specs.Names.{Name, java_lang_object, java_lang_runnable, java_lang_string, java_lang_system, java_lang_thread}
-use Rattle.model.specs.Tree.{Entry, Utf8, Integer, Float, Long, Class, Field, Method, InterfaceMethod, NameAndType, Unusable, FieldPart, FieldTree, MethodPart, CodeOf, MethodTree, FileTree}
+use Rattle.model.specs.Tree.{Entry, Utf8, Float, Long, Class, Field, Method, InterfaceMethod, NameAndType, Unusable, FieldPart, FieldTree, MethodPart, CodeOf, MethodTree, FileTree}
 use Rattle.model.specs.Classes.{Program}
 use Rattle.examples.specs.Bytes.{hex}
 

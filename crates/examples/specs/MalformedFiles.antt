@@ -1,5 +1,5 @@
 -- Trees in which a condition of a class file (JVMS 4.1 to 4.7) stands, and no other one.
-use Rattle.std.specs.Prelude.{◌≡◌, ℕ, List, [], ◌∷◌, ◌++◌, codes}
+use Rattle.std.specs.Prelude.{◌≡◌, [], ◌∷◌, ◌++◌, codes}
 use Rattle.model.specs.Names.{Name}
 use Rattle.model.specs.Tree.{Entry, Class, String, Field, ConstantOf, SkippedTree, FieldTree, MethodTree, FileTree}
 use Rattle.examples.specs.Conditions.{malformed_as}

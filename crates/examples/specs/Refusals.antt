@@ -1,12 +1,12 @@
 -- Files in which a condition of linking stands, and no other one.
-use Rattle.std.specs.Prelude.{◌≡◌, ℕ, List, [], ◌∷◌, ◌++◌, Bool, true, false, replicate, codes}
+use Rattle.std.specs.Prelude.{◌≡◌, ℕ, [], ◌∷◌, ◌++◌, true, false, replicate, codes}
 use Rattle.model.specs.Names.{Name, java_lang_object}
 use Rattle.model.specs.Tree.{ConstantOf, FileTree}
 use Rattle.model.specs.Classes.{Program}
 use Rattle.model.specs.BuiltIn.{public_class, built_in}
 use Rattle.model.specs.Linkable.{too_many_files}
 use Rattle.examples.specs.Conditions.{standing, refused_as, answered_as}
-use Rattle.examples.specs.Made.{class, field, method, code_with, code, returns, exception, main, a_with, a_alone, with_method, doing, with_field, catching, beside, b_below, b_interface}
+use Rattle.examples.specs.Made.{class, field, method, code_with, code, returns, exception, a_with, a_alone, with_method, doing, with_field, catching, beside, b_below, b_interface}
 use Rattle.examples.specs.PrintsSeven.{prints_seven_file}
 
 -- one condition stands, and no other

@@ -1,13 +1,12 @@
 -- What a method's code has to meet beyond its bytes (JVMS 4.9.1, 4.7.3): the conditions of Malformed with cause Code, each
 -- under a name. A file in which one stands is refused.
-use Rattle.std.specs.Prelude.{ℕ, suc, ◌+◌, ◌-◌, ◌^◌, ℤ, pos, negsuc, List, [], ◌∷◌, Option, Some, None, Bool, true, false, not, ◌&&◌, ◌||◌, ◌==◌, nat_lt, nat_le, int_lt, if◌then◌else◌, length, is_some}
+use Rattle.std.specs.Prelude.{ℕ, suc, ◌+◌, ◌-◌, ◌^◌, ℤ, pos, negsuc, List, Option, Some, Bool, true, false, not, ◌&&◌, ◌||◌, ◌==◌, nat_lt, nat_le, int_lt, if◌then◌else◌, length, is_some}
 use Rattle.std.specs.Int.{w32}
 use Rattle.std.specs.Option.{option_map_or}
 use Rattle.std.specs.List.{list_any}
 use Rattle.model.specs.declared.class_file.ExceptionEntry.{ExceptionEntry}
 use Rattle.model.specs.declared.instr.Instr.{Instr}
 use Rattle.model.specs.declared.instr.Instr.TheVariants.{LoadConstant, Load, Store, Increment, LookupSwitch, Field, Invoke, InvokeInterface, New, NewReferenceArray, CheckCast, InstanceOf}
-use Rattle.model.specs.declared.instr.Invocation.{Invocation}
 use Rattle.model.specs.declared.instr.Invocation.TheVariants as invocation
 use Rattle.model.specs.Names.{Name, name_eq, Member, constructor_name, initialiser_name}
 use Rattle.model.specs.Tree.{Entry, Integer, Float, Class, String, MethodTree, CodeTree, FileTree}

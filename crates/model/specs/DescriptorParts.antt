@@ -1,7 +1,7 @@
 -- What a descriptor names: its types, and their classes (JVMS 4.3).
-use Rattle.std.specs.Prelude.{ℕ, List, [], ◌∷◌, ◌++◌, Option, Some, None, Bool, true, false, not, is_some, ◌==◌, if◌then◌else◌, unwrap_or}
+use Rattle.std.specs.Prelude.{ℕ, List, [], ◌∷◌, ◌++◌, Option, Some, None, Bool, false, not, is_some, ◌==◌, if◌then◌else◌, unwrap_or}
 use Rattle.std.specs.Option.{option_map_or}
-use Rattle.std.specs.List.{filter_map, list_any}
+use Rattle.std.specs.List.{filter_map}
 use Rattle.model.specs.Names.{Name}
 use Rattle.model.specs.Descriptors.{ElementType, FieldType, MethodType}
 use Rattle.model.specs.Descriptors as element

@@ -1,11 +1,11 @@
 -- What the classes of a program have to be to one another (JVMS 4.1, 4.6, 4.10, 5.3.5): the conditions of BadHierarchy, each
 -- under a name. They are said of each file of the program.
-use Rattle.std.specs.Prelude.{ℕ, zero, suc, List, [], ◌∷◌, ◌++◌, Option, Some, None, Bool, true, false, not, ◌&&◌, ◌||◌, ◌==◌, if◌then◌else◌, length, is_some}
+use Rattle.std.specs.Prelude.{ℕ, zero, suc, List, [], ◌++◌, Option, None, Bool, false, not, ◌&&◌, ◌||◌, ◌==◌, if◌then◌else◌, length, is_some}
 use Rattle.std.specs.Option.{option_and_then, option_map_or, option_to_list}
 use Rattle.std.specs.List.{list_any}
 use Rattle.model.specs.declared.class_file.ExceptionEntry.{ExceptionEntry}
-use Rattle.model.specs.Names.{Name, name_eq, Member, constructor_name, initialiser_name, java_lang_object, java_lang_throwable}
-use Rattle.model.specs.Tree.{Entry, MethodTree, CodeTree, FileTree}
+use Rattle.model.specs.Names.{Name, name_eq, constructor_name, initialiser_name, java_lang_object, java_lang_throwable}
+use Rattle.model.specs.Tree.{Entry, MethodTree, FileTree}
 use Rattle.model.specs.Pool.{class_name_at}
 use Rattle.model.specs.AccessFlags.{is_package_private, is_interface_class, is_final_class, is_private_method, is_static_method, is_instance_method, is_final_method}
 use Rattle.model.specs.Classes.{Program, name_of, super_name_of, classes_of, class_of, superclass_of, is_subclass, lineage, interface_names, superinterfaces_of, is_interface, same_package}

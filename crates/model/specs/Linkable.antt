@@ -1,8 +1,8 @@
 -- When the files of a program may be linked, and which refusal they get where they may not (own).
-use Rattle.std.specs.Prelude.{◌≡◌, ℕ, suc, List, [], ◌∷◌, Option, Some, None, Bool, true, false, not, ◌&&◌, ◌||◌, nat_lt, length}
+use Rattle.std.specs.Prelude.{◌≡◌, ℕ, List, [], ◌∷◌, Bool, true, false, not, ◌&&◌, ◌||◌, nat_lt, length}
 use Rattle.std.specs.Option.{option_map_or}
 use Rattle.std.specs.List.{list_any}
-use Rattle.model.specs.Names.{Name, name_eq, main_of}
+use Rattle.model.specs.Names.{main_of}
 use Rattle.model.specs.Tree.{FileTree}
 use Rattle.model.specs.Spells.{Spells}
 use Rattle.model.specs.AccessFlags.{is_static_method}

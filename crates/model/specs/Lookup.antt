@@ -1,6 +1,6 @@
 -- Which field or method a symbolic reference names (JVMS 5.4.3), and which method a call runs (JVMS 6.5). Access is not
 -- asked for (own). What is found is named by the class that declares it.
-use Rattle.std.specs.Prelude.{ℕ, zero, suc, length, List, [], ◌∷◌, ◌++◌, Option, Some, None, Bool, true, false, not, ◌&&◌, if◌then◌else◌, find, reverse, map}
+use Rattle.std.specs.Prelude.{ℕ, zero, suc, length, List, [], ◌∷◌, Option, Some, None, Bool, true, false, not, ◌&&◌, find, reverse, map}
 use Rattle.std.specs.Option.{option_and_then, option_map_or, option_or}
 use Rattle.std.specs.List.{filter, flat_map}
 use Rattle.model.specs.Names.{Name, spells, Member, java_lang_object}

@@ -1,21 +1,19 @@
 -- What the names in a file have to be found as (JVMS 5.4.3, 6.5): the conditions of Unresolved, each under a name. They are
 -- said of each file of the program. Entries of the constant pool that nothing here names are not looked up (own).
-use Rattle.std.specs.Prelude.{ℕ, List, [], ◌∷◌, ◌++◌, Option, Some, None, Bool, true, false, not, ◌&&◌, ◌||◌, ◌==◌, if◌then◌else◌, is_some, map}
+use Rattle.std.specs.Prelude.{List, [], ◌∷◌, ◌++◌, Option, Some, None, Bool, true, false, not, ◌&&◌, ◌||◌, if◌then◌else◌, is_some, map}
 use Rattle.std.specs.Option.{option_and_then, option_map_or, option_to_list, is_none}
 use Rattle.std.specs.List.{list_any, flat_map}
-use Rattle.model.specs.declared.class_file.ExceptionEntry.{ExceptionEntry}
 use Rattle.model.specs.declared.instr.Instr.{Instr}
 use Rattle.model.specs.declared.instr.Instr.TheVariants.{Field, Invoke, InvokeInterface, New}
 use Rattle.model.specs.declared.instr.FieldAccess.{FieldAccess}
 use Rattle.model.specs.declared.instr.FieldAccess.TheVariants as access
-use Rattle.model.specs.declared.instr.Invocation.{Invocation}
 use Rattle.model.specs.declared.instr.Invocation.TheVariants as invocation
 use Rattle.model.specs.Names.{Name, name_eq, Member, member_eq, constructor_name, system_out, thread_target}
-use Rattle.model.specs.Tree.{Entry, FieldTree, MethodTree, CodeTree, FileTree}
+use Rattle.model.specs.Tree.{Entry, FieldTree, MethodTree, FileTree}
 use Rattle.model.specs.Pool.{class_name_at, method_at, interface_method_at, field_at}
 use Rattle.model.specs.Conditions.{text_at}
 use Rattle.model.specs.AccessFlags.{is_interface_class, is_abstract_class, is_static_method, is_static_field}
-use Rattle.model.specs.Classes.{Program, class_of, super_name_of, interface_names, is_interface}
+use Rattle.model.specs.Classes.{Program, class_of, super_name_of, interface_names}
 use Rattle.model.specs.Lookup.{field_of, method_of, find_field, find_method, find_interface_method}
 use Rattle.model.specs.DescriptorParts.{classes_in, classes_named, is_array_class}
 use Rattle.model.specs.CodeParts.{any_code, any_instruction_in, class_operand, field_operand, method_operand}
