@@ -29,6 +29,8 @@ use Rattle.examples.specs.WaitKeepsCount as wait_keeps_count
 use Rattle.examples.specs.WaiterOfAThread as waiter_of_a_thread
 use Rattle.examples.specs.JavaObjects as java_objects
 use Rattle.examples.specs.JavaThreads as java_threads
+use Rattle.examples.specs.JavaCalls as java_calls
+use Rattle.examples.specs.ThreadsThatWait as threads_that_wait
 
 -- the conditions of class files, and those of linking
 abbrev pub all_standing : Program → List Name
@@ -60,3 +62,5 @@ pub record ProgramsLink : Type 0 where
   pub waiter_of_a_thread_links : all_standing waiter_of_a_thread.files ≡ []
   pub java_objects_links : all_standing java_objects.files ≡ []
   pub java_threads_links : all_standing java_threads.files ≡ []
+  pub java_calls_links : all_standing java_calls.files ≡ []
+  pub threads_that_wait_links : all_standing threads_that_wait.files ≡ []

@@ -36,5 +36,7 @@ returns c =
         waiter_of_a_thread_links = refl;
         java_objects_links = refl;
         java_threads_links = refl;
+        java_calls_links = refl;
+        threads_that_wait_links = refl;
       };
     }
