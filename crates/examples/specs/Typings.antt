@@ -1,6 +1,7 @@
 -- Typings of small methods, each by its list of frame types; and codes that have none.
 use Rattle.std.specs.Prelude.{◌≡◌, ℕ, List, [], ◌∷◌, Option, Some, None, Bool, true, ◌==◌, if◌then◌else◌, codes}
-use Rattle.model.specs.Names.{Name, Member, main_of, java_io_print_stream, java_lang_string}
+use Rattle.model.specs.Names.{Name, Member, main_of, thread_run, java_io_print_stream, java_lang_object, java_lang_string, java_lang_thread}
+use Rattle.model.specs.BuiltIn.{thread_class}
 use Rattle.model.specs.Tree.{Entry, CodeTree}
 use Rattle.model.specs.Classes.{Program, Body, body_of}
 use Rattle.model.specs.ReferenceTypes.{ReferenceType, ClassType, ReferenceArray}
@@ -88,12 +89,34 @@ fork_types =
 abbrev pub ForkTyped : Type 0
 ForkTyped = IsMainTyped (printing.file_with 2 2 fork_code ∷ []) (body_with printing.pool 2 2 fork_code) fork_types
 
+-- Thread.run, which is built in: 0 aload_0, 1 getfield target, 4 ifnull 16, 7 aload_0, 8 getfield target, 11 invokeinterface
+-- Runnable.run, 16 return
+abbrev pub run_body : Body
+run_body = body_with thread_class.pool 1 1 (hex (codes "2a b4000a c6000c 2a b4000a b9000e0100 b1"))
+
+abbrev pub thread : VerificationType
+thread = OfType (ClassType java_lang_thread)
+
+-- the field is declared as a Runnable, an interface
+abbrev pub object : VerificationType
+object = OfType (ClassType java_lang_object)
+
+abbrev pub run_types : List (ℕ × FrameType)
+run_types =
+    (0, frame (thread ∷ []) []) ∷ (1, frame (thread ∷ []) (thread ∷ [])) ∷ (4, frame (thread ∷ []) (object ∷ [])) ∷ (7, frame (thread ∷ []) [])
+    ∷ (8, frame (thread ∷ []) (thread ∷ [])) ∷ (11, frame (thread ∷ []) (object ∷ [])) ∷ (16, frame (thread ∷ []) []) ∷ []
+
+pub record RunTyped : Type 0 where
+  pub is_run : body_of [] thread_run ≡ Some run_body
+  pub typed : IsTyping [] thread_run run_body (typing_in run_types)
+
 pub record Typings : Type 0 where
   pub prints_seven : PrintsSevenTyped
   pub pop_reference : PopTyped
   pub unreached : UnreachedTyped
   pub loop : LoopTyped
   pub fork : ForkTyped
+  pub run : RunTyped
 
 -- ---- codes without a typing
 

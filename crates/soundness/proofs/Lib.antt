@@ -5,3 +5,6 @@ pub mod Rows
 pub mod Invariant
 pub mod Objects
 pub mod Frames
+pub mod Progress
+pub mod Opened
+pub mod Answered

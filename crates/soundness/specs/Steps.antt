@@ -1,15 +1,20 @@
 -- What a typing says of a frame, for one instruction: what it finds, and what stands in the frame after it.
-use Rattle.std.specs.Prelude.{◌≡◌, ℕ, zero, suc, List, Bool, true, false, length, IsTrue}
+use Rattle.std.specs.Prelude.{◌≡◌, ℕ, zero, suc, List, Some, Bool, true, false, length, IsTrue, IsFalse}
 use Rattle.std.specs.Option.{option_map_or}
+use Rattle.model.specs.declared.event.Event.{Event}
 use Rattle.model.specs.declared.value.Value.{Value}
-use Rattle.model.specs.Names.{Name}
-use Rattle.model.specs.Classes.{Program, classes_of, superclass_of}
+use Rattle.model.specs.Names.{Name, main_of}
+use Rattle.model.specs.Classes.{Program, Body, body_of, classes_of, superclass_of}
 use Rattle.model.specs.ReferenceTypes.{ReferenceType, is_assignable}
 use Rattle.model.specs.Types.{VerificationType, type_meets, value_meets}
-use Rattle.model.specs.Operands.{Slots, over_types, over_values, Wants, is_ready}
+use Rattle.model.specs.Operands.{Slots, values, over_types, over_values, Wants, is_ready}
 use Rattle.model.specs.Rows.{Row, after_row}
 use Rattle.model.specs.TypeOrder.{is_local_below}
-use Rattle.model.specs.WellTyped.{has_type, are_typed}
+use Rattle.model.specs.State.{State}
+use Rattle.model.specs.Opening.{opening}
+use Rattle.model.specs.Step.{SteppedOf, NotEnabled, WrongKind, Next, initial_class, stepped}
+use Rattle.model.specs.WellTyped.{has_type, are_typed, IsWellTyped}
+use Rattle.model.specs.WrongKind.{has_wrong_kind}
 
 -- the superclasses of a class end, by so many steps at most
 abbrev pub ends : Program → ℕ → Name → Bool
@@ -49,3 +54,26 @@ abbrev pub IsKept : Program → Type 0
 IsKept files =
     (objects : List ReferenceType) (row : Row) (ts : Slots VerificationType) (vs : Slots Value)
     → AreTyped files objects ts vs → AreTyped files objects (after_row over_types row ts) (after_row over_values row vs)
+
+-- no thread of a well-typed state meets an operand of a wrong kind
+abbrev pub IsRight : Program → Type 0
+IsRight files = (state : State) → IsWellTyped files state → (t : ℕ) → IsFalse (has_wrong_kind files state t)
+
+-- main of the initial class is there and has code
+pub record HasMain (files : Program) : Type 0 where
+  pub body : Body
+  pub is_body : body_of files (main_of (initial_class files)) ≡ Some body
+
+abbrev pub is_wrong : {S : Type 0} → SteppedOf S → Bool
+is_wrong NotEnabled = false
+is_wrong WrongKind = true
+is_wrong (Next cost next) = false
+
+-- no event at a well-typed state is answered by a wrong kind
+abbrev pub IsNeverWrong : Program → Type 0
+IsNeverWrong files =
+    (frames : ℕ) (state : State) (event : Event) → IsWellTyped files state → IsFalse (is_wrong (stepped values files frames state event))
+
+-- the opening state is well typed
+abbrev pub IsOpenedTyped : Program → Type 0
+IsOpenedTyped files = IsWellTyped files (opening values files)

@@ -2,7 +2,7 @@
 #![tactic(auto)]
 
 ghost use Rattle.model.specs.Classes.{Program};
-ghost use Rattle.soundness.specs.Steps.{IsFound, IsKept, IsOrder, IsUpward, Rooted};
+ghost use Rattle.soundness.specs.Steps.{HasMain, IsFound, IsKept, IsNeverWrong, IsOpenedTyped, IsOrder, IsRight, IsUpward, Rooted};
 
 /// Where no class is above itself, the order of the verifier's reference types is an order.
 pub fn assignable_is_an_order()
@@ -22,4 +22,19 @@ pub fn operands_are_found()
 /// After a local instruction the values are of the types that a typing says.
 pub fn rows_keep_types()
     ensures holds { (files : Program) → Rooted files → IsKept files }
+{}
+
+/// In a well-typed state no thread meets a missing instruction, or an operand of a wrong kind.
+pub fn well_typed_is_right()
+    ensures holds { (files : Program) → Rooted files → IsRight files }
+{}
+
+/// No event at a well-typed state is answered by a wrong kind.
+pub fn wrong_kind_is_never_answered()
+    ensures holds { (files : Program) → Rooted files → HasMain files → IsNeverWrong files }
+{}
+
+/// The opening state of a program is well typed.
+pub fn opening_is_typed()
+    ensures holds { (files : Program) → IsOpenedTyped files }
 {}
