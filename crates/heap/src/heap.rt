@@ -13,6 +13,10 @@ use monitor::{Call, MonitorCalls, Monitors, Refusal, Waiter};
 use std::alloc::{AllocError, Global};
 use std::marker::Model;
 
+/// How many objects the opening state may have. With 4,000,000,000 more, which is the highest limit, each reference r has a
+/// word r + 1 of 32 bits.
+pub const MOST_OPENING: u32 = 294_967_295;
+
 /// The objects of a run by their references, with their monitors.
 ///
 /// Words are read and written by their number in the object, from 0. A word that is not there, or one of an object that is
@@ -56,7 +60,7 @@ impl Heap {
 
     /// One more object of the opening state, to which all objects before it belong too.
     pub fn add_opening(&mut self, kind: ObjectKind, count: u32) -> Result<u32, AllocError>
-        requires { length self.old.objects < 294967295 }
+        requires { length self.old.objects < MOST_OPENING }
         ensures ok { IfOk result (λ reference. IsOpened reference kind count self.old self.new) }
         ensures err { OnErr result (self.new ≡ self.old) }
     {

@@ -11,6 +11,6 @@ mod refusal;
 #[cfg(test)]
 mod tests;
 
-pub use heap::Heap;
+pub use heap::{Heap, MOST_OPENING};
 pub use kind::{NarrowKind, ObjectKind};
 pub use refusal::AllocRefusal;

@@ -1,4 +1,4 @@
-use crate::{AllocRefusal, Heap, NarrowKind, ObjectKind};
+use crate::{AllocRefusal, Heap, MOST_OPENING, NarrowKind, ObjectKind};
 use model::{Limits, MonitorAnswer};
 use monitor::{Call, Refusal};
 use std::alloc::{AllocError, Global};
@@ -13,7 +13,7 @@ fn heap_of(alloc: Global, objects: u32, cells: u32) -> Result<Heap, Fail> {
 }
 
 fn open(rt: &impl Abort, heap: &mut Heap, class: u32, count: u32) -> Result<u32, AllocError> {
-    assert!(rt; heap.len() < 294_967_295);
+    assert!(rt; heap.len() < MOST_OPENING);
     heap.add_opening(ObjectKind::Instance { class }, count)
 }
 
