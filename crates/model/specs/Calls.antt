@@ -1,5 +1,5 @@
 -- What the invoking instructions and the returns mean (JVMS 6.5, 2.6.4, 2.11.10).
-use Rattle.std.specs.Prelude.{ℕ, List, [], ◌∷◌, ◌++◌, Option, Some, None, Bool, true, false, not, ◌&&◌, ◌||◌, ◌==◌, if◌then◌else◌, length, map, reverse, slice_index, slice_index_or, unwrap_or}
+use Rattle.std.specs.Prelude.{ℕ, List, [], ◌∷◌, ◌++◌, Option, Some, None, Bool, true, false, not, ◌&&◌, ◌==◌, if◌then◌else◌, length, map, reverse, slice_index_or, unwrap_or}
 use Rattle.std.specs.Option.{option_map_or, option_and_then}
 use Rattle.model.specs.declared.event.Event.{Event}
 use Rattle.model.specs.declared.instr.Returned.{Returned}
@@ -11,7 +11,7 @@ use Rattle.model.specs.Classes.{Program, Body, body_of, superclass_of, is_subcla
 use Rattle.model.specs.ReferenceTypes.{ClassType, is_subtype}
 use Rattle.model.specs.Lookup.{find_method, find_interface_method, method_of, select, is_static_method, is_private_method, is_abstract_method}
 use Rattle.model.specs.Types.{VerificationType, NullType, Want, AnInt, AReference, AReceiver}
-use Rattle.model.specs.DescribedTypes.{made_type, parameters_declared, results_declared, declared_want, verification_type}
+use Rattle.model.specs.DescribedTypes.{DeclaredType, DeclaredInt, DeclaredReference, made_type, parameters_declared, results_declared, declared_want, verification_type}
 use Rattle.model.specs.InitialisedTypes.{initialised}
 use Rattle.model.specs.Operands.{Slots, Wants, Carrier}
 use Rattle.model.specs.State.{type_of, WorldOf}
@@ -200,17 +200,14 @@ interface_at C files site index = option_and_then (interface_of C files site) (i
 
 -- ---- returns
 
--- what follows the parameters of a method's descriptor (JVMS 4.3.3)
-abbrev pub after_parameters : List ℕ → List ℕ
-after_parameters [] = []
-after_parameters (b ∷ bs) = if b == 41 then bs else after_parameters bs
-
--- the kind of return by the first byte of a return descriptor (JVMS 4.3.3): `V`; `L` or `[`; a primitive type
-abbrev pub returned_by : ℕ → Returned
-returned_by b = if b == 86 then returned.Nothing else if (b == 76) || (b == 91) then returned.Reference else returned.Int
+-- the kind of return of a method, by the type of its result (JVMS 4.3.3, 6.5): `return`, `ireturn` or `areturn`
+abbrev pub returned_by : List DeclaredType → Returned
+returned_by [] = returned.Nothing
+returned_by (DeclaredInt ∷ others) = returned.Int
+returned_by (DeclaredReference type ∷ others) = returned.Reference
 
 abbrev pub returned_of : Name → Returned
-returned_of descriptor = returned_by (slice_index (after_parameters descriptor) 0)
+returned_of descriptor = returned_by (results_declared descriptor)
 
 abbrev pub is_nothing : Returned → Bool
 is_nothing returned.Nothing = true

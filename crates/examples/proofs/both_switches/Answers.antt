@@ -6,9 +6,10 @@ use Rattle.examples.proofs.Fits.{fits}
 use Rattle.model.specs.BuiltIn.{built_in_classes}
 use Rattle.model.specs.Opening.{opening_heap}
 use Rattle.examples.proofs.both_switches.Goals as goal
+use Rattle.model.specs.DescriptorScan.{element_at, field_at, field_type, parameters_at, method_type}
 
 pub returns : goal.returns
-unfolding low_form high_form wide_at table_switch_at lookup_switch_at built_in_classes opening_heap digits
+unfolding low_form high_form wide_at table_switch_at lookup_switch_at built_in_classes opening_heap digits element_at field_at field_type parameters_at method_type
 returns c =
     record {
       holds = record {

@@ -3,9 +3,10 @@ use Rattle.examples.proofs.Fits.{all_fit}
 use Rattle.model.specs.BuiltIn.{built_in_classes}
 use Rattle.model.specs.Opening.{opening_heap}
 use Rattle.examples.proofs.built_in_classes.Goals as goal
+use Rattle.model.specs.DescriptorScan.{element_at, field_at, field_type, parameters_at, method_type}
 
 pub returns : goal.returns
-unfolding built_in_classes opening_heap
+unfolding built_in_classes opening_heap element_at field_at field_type parameters_at method_type
 returns c =
     record {
       holds = record {
