@@ -28,28 +28,30 @@ def pair(tag, first, second):
     return bytes([tag]) + u2(first) + u2(second)
 
 
-def pool(ints):
-    entries = [
-        utf8("A"),
-        class_entry(1),
-        utf8("java/lang/Object"),
-        class_entry(3),
-        utf8("main"),
-        utf8("([Ljava/lang/String;)V"),
-        utf8("Code"),
-        utf8("java/lang/System"),
-        class_entry(8),
-        utf8("out"),
-        utf8("Ljava/io/PrintStream;"),
+def named_class(index, name):
+    """A Utf8 at an index, and the Class behind it that it names."""
+    return [utf8(name), class_entry(index)]
+
+
+def entries_with(method, descriptor):
+    """The entries 1 to 19 of a constant pool: a class, a method's name and descriptor, a field and a method."""
+    return [
+        *named_class(1, "A"),
+        *named_class(3, "java/lang/Object"),
+        *map(utf8, (method, descriptor, "Code")),
+        *named_class(8, "java/lang/System"),
+        *map(utf8, ("out", "Ljava/io/PrintStream;")),
         pair(12, 10, 11),
         pair(9, 9, 12),
-        utf8("java/io/PrintStream"),
-        class_entry(14),
-        utf8("println"),
-        utf8("(I)V"),
+        *named_class(14, "java/io/PrintStream"),
+        *map(utf8, ("println", "(I)V")),
         pair(12, 16, 17),
         pair(10, 15, 18),
     ]
+
+
+def pool(ints):
+    entries = entries_with("main", "([Ljava/lang/String;)V")
     entries += [b"\x03" + struct.pack(">i", number) for number in ints]
     return u2(len(entries) + 1) + b"".join(entries)
 

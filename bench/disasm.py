@@ -18,7 +18,7 @@ import time
 
 sys.dont_write_bytecode = True
 
-from class_file import class_entry, pair, u2, utf8
+from class_file import entries_with, u2, utf8
 from replay import peak_kilobytes
 
 ROOT = os.path.dirname(os.path.dirname(os.path.abspath(__file__)))
@@ -34,29 +34,8 @@ def u4(number):
 
 
 def head():
-    """The entries 1 to 20 of a constant pool: a class, a field, a method and an int."""
-    return [
-        utf8("A"),
-        class_entry(1),
-        utf8("java/lang/Object"),
-        class_entry(3),
-        utf8("f"),
-        utf8("()V"),
-        utf8("Code"),
-        utf8("java/lang/System"),
-        class_entry(8),
-        utf8("out"),
-        utf8("Ljava/io/PrintStream;"),
-        pair(12, 10, 11),
-        pair(9, 9, 12),
-        utf8("java/io/PrintStream"),
-        class_entry(14),
-        utf8("println"),
-        utf8("(I)V"),
-        pair(12, 16, 17),
-        pair(10, 15, 18),
-        b"\x03" + u4(1_000_000),
-    ]
+    """The entries 1 to 20 of a constant pool: those of `class_file`, and an int."""
+    return [*entries_with("f", "()V"), b"\x03" + u4(1_000_000)]
 
 
 def class_file(entries, fields, methods):
