@@ -1,11 +1,11 @@
 -- A local instruction over the values of a frame.
-use Rattle.std.specs.Prelude.{◌≡◌, ℕ, List, [], ◌∷◌, ◌++◌, Option, Some, None, Bool, true, false, Result, Ok, Err, ◌+◌, nat_le, drop, length, map, slice_get}
+use Rattle.std.specs.Prelude.{◌≡◌, ℕ, List, [], ◌++◌, Option, Some, None, Bool, true, false, Result, Ok, Err, ◌+◌, nat_le, drop, length, map, slice_get}
 use Rattle.std.specs.Option.{option_and_then}
 use Rattle.std.specs.declared.alloc.AllocError.{AllocError}
 use Rattle.model.specs.declared.value.Value.{Value}
 use Rattle.model.specs.declared.value.Value.TheVariants as value
 use Rattle.model.specs.Types.{value_meets}
-use Rattle.model.specs.Operands.{Slots, operands, is_ready, over_values, word_of}
+use Rattle.model.specs.Operands.{operands, is_ready, over_values, word_of}
 use Rattle.model.specs.declared.instr.Instr.{Instr}
 use Rattle.model.specs.declared.instr.Instr.TheVariants as instr
 use Rattle.model.specs.Rows.{Row, row_wants, after_row, row_target, jump_row, local_row}

@@ -1,5 +1,5 @@
 -- Finding in lists.
-use Rattle.std.proofs.Common.{◌≡◌, List, [], ◌∷◌, ◌++◌, Option, Some, None, Bool, true, false, ◌||◌, cond, refl}
+use Rattle.std.proofs.Common.{◌≡◌, List, [], ◌∷◌, ◌++◌, Some, Bool, true, false, ◌||◌, cond, refl}
 use Rattle.std.specs.Prelude.{is_some, find}
 use Rattle.std.specs.List.{list_any}
 

@@ -1,5 +1,5 @@
 -- What is known of an instruction of a method that is neither outside of the profile nor malformed.
-use Rattle.std.proofs.Common.{◌≡◌, ℕ, zero, suc, ◌+◌, ◌-◌, List, [], ◌∷◌, length, map, get_or, Option, Some, None, Bool, true, false, not, ◌||◌, cond, refl, sym, ap, subst, ◌∙◌, arith}
+use Rattle.std.proofs.Common.{◌≡◌, ℕ, zero, suc, ◌+◌, ◌-◌, List, [], ◌∷◌, map, get_or, Some, Bool, true, false, not, ◌||◌, cond, refl, sym, ap, subst, ◌∙◌, arith}
 use lib.Dec.{is_le}
 use Prim.Native.Nat.{compare}
 use Rattle.std.specs.Prelude.{ℤ, pos, negsuc, ◌+ℤ◌, slice_index_or, find}
@@ -7,13 +7,11 @@ use Rattle.std.specs.List.{list_any, AllByRecursion}
 use Rattle.std.specs.Option.{option_map_or}
 use Rattle.model.specs.declared.instr.Instr.{Instr}
 use Rattle.model.specs.declared.instr.Instr.TheVariants as instr
-use Rattle.model.specs.Tree.{Entry, CodeTree, MethodTree, FileTree}
 use Rattle.model.specs.Instruction.{instr_at, table_jump, lookup_pair, jump_count}
 use Rattle.model.specs.InstructionStarts.{starts, is_start}
-use Rattle.model.specs.Rows.{target, counting}
-use Rattle.model.specs.Classes.{code_in}
+use Rattle.model.specs.Rows.{counting}
 use Rattle.replay.specs.Placed.{Leads, JumpsFit}
-use Rattle.replay.specs.Profile.{marked_from, boundaries, some_instruction, is_marked, jumps_of, jumps_astray, rise, matches_of, names_wrong_kind, lacks_local, has_other_opcode, has_cut_instruction, has_exception_entry, is_outside_instruction, is_malformed_instruction, is_outside_code, is_malformed_code, is_outside_method, is_malformed_method, is_plain_main, argument_slots}
+use Rattle.replay.specs.Profile.{marked_from, some_instruction, is_marked, jumps_astray}
 
 -- ---- what is said of none
 

@@ -1,7 +1,7 @@
 -- System.out, println and return in main.
-use Rattle.std.proofs.Common.{◌≡◌, ℕ, zero, suc, ◌+◌, ◌≤◌, List, [], ◌∷◌, ◌++◌, length, map, Option, Some, None, Bool, true, false, ◌&&◌, cond, drop, refl, sym, ap, subst, ◌∙◌, leb, arith}
+use Rattle.std.proofs.Common.{◌≡◌, ℕ, zero, suc, List, [], ◌∷◌, ◌++◌, map, Option, Some, None, Bool, true, false, ◌&&◌, refl, sym, ap, subst, ◌∙◌, arith}
 use Rattle.std.proofs.lemmas.Bool.{ne_eqb, eqb-true}
-use Rattle.std.specs.Prelude.{ℤ, slice_get}
+use Rattle.std.specs.Prelude.{ℤ, slice_get, codes}
 use Rattle.model.specs.declared.value.Value.{Value}
 use Rattle.model.specs.declared.value.Value.TheVariants as value
 use Rattle.model.specs.Tree.{FileTree}
@@ -16,6 +16,8 @@ use Rattle.model.specs.Operands.{values, pops_meet}
 use Rattle.model.specs.State.{Place, Instance, types_of, Invocation}
 use Rattle.model.specs.Opening.{opening_heap}
 use Rattle.model.specs.Outcomes.{Free}
+use Rattle.model.specs.DescriptorScan.{element_at, field_at, field_type, parameters_at, method_type}
+use Rattle.model.specs.Calls.{is_nothing, returned_of}
 use Rattle.model.specs.Meanings.{MeaningOf, system_out_meaning, println_meaning, return_meaning}
 use Rattle.model.specs.Step.{SteppedOf, WrongKind, Next, PartOf, part}
 use Rattle.frames.specs.Places.{has_room, replaced, int_in, int_at}
@@ -32,6 +34,11 @@ with_meaning file frames printed place o = frame_by file frames printed place ma
 pub built_in_system : is_built_in java_lang_system ≡ true
 unfolding built_in_classes
 built_in_system = refl
+
+-- main's descriptor has no result
+pub main_returns : is_nothing (returned_of (codes "([Ljava/lang/String;)V")) ≡ true
+unfolding element_at field_at field_type parameters_at method_type
+main_returns = refl
 
 and_false : (a : Bool) → (a && false) ≡ false
 and_false true = refl
@@ -143,10 +150,10 @@ module _ (file : FileTree) (frames : ℕ) (printed : List ℤ) (place : Place) w
   -- ---- return
 
   return_full : has_room 0 0 (main_code file).max_stack place.slots.stack ≡ false → with_meaning file frames printed place (Some (return_meaning (main_in file).descriptor)) ≡ WrongKind
-  return_full h = rw h refl
+  return_full h = rw (main_returns, h) refl
 
-  return_done : has_room 0 0 (main_code file).max_stack place.slots.stack ≡ true → with_meaning file frames printed place (Some (return_meaning (main_in file).descriptor)) ≡ Next Free (part (world_of file stages.Runs printed) [])
-  return_done h = rw h refl
+  pub return_done : has_room 0 0 (main_code file).max_stack place.slots.stack ≡ true → with_meaning file frames printed place (Some (return_meaning (main_in file).descriptor)) ≡ Next Free (part (world_of file stages.Runs printed) [])
+  return_done h = rw (main_returns, h) refl
 
 -- ---- the same, as the code has it
 

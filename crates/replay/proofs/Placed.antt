@@ -1,5 +1,5 @@
 -- A local instruction leads from an instruction to an instruction, or to the end of the code.
-use Rattle.std.proofs.Common.{◌≡◌, ℕ, zero, suc, ◌+◌, List, [], ◌∷◌, length, map, Option, Some, None, true, refl, sym, ap, subst, ◌⊎◌, inl, inr}
+use Rattle.std.proofs.Common.{◌≡◌, ℕ, zero, suc, ◌+◌, List, [], ◌∷◌, map, Option, Some, None, true, refl, sym, subst, inl}
 use Rattle.std.specs.Prelude.{slice_index_or, Result, Ok, Err}
 use Rattle.std.specs.Option.{option_map}
 use Rattle.std.specs.List.{AllByRecursion}
@@ -8,15 +8,15 @@ use Rattle.model.specs.declared.instr.Instr.{Instr}
 use Rattle.model.specs.declared.instr.Instr.TheVariants as instr
 use Rattle.model.specs.declared.instr.StackMove.{StackMove}
 use Rattle.model.specs.declared.instr.StackMove.TheVariants.{Pop, Pop2, Dup, DupX1, DupX2, Dup2, Dup2X1, Dup2X2, Swap}
-use Rattle.model.specs.Instruction.{sized_at, length_at, table_jump, lookup_pair}
+use Rattle.model.specs.Instruction.{length_at, table_jump, lookup_pair}
 use Rattle.model.specs.InstructionStarts.{is_start}
 use Rattle.model.specs.Rows.{Row, row_target, target, constant_row, move_row}
 use Rattle.model.specs.State.{Place}
-use Rattle.model.proofs.StartLaws.{first_start, after_start}
+use Rattle.model.proofs.StartLaws.{after_start}
 use Rattle.frames.specs.Places.{Ran, RanLocal, own_row, words_at}
 use Rattle.frames.specs.declared.local.LocalStep.{LocalStep}
 use Rattle.frames.specs.declared.local.LocalStep.TheVariants as steps
-use Rattle.replay.specs.Placed.{IsPlaced, Leads, JumpsFit}
+use Rattle.replay.specs.Placed.{IsPlaced, JumpsFit}
 
 module _ (code : List ℕ) where
   -- where a row may lead

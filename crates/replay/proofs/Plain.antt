@@ -1,9 +1,8 @@
 -- What an instruction of main may mean.
-use Rattle.std.proofs.Common.{◌≡◌, ℕ, zero, suc, ◌+◌, ◌≤◌, List, [], ◌∷◌, length, map, get_or, Option, Some, None, Bool, true, false, not, ◌||◌, cond, refl, sym, ap, subst, ◌∙◌, ◌⊎◌, inl, inr, arith}
+use Rattle.std.proofs.Common.{◌≡◌, ℕ, ◌+◌, List, ◌∷◌, length, Option, Some, None, Bool, true, false, not, ◌||◌, refl, sym, ap, subst, ◌∙◌, inl, inr, arith}
 use Rattle.std.specs.Prelude.{IfSome, slice_index_or}
 use Rattle.std.specs.Option.{option_map, option_and_then, is_none}
 use Rattle.std.proofs.Math.ListN.{get_or-map}
-use Rattle.model.specs.declared.instr.Kind.TheVariants as kind
 use Rattle.model.specs.declared.instr.Returned.TheVariants as returned
 use Rattle.model.specs.declared.instr.FieldAccess.TheVariants as access
 use Rattle.model.specs.declared.instr.Invocation.TheVariants as invocation
@@ -18,14 +17,14 @@ use Rattle.model.specs.Instruction.{HasBytes, Sized, sized_at, length_at, instr_
 use Rattle.model.specs.InstructionStarts.{is_start}
 use Rattle.model.specs.Operands.{values}
 use Rattle.model.specs.Rows.{Row, local_row, constant_row}
-use Rattle.model.specs.Meanings.{MeaningOf, Site, site_with, site_at, local_meaning, local_or, system_out_meaning, println_meaning, return_meaning, get_static_meaning, invoke_virtual_meaning, field_meaning, other_meaning, meaning_of}
+use Rattle.model.specs.Meanings.{MeaningOf, Site, site_with, local_meaning, local_or, system_out_meaning, println_meaning, return_meaning, other_meaning, meaning_of}
 use Rattle.model.proofs.InstructionLaws.{length_fits}
-use Rattle.frames.specs.Places.{own_row, own_jump_row}
+use Rattle.frames.specs.Places.{own_row}
 use Rattle.replay.specs.declared.bytecode.Other.{Other}
 use Rattle.replay.specs.declared.bytecode.Other.TheVariants as others
 use Rattle.replay.specs.Linking.{program_of, main_in, main_body, main_code, IsLinked}
 use Rattle.replay.specs.Placed.{IsPlaced, JumpsFit}
-use Rattle.replay.specs.Profile.{is_outside_instruction, is_taken, is_other_constant, is_loadable, is_other_than, names_wrong_kind, is_malformed_instruction, lacks_local, jumps_astray, rise, matches_of}
+use Rattle.replay.specs.Profile.{is_outside_instruction, is_other_constant, is_loadable, is_other_than, names_wrong_kind, lacks_local, jumps_astray, rise, matches_of}
 use Rattle.replay.specs.Machine.{meaning_at, other_of}
 use Rattle.replay.proofs.Inside.{left_false, right_false}
 use Rattle.replay.proofs.Alone.{taken, well_formed, jumps_fit}

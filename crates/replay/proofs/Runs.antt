@@ -1,8 +1,8 @@
 -- A run goes on by one event.
-use Rattle.std.proofs.Common.{◌≡◌, ℕ, ◌+◌, ◌<◌, List, [], ◌∷◌, ◌++◌, length, map, Option, Some, None, Bool, true, false, not, cond, refl, sym, ap, subst, ◌∙◌, replicate, suc, ◌-◌, drop, drop-cons, arith, append_assoc, length-append, append-nil}
+use Rattle.std.proofs.Common.{◌≡◌, ℕ, ◌+◌, ◌<◌, List, [], ◌∷◌, ◌++◌, length, Option, Some, None, Bool, true, false, not, cond, refl, sym, ap, subst, ◌∙◌, replicate, suc, ◌-◌, drop, drop-cons, arith, append_assoc, append-nil}
 use Rattle.std.proofs.lemmas.List.{replicate_more, replicate-append-replicate, take-append-drop}
 use Rattle.std.proofs.lemmas.List.Concat.{flat_map-append}
-use Rattle.std.specs.Prelude.{ℤ, option_map, if◌then◌else◌, take, get_or}
+use Rattle.std.specs.Prelude.{if◌then◌else◌, take, get_or}
 use Rattle.std.specs.Option.{option_and_then}
 use Rattle.std.specs.Prelude.{Result, Ok, Err, IfOk}
 use Rattle.std.specs.declared.alloc.AllocError.{AllocError}
@@ -11,17 +11,14 @@ use Rattle.model.specs.declared.event.Event.{Event}
 use Rattle.model.specs.declared.limits.Limits.{Limits}
 use Rattle.model.specs.declared.report.Report.{Report}
 use Rattle.model.specs.declared.end.End.{End}
-use Rattle.model.specs.declared.end.RunCause.{RunCause}
 use Rattle.model.specs.declared.end.RunCause.TheVariants as causes
 use Rattle.model.specs.Classes.{Program}
 use Rattle.model.specs.Operands.{values}
 use Rattle.model.specs.State.{State}
 use Rattle.model.specs.Opening.{opening}
-use Rattle.model.specs.Outcomes.{Cost, Free, Makes, Starts, Enters, Joins}
+use Rattle.model.specs.Outcomes.{Free, Makes, Starts, Enters, Joins}
 use Rattle.model.specs.Step.{SteppedOf, NotEnabled, WrongKind, Next, stepped, step, next_by}
 use Rattle.model.specs.Run.{run_from, is_quiet}
-use Rattle.model.specs.Report.{end_state_of, report_text}
-use Rattle.model.specs.Meaning.{meaning, thread_ends}
 use Rattle.replay.specs.declared.machine.Stepped.{Stepped}
 use Rattle.replay.specs.declared.machine.Stepped.TheVariants as steps
 use Rattle.replay.specs.Linking.{program_of}
@@ -29,7 +26,7 @@ use Rattle.replay.specs.Machine.{Machine, Shows, GoesOn, Throws, SaysOf, IsKept,
 use Rattle.model.specs.declared.event.ScheduleEntry.{ScheduleEntry}
 use Rattle.model.specs.declared.end.End.TheVariants as ends
 use Rattle.model.specs.Schedule.{events_of}
-use Rattle.replay.specs.Replay.{Reports, Finishes, end_of, if_plain, run_plainly, Stands, EndFits, text_of, IsReplay, ShowsRun, ReportsOn, StopsAt}
+use Rattle.replay.specs.Replay.{Reports, Finishes, end_of, if_plain, run_plainly, Stands, EndFits, IsReplay, ShowsRun, ReportsOn, StopsAt}
 
 -- ---- a plain run is a run
 

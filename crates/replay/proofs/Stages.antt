@@ -1,8 +1,7 @@
 -- The steps of the main thread, one stage at a time.
-use Rattle.std.proofs.Common.{◌≡◌, ℕ, zero, suc, ◌+◌, ◌-◌, ◌<◌, ◌≤◌, List, [], ◌∷◌, ◌++◌, length, map, replicate, Option, Some, None, Bool, true, false, ◌&&◌, ◌||◌, cond, ltb, eq-eqb, refl, sym, ap, subst, ◌∙◌, arith}
+use Rattle.std.proofs.Common.{◌≡◌, ℕ, ◌≤◌, List, [], ◌∷◌, length, Some, None, true, false, eq-eqb, refl, sym, ap, subst, ◌∙◌, arith}
 use Rattle.std.specs.Prelude.{ℤ}
 use Rattle.std.proofs.lemmas.Bool.{lt-ltb}
-use Rattle.std.specs.Str.{bytes_eq}
 use Rattle.model.specs.declared.event.Event.{Event}
 use Rattle.model.specs.declared.limits.Limits.{Limits}
 use Rattle.model.specs.declared.value.Value.{Value}
@@ -11,23 +10,20 @@ use Rattle.model.specs.Names.{java_lang_object, name_eq}
 use Rattle.model.specs.Tree.{FileTree}
 use Rattle.model.specs.BuiltIn.{built_in_classes}
 use Rattle.model.specs.Names.{initialiser_of}
-use Rattle.model.specs.Pool.{class_name_at}
-use Rattle.model.specs.Tree.{MethodTree}
-use Rattle.model.specs.Classes.{Body, Program, is_built_in, is_named, is_interface, name_of, super_name_of, class_of, superclass_of, body_of, code_in}
-use Rattle.model.specs.AccessFlags.{is_synchronized_method}
-use Rattle.model.specs.Frames.{locals_with, is_synchronized_one}
+use Rattle.model.specs.Classes.{is_built_in, is_named, is_interface, name_of, super_name_of, class_of, superclass_of, body_of}
+use Rattle.model.specs.Frames.{locals_with}
 use Rattle.model.specs.Opening.{opening_heap}
 use Rattle.model.specs.ClassInitialisation.{status_of, with_class_status, with_class_begun, with_constants}
-use Rattle.std.specs.Option.{option_map, option_and_then, option_map_or}
+use Rattle.std.specs.Option.{option_and_then, option_map_or}
 use Rattle.replay.proofs.Finds.{find_second}
-use Rattle.replay.proofs.Alone.{no_interface, no_fields, none_initialises, methods_inside, main_declared, below_object}
+use Rattle.replay.proofs.Alone.{no_interface, no_fields, none_initialises, methods_inside, below_object}
 use Rattle.model.specs.Operands.{values}
 use Rattle.model.specs.State.{Place, State, World, StackOf, NotInitialised, InProgress, Super, Initialisation}
 use Rattle.model.specs.Outcomes.{Free}
 use Rattle.model.specs.Step.{on_to, SteppedOf, NotEnabled, WrongKind, Next, PartOf, put_back, settled, end_of, stepped}
 use Rattle.replay.specs.declared.machine.Stage.{Stage}
 use Rattle.replay.specs.declared.machine.Stage.TheVariants as stages
-use Rattle.replay.specs.Linking.{program_of, main_in, main_body, main_code, IsLinked}
+use Rattle.replay.specs.Linking.{program_of, main_code, IsLinked}
 use Rattle.replay.specs.declared.machine.Stepped.{Stepped}
 use Rattle.replay.specs.declared.machine.Stepped.TheVariants as steps
 use Rattle.replay.specs.declared.bytecode.FrameStep.{FrameStep}

@@ -1,5 +1,5 @@
 -- What linking finds in one class file whose only method is main.
-use Rattle.std.specs.Prelude.{◌≡◌, ◌<◌, ◌⊎◌, length, ℕ, List, [], ◌∷◌, Option, Some, None, IsSome, Any, Bool, true, false, unwrap_or, option_map, option_and_then, codes}
+use Rattle.std.specs.Prelude.{◌≡◌, ◌<◌, ◌⊎◌, length, ℕ, List, [], ◌∷◌, Option, Some, None, IsSome, Any, true, false, unwrap_or, option_map, option_and_then, codes}
 use Rattle.model.specs.Names.{Member, main_of}
 use Rattle.model.specs.Pool.{integers_of}
 use Rattle.model.specs.Tree.{FileTree, MethodTree, CodeTree}

@@ -5,15 +5,14 @@ use Rattle.model.specs.declared.limits.Limits.{Limits}
 use Rattle.model.specs.declared.value.Value.{Value}
 use Rattle.model.specs.declared.value.Value.TheVariants as value
 use Rattle.model.specs.declared.instr.Instr.{Instr}
-use Rattle.model.specs.declared.end.RunCause.{RunCause}
 use Rattle.model.specs.declared.end.RunCause.TheVariants as causes
 use Rattle.model.specs.Names.{Name}
 use Rattle.model.specs.Classes.{name_of}
 use Rattle.model.specs.Operands.{values}
-use Rattle.model.specs.State.{ClassStatus, NotInitialised, InProgress, Initialised, Running, Ended, Thread, Place, Frame, Super, End, Invocation, Initialisation, StackOf, World, State, new_thread}
+use Rattle.model.specs.State.{ClassStatus, NotInitialised, InProgress, Initialised, Ended, Thread, Place, Frame, Super, End, Invocation, Initialisation, StackOf, World, State, new_thread}
 use Rattle.model.specs.Monitors.{unlocked}
 use Rattle.model.specs.Opening.{print_stream_reference, opening_heap, main_thread_reference, static_fields, with_first}
-use Rattle.model.specs.Outcomes.{Cost, Free}
+use Rattle.model.specs.Outcomes.{Free}
 use Rattle.model.specs.Meanings.{MeaningOf, meaning_of, other_meaning, site_at}
 use Rattle.model.specs.declared.instr.Instr.{Instr}
 use Rattle.model.specs.declared.instr.Instr.TheVariants as instr

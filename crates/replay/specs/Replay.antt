@@ -1,5 +1,5 @@
 -- What a replay is: the report means the events that were done, and the end says why no more were.
-use Rattle.std.specs.Prelude.{◌≡◌, ℕ, List, [], ◌∷◌, ◌++◌, Option, Some, None, Bool, true, false, if◌then◌else◌, ◌<◌, length, map, replicate}
+use Rattle.std.specs.Prelude.{◌≡◌, ℕ, List, [], ◌∷◌, ◌++◌, Option, Some, None, true, false, if◌then◌else◌, ◌<◌, length, map, replicate}
 use Rattle.std.specs.Option.{option_and_then}
 use Rattle.model.specs.declared.event.Event.{Event}
 use Rattle.model.specs.declared.limits.Limits.{Limits}
@@ -12,10 +12,9 @@ use Rattle.model.specs.Classes.{Program}
 use Rattle.model.specs.Operands.{values}
 use Rattle.model.specs.State.{State}
 use Rattle.model.specs.Opening.{opening}
-use Rattle.model.specs.Outcomes.{Cost, Free, Makes, Starts, Enters, Joins}
+use Rattle.model.specs.Outcomes.{Free, Makes, Starts, Enters, Joins}
 use Rattle.model.specs.Step.{SteppedOf, NotEnabled, WrongKind, Next, stepped}
 use Rattle.model.specs.Run.{run, is_quiet}
-use Rattle.model.specs.Report as report
 use Rattle.model.specs.Report.{end_state_of, report_text}
 use Rattle.model.specs.Meaning.{meaning, thread_ends}
 use Rattle.replay.specs.Linking.{program_of}

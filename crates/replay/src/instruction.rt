@@ -5,7 +5,7 @@ ghost use Rattle.std.specs.List.{list_any};
 ghost use Rattle.model.specs.Instruction.{table_jump, lookup_pair};
 ghost use Rattle.model.specs.InstructionStarts.{starts};
 ghost use Rattle.model.specs.Rows.{counting};
-ghost use Rattle.constant_pool.specs.View.{entries_of, reference_of};
+ghost use Rattle.constant_pool.specs.View.{reference_of};
 ghost use Rattle.classfile.specs.View.{code_of};
 ghost use Rattle.replay.specs.Profile.{is_widened, is_known, is_known_at, has_other_opcode, has_cut_instruction, is_taken, loads_other_constant, is_other_than, gets_other_field, calls_other_method, is_outside_instruction, lacks_local, is_marked, jumps_astray, matches_of, rise, names_wrong_kind, is_malformed_instruction, some_instruction};
 ghost use Rattle.replay.specs.Checks.{Says, Finds, is_outside_at, is_malformed_at};
@@ -70,8 +70,8 @@ pub(crate) fn first_missing(code: &[u8], marks: &[bool]) -> Option<(usize, Flaw)
 /// The first whole instruction with a flaw.
 pub(crate) fn first_flaw(file: &ClassFile, code: &Code, marks: &[bool]) -> Option<(usize, Flaw)>
     requires { marks.now ≡ starts code.now.code.items }
-    ensures { Finds result (some_instruction (λ pc i. is_outside_instruction (entries_of file.now.pool.items) i) code.now.code.items)
-        (some_instruction (is_malformed_instruction (entries_of file.now.pool.items) (code_of code.now)) code.now.code.items) }
+    ensures { Finds result (some_instruction (λ pc i. is_outside_instruction file.now.pool i) code.now.code.items)
+        (some_instruction (is_malformed_instruction file.now.pool (code_of code.now)) code.now.code.items) }
 {
     for (pc, is_start) in marks.iter().enumerate() {
         if *is_start {
@@ -86,7 +86,7 @@ pub(crate) fn first_flaw(file: &ClassFile, code: &Code, marks: &[bool]) -> Optio
 /// What is wrong with the instruction at an offset.
 fn flaw_at(file: &ClassFile, code: &Code, marks: &[bool], pc: usize) -> Option<Flaw>
     requires { marks.now ≡ starts code.now.code.items }
-    ensures { Says result (is_outside_at (entries_of file.now.pool.items) (code_of code.now) pc) (is_malformed_at (entries_of file.now.pool.items) (code_of code.now) pc) }
+    ensures { Says result (is_outside_at file.now.pool (code_of code.now) pc) (is_malformed_at file.now.pool (code_of code.now) pc) }
 {
     let instr = decode_at(&code.code, pc)?;
     if is_outside(file, instr) {
@@ -100,7 +100,7 @@ fn flaw_at(file: &ClassFile, code: &Code, marks: &[bool], pc: usize) -> Option<F
 
 /// Whether an instruction is not one that this machine takes.
 fn is_outside(file: &ClassFile, instr: Instr) -> bool
-    ensures { result ≡ is_outside_instruction (entries_of file.now.pool.items) instr }
+    ensures { result ≡ is_outside_instruction file.now.pool instr }
 {
     !is_taken(instr)
         || loads_other_constant(file, instr)
@@ -148,7 +148,7 @@ fn is_taken(instr: Instr) -> bool
 
 /// Whether it loads a constant that may be loaded, but is no int.
 fn loads_other_constant(file: &ClassFile, instr: Instr) -> bool
-    ensures { result ≡ loads_other_constant (entries_of file.now.pool.items) instr }
+    ensures { result ≡ loads_other_constant file.now.pool instr }
 {
     match instr {
         Instr::LoadConstant { index } => matches!(
@@ -172,7 +172,7 @@ fn is_other_than(named: Option<Reference<'_>>, class: &[u8], name: &[u8], descri
 }
 
 fn gets_other_field(file: &ClassFile, instr: Instr) -> bool
-    ensures { result ≡ gets_other_field (entries_of file.now.pool.items) instr }
+    ensures { result ≡ gets_other_field file.now.pool instr }
 {
     match instr {
         Instr::Field {
@@ -189,7 +189,7 @@ fn gets_other_field(file: &ClassFile, instr: Instr) -> bool
 }
 
 fn calls_other_method(file: &ClassFile, instr: Instr) -> bool
-    ensures { result ≡ calls_other_method (entries_of file.now.pool.items) instr }
+    ensures { result ≡ calls_other_method file.now.pool instr }
 {
     match instr {
         Instr::Invoke {
@@ -208,7 +208,7 @@ fn calls_other_method(file: &ClassFile, instr: Instr) -> bool
 /// Whether an instruction breaks a condition of JVMS 4.9.1.
 fn is_malformed(file: &ClassFile, code: &Code, marks: &[bool], pc: usize, instr: Instr) -> bool
     requires { marks.now ≡ starts code.now.code.items }
-    ensures { result ≡ is_malformed_instruction (entries_of file.now.pool.items) (code_of code.now) pc instr }
+    ensures { result ≡ is_malformed_instruction file.now.pool (code_of code.now) pc instr }
 {
     lacks_local(code.max_locals, instr)
         || jumps_astray(&code.code, marks, pc, instr)
@@ -315,7 +315,7 @@ fn pairs_rise(code: &[u8], at: usize, count: usize) -> bool
 
 /// Whether an index names nothing of the kind that the instruction takes.
 fn names_wrong_kind(file: &ClassFile, instr: Instr) -> bool
-    ensures { result ≡ names_wrong_kind (entries_of file.now.pool.items) instr }
+    ensures { result ≡ names_wrong_kind file.now.pool instr }
 {
     match instr {
         Instr::LoadConstant { index } => !matches!(

@@ -65,7 +65,11 @@ fn method_code(alloc: Global, file: &ClassFile, code: &Code) -> Result<MethodCod
     ensures { IfOk result (λ m. m ≡ record { code = code.now.code.items; integers = integers_of file.now.pool; max_stack = code.now.max_stack }) }
 {
     let bytes = Vec::from_slice(alloc, &code.code)?;
-    Ok(MethodCode::new(bytes, integers(alloc, file.pool.constants())?, code.max_stack))
+    Ok(MethodCode::new(
+        bytes,
+        integers(alloc, file.pool.constants())?,
+        code.max_stack,
+    ))
 }
 
 /// The class file that bytes are, or why the file with this number is refused.

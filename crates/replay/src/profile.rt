@@ -4,7 +4,6 @@ ghost use Rattle.std.specs.Prelude.{◌≡◌, ◌/◌, ◌%◌, ◌<◌, ◌==�
 ghost use Rattle.std.specs.List.{list_any};
 ghost use Rattle.model.specs.Names.{spells};
 ghost use Rattle.model.specs.Classes.{code_in, is_method};
-ghost use Rattle.constant_pool.specs.View.{entries_of};
 ghost use Rattle.classfile.specs.View.{code_of, method_part_of, method_of, file_of};
 ghost use Rattle.replay.specs.Profile.{has_other_superclass, is_plain_main, is_outside_code, is_outside_method, is_outside, is_malformed_code, is_malformed_method, is_malformed};
 ghost use Rattle.replay.specs.Checks.{Refuses, IsOf};
@@ -59,7 +58,7 @@ pub(crate) fn first_code(attributes: &[MethodAttribute]) -> Option<&Code>
 
 /// Whether a method is main.
 pub(crate) fn is_main(file: &ClassFile, method: &Method) -> bool
-    ensures { result ≡ is_method (entries_of file.now.pool.items) (codes "main") (codes "([Ljava/lang/String;)V") (method_of method.now) }
+    ensures { result ≡ is_method file.now.pool (codes "main") (codes "([Ljava/lang/String;)V") (method_of method.now) }
 {
     is_spelled(file.utf8(method.name), b"main")
         && is_spelled(file.utf8(method.descriptor), b"([Ljava/lang/String;)V")
@@ -67,7 +66,7 @@ pub(crate) fn is_main(file: &ClassFile, method: &Method) -> bool
 
 /// Whether a method is a main that is static and none of synchronized, native and abstract.
 fn is_plain_main(file: &ClassFile, method: &Method) -> bool
-    ensures { result ≡ is_plain_main (entries_of file.now.pool.items) (method_of method.now) }
+    ensures { result ≡ is_plain_main file.now.pool (method_of method.now) }
 {
     let flags = method.flags;
     is_main(file, method)
@@ -134,10 +133,10 @@ fn check_code(
     method: &Method,
     code: &Code,
 ) -> Result<(), Refusal>
-    ensures inside { OnOk result (is_outside_code (entries_of file.now.pool.items) (code_of code.now) ≡ false) }
-    ensures whole { OnOk result (is_malformed_code (entries_of file.now.pool.items) 1 (code_of code.now) ≡ false) }
-    ensures refused { IfErr result (λ r. Refuses (is_outside_code (entries_of file.now.pool.items) (code_of code.now))
-        (is_malformed_code (entries_of file.now.pool.items) 1 (code_of code.now)) r.kind r.cause) }
+    ensures inside { OnOk result (is_outside_code file.now.pool (code_of code.now) ≡ false) }
+    ensures whole { OnOk result (is_malformed_code file.now.pool 1 (code_of code.now) ≡ false) }
+    ensures refused { IfErr result (λ r. Refuses (is_outside_code file.now.pool (code_of code.now))
+        (is_malformed_code file.now.pool 1 (code_of code.now)) r.kind r.cause) }
 {
     let start = file.code_offset(place);
     if code.max_locals < 1 {
@@ -163,10 +162,10 @@ fn check_method(
     place: usize,
     method: &Method,
 ) -> Result<(), Refusal>
-    ensures inside { OnOk result (is_outside_method (entries_of file.now.pool.items) (method_of method.now) ≡ false) }
-    ensures whole { OnOk result (is_malformed_method (entries_of file.now.pool.items) (method_of method.now) ≡ false) }
-    ensures refused { IfErr result (λ r. Refuses (is_outside_method (entries_of file.now.pool.items) (method_of method.now))
-        (is_malformed_method (entries_of file.now.pool.items) (method_of method.now)) r.kind r.cause) }
+    ensures inside { OnOk result (is_outside_method file.now.pool (method_of method.now) ≡ false) }
+    ensures whole { OnOk result (is_malformed_method file.now.pool (method_of method.now) ≡ false) }
+    ensures refused { IfErr result (λ r. Refuses (is_outside_method file.now.pool (method_of method.now))
+        (is_malformed_method file.now.pool (method_of method.now)) r.kind r.cause) }
 {
     if !is_plain_main(file, method) {
         return Err(outside(alloc, file, method, None));

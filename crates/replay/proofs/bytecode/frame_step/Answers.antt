@@ -1,4 +1,4 @@
-use Rattle.std.proofs.Common.{◌≡◌, ℕ, ◌+◌, None, Some, Ok, sym, subst, rules}
+use Rattle.std.proofs.Common.{◌≡◌, ℕ, ◌+◌, Some, Ok, sym, subst, rules}
 use Rattle.model.specs.Instruction.{Sized, sized_at}
 use Rattle.model.specs.Pool.{integers_of}
 use Rattle.model.specs.State.{Place}

@@ -1,5 +1,4 @@
 use Rattle.std.proofs.Common.{rules, arith, ◌≡◌, get_or, true, false, below_more}
-use Rattle.constant_pool.specs.View.{entries_of}
 use Rattle.classfile.specs.View.{code_of}
 use Rattle.replay.specs.Checks.{is_outside_at, is_malformed_at}
 use Rattle.replay.proofs.Profiles.{any_of_marks, none_of_marks, says_more}
@@ -8,7 +7,7 @@ use Rattle.replay.proofs.instruction.first_flaw.Goals.{then-is_start+in_default,
 
 pub returns-in-Some : goal.returns-in-Some
 returns-in-Some c =
-    let pool = entries_of c.args.file.now.pool.items in
+    let pool = c.args.file.now.pool in
     let tree = code_of c.args.code.now in
     let marks = c.args.marks.now in
     let pc = c.loop-pc.pc in
@@ -19,7 +18,7 @@ returns-in-Some c =
 
 pub loop-pc-preserved : goal.loop-pc-preserved
 loop-pc-preserved c =
-    let pool = entries_of c.args.file.now.pool.items in
+    let pool = c.args.file.now.pool in
     let tree = code_of c.args.code.now in
     let marks = c.args.marks.now in
     let pc = c.loop-pc.pc in
@@ -38,7 +37,7 @@ loop-pc-preserved c =
 
 pub returns : goal.returns
 returns c =
-    let pool = entries_of c.args.file.now.pool.items in
+    let pool = c.args.file.now.pool in
     let tree = code_of c.args.code.now in
     let marks = c.args.marks.now in (
       none_of_marks (is_outside_at pool tree) tree.code marks c.requires (λ k below. c.loop-pc.invariant.inside k (omega (arith, below))),

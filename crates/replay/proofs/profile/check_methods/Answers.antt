@@ -1,6 +1,5 @@
 use Rattle.std.proofs.Common.{arith, ◌≡◌, ◌<◌, ◌≤◌, length, get_or, ap}
 use Rattle.std.proofs.lemmas.Result.{err_from_is_err_and}
-use Rattle.constant_pool.specs.View.{entries_of}
 use Rattle.classfile.specs.View.{method_of}
 use Rattle.replay.specs.Profile.{is_outside_method, is_malformed_method}
 use Rattle.replay.proofs.Profiles.{refuses_more, any_method, no_method}
@@ -10,7 +9,7 @@ pub returns-in_err-check_method-clause-refused : goal.returns-in_err-check_metho
 returns-in_err-check_method-clause-refused c =
     let p = err_from_is_err_and c.from_residual.result c.from_residual.ensures.1 in
     let e = c.in_err-check_method.field-0.0 in
-    let pool = entries_of c.args.file.now.pool.items in
+    let pool = c.args.file.now.pool in
     let methods = c.args.file.now.methods.items in
     let item = c.method-item.result in
     let below : c.loop-place.place < length methods = omega (arith, c.loop-place-test.true, c.deref-method-items.ensures.len, ap length c.deref-method-items.ensures.value) in
@@ -22,9 +21,9 @@ returns-in_err-check_method-clause-refused c =
 pub returns-clause-inside : goal.returns-clause-inside
 returns-clause-inside c =
     let all : length c.args.file.now.methods.items ≤ c.loop-place.place = omega (arith, c.loop-place-test.false, ap length c.deref-method-items.ensures.value) in
-    no_method (is_outside_method (entries_of c.args.file.now.pool.items)) method_of c.args.file.now.methods.items c.loop-place.place all c.loop-place.invariant.inside
+    no_method (is_outside_method c.args.file.now.pool) method_of c.args.file.now.methods.items c.loop-place.place all c.loop-place.invariant.inside
 
 pub returns-clause-whole : goal.returns-clause-whole
 returns-clause-whole c =
     let all : length c.args.file.now.methods.items ≤ c.loop-place.place = omega (arith, c.loop-place-test.false, ap length c.deref-method-items.ensures.value) in
-    no_method (is_malformed_method (entries_of c.args.file.now.pool.items)) method_of c.args.file.now.methods.items c.loop-place.place all c.loop-place.invariant.whole
+    no_method (is_malformed_method c.args.file.now.pool) method_of c.args.file.now.methods.items c.loop-place.place all c.loop-place.invariant.whole

@@ -1,8 +1,5 @@
-use Rattle.std.proofs.Common.{◌≡◌, ◌<◌, List, ◌++◌, replicate, rules, arith}
-use Rattle.model.specs.declared.event.Event.{Event}
+use Rattle.std.proofs.Common.{◌≡◌, ◌<◌, ◌++◌, replicate, rules, arith}
 use Rattle.replay.specs.declared.machine.Stepped.TheVariants as steps
-use Rattle.replay.specs.Machine.{Machine}
-use Rattle.replay.specs.Replay.{ShowsRun}
 use Rattle.replay.proofs.Runs.{stops, stays, one_more}
 use Rattle.replay.proofs.run.run_entry.Goals as goal
 

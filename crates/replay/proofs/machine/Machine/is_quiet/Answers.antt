@@ -1,5 +1,4 @@
-use Rattle.std.proofs.Common.{◌≡◌, not, ap}
-use Rattle.replay.specs.Machine.{is_alive}
+use Rattle.std.proofs.Common.{not, ap}
 use Rattle.replay.proofs.Enabled.{quiet_says}
 use Rattle.replay.proofs.machine.Machine.is_quiet.Goals as goal
 

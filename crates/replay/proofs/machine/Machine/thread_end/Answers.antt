@@ -1,4 +1,4 @@
-use Rattle.std.proofs.Common.{◌≡◌, true, refl, sym, ap, rules}
+use Rattle.std.proofs.Common.{◌≡◌, true, sym, ap, rules}
 use Rattle.std.specs.Prelude.{if◌then◌else◌}
 use Rattle.model.specs.Report.{Runnable, Ended}
 use Rattle.replay.specs.Machine.{is_alive}
