@@ -23,7 +23,7 @@ pub enum LocalStep {
     Throws,
     /// An operand is missing or of the wrong kind, or the stack would be too deep; nothing was done.
     WrongKind,
-    /// It is not local; nothing was done.
+    /// It is not local, or asks what an object is; nothing was done.
     Elsewhere,
 }
 

@@ -1,4 +1,4 @@
--- Accepted files: they link, and each of their methods passes verification. And what that is good for.
+-- Accepted files: they link, and each of their methods passes verification. And the statement of what that is good for.
 use Rattle.std.specs.Prelude.{◌≡◌, ℕ, List, Some, IsFalse}
 use Rattle.model.specs.declared.event.Event.{Event}
 use Rattle.model.specs.Classes.{Program}
@@ -13,7 +13,8 @@ pub record IsAccepted (files : List (List ℕ)) (trees : Program) : Type 0 where
   pub linkable : IsLinkable files trees
   pub typed : AreTyped trees
 
--- Whatever the events, no thread of a state that a run of accepted files reaches meets an operand of a wrong kind.
+-- What is to be shown of them: whatever the events, no thread of a state that a run of accepted files reaches meets an operand
+-- of a wrong kind.
 abbrev pub IsSound : Type 0
 IsSound =
     (files : List (List ℕ)) (trees : Program) → IsAccepted files trees → (frames : ℕ) (events : List Event) (state : State)
