@@ -60,3 +60,4 @@ pub mod JavaCallsClasses
 pub mod JavaCalls
 pub mod ThreadsThatWaitClasses
 pub mod ThreadsThatWait
+pub mod AcceptedProgram

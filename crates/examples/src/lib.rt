@@ -2,6 +2,7 @@
 //! theorem, and does nothing.
 #![tactic(auto)]
 
+ghost use Rattle.examples.specs.AcceptedProgram.{AcceptedProgram};
 ghost use Rattle.examples.specs.ArrayStore.{ArrayStore};
 ghost use Rattle.examples.specs.Branches.{Branches};
 ghost use Rattle.examples.specs.BuiltInClasses.{BuiltInClasses, OpeningObjects};
@@ -366,4 +367,9 @@ pub fn java_calls()
 /// Threads in Java each of which waits for something else, and how they stand then.
 pub fn threads_that_wait()
     ensures holds { ThreadsThatWait }
+{}
+
+/// A program is accepted, and its run meets no operand of a wrong kind; another one links and is not accepted.
+pub fn accepted_program()
+    ensures holds { AcceptedProgram }
 {}
