@@ -1,5 +1,5 @@
 -- Programs each of whose methods has a typing of a table, by a test.
-use Rattle.std.proofs.Common.{◌≡◌, refl, subst, ℕ, List, [], ◌∷◌, Option, Some, None, Bool, true, false, ◌&&◌}
+use Rattle.std.proofs.Common.{◌≡◌, refl, subst, ℕ, List, [], ◌∷◌, Option, Some, None, Bool, true, false}
 use Rattle.std.specs.Prelude.{find, if◌then◌else◌, cond}
 use Rattle.std.specs.Option.{option_map, option_and_then}
 use Rattle.std.specs.List.{list_all}
@@ -9,7 +9,7 @@ use Rattle.std.proofs.lemmas.Slice.Eq.{bytes_eq-Decides}
 use Rattle.model.specs.Names.{Name, Member, name_eq, spells, member_eq}
 use Rattle.model.specs.Tree.{CodeTree, FileTree, MethodTree}
 use Rattle.model.specs.Pool.{utf8_at}
-use Rattle.model.specs.Classes.{Program, Body, name_of, classes_of, class_of, is_named, is_method, declared_in, code_in, with_pool, body_in, body_of}
+use Rattle.model.specs.Classes.{Program, Body, name_of, classes_of, class_of, is_named, is_method, declared_in, code_in, with_pool, body_in}
 use Rattle.model.specs.TypeOrder.{FrameType}
 use Rattle.model.specs.Typing.{HasTyping, AreTyped}
 use Rattle.examples.specs.Typings.{typing_in}

@@ -1,11 +1,11 @@
 -- The program of a class A whose main prints 7 is accepted: it links, and each of its methods passes verification (JVMS
 -- 4.10), Thread.run among them. In its run no operand of a wrong kind is met. And a program that links and is not accepted.
-use Rattle.std.specs.Prelude.{◌≡◌, ℕ, pos, List, [], ◌∷◌, Option, Some, None, Bool, true, false, map, replicate, codes}
+use Rattle.std.specs.Prelude.{◌≡◌, ℕ, pos, List, [], ◌∷◌, Option, Some, None, Bool, false, map, replicate, codes}
 use Rattle.std.specs.Option.{option_map}
-use Rattle.model.specs.State.{State, Ended}
+use Rattle.model.specs.State.{Ended}
 use Rattle.model.specs.WrongKind.{has_wrong_kind}
 use Rattle.model.specs.Classes.{Program}
-use Rattle.model.specs.Linkable.{IsLinkable, some_stands}
+use Rattle.model.specs.Linkable.{some_stands}
 use Rattle.model.specs.Accepted.{IsAccepted}
 use Rattle.examples.specs.Bytes.{hex}
 use Rattle.examples.specs.Printing as printing

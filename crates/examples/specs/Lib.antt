@@ -61,3 +61,6 @@ pub mod JavaCalls
 pub mod ThreadsThatWaitClasses
 pub mod ThreadsThatWait
 pub mod AcceptedProgram
+pub mod ListedFile
+pub mod ScheduleFiles
+pub mod PlainMonitors

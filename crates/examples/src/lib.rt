@@ -28,6 +28,7 @@ ghost use Rattle.examples.specs.JavaCalls.{JavaCalls};
 ghost use Rattle.examples.specs.JavaObjects.{JavaObjects};
 ghost use Rattle.examples.specs.JavaThreads.{JavaThreads};
 ghost use Rattle.examples.specs.Javac.{WrittenByJavac};
+ghost use Rattle.examples.specs.ListedFile.{ListedFile};
 ghost use Rattle.examples.specs.LockOrderDeadlock.{LockOrderDeadlock};
 ghost use Rattle.examples.specs.Lookups.{Instances, Lookups};
 ghost use Rattle.examples.specs.Loops.{Loop, Switches};
@@ -36,10 +37,12 @@ ghost use Rattle.examples.specs.MalformedFiles.{MalformedFiles};
 ghost use Rattle.examples.specs.NarrowArrays.{NarrowArrays};
 ghost use Rattle.examples.specs.NotARunnable.{NotARunnable};
 ghost use Rattle.examples.specs.OnlyReturns.{OnlyReturns};
+ghost use Rattle.examples.specs.PlainMonitors.{PlainMonitors};
 ghost use Rattle.examples.specs.PrintsSeven.{PrintsSeven, EventByEvent};
 ghost use Rattle.examples.specs.ProgramsLink.{ProgramsLink};
 ghost use Rattle.examples.specs.Refusals.{BadHierarchies, MalformedCodes, OtherRefusals, OutsideProfiles, Unresolveds};
 ghost use Rattle.examples.specs.SameString.{SameString};
+ghost use Rattle.examples.specs.ScheduleFiles.{ScheduleFiles};
 ghost use Rattle.examples.specs.ShadowedFields.{ShadowedFields};
 ghost use Rattle.examples.specs.StackMoves.{StackMoves};
 ghost use Rattle.examples.specs.StackOverflow.{StackOverflow};
@@ -372,4 +375,19 @@ pub fn threads_that_wait()
 /// A program is accepted, and its run meets no operand of a wrong kind; another one links and is not accepted.
 pub fn accepted_program()
     ensures holds { AcceptedProgram }
+{}
+
+/// The listing of a class file, line by line.
+pub fn listing_of_the_first_file()
+    ensures holds { ListedFile }
+{}
+
+/// Eight events as a schedule file of either version, and bytes that are no schedule.
+pub fn schedule_files()
+    ensures holds { ScheduleFiles }
+{}
+
+/// Calls on two monitors: a waiting thread is notified, and enters again as often as it had entered.
+pub fn plain_monitors()
+    ensures holds { PlainMonitors }
 {}

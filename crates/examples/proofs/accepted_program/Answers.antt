@@ -1,4 +1,4 @@
-use Rattle.std.proofs.Common.{refl, List, [], ◌∷◌, true, ◌||◌, false}
+use Rattle.std.proofs.Common.{refl, [], ◌∷◌, true, ◌||◌, false}
 use Rattle.std.specs.Prelude.{codes}
 use Rattle.std.specs.Fmt.{digits}
 use Rattle.model.specs.Names.{main_of, thread_run}
