@@ -69,10 +69,10 @@ module _ (files : Program) (table : Table) where
   as_named file class name descriptor code body p q n d s t h =
       let own : Member = record { class = name_of file; name = n; descriptor = d } in
       let typed : HasTyping files own (with_pool file.pool code) = record { typing = typing_in (types_in table own); holds = is_typed files own (with_pool file.pool code) (types_in table own) h } in
-      subst (λ b. HasTyping files (record { class = class; name = name; descriptor = descriptor }) b) q
-      (subst (λ x. HasTyping files (record { class = class; name = name; descriptor = x }) (with_pool file.pool code)) t
-      (subst (λ x. HasTyping files (record { class = class; name = x; descriptor = d }) (with_pool file.pool code)) s
-      (subst (λ x. HasTyping files (record { class = x; name = n; descriptor = d }) (with_pool file.pool code)) p typed)))
+      let in_named : HasTyping files (record { class = class; name = n; descriptor = d }) (with_pool file.pool code) = subst (λ x. HasTyping files (record { class = x; name = n; descriptor = d }) (with_pool file.pool code)) p typed in
+      let of_name : HasTyping files (record { class = class; name = name; descriptor = d }) (with_pool file.pool code) = subst (λ x. HasTyping files (record { class = class; name = x; descriptor = d }) (with_pool file.pool code)) s in_named in
+      let described : HasTyping files (record { class = class; name = name; descriptor = descriptor }) (with_pool file.pool code) = subst (λ x. HasTyping files (record { class = class; name = name; descriptor = x }) (with_pool file.pool code)) t of_name in
+      subst (λ b. HasTyping files (record { class = class; name = name; descriptor = descriptor }) b) q described
 
   in_method : (file : FileTree) (m : Member) (body : Body) → name_of file ≡ m.class → (name descriptor : Option Name) (code : Option CodeTree) → spells name m.name ≡ true → spells descriptor m.descriptor ≡ true → option_map (with_pool file.pool) code ≡ Some body → named_typed files table file name descriptor code ≡ true → HasTyping files m body
   in_method file m body p None descriptor code s t e h = absurd (false≢true s)
