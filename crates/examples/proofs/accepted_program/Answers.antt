@@ -45,7 +45,13 @@ returns c =
         printed = refl;
         ended = refl;
         right_kinds = refl;
-        links = refl;
+        links = record {
+          spelled = (record {
+            layout = record { spelled = refl; fits = fits _ tt };
+            whole = record { indices = refl; names = refl; descriptors = refl; attributes = refl; members = refl };
+          }, tt);
+          no_refusal = refl;
+        };
         not_accepted = λ bytes h. untyped (h.typed (main_of (codes "A")) (body_with printing.pool 2 1 (hex (codes "0360b1"))) refl);
       };
     }
