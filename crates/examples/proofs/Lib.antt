@@ -1,3 +1,4 @@
 pub mod Fits
 pub mod Picks
 pub mod TypingProofs
+pub mod TableProofs

@@ -1,8 +1,8 @@
 -- A class A with an int field x, a constructor and a main that makes an A: typings where objects are not initialised yet; and what
 -- single instructions do to such types.
 use Rattle.std.specs.Prelude.{◌≡◌, ℕ, List, [], ◌∷◌, Option, Some, None, Bool, true, false, codes}
-use Rattle.model.specs.Names.{Name, Member, main_of, constructor_name, java_lang_object, java_lang_throwable}
-use Rattle.model.specs.Tree.{Entry, Utf8, Class, NameAndType, Field, Method, CodeTree, CodeOf, FieldTree, MethodTree, FileTree}
+use Rattle.model.specs.Names.{Member, main_of, constructor_name, java_lang_object, java_lang_throwable}
+use Rattle.model.specs.Tree.{Entry, Utf8, Class, NameAndType, Field, Method, CodeTree, CodeOf, FileTree}
 use Rattle.model.specs.Classes.{Program, Body, body_of}
 use Rattle.model.specs.ReferenceTypes.{ReferenceType, ClassType, PrimitiveArray}
 use Rattle.model.specs.ReferenceTypes as primitive

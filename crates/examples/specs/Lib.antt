@@ -60,3 +60,7 @@ pub mod JavaCallsClasses
 pub mod JavaCalls
 pub mod ThreadsThatWaitClasses
 pub mod ThreadsThatWait
+pub mod AcceptedProgram
+pub mod ListedFile
+pub mod ScheduleFiles
+pub mod PlainMonitors

@@ -1,6 +1,6 @@
 -- Joins of types and of frame types, written out.
 use Rattle.std.specs.Prelude.{◌≡◌, ℕ, List, [], ◌∷◌, Option, Some, None, Bool, true, false, codes}
-use Rattle.model.specs.Names.{Name, java_lang_object}
+use Rattle.model.specs.Names.{java_lang_object}
 use Rattle.model.specs.ReferenceTypes.{ReferenceType, ClassType, PrimitiveArray, ReferenceArray}
 use Rattle.model.specs.ReferenceTypes as primitive
 use Rattle.model.specs.Types.{VerificationType, Unusable, IntType, NullType, OfType, Uninitialised, UninitialisedThis}

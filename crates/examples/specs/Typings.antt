@@ -1,10 +1,10 @@
 -- Typings of small methods, each by its list of frame types; and codes that have none.
-use Rattle.std.specs.Prelude.{◌≡◌, ℕ, List, [], ◌∷◌, Option, Some, None, Bool, true, ◌==◌, if◌then◌else◌, codes}
-use Rattle.model.specs.Names.{Name, Member, main_of, thread_run, java_io_print_stream, java_lang_object, java_lang_string, java_lang_thread}
+use Rattle.std.specs.Prelude.{◌≡◌, ℕ, List, [], ◌∷◌, Some, None, true, ◌==◌, if◌then◌else◌, codes}
+use Rattle.model.specs.Names.{main_of, thread_run, java_io_print_stream, java_lang_object, java_lang_string, java_lang_thread}
 use Rattle.model.specs.BuiltIn.{thread_class}
-use Rattle.model.specs.Tree.{Entry, CodeTree}
+use Rattle.model.specs.Tree.{Entry}
 use Rattle.model.specs.Classes.{Program, Body, body_of}
-use Rattle.model.specs.ReferenceTypes.{ReferenceType, ClassType, ReferenceArray}
+use Rattle.model.specs.ReferenceTypes.{ClassType, ReferenceArray}
 use Rattle.model.specs.Types.{VerificationType, Unusable, IntType, NullType, OfType}
 use Rattle.model.specs.TypeOrder.{FrameType}
 use Rattle.model.specs.Typing.{Typing, IsTyping, HasTyping}

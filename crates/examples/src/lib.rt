@@ -2,6 +2,7 @@
 //! theorem, and does nothing.
 #![tactic(auto)]
 
+ghost use Rattle.examples.specs.AcceptedProgram.{AcceptedProgram};
 ghost use Rattle.examples.specs.ArrayStore.{ArrayStore};
 ghost use Rattle.examples.specs.Branches.{Branches};
 ghost use Rattle.examples.specs.BuiltInClasses.{BuiltInClasses, OpeningObjects};
@@ -27,6 +28,7 @@ ghost use Rattle.examples.specs.JavaCalls.{JavaCalls};
 ghost use Rattle.examples.specs.JavaObjects.{JavaObjects};
 ghost use Rattle.examples.specs.JavaThreads.{JavaThreads};
 ghost use Rattle.examples.specs.Javac.{WrittenByJavac};
+ghost use Rattle.examples.specs.ListedFile.{ListedFile};
 ghost use Rattle.examples.specs.LockOrderDeadlock.{LockOrderDeadlock};
 ghost use Rattle.examples.specs.Lookups.{Instances, Lookups};
 ghost use Rattle.examples.specs.Loops.{Loop, Switches};
@@ -35,10 +37,12 @@ ghost use Rattle.examples.specs.MalformedFiles.{MalformedFiles};
 ghost use Rattle.examples.specs.NarrowArrays.{NarrowArrays};
 ghost use Rattle.examples.specs.NotARunnable.{NotARunnable};
 ghost use Rattle.examples.specs.OnlyReturns.{OnlyReturns};
+ghost use Rattle.examples.specs.PlainMonitors.{PlainMonitors};
 ghost use Rattle.examples.specs.PrintsSeven.{PrintsSeven, EventByEvent};
 ghost use Rattle.examples.specs.ProgramsLink.{ProgramsLink};
 ghost use Rattle.examples.specs.Refusals.{BadHierarchies, MalformedCodes, OtherRefusals, OutsideProfiles, Unresolveds};
 ghost use Rattle.examples.specs.SameString.{SameString};
+ghost use Rattle.examples.specs.ScheduleFiles.{ScheduleFiles};
 ghost use Rattle.examples.specs.ShadowedFields.{ShadowedFields};
 ghost use Rattle.examples.specs.StackMoves.{StackMoves};
 ghost use Rattle.examples.specs.StackOverflow.{StackOverflow};
@@ -366,4 +370,24 @@ pub fn java_calls()
 /// Threads in Java each of which waits for something else, and how they stand then.
 pub fn threads_that_wait()
     ensures holds { ThreadsThatWait }
+{}
+
+/// A program is accepted, and its run meets no operand of a wrong kind; another one links and is not accepted.
+pub fn accepted_program()
+    ensures holds { AcceptedProgram }
+{}
+
+/// The listing of a class file, line by line.
+pub fn listing_of_the_first_file()
+    ensures holds { ListedFile }
+{}
+
+/// Eight events as a schedule file of either version, and bytes that are no schedule.
+pub fn schedule_files()
+    ensures holds { ScheduleFiles }
+{}
+
+/// Calls on two monitors: a waiting thread is notified, and enters again as often as it had entered.
+pub fn plain_monitors()
+    ensures holds { PlainMonitors }
 {}

@@ -1,18 +1,16 @@
-use Rattle.std.proofs.Common.{◌≡◌, refl, ℕ, List, [], ◌∷◌, Option, Some, None, Bool, true, ◌||◌, false, subst, sym, ap}
-use Rattle.std.proofs.lemmas.Bool.{and_parts}
+use Rattle.std.proofs.Common.{◌≡◌, refl, List, [], ◌∷◌, Option, Some, None, Bool, true, ◌||◌, false, subst, sym}
 use Rattle.model.specs.OpcodeTable.{low_form, high_form}
 use Rattle.model.specs.BuiltIn.{built_in_classes}
 use Rattle.std.specs.Prelude.{codes, slice_index_or}
 use Rattle.model.specs.Operands.{over_types, is_ready}
 use Rattle.model.specs.DescriptorScan.{element_at, field_at, field_type, parameters_at, method_type}
-use Rattle.model.specs.Names.{Member, main_of}
-use Rattle.model.specs.Classes.{Program, Body}
+use Rattle.model.specs.Names.{main_of}
 use Rattle.model.specs.Types.{VerificationType, Unusable, AnyReference, type_meets}
 use Rattle.model.specs.TypeOrder.{FrameType}
-use Rattle.model.specs.Typing.{Typing, IsTyping, HasTyping, flow}
+use Rattle.model.specs.Typing.{flow}
 use Rattle.examples.specs.Bytes.{hex}
 use Rattle.examples.specs.Printing as printing
-use Rattle.examples.specs.Typings.{body_with, strings, Untypable}
+use Rattle.examples.specs.Typings.{body_with, strings}
 use Rattle.examples.proofs.TypingProofs.{fails, next, begins, may_lead, always_fails, unequal, with_unusable}
 use Rattle.examples.proofs.untypables.Goals as goal
 
