@@ -174,14 +174,13 @@ fn a_code_has_its_offset(rt: HostRuntime) -> Result<(), Fail> {
         .ok()
         .ok_or("the file is refused")?;
     assert_eq!(rt; file.code_offset(0), 264);
-    assert_eq!(rt;
-        file.name_and_type(12).map(|n| n.name),
-        Some(b"out".as_slice())
-    );
+    let member = file.name_and_type(12).ok_or("no name and type")?;
+    assert_eq!(rt; member.name, b"out".as_slice());
     assert!(rt; file.string(22).is_none());
     assert!(rt; file.interface_method_reference(19).is_none());
     assert!(rt; file.constant(24).is_some());
-    assert_eq!(rt; file.utf8(25), Some(b"x".as_slice()));
+    let text = file.utf8(25).ok_or("no text")?;
+    assert_eq!(rt; text, b"x".as_slice());
     Ok(())
 }
 
@@ -277,21 +276,20 @@ fn a_second_code_is_refused(rt: HostRuntime) -> Result<(), Fail> {
 
 /// The file with more interfaces, which stand from the offset 200 on.
 fn with_interfaces(alloc: Global, interfaces: &[u8]) -> Result<Vec<u8>, Fail> {
-    joined(alloc, &[part(0, 198), &[0, 1], interfaces, part(200, 241)])
+    let mut bytes = joined(alloc, &[part(0, 198), &[0, 1]])?;
+    bytes.extend_from_slice(interfaces)?;
+    bytes.extend_from_slice(part(200, 241))?;
+    Ok(bytes)
 }
 
 /// The file whose Code has this length, and these bytes behind its code, from the offset 235 on.
 fn with_code(alloc: Global, length: u8, behind: &[u8]) -> Result<Vec<u8>, Fail> {
-    joined(
-        alloc,
-        &[
-            part(0, 217),
-            &[length],
-            part(218, 235),
-            behind,
-            part(239, 241),
-        ],
-    )
+    let mut bytes = Vec::from_slice(alloc, part(0, 217))?;
+    bytes.push(length)?;
+    bytes.extend_from_slice(part(218, 235))?;
+    bytes.extend_from_slice(behind)?;
+    bytes.extend_from_slice(part(239, 241))?;
+    Ok(bytes)
 }
 
 #[test]
