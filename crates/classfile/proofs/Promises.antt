@@ -11,10 +11,11 @@ use Rattle.reading.proofs.Laws.{IsBytes, done, failed, ok_is, at_place}
 use Rattle.model.specs.Tree.{FileTree}
 use Rattle.model.specs.Spells.{IsWhole}
 use Rattle.model.specs.Spelling.{magic, version, Layout}
-use Rattle.classfile.specs.declared.tree.ClassFile.{ClassFile}
-use Rattle.classfile.specs.View.{file_of}
+use Rattle.class_tree.specs.declared.tree.ClassFile.{ClassFile}
+use Rattle.class_tree.specs.View.{file_of}
 use Rattle.classfile.specs.FileReading.{file_at}
-use Rattle.classfile.specs.Decoding.{Answers, Decodes, BeginsWith, is_reading_cause, Stands, StandsOrStops}
+use Rattle.class_tree.specs.Conditions.{Stands, StandsOrStops}
+use Rattle.classfile.specs.Decoding.{Answers, Decodes, BeginsWith, is_reading_cause}
 use Rattle.classfile.proofs.Whole.{Fault, OfField, OfMagic, OfVersion, OfEnd, field_is, file_takes, file_again, fault_of}
 
 pub found_of : (bytes : List ℕ) (r : Result ClassFile Malformed) → IsBytes bytes → Decodes r (file_at (at_place 0 bytes)) → IfOk r (λ c. Layout bytes (file_of c))

@@ -1,4 +1,4 @@
-pub mod View
-pub mod CodePlace
+pub use Rattle.class_tree.specs.View
+pub use Rattle.class_tree.specs.CodePlace
 pub mod FileReading
 pub mod Decoding

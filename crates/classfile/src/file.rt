@@ -4,21 +4,15 @@ ghost use Rattle.std.specs.Prelude.{◌≡◌, List, take, drop, IfOk, IfErr, Is
 ghost use Rattle.model.specs.Tree.{FileTree};
 ghost use Rattle.model.specs.Spelling.{magic, version, Layout};
 ghost use Rattle.model.specs.Conditions.{file_indices, file_names, file_descriptors, members_differ};
-ghost use Rattle.model.specs.Spells.{IsWhole, Spells};
+ghost use Rattle.model.specs.Spells.{Spells};
 ghost use Rattle.reading.specs.declared.fault.Cause.TheVariants as causes;
 ghost use Rattle.reading.specs.Reading.{Gives};
-ghost use Rattle.classfile.specs.View.{file_of};
+ghost use Rattle.class_tree.specs.View.{file_of};
 ghost use Rattle.classfile.specs.FileReading.{parts_at, file_at};
-ghost use Rattle.classfile.specs.Decoding.{Answers, Decodes, BeginsWith, StandsOrStops, is_reading_cause};
+ghost use Rattle.classfile.specs.Decoding.{Answers, Decodes, BeginsWith, is_reading_cause};
 
-use crate::attribute::check_attributes;
-use crate::descriptor::check_descriptors;
-use crate::duplicate::check_members_differ;
-use crate::index::check_indices;
-use crate::names::check_names;
 use crate::part::{Owner, read_table};
-use crate::place::first_field;
-use crate::tree::ClassFile;
+use class_tree::{ClassFile, check_conditions};
 use constant_pool::Pool;
 use reading::{Cause, Malformed, Reader, Stop};
 use std::alloc::Global;
@@ -90,19 +84,6 @@ fn laid_out(alloc: Global, bytes: &[u8]) -> Result<ClassFile, Malformed>
     decoded(alloc, bytes)
 }
 
-/// Checks the conditions on the tree of a file, one after the other, each over the whole file.
-fn check(alloc: Global, file: &ClassFile) -> Result<(), Stop>
-    ensures met { IfOk result (λ _. IsWhole (file_of file.now)) }
-    ensures stands { IfErr result (λ stop. StandsOrStops stop (file_of file.now)) }
-{
-    check_indices(file)?;
-    check_names(file)?;
-    check_descriptors(file)?;
-    let fields = first_field(file);
-    check_attributes(file, fields)?;
-    check_members_differ(alloc, file, fields)
-}
-
 /// The class file that the bytes are.
 ///
 /// First all fields are read in the order of the file, and the first fault is answered, each at the offset where its
@@ -133,7 +114,7 @@ pub fn decode(alloc: Global, bytes: &[u8]) -> Result<ClassFile, Malformed>
     ensures duplicate { IfErr result (λ e. e.cause ≡ causes.Duplicate → (c : FileTree) × (Layout bytes.now c × IsFalse (members_differ c))) }
 {
     let file = laid_out(alloc, bytes)?;
-    match check(alloc, &file) {
+    match check_conditions(alloc, &file) {
         Ok(()) => Ok(file),
         Err(fault) => Err(fault.malformed()),
     }

@@ -5,11 +5,11 @@ ghost use Rattle.model.specs.declared.class_file.ExceptionEntry.{ExceptionEntry}
 ghost use Rattle.model.specs.Tree.{Entry, SkippedTree, CodeTree, FieldPart, FieldTree, MethodPart, MethodTree};
 ghost use Rattle.model.specs.Spelling.{names, is_code, is_static};
 ghost use Rattle.reading.specs.Reading.{Gives, sized_at, whole_at, table_at, filled, filled_at, moved};
-ghost use Rattle.classfile.specs.View.{skipped_of, code_of, field_part_of, method_part_of, field_of, method_of};
+ghost use Rattle.class_tree.specs.View.{skipped_of, code_of, field_part_of, method_part_of, field_of, method_of};
 ghost use Rattle.classfile.specs.FileReading.{is_static_field, attribute_at, skipped_at, exception_at, code_bytes_at, code_at, constant_at, field_part_at, field_at, method_part_at, method_at};
 
 use crate::part::{Owner, Part, read_table};
-use crate::tree::{Attribute, Code, Field, FieldAttribute, Method, MethodAttribute};
+use class_tree::{Attribute, Code, Field, FieldAttribute, Method, MethodAttribute};
 use constant_pool::{Constant, Pool};
 use model::ExceptionEntry;
 use reading::{Cause, Reader, Stop};
@@ -181,6 +181,7 @@ impl Part for MethodAttribute {
         let name = reader.u2()?;
         if names(b"Code", pool, name) {
             let code = read_filled_code(alloc, pool, reader)?;
+            let code = Box::new(alloc, code)?;
             Ok(MethodAttribute::Code { name, code })
         } else {
             let bytes = read_sized(alloc, reader)?;

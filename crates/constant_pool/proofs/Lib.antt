@@ -1,3 +1,4 @@
 mod Places
+pub mod TextLaws
 pub mod PoolLaws
 mod PoolPromises

@@ -1,4 +1,5 @@
 pub mod View
+pub mod Texts
 pub mod Checking
 pub mod Lengths
 pub mod PoolReading

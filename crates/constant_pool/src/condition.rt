@@ -4,34 +4,36 @@ ghost use Rattle.std.specs.Prelude.{◌≡◌, List, Bool};
 ghost use Rattle.std.specs.List.{list_all};
 ghost use Rattle.model.specs.Tree.{Entry};
 ghost use Rattle.reading.specs.declared.fault.Cause as declared_cause;
-ghost use Rattle.constant_pool.specs.View.{entry_of};
+ghost use Rattle.constant_pool.specs.View.{entry_of, entries_of};
 ghost use Rattle.constant_pool.specs.Checking.{Checks};
 
 use crate::constant::Constant;
-use crate::pool::Pool;
 use reading::{Cause, Malformed};
 
 /// What each entry of a pool has to meet.
-pub(crate) trait Condition {
+pub(crate) trait Condition: Sized {
     /// Of what an entry is at fault that does not meet it.
     ghost cause: { declared_cause.Cause };
 
     /// Whether an entry meets it.
-    ghost is_met: { List Entry → Entry → Bool };
+    ghost is_met: { Self → Entry → Bool };
 
     /// `at` is the offset of the entry's first byte.
-    fn check(pool: &Pool, constant: &Constant, at: usize) -> Result<(), Malformed>
-        ensures { Checks cause result (is_met pool.now (entry_of constant.now)) };
+    fn check(&self, constant: &Constant, at: usize) -> Result<(), Malformed>
+        ensures { Checks cause result (is_met self.now (entry_of constant.now)) };
 }
 
 /// Checks each entry of a pool that begins at the offset `at`.
-pub(crate) fn check_entries<C: Condition>(pool: &Pool, at: usize) -> Result<(), Malformed>
-    ensures { Checks C.cause result (list_all (C.is_met pool.now) pool.now) }
+pub(crate) fn check_entries<C: Condition>(
+    condition: &C,
+    constants: &[Constant],
+    at: usize,
+) -> Result<(), Malformed>
+    ensures { Checks C.cause result (list_all (C.is_met condition.now) (entries_of constants.now)) }
 {
     let mut place = at.saturating_add(2);
-    let constants = pool.constants();
     'constants: for constant in constants {
-        C::check(pool, constant, place)?;
+        condition.check(constant, place)?;
         place = place.saturating_add(constant.length());
     }
     Ok(())

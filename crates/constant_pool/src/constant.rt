@@ -1,7 +1,7 @@
 //! An entry of the pool.
 
 ghost use Rattle.std.specs.Prelude.{◌≡◌, ◌++◌, List, length, OnOk};
-ghost use Rattle.model.specs.Spelling.{u1, u2, u4, u8, utf8, entry, is_wide};
+ghost use Rattle.model.specs.Spelling.{u1, u2, u4, u8, utf8, entry, is_wide, text_of};
 ghost use Rattle.constant_pool.specs.View.{entry_of};
 ghost use Rattle.constant_pool.specs.Checking.{saturated};
 
@@ -35,6 +35,16 @@ impl Constant {
         ensures { result ≡ is_wide (entry_of self.now) }
     {
         matches!(self, Constant::Long(_) | Constant::Double(_))
+    }
+
+    /// The bytes of a Utf8, none of another entry.
+    pub(crate) fn text(&self) -> &[u8]
+        ensures { result.now ≡ text_of (entry_of self.now) }
+    {
+        match self {
+            Constant::Utf8(text) => text.as_slice(),
+            _ => &[],
+        }
     }
 
     /// How many bytes it has.

@@ -8,55 +8,46 @@ ghost use Rattle.model.specs.DescriptorScan.{is_field_descriptor, is_method_desc
 ghost use Rattle.model.specs.Conditions.{descriptor_text, entry_descriptors};
 ghost use Rattle.constant_pool.specs.View.{entry_of};
 ghost use Rattle.constant_pool.specs.Checking.{Checks};
+ghost use Rattle.constant_pool.specs.Texts.{kind_of};
 
 use crate::condition::{Condition, check_entries, require};
 use crate::constant::Constant;
-use crate::pool::Pool;
-use descriptors::{method_slots, parse_field};
+use crate::kind::{TextKind, kind_of};
+use crate::texts::Texts;
 use reading::{Cause, Malformed};
 
 /// Each descriptor is one, of the kind that is asked for.
-pub(crate) struct Descriptors;
+#[derive(Drop)]
+struct Descriptors<'a, 'b>(&'a Texts<'b>);
 
-fn is_of_field(text: &[u8]) -> bool
-    ensures { result ≡ is_field_descriptor text.now }
+/// What the descriptor in the NameAndType of an index is.
+fn descriptor(texts: &Texts<'_>, index: u16) -> TextKind
+    ensures { result ≡ kind_of (descriptor_text texts.now (entry_at texts.now index)) }
 {
-    parse_field(text).is_some()
-}
-
-fn is_of_method(text: &[u8]) -> bool
-    ensures { result ≡ is_method_descriptor text.now }
-{
-    method_slots(text).is_some()
-}
-
-/// The descriptor in the NameAndType of an index.
-fn descriptor(pool: &Pool, index: u16) -> &[u8]
-    ensures { result.now ≡ descriptor_text pool.now (entry_at pool.now index) }
-{
-    match pool.constant(index) {
-        Some(Constant::NameAndType { descriptor, .. }) => pool.text(*descriptor),
-        _ => &[],
+    match texts.pool().constant(index) {
+        Some(Constant::NameAndType { descriptor, .. }) => texts.kind(*descriptor),
+        _ => kind_of(&[]),
     }
 }
 
-impl Condition for Descriptors {
+impl Condition for Descriptors<'_, '_> {
     ghost cause = { causes.Descriptor };
 
-    ghost is_met = { λ pool e. entry_descriptors pool e };
+    ghost is_met = { λ descriptors e. entry_descriptors descriptors.0.now e };
 
-    fn check(pool: &Pool, constant: &Constant, at: usize) -> Result<(), Malformed> {
+    fn check(&self, constant: &Constant, at: usize) -> Result<(), Malformed> {
+        let texts = self.0;
         let is_met = match constant {
             Constant::NameAndType { descriptor, .. } => {
-                let text = pool.text(*descriptor);
-                is_of_field(text) || is_of_method(text)
+                let kind = texts.kind(*descriptor);
+                kind.is_field_descriptor || kind.method_slots.is_some()
             }
             Constant::Field { name_and_type, .. } => {
-                !is_of_method(descriptor(pool, *name_and_type))
+                descriptor(texts, *name_and_type).method_slots.is_none()
             }
             Constant::Method { name_and_type, .. }
             | Constant::InterfaceMethod { name_and_type, .. } => {
-                !is_of_field(descriptor(pool, *name_and_type))
+                !descriptor(texts, *name_and_type).is_field_descriptor
             }
             _ => true,
         };
@@ -64,12 +55,12 @@ impl Condition for Descriptors {
     }
 }
 
-impl Pool {
+impl Texts<'_> {
     /// Whether each descriptor that a NameAndType of the pool has is one, and of the kind that the references to it ask
     /// for. The pool begins at the offset `at`; the fault is `Descriptor` at the first index of another.
     pub fn check_descriptors(&self, at: usize) -> Result<(), Malformed>
         ensures { Checks causes.Descriptor result (list_all (entry_descriptors self.now) self.now) }
     {
-        check_entries::<Descriptors>(self, at)
+        check_entries(&Descriptors(self), self.pool().constants(), at)
     }
 }

@@ -13,7 +13,8 @@ use crate::pool::Pool;
 use reading::{Cause, Malformed};
 
 /// Each index names an entry of the kind that it has to name.
-pub(crate) struct Indices;
+#[derive(Drop)]
+struct Indices<'a>(&'a Pool);
 
 impl Pool {
     /// Whether the index names a Utf8.
@@ -41,7 +42,7 @@ impl Pool {
     pub fn check_indices(&self, at: usize) -> Result<(), Malformed>
         ensures { Checks causes.Index result (list_all (conditions.entry_indices self.now) self.now) }
     {
-        check_entries::<Indices>(self, at)
+        check_entries(&Indices(self), self.constants(), at)
     }
 }
 
@@ -72,12 +73,13 @@ fn name_and_descriptor(pool: &Pool, name: u16, descriptor: u16, at: usize) -> Re
     utf8(pool, descriptor, at.saturating_add(2))
 }
 
-impl Condition for Indices {
+impl Condition for Indices<'_> {
     ghost cause = { causes.Index };
 
-    ghost is_met = { λ pool e. conditions.entry_indices pool e };
+    ghost is_met = { λ indices e. conditions.entry_indices indices.0.now e };
 
-    fn check(pool: &Pool, constant: &Constant, at: usize) -> Result<(), Malformed> {
+    fn check(&self, constant: &Constant, at: usize) -> Result<(), Malformed> {
+        let pool = self.0;
         let index = at.saturating_add(1);
         match constant {
             Constant::Class { name } => utf8(pool, *name, index),

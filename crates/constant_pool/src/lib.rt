@@ -4,17 +4,23 @@
 mod condition;
 mod constant;
 mod descriptor;
+mod first;
 mod index;
+mod kind;
 mod lookup;
 mod name;
 mod pool;
 mod read;
 #[cfg(test)]
 mod tests;
+mod texts;
 
 pub use constant::Constant;
+pub use first::FirstIndices;
+pub use kind::TextKind;
 pub use lookup::{NameAndDescriptor, Reference};
 pub use name::is_method_name;
 pub use pool::Pool;
 pub use read::read_pool;
 pub use reading::{Cause, Malformed};
+pub use texts::Texts;

@@ -1,20 +1,24 @@
 //! Whether each name is one (JVMS 4.2).
 
-ghost use Rattle.std.specs.Prelude.{◌≡◌, ◌==◌, ◌&&◌, ◌||◌, List, Bool};
+ghost use Rattle.std.specs.Prelude.{◌≡◌, ◌==◌, ◌&&◌, ◌||◌, ℕ, List, Bool};
 ghost use Rattle.std.specs.List.{list_all};
 ghost use Rattle.reading.specs.declared.fault.Cause.TheVariants as causes;
+ghost use Rattle.model.specs.Descriptors as descriptors;
 ghost use Rattle.model.specs.Conditions as conditions;
 ghost use Rattle.constant_pool.specs.View.{entry_of};
 ghost use Rattle.constant_pool.specs.Checking.{Checks};
+ghost use Rattle.constant_pool.specs.Texts.{kind_of};
 
 use crate::condition::{Condition, check_entries, require};
 use crate::constant::Constant;
-use crate::pool::Pool;
-use descriptors::{is_class_name, is_unqualified_name, parse_field};
+use crate::kind::TextKind;
+use crate::texts::Texts;
+use descriptors::is_unqualified_name;
 use reading::{Cause, Malformed};
 
 /// Each name is one.
-pub(crate) struct Names;
+#[derive(Drop)]
+struct Names<'a, 'b>(&'a Texts<'b>);
 
 fn is_method_byte(byte: u8) -> bool
     ensures { result ≡ conditions.is_method_byte byte }
@@ -28,41 +32,45 @@ fn are_method_bytes(name: &[u8]) -> bool
     name.iter().all(|&byte| is_method_byte(byte))
 }
 
-/// Whether a method may have the name (JVMS 4.2.2).
-pub fn is_method_name(name: &[u8]) -> bool
+/// Whether a method may have a name that is an unqualified one or is not.
+pub(crate) fn is_name_of_method(name: &[u8], is_unqualified: bool) -> bool
+    requires { is_unqualified ≡ descriptors.is_unqualified name.now }
     ensures { result ≡ conditions.is_method_name name.now }
 {
     name == b"<init>".as_slice()
         || name == b"<clinit>".as_slice()
-        || is_unqualified_name(name) && are_method_bytes(name)
+        || is_unqualified && are_method_bytes(name)
 }
 
-fn is_class_or_array(text: &[u8]) -> bool
-    ensures { result ≡ conditions.is_class_or_array text.now }
+/// Whether a method may have the name (JVMS 4.2.2).
+pub fn is_method_name(name: &[u8]) -> bool
+    ensures { result ≡ conditions.is_method_name name.now }
 {
-    is_class_name(text) || matches!(text, [b'[', ..]) && parse_field(text).is_some()
+    is_name_of_method(name, is_unqualified_name(name))
 }
 
 /// Whether the member of this descriptor may have the name.
-fn is_member_name(name: &[u8], descriptor: &[u8]) -> bool
-    ensures { result ≡ conditions.is_member_name name.now descriptor.now }
+fn is_member_name(name: TextKind, descriptor: TextKind) -> bool
+    ensures { (n d : List ℕ) → name ≡ kind_of n → descriptor ≡ kind_of d → result ≡ conditions.is_member_name n d }
 {
-    match descriptor {
-        [b'(', ..] => is_method_name(name),
-        _ => is_unqualified_name(name),
+    if descriptor.begins_as_method {
+        name.is_method_name
+    } else {
+        name.is_unqualified
     }
 }
 
-impl Condition for Names {
+impl Condition for Names<'_, '_> {
     ghost cause = { causes.Name };
 
-    ghost is_met = { λ pool e. conditions.entry_names pool e };
+    ghost is_met = { λ names e. conditions.entry_names names.0.now e };
 
-    fn check(pool: &Pool, constant: &Constant, at: usize) -> Result<(), Malformed> {
+    fn check(&self, constant: &Constant, at: usize) -> Result<(), Malformed> {
+        let texts = self.0;
         let is_met = match constant {
-            Constant::Class { name } => is_class_or_array(pool.text(*name)),
+            Constant::Class { name } => texts.kind(*name).is_class_or_array,
             Constant::NameAndType { name, descriptor } => {
-                is_member_name(pool.text(*name), pool.text(*descriptor))
+                is_member_name(texts.kind(*name), texts.kind(*descriptor))
             }
             _ => true,
         };
@@ -70,12 +78,12 @@ impl Condition for Names {
     }
 }
 
-impl Pool {
+impl Texts<'_> {
     /// Whether each name that a Class or a NameAndType of the pool has is one. The pool begins at the offset `at`; the
     /// fault is `Name` at the first index that names none.
     pub fn check_names(&self, at: usize) -> Result<(), Malformed>
         ensures { Checks causes.Name result (list_all (conditions.entry_names self.now) self.now) }
     {
-        check_entries::<Names>(self, at)
+        check_entries(&Names(self), self.pool().constants(), at)
     }
 }

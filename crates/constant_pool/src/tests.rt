@@ -1,6 +1,6 @@
 //! Pools with one entry of each kind, and the offsets of their faults.
 
-use crate::{Cause, Constant, Malformed, Pool, read_pool};
+use crate::{Cause, Constant, Malformed, Pool, Texts, read_pool};
 use std::alloc::Global;
 use std::test::Fail;
 
@@ -25,16 +25,22 @@ fn changed(alloc: Global, place: usize, byte: u8) -> Result<Vec<u8>, Fail> {
     Ok(bytes)
 }
 
-fn check(pool: &Pool) -> Result<(), Malformed> {
+fn check(alloc: Global, pool: &Pool) -> Result<(), Malformed> {
     pool.check_indices(3)?;
-    pool.check_names(3)?;
-    pool.check_descriptors(3)
+    let Ok(texts) = Texts::new(alloc, pool) else {
+        return Err(Malformed {
+            cause: Cause::OutOfMemory,
+            offset: 0,
+        });
+    };
+    texts.check_names(3)?;
+    texts.check_descriptors(3)
 }
 
 /// The first fault of the pool.
 fn fault(alloc: Global, bytes: &[u8]) -> Option<Malformed> {
     match read_pool(alloc, bytes, 3) {
-        Ok((pool, _)) => check(&pool).err(),
+        Ok((pool, _)) => check(alloc, &pool).err(),
         Err(fault) => Some(fault),
     }
 }

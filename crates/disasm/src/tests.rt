@@ -278,7 +278,12 @@ fn interface(alloc: Global) -> Result<ClassFile, AllocError> {
                 flags: 0xabcd,
                 name: 5,
                 descriptor: 8,
-                attributes: vec![in alloc; MethodAttribute::Code { name: 0, code }]?
+                attributes: vec![in alloc;
+                    MethodAttribute::Code {
+                        name: 0,
+                        code: Box::new(alloc, code)?
+                    }
+                ]?
             },
         ]?,
         attributes: Vec::new(alloc),

@@ -4,6 +4,7 @@ use Rattle.std.specs.Prelude.{if◌then◌else◌, nat_le, replicate}
 use Rattle.std.specs.List.{list_all, AllByRecursion}
 use Rattle.std.proofs.lemmas.Bool.{false≢true, and_parts, eqb-true, leb-true}
 use Rattle.model.specs.Names.{Member}
+use Rattle.model.specs.InstructionStarts.{is_start}
 use Rattle.model.specs.Classes.{Program, Body}
 use Rattle.model.specs.Types.{VerificationType, Unusable, IntType, NullType, OfType, Uninitialised, UninitialisedThis}
 use Rattle.model.specs.Operands.{Slots}
@@ -28,7 +29,8 @@ agrees_by files types None = false
 agrees_by files types (Some leads) = list_all (reaches files types) leads
 
 abbrev agrees : Program → Member → Body → List (ℕ × FrameType) → ℕ × FrameType → Bool
-agrees files method body types entry = is_sized body entry.1 && agrees_by files types (flow files method body entry.0 entry.1)
+agrees files method body types entry =
+    is_start body.code.code entry.0 && (is_sized body entry.1 && agrees_by files types (flow files method body entry.0 entry.1))
 
 abbrev pub is_typing : Program → Member → Body → List (ℕ × FrameType) → Bool
 is_typing files method body types =
@@ -69,8 +71,9 @@ module _ (files : Program) (method : Member) (body : Body) (types : List (ℕ ×
       let g = and_parts _ _ h in
       record {
         begins = reached (0, entry_type files method body) g.0;
-        sized = each_in (λ k t. IsSized body t) types (all (agrees files method body types) _ (λ e q. sized e.1 (and_parts _ _ q).0) types g.1);
-        agrees = each_in (Rule files method body (typing_in types)) types (all (agrees files method body types) _ (λ e q. rule_by e.0 e.1 (flow files method body e.0 e.1) refl (and_parts _ _ q).1) types g.1);
+        starts = each_in (λ k t. is_start body.code.code k ≡ true) types (all (agrees files method body types) _ (λ e q. (and_parts _ _ q).0) types g.1);
+        sized = each_in (λ k t. IsSized body t) types (all (agrees files method body types) _ (λ e q. sized e.1 (and_parts _ _ (and_parts _ _ q).1).0) types g.1);
+        agrees = each_in (Rule files method body (typing_in types)) types (all (agrees files method body types) _ (λ e q. rule_by e.0 e.1 (flow files method body e.0 e.1) refl (and_parts _ _ (and_parts _ _ q).1).1) types g.1);
       }
 
 -- ---- every typing

@@ -61,6 +61,8 @@ pub mod JavaCalls
 pub mod ThreadsThatWaitClasses
 pub mod ThreadsThatWait
 pub mod AcceptedProgram
+pub mod AcceptedThreadsClasses
+pub mod AcceptedThreads
 pub mod ListedFile
 pub mod ScheduleFiles
 pub mod PlainMonitors

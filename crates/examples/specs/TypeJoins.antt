@@ -60,6 +60,11 @@ pub record TypeJoins : Type 0 where
   pub ints_and_bytes : joined (OfType int_array) (OfType byte_array) ≡ some_of object
   pub ints_twice : joined (OfType int_array) (OfType int_array) ≡ some_of int_array
   pub array_and_class : joined (OfType (ReferenceArray arithmetic)) (OfType arithmetic) ≡ some_of object
+  -- classes that are not there have none, as nothing is above both; arrays of them have Object
+  pub missing_classes : joined (OfType (ClassType (codes "A"))) (OfType (ClassType (codes "B"))) ≡ None
+  pub missing_class_and_array : joined (OfType (ClassType (codes "A"))) (OfType int_array) ≡ None
+  pub missing_class_twice : joined (OfType (ClassType (codes "A"))) (OfType (ClassType (codes "A"))) ≡ some_of (ClassType (codes "A"))
+  pub arrays_of_missing_classes : joined (OfType (ReferenceArray (ClassType (codes "A")))) (OfType (ReferenceArray (ClassType (codes "B")))) ≡ some_of object
   -- an int and a reference have none on the stack, and cannot be used in a local variable
   pub int_and_null : joined IntType NullType ≡ None
   pub int_and_null_in_locals : local_join [] IntType NullType ≡ Unusable

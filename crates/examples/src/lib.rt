@@ -3,6 +3,7 @@
 #![tactic(auto)]
 
 ghost use Rattle.examples.specs.AcceptedProgram.{AcceptedProgram};
+ghost use Rattle.examples.specs.AcceptedThreads.{AcceptedThreads};
 ghost use Rattle.examples.specs.ArrayStore.{ArrayStore};
 ghost use Rattle.examples.specs.Branches.{Branches};
 ghost use Rattle.examples.specs.BuiltInClasses.{BuiltInClasses, OpeningObjects};
@@ -375,6 +376,11 @@ pub fn threads_that_wait()
 /// A program is accepted, and its run meets no operand of a wrong kind; another one links and is not accepted.
 pub fn accepted_program()
     ensures holds { AcceptedProgram }
+{}
+
+/// A program of two classes and two threads, with a constructor and a handler, is accepted; its runs by two schedules.
+pub fn accepted_threads()
+    ensures holds { AcceptedThreads }
 {}
 
 /// The listing of a class file, line by line.

@@ -1,4 +1,4 @@
-pub mod CommandLineLemmas
 pub mod DeviceLemmas
 pub mod EngineLemmas
 pub mod ListingLemmas
+pub mod VerificationLemmas

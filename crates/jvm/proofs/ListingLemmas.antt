@@ -9,7 +9,7 @@ use Rattle.model.specs.Spells.{Spells}
 use Rattle.reading.specs.declared.fault.Cause.{Cause}
 use Rattle.reading.specs.declared.fault.Cause.TheVariants as causes
 use Rattle.classfile.specs.Decoding.{BeginsWith}
-use Rattle.replay.specs.declared.refusal.Refusal.{Refusal}
+use Rattle.refusal.specs.declared.why.Refusal.{Refusal}
 use Rattle.jvm.specs.Devices.{fault_of}
 use Rattle.jvm.specs.Engines.{IsOfFile, no_memory}
 use Rattle.jvm.specs.Listings.{IsMalformed, IsUnlisted, ListsFront, StandsAt, malformed}

@@ -6,15 +6,20 @@ use Rattle.model.specs.declared.limits.Limits.{Limits}
 use Rattle.model.specs.declared.report.Report.{Report}
 use Rattle.model.specs.Devices.{AppendsFront}
 use Rattle.model.specs.Tree.{FileTree}
+use Rattle.model.specs.Classes.{Program}
+use Rattle.model.specs.Linkable.{IsLinkable}
+use Rattle.model.specs.Accepted.{IsAccepted}
 use Rattle.model.specs.Schedule.{ScheduleFile}
-use Rattle.replay.specs.Linking.{IsAccepted, MayRefuse, program_of}
+use Rattle.linker.specs.Linking as linking
+use Rattle.verifier.specs.Places.{Refuses}
+use Rattle.replay.specs.Taking.{IsTaken, MayLeave, program_of}
 use Rattle.replay.specs.Replay.{IsReplay, text_of}
-use Rattle.jvm.specs.Choices.{AreChosen}
+use Rattle.command_line.specs.Choices.{AreChosen}
 use Rattle.jvm.specs.Statuses.{status_of}
-use Rattle.jvm.specs.declared.options.LimitOptions.{LimitOptions}
+use Rattle.command_line.specs.declared.options.LimitOptions.{LimitOptions}
 use Rattle.model.specs.declared.end.End.{End}
-use Rattle.replay.specs.declared.refusal.Refusal.{Refusal}
-use Rattle.replay.specs.declared.refusal.RefusalKind.TheVariants as kinds
+use Rattle.refusal.specs.declared.why.Refusal.{Refusal}
+use Rattle.refusal.specs.declared.why.RefusalKind.TheVariants as kinds
 use Rattle.schedule.specs.declared.fault.ScheduleFault.TheVariants as schedules
 use Rattle.jvm.specs.declared.fault.Fault.{Fault}
 use Rattle.jvm.specs.declared.fault.Fault.TheVariants as faults
@@ -31,8 +36,8 @@ ReadsEach (left ∷ lefts) (bytes ∷ files) = Reads left bytes × ReadsEach lef
 ReadsEach [] (bytes ∷ files) = ⊥
 ReadsEach (left ∷ lefts) [] = ⊥
 
--- The schedule file spells events, and the class files are accepted and those of a program, which has this report under
--- the events within the limits; and this is its text and its status.
+-- The schedule file spells events, and the class files link, pass verification and are taken; their program has this report
+-- under the events within the limits; and this is its text and its status.
 pub record IsReplayed (schedule : List ℕ) (files : List (List ℕ)) (options : LimitOptions) (text : List ℕ) (status : Status) : Type 0 where
   pub events : List Event
   pub spelled : ScheduleFile schedule None events
@@ -41,7 +46,7 @@ pub record IsReplayed (schedule : List ℕ) (files : List (List ℕ)) (options :
   pub report : Report
   pub end : End
   pub file : FileTree
-  pub accepted : IsAccepted files file
+  pub taken : IsTaken files file
   pub replayed : IsReplay (program_of file) events limits report end
   pub told : text ≡ text_of report end
   pub ended : status ≡ status_of report.threads.items end
@@ -55,6 +60,13 @@ abbrev pub WritesPart : Option (List ℕ) → List (Option (List ℕ)) → Limit
 WritesPart left lefts options old new = (new ≡ old)
     ⊎ ((text : List ℕ) × (status : Status) × Replays left lefts options text status × AppendsFront old new text)
 
+-- why class files may be refused: they don't link; they link, and a method has no typing; or they are accepted, and the
+-- machine doesn't take them
+abbrev pub MayRefuse : List (List ℕ) → Refusal → Type 0
+MayRefuse files refusal = linking.MayRefuse files refusal.kind refusal.file refusal.cause
+    ⊎ (((trees : Program) × IsLinkable files trees × Refuses trees refusal)
+    ⊎ ((trees : Program) × IsAccepted files trees × MayLeave trees refusal.kind refusal.file))
+
 -- When a fault is answered, and what is written then.
 abbrev pub IsFaulty : Option (List ℕ) → List (Option (List ℕ)) → LimitOptions → Option (List ℕ) → Option (List ℕ) → Fault → Type 0
 IsFaulty left lefts options old new faults.Device = WritesPart left lefts options old new
@@ -62,10 +74,10 @@ IsFaulty left lefts options old new faults.Memory = WritesPart left lefts option
 -- memory apart, the schedule file spells no events
 IsFaulty left lefts options old new (faults.Schedule fault) = (new ≡ old) × ((fault ≡ schedules.OutOfMemory)
     ⊎ ((schedule : List ℕ) × Reads left schedule × ((events : List Event) → ScheduleFile schedule None events → ⊥)))
--- memory apart, it spells events, and the class files are not accepted and may be refused so
+-- memory apart, it spells events, and the class files are not taken and may be refused so
 IsFaulty left lefts options old new (faults.Refusal refusal) = (new ≡ old) × ((refusal.kind ≡ kinds.OutOfMemory)
     ⊎ ((schedule : List ℕ) × (files : List (List ℕ)) × (events : List Event) × Reads left schedule × ReadsEach lefts files × ScheduleFile schedule None events
-    × ((file : FileTree) → IsAccepted files file → ⊥) × MayRefuse files refusal.kind refusal.cause))
+    × ((file : FileTree) → IsTaken files file → ⊥) × MayRefuse files refusal))
 
 -- the fault is one of the schedule file's
 abbrev pub IsOfSchedule : Fault → Type 0

@@ -10,8 +10,8 @@ use Rattle.model.specs.Devices.{AppendsFront}
 use Rattle.reading.specs.declared.fault.Cause.{Cause}
 use Rattle.reading.specs.declared.fault.Cause.TheVariants as causes
 use Rattle.classfile.specs.Decoding.{BeginsWith}
-use Rattle.replay.specs.declared.refusal.Refusal.{Refusal}
-use Rattle.replay.specs.declared.refusal.RefusalKind.TheVariants as kinds
+use Rattle.refusal.specs.declared.why.Refusal.{Refusal}
+use Rattle.refusal.specs.declared.why.RefusalKind.TheVariants as kinds
 use Rattle.jvm.specs.Engines.{Reads, no_memory}
 use Rattle.jvm.specs.declared.fault.Fault.{Fault}
 use Rattle.jvm.specs.declared.fault.Fault.TheVariants as faults

@@ -5,8 +5,8 @@ use Rattle.model.specs.declared.report.EndState.{EndState}
 use Rattle.model.specs.declared.report.EndState.TheVariants.{Ended, Threw, Blocked, Waiting, Joining, Initialising, Runnable}
 use Rattle.model.specs.declared.end.End.{End}
 use Rattle.model.specs.declared.end.End.TheVariants as ends
-use Rattle.jvm.specs.declared.command.Usage.{Usage}
-use Rattle.jvm.specs.declared.command.Usage.TheVariants as usages
+use Rattle.command_line.specs.declared.parse.Usage.{Usage}
+use Rattle.command_line.specs.declared.parse.Usage.TheVariants as usages
 use Rattle.jvm.specs.declared.fault.Fault.{Fault}
 use Rattle.jvm.specs.declared.fault.Fault.TheVariants as faults
 use Rattle.jvm.specs.declared.status.Status.{Status}

@@ -1,21 +1,24 @@
 //! What the program does, over any readers and writers.
 
-ghost use Rattle.std.specs.Prelude.{◌≡◌, ◌+◌, Some, None, IfOk, IfErr, map, sum_by, vec_items};
+ghost use Rattle.std.specs.Prelude.{◌≡◌, ◌+◌, ◌<◌, Some, None, IfOk, IfErr, length, map, sum_by, vec_items};
 ghost use Rattle.std.specs.Arc.{arc_value};
 ghost use Rattle.std.specs.Io.KnownBytes.{Appends};
 ghost use Rattle.jvm.specs.Engines.{Reads, ReadsEach, Replays, IsReplayed, IsFaulty, IsOfFile, IsOfSchedule, CountsFailure, no_memory};
 ghost use Rattle.model.specs.Schedule.{ScheduleFile, events_of};
-ghost use Rattle.replay.specs.Linking.{IsAccepted};
+ghost use Rattle.replay.specs.Taking.{IsTaken};
 
 use crate::fault::Fault;
-use crate::options::LimitOptions;
 use crate::status::Status;
+use command_line::LimitOptions;
+use linker::link;
 use model::{DeviceFault, Sink, Source};
-use replay::{Refusal, RefusalKind, Verified, link, replay, verify};
+use refusal::{Refusal, RefusalKind};
+use replay::{Taken, replay, take};
 use report::text;
 use schedule::{Schedule, ScheduleFault, read_schedule};
 use std::alloc::{AllocError, Global};
 use std::sync::Arc;
+use verifier::verify;
 
 /// Runs the class files under the schedule, writes the report and answers its status.
 ///
@@ -41,8 +44,8 @@ pub fn replay_engine<S: Source, W: Sink>(
 {
     let schedule = read_schedule_file(alloc, schedule)?;
     let files = read_class_files(alloc, files)?;
-    let verified = verified(alloc, files.as_slice())?;
-    let (text, status) = replayed(alloc, &verified, &schedule, limits)?;
+    let taken = shared(alloc, files.as_slice())?;
+    let (text, status) = replayed(alloc, &taken, &schedule, limits)?;
     report.write_all(text.as_slice())?;
     Ok(status)
 }
@@ -63,11 +66,15 @@ fn read_schedule_file<S: Source>(alloc: Global, file: &mut S) -> Result<Schedule
 }
 
 /// The bytes of each class file.
-fn read_class_files<S: Source>(alloc: Global, files: &mut [S]) -> Result<Vec<Vec<u8>>, Fault>
+pub(crate) fn read_class_files<S: Source>(
+    alloc: Global,
+    files: &mut [S],
+) -> Result<Vec<Vec<u8>>, Fault>
     ensures read { IfOk result (λ read. ReadsEach (map S.remaining files.old) (map vec_items read.items)) }
     ensures faulty { IfErr result (λ fault. (left : _) (options : _) (sink : _)
         → IsFaulty left (map S.remaining files.old) options sink sink fault) }
     ensures of_files { IfErr result (λ fault. IsOfSchedule fault → ⊥) }
+    ensures of_file { IfErr result (λ fault. (file : _) × (file < length files.old) × IsOfFile file fault) }
     ensures counted { CountsFailure result (sum_by S.failures files.old) (sum_by S.failures files.new) }
 {
     let mut read = Vec::new(alloc);
@@ -112,31 +119,48 @@ pub(crate) fn out_of_memory(file: usize) -> Refusal
     }
 }
 
-/// The class files, linked and verified.
-fn verified(alloc: Global, files: &[Vec<u8>]) -> Result<Arc<Verified>, Fault>
-    ensures verified { IfOk result (λ verified. IsAccepted (map vec_items files.now) (arc_value verified)) }
+/// The program of the class files: linked, then verified, then taken by the machine.
+fn taken(alloc: Global, files: &[Vec<u8>]) -> Result<Taken, Fault>
+    ensures taken { IfOk result (IsTaken (map vec_items files.now)) }
     ensures faulty { IfErr result (λ fault. (left : _) (lefts : _) (options : _) (sink : _) (schedule : _) (events : _)
         → Reads left schedule → ReadsEach lefts (map vec_items files.now) → ScheduleFile schedule None events
         → IsFaulty left lefts options sink sink fault) }
     ensures of_files { IfErr result (λ fault. IsOfSchedule fault → ⊥) }
     ensures counted { (count : _) → CountsFailure result count count }
 {
-    let verified = verify(link(alloc, files)?)?;
-    Ok(Arc::new(alloc, verified)?)
+    let linked = link(alloc, files)?;
+    let verified = verify(alloc, linked)?;
+    // what verification found out
+    let _ = verified.linked();
+    let taken = take(alloc, verified)?;
+    Ok(taken)
+}
+
+/// The program of the class files, to be shared.
+fn shared(alloc: Global, files: &[Vec<u8>]) -> Result<Arc<Taken>, Fault>
+    ensures taken { IfOk result (λ taken. IsTaken (map vec_items files.now) (arc_value taken)) }
+    ensures faulty { IfErr result (λ fault. (left : _) (lefts : _) (options : _) (sink : _) (schedule : _) (events : _)
+        → Reads left schedule → ReadsEach lefts (map vec_items files.now) → ScheduleFile schedule None events
+        → IsFaulty left lefts options sink sink fault) }
+    ensures of_files { IfErr result (λ fault. IsOfSchedule fault → ⊥) }
+    ensures counted { (count : _) → CountsFailure result count count }
+{
+    let taken = taken(alloc, files)?;
+    Ok(Arc::new(alloc, taken)?)
 }
 
 /// The text and the status of what the class files do under the schedule.
 fn replayed(
     alloc: Global,
-    verified: &Arc<Verified>,
+    taken: &Arc<Taken>,
     schedule: &Schedule,
     limits: &LimitOptions,
 ) -> Result<(Vec<u8>, Status), AllocError>
     ensures { IfOk result (λ told. (bytes : _) (files : _) → ScheduleFile bytes None (events_of schedule.now)
-        → IsAccepted files (arc_value verified.now)
+        → IsTaken files (arc_value taken.now)
         → IsReplayed bytes files limits.now told.0.items told.1) }
 {
-    let (report, end) = replay(alloc, verified, schedule, limits.limits())?;
+    let (report, end) = replay(alloc, taken, schedule, limits.limits())?;
     let text = text(alloc, &report, &end)?;
     Ok((text, Status::of(&report, end)))
 }

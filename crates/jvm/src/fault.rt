@@ -20,16 +20,16 @@ pub enum Fault {
     Memory,
     /// The class files are refused.
     #[error("{0}")]
-    Refusal(replay::Refusal),
+    Refusal(refusal::Refusal),
     /// The schedule file is refused.
     #[error("schedule refused {0}")]
     Schedule(ScheduleFault),
 }
 
-impl From<replay::Refusal> for Fault {
+impl From<refusal::Refusal> for Fault {
     ghost from_gives = { λ refusal fault. fault ≡ Refusal refusal };
 
-    fn from(refusal: replay::Refusal) -> Fault {
+    fn from(refusal: refusal::Refusal) -> Fault {
         Fault::Refusal(refusal)
     }
 }

@@ -14,7 +14,7 @@ use crate::status::Status;
 use classfile::{Cause, ClassFile, Malformed, decode};
 use disasm::list;
 use model::{Sink, Source};
-use replay::{Refusal, RefusalKind};
+use refusal::{Refusal, RefusalKind};
 use std::alloc::Global;
 
 /// Writes the listing of the class file, and answers the status of what is done.

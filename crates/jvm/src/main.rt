@@ -1,15 +1,14 @@
 //! The program `jvm`, which runs class files.
 #![tactic(auto)]
 
-mod command;
 mod device;
 mod engine;
 mod fault;
 mod file;
 mod listing;
-mod options;
 mod program;
 mod status;
+mod verification;
 
 use std::process::ExitCode;
 use std::{env, io};

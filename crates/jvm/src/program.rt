@@ -3,25 +3,25 @@
 ghost use Rattle.std.specs.Prelude.{◌≡◌, MatchResult};
 ghost use Rattle.jvm.specs.Statuses.{fault_status, usage_status};
 
-use crate::command;
-use crate::command::Usage;
 use crate::device::Counted;
 use crate::engine::replay_engine;
 use crate::fault::Fault;
 use crate::file::NamedFile;
 use crate::listing::disasm_engine;
-use crate::options::{Command, Disasm, Replay};
 use crate::status::Status;
+use crate::verification::verify_engine;
+use command_line::{Command, Disasm, Replay, Usage, Verify, command};
 use std::alloc::Global;
 use std::io;
 use std::io::ErrorKind;
 use std::rt::Files;
 
-/// Does what the words say, the program's name first. A report or a listing goes to the standard
-/// output, and what kept the program from one to the standard error.
+/// Does what the words say, the program's name first. A report, a listing or the line of a verification goes to the
+/// standard output, and what kept the program from one to the standard error.
 pub fn run<R: Files + Print + Eprint>(rt: &R, alloc: Global, words: &[String]) -> Status {
-    match command::command(alloc, words) {
+    match command(alloc, words) {
         Ok(Command::Replay(options)) => told(rt, replay(rt, alloc, &options)),
+        Ok(Command::Verify(options)) => told(rt, verified(rt, alloc, &options)),
         Ok(Command::Disasm(options)) => told(rt, listed(rt, alloc, &options)),
         Err(usage) => refused(rt, &usage),
     }
@@ -63,10 +63,7 @@ fn refused<R: Eprint>(rt: &R, usage: &Usage) -> Status
 /// `jvm replay`.
 fn replay<R: Files + Print>(rt: &R, alloc: Global, options: &Replay) -> Result<Status, Fault> {
     let mut schedule = source(rt, alloc, &options.schedule);
-    let mut files = Vec::new(alloc);
-    for path in &options.files {
-        files.push(source(rt, alloc, path))?;
-    }
+    let mut files = sources(rt, alloc, &options.files)?;
     let mut report = Counted::new(alloc, io::writer(rt));
     replay_engine(
         alloc,
@@ -77,11 +74,31 @@ fn replay<R: Files + Print>(rt: &R, alloc: Global, options: &Replay) -> Result<S
     )
 }
 
+/// `jvm verify`.
+fn verified<R: Files + Print>(rt: &R, alloc: Global, options: &Verify) -> Result<Status, Fault> {
+    let mut files = sources(rt, alloc, &options.files)?;
+    let mut line = Counted::new(alloc, io::writer(rt));
+    verify_engine(alloc, files.as_mut_slice(), &mut line)
+}
+
 /// `jvm disasm`.
 fn listed<R: Files + Print>(rt: &R, alloc: Global, options: &Disasm) -> Result<Status, Fault> {
     let mut file = source(rt, alloc, &options.file);
     let mut listing = Counted::new(alloc, io::writer(rt));
     disasm_engine(alloc, &mut file, &mut listing)
+}
+
+/// The files at these paths, as sources.
+fn sources<'a, R: Files>(
+    rt: &'a R,
+    alloc: Global,
+    paths: &'a [String],
+) -> Result<Vec<Counted<NamedFile<'a, R>>>, Fault> {
+    let mut files = Vec::new(alloc);
+    for path in paths {
+        files.push(source(rt, alloc, path))?;
+    }
+    Ok(files)
 }
 
 /// The file at a path, as a source.

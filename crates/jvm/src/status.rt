@@ -4,8 +4,8 @@ ghost use Rattle.std.specs.Prelude.{◌≡◌};
 ghost use Rattle.std.specs.List.{list_all};
 ghost use Rattle.jvm.specs.Statuses.{has_ended, has_returned, code_of, fault_status, usage_status, status_of};
 
-use crate::command::Usage;
 use crate::fault::Fault;
+use command_line::Usage;
 use model::{End, EndState, Report};
 
 #[derive(Clone, Copy, Debug, PartialEq, Eq)]

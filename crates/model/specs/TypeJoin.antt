@@ -17,27 +17,32 @@ IsJoin is_below s t (Some u) =
 
 -- ---- classes and arrays
 
--- the first class, from the first one upwards by at most so many steps, of which the second is a subclass
-abbrev pub common_within : Program → ℕ → Name → Name → Name
-common_within files zero c d = java_lang_object
+-- the first class, from the first one upwards by fewer than so many steps, of which the second is a subclass
+abbrev pub common_within : Program → ℕ → Name → Name → Option Name
+common_within files zero c d = None
 common_within files (suc n) c d =
-    if is_subclass files d c then c else option_map_or (λ s. common_within files n s d) (superclass_of files c) java_lang_object
+    if is_subclass files d c then Some c else option_and_then (λ s. common_within files n s d) (superclass_of files c)
 
--- the first common superclass
-abbrev pub class_join : Program → Name → Name → Name
-class_join files c d = common_within files (length (classes_of files)) c d
+-- the first common superclass; none where the superclasses of a class do not end with Object, as they do in linked files
+abbrev pub class_join : Program → Name → Name → Option Name
+class_join files c d = common_within files (suc (length (classes_of files))) c d
 
-abbrev pub reference_join : Program → ReferenceType → ReferenceType → ReferenceType
-reference_join files (ClassType c) (ClassType d) = ClassType (class_join files c d)
-reference_join files (ClassType c) (PrimitiveArray b) = ClassType java_lang_object
-reference_join files (ClassType c) (ReferenceArray b) = ClassType java_lang_object
-reference_join files (PrimitiveArray a) (ClassType d) = ClassType java_lang_object
+-- Object, if the class is below it
+abbrev pub object_above : Program → Name → Option ReferenceType
+object_above files c = if is_subclass files c java_lang_object then Some (ClassType java_lang_object) else None
+
+abbrev pub reference_join : Program → ReferenceType → ReferenceType → Option ReferenceType
+reference_join files (ClassType c) (ClassType d) = option_map (λ name. ClassType name) (class_join files c d)
+reference_join files (ClassType c) (PrimitiveArray b) = object_above files c
+reference_join files (ClassType c) (ReferenceArray b) = object_above files c
+reference_join files (PrimitiveArray a) (ClassType d) = object_above files d
 reference_join files (PrimitiveArray a) (PrimitiveArray b) =
-    if primitive_number a == primitive_number b then PrimitiveArray a else ClassType java_lang_object
-reference_join files (PrimitiveArray a) (ReferenceArray b) = ClassType java_lang_object
-reference_join files (ReferenceArray a) (ClassType d) = ClassType java_lang_object
-reference_join files (ReferenceArray a) (PrimitiveArray b) = ClassType java_lang_object
-reference_join files (ReferenceArray a) (ReferenceArray b) = ReferenceArray (reference_join files a b)
+    Some (if primitive_number a == primitive_number b then PrimitiveArray a else ClassType java_lang_object)
+reference_join files (PrimitiveArray a) (ReferenceArray b) = Some (ClassType java_lang_object)
+reference_join files (ReferenceArray a) (ClassType d) = object_above files d
+reference_join files (ReferenceArray a) (PrimitiveArray b) = Some (ClassType java_lang_object)
+reference_join files (ReferenceArray a) (ReferenceArray b) =
+    Some (option_map_or (λ t. ReferenceArray t) (reference_join files a b) (ClassType java_lang_object))
 
 -- ---- types
 
@@ -69,7 +74,7 @@ abbrev pub of_join : Program → ReferenceType → VerificationType → Option V
 of_join files s Unusable = None
 of_join files s IntType = None
 of_join files s NullType = Some (OfType s)
-of_join files s (OfType t) = Some (OfType (reference_join files s t))
+of_join files s (OfType t) = option_map (λ u. OfType u) (reference_join files s t)
 of_join files s (Uninitialised at c) = None
 of_join files s (UninitialisedThis c) = None
 

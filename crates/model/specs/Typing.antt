@@ -18,6 +18,7 @@ use Rattle.model.specs.ReferenceTypes.{ClassType}
 use Rattle.model.specs.Types.{VerificationType, Unusable, IntType, NullType, OfType, Uninitialised, UninitialisedThis, type_meets}
 use Rattle.model.specs.DescribedTypes.{parameters_declared, type_named, made_type, verification_type}
 use Rattle.model.specs.InitialisedTypes.{is_made_at}
+use Rattle.model.specs.InstructionStarts.{is_start}
 use Rattle.model.specs.Operands.{Slots, values, over_types, is_ready, operands, under}
 use Rattle.model.specs.TypeOrder.{FrameType, is_frame_below}
 use Rattle.model.specs.Sites.{MeaningOf, Site, site_at}
@@ -155,8 +156,10 @@ pub record Rule (files : Program) (method : Member) (body : Body) (F : Typing) (
   pub flows : flow files method body offset t ≡ Some leads
   pub reached : AllByRecursion (λ lead. Reaches files F lead.0 lead.1) leads
 
+-- frame types at instruction boundaries alone (JVMS 4.9.1)
 pub record IsTyping (files : Program) (method : Member) (body : Body) (F : Typing) : Type 0 where
   pub begins : Reaches files F 0 (entry_type files method body)
+  pub starts : (offset : ℕ) (t : FrameType) → F offset ≡ Some t → IsTrue (is_start body.code.code offset)
   pub sized : (offset : ℕ) (t : FrameType) → F offset ≡ Some t → IsSized body t
   pub agrees : (offset : ℕ) (t : FrameType) → F offset ≡ Some t → Rule files method body F offset t
 

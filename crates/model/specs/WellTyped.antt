@@ -12,6 +12,8 @@ use Rattle.model.specs.Types.{VerificationType, Unusable, IntType, NullType, OfT
 use Rattle.model.specs.DescribedTypes.{field_declared, made_type, verification_type}
 use Rattle.model.specs.TypeOrder.{FrameType, pairwise}
 use Rattle.model.specs.State.{ObjectOf, Instance, Primitives, References, types_of, Waiter, Monitor, ThreadStatus, Running, Waiting, Relock, Ended, Thread, Frame, Invocation, Initialisation, StackOf, State}
+use Rattle.model.specs.Operands.{values}
+use Rattle.model.specs.Opening.{opening_heap}
 use Rattle.model.specs.Calls.{result_types}
 use Rattle.model.specs.Step.{next_of}
 use Rattle.model.specs.Typing.{Typing, Reaches, IsTyping}
@@ -113,15 +115,15 @@ IsRunning files objects None stack = Beneath files objects Instruction stack
 IsRunning files objects (Some exception) stack =
     IsTrue (is_object_in files objects java_lang_throwable exception) × Failing files objects stack
 
--- the call of wait returns nothing
-abbrev pub IsWaiting : Program → List ReferenceType → ℕ → StackOf Value → Type 0
-IsWaiting files objects object stack =
-    IsTrue (is_object_in files objects java_lang_object object) × Beneath files objects (Results []) stack
+-- the call of wait returns nothing, and no exception is pending meanwhile
+abbrev pub IsWaiting : Program → List ReferenceType → Option ℕ → ℕ → StackOf Value → Type 0
+IsWaiting files objects pending object stack =
+    (pending ≡ None) × (IsTrue (is_object_in files objects java_lang_object object) × Beneath files objects (Results []) stack)
 
 abbrev pub IsStackTyped : Program → List ReferenceType → Option ℕ → StackOf Value → ThreadStatus → Type 0
 IsStackTyped files objects pending stack Running = IsRunning files objects pending stack
-IsStackTyped files objects pending stack (Waiting object count) = IsWaiting files objects object stack
-IsStackTyped files objects pending stack (Relock object count cause) = IsWaiting files objects object stack
+IsStackTyped files objects pending stack (Waiting object count) = IsWaiting files objects pending object stack
+IsStackTyped files objects pending stack (Relock object count cause) = IsWaiting files objects pending object stack
 IsStackTyped files objects pending stack (Ended exception) = Unit {0}
 
 pub record IsThreadTyped (files : Program) (objects : List ReferenceType) (thread : Thread) (stack : StackOf Value) : Type 0 where
@@ -161,8 +163,13 @@ are_wait_sets threads object (monitor ∷ monitors) =
 
 -- ---- states
 
--- each object has a monitor
+-- the objects that were there stay, with their types
+pub record Extends (before after : List ReferenceType) : Type 0 where
+  pub keeps : (r : ℕ) (t : ReferenceType) → slice_get before r ≡ Some t → slice_get after r ≡ Some t
+
+-- the objects of the opening state are there; each object has a monitor
 pub record IsWellTyped (files : Program) (state : State) : Type 0 where
+  pub opened : Extends (types_of (opening_heap values files)) (types_of state.world.heap)
   pub heap : IsTrue (list_all (is_object_typed files (types_of state.world.heap)) state.world.heap)
   pub statics : IsTrue (list_all (is_field_typed files (types_of state.world.heap)) state.world.statics)
   pub monitors : length state.world.monitors ≡ length state.world.heap

@@ -17,7 +17,7 @@ use Rattle.replay.specs.declared.bytecode.Other.{Other}
 use Rattle.replay.specs.declared.bytecode.Other.TheVariants as others
 use Rattle.replay.specs.declared.machine.Stage.{Stage}
 use Rattle.replay.specs.declared.machine.Stage.TheVariants as stages
-use Rattle.replay.specs.Linking.{program_of, main_in, main_code, IsLinked}
+use Rattle.replay.specs.Taking.{program_of, main_in, main_code, Suits}
 use Rattle.replay.specs.Placed.{IsPlaced}
 use Rattle.model.specs.declared.limits.Limits.{Limits}
 use Rattle.model.specs.Run.{may_step, is_quiet}
@@ -80,8 +80,8 @@ module _ (file : FileTree) (frames : ℕ) (printed : List ℤ) (place : Place) w
   by_enabled others.PrintInt next = println_enabled next
   by_enabled others.Return next = return_enabled (main_in file).descriptor
 
-  pub frame_enabled : IsLinked file → IsPlaced (main_code file).code place.offset → is_enabled_by (frame_event file frames printed place) ≡ true
-  frame_enabled linked placed = of_meaning file linked place.offset placed E refl local_enabled by_enabled
+  pub frame_enabled : Suits file → IsPlaced (main_code file).code place.offset → is_enabled_by (frame_event file frames printed place) ≡ true
+  frame_enabled suits placed = of_meaning file suits place.offset placed E refl local_enabled by_enabled
 
   -- ---- an event with a pick
 
@@ -98,41 +98,41 @@ module _ (file : FileTree) (frames : ℕ) (printed : List ℤ) (place : Place) w
     by_none others.PrintInt next = if_none (finds (println_meaning values next)) _
     by_none others.Return next = if_none (finds (return_meaning (main_in file).descriptor)) _
 
-    pub frame_not_enabled : IsLinked file → IsPlaced (main_code file).code place.offset → frame_by file frames printed place event (meaning_at file place.offset) ≡ NotEnabled
-    frame_not_enabled linked placed = of_meaning file linked place.offset placed N (rw picks refl) (λ row. if_none (finds (local_meaning values row)) _) by_none
+    pub frame_not_enabled : Suits file → IsPlaced (main_code file).code place.offset → frame_by file frames printed place event (meaning_at file place.offset) ≡ NotEnabled
+    frame_not_enabled suits placed = of_meaning file suits place.offset placed N (rw picks refl) (λ row. if_none (finds (local_meaning values row)) _) by_none
 
 -- an event of the main thread
 abbrev pub picking : ℕ → Event
 picking pick = record { thread = 0; pick = pick }
 
 -- with a pick it is not enabled at any stage
-pub pick_not_enabled : (file : FileTree) (frames : ℕ) (printed : List ℤ) (place : Place) (pick : ℕ) → IsLinked file → IsPlaced (main_code file).code place.offset → (pick == 0) ≡ false → (stage : Stage) → stepped values (program_of file) frames (state_of file stage place printed) (picking pick) ≡ NotEnabled
-pick_not_enabled file frames printed place pick linked placed picks stages.New = rw picks refl
-pick_not_enabled file frames printed place pick linked placed picks stages.Super = rw picks refl
-pick_not_enabled file frames printed place pick linked placed picks stages.End = rw picks refl
-pick_not_enabled file frames printed place pick linked placed picks stages.Ready = rw picks refl
-pick_not_enabled file frames printed place pick linked placed picks stages.Runs =
+pub pick_not_enabled : (file : FileTree) (frames : ℕ) (printed : List ℤ) (place : Place) (pick : ℕ) → Suits file → IsPlaced (main_code file).code place.offset → (pick == 0) ≡ false → (stage : Stage) → stepped values (program_of file) frames (state_of file stage place printed) (picking pick) ≡ NotEnabled
+pick_not_enabled file frames printed place pick suits placed picks stages.New = rw picks refl
+pick_not_enabled file frames printed place pick suits placed picks stages.Super = rw picks refl
+pick_not_enabled file frames printed place pick suits placed picks stages.End = rw picks refl
+pick_not_enabled file frames printed place pick suits placed picks stages.Ready = rw picks refl
+pick_not_enabled file frames printed place pick suits placed picks stages.Runs =
     let back : SteppedOf (PartOf Value) → SteppedOf State = λ out. put_back (state_of file stages.Runs place printed) 0 (settled 0 out) in
-    ap (λ body. back (bytecode_in values (program_of file) frames (picking pick) (world_of file stages.Runs printed) (frame_of file place) [] body)) linked.body
-    ∙ ap back (frame_not_enabled file frames printed place (picking pick) picks linked placed)
-pick_not_enabled file frames printed place pick linked placed picks stages.Ended = refl
+    ap (λ body. back (bytecode_in values (program_of file) frames (picking pick) (world_of file stages.Runs printed) (frame_of file place) [] body)) suits.body
+    ∙ ap back (frame_not_enabled file frames printed place (picking pick) picks suits placed)
+pick_not_enabled file frames printed place pick suits placed picks stages.Ended = refl
 
-pub stage_enabled : (file : FileTree) (frames : ℕ) (printed : List ℤ) (place : Place) → (linked : IsLinked file) → IsPlaced (main_code file).code place.offset → 1 ≤ frames → (stage : Stage) → is_enabled_by (at_stage file frames printed place linked stage) ≡ is_alive stage
-stage_enabled file frames printed place linked placed some stages.New = ap is_enabled_by (new_step file frames printed place linked)
-stage_enabled file frames printed place linked placed some stages.Super = ap is_enabled_by (super_step file frames printed place linked)
-stage_enabled file frames printed place linked placed some stages.End = ap is_enabled_by (end_step file frames printed place linked)
-stage_enabled file frames printed place linked placed some stages.Ready = ap is_enabled_by (ready_step file frames printed place linked some)
-stage_enabled file frames printed place linked placed some stages.Runs = ap is_enabled_by (runs_step file frames printed place linked) ∙ settled_enabled (frame_event file frames printed place) (state_of file stages.Runs place printed) (frame_enabled file frames printed place linked placed)
-stage_enabled file frames printed place linked placed some stages.Ended = ap is_enabled_by (ended_step file frames printed place linked)
+pub stage_enabled : (file : FileTree) (frames : ℕ) (printed : List ℤ) (place : Place) → (suits : Suits file) → IsPlaced (main_code file).code place.offset → 1 ≤ frames → (stage : Stage) → is_enabled_by (at_stage file frames printed place suits stage) ≡ is_alive stage
+stage_enabled file frames printed place suits placed some stages.New = ap is_enabled_by (new_step file frames printed place suits)
+stage_enabled file frames printed place suits placed some stages.Super = ap is_enabled_by (super_step file frames printed place suits)
+stage_enabled file frames printed place suits placed some stages.End = ap is_enabled_by (end_step file frames printed place suits)
+stage_enabled file frames printed place suits placed some stages.Ready = ap is_enabled_by (ready_step file frames printed place suits some)
+stage_enabled file frames printed place suits placed some stages.Runs = ap is_enabled_by (runs_step file frames printed place suits) ∙ settled_enabled (frame_event file frames printed place) (state_of file stages.Runs place printed) (frame_enabled file frames printed place suits placed)
+stage_enabled file frames printed place suits placed some stages.Ended = ap is_enabled_by (ended_step file frames printed place suits)
 
 -- ---- how the machine stands
 
-module _ (file : FileTree) (limits : Limits) (printed : List ℤ) (place : Place) (linked : IsLinked file) (placed : IsPlaced (main_code file).code place.offset) where
+module _ (file : FileTree) (limits : Limits) (printed : List ℤ) (place : Place) (suits : Suits file) (placed : IsPlaced (main_code file).code place.offset) where
   abbrev shown : Stage → State
   shown stage = state_of file stage place printed
 
   enabled_is : (stage : Stage) → may_step (program_of file) limits.frames (shown stage) 0 ≡ is_alive stage
-  enabled_is stage = stage_enabled file limits.frames printed place linked placed limits.frames_fit.0 stage
+  enabled_is stage = stage_enabled file limits.frames printed place suits placed limits.frames_fit.0 stage
 
   pub quiet_is : (stage : Stage) → is_quiet (program_of file) limits.frames (shown stage) ≡ not (is_alive stage)
   quiet_is stages.New = rw (enabled_is stages.New) refl
@@ -163,7 +163,7 @@ module _ (file : FileTree) (limits : Limits) (printed : List ℤ) (place : Place
       by : (t : ℕ) → e.thread ≡ t → stepped values (program_of file) limits.frames (shown stage) e ≡ NotEnabled
       by zero q =
           let Q : ℕ → Type 0 = λ t. stepped values (program_of file) limits.frames (shown stage) (record { thread = t; pick = e.pick }) ≡ NotEnabled in
-          subst Q (sym q) (pick_not_enabled file limits.frames printed place e.pick linked placed (other q) stage)
+          subst Q (sym q) (pick_not_enabled file limits.frames printed place e.pick suits placed (other q) stage)
       by (suc t) q =
           let Q : ℕ → Type 0 = λ n. stepped values (program_of file) limits.frames (shown stage) (record { thread = n; pick = e.pick }) ≡ NotEnabled in
           subst Q (sym q) refl

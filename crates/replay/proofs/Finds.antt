@@ -1,17 +1,8 @@
 -- Finding in lists.
-use Rattle.std.proofs.Common.{◌≡◌, List, [], ◌∷◌, ◌++◌, Some, Bool, true, false, ◌||◌, cond, refl}
+use Rattle.std.proofs.Common.{◌≡◌, List, [], ◌∷◌, ◌++◌, Some, Bool, true, false, cond, refl}
 use Rattle.std.specs.Prelude.{is_some, find}
-use Rattle.std.specs.List.{list_any}
 
-pub found_any : {A : Type 0} (p : A → Bool) (xs : List A) → is_some (find p xs) ≡ list_any p xs
-found_any p [] = refl
-found_any p (x ∷ xs) = by (p x) (found_any p xs)
-  where
-    by : (b : Bool) → is_some (find p xs) ≡ list_any p xs → is_some (cond b (Some x) (find p xs)) ≡ (b || list_any p xs)
-    by true h = refl
-    by false h = h
-
--- what is found in neither of two lists, and what is found in the second
+-- what is found in the second of two lists
 pub find_second : {A : Type 0} (p : A → Bool) (xs ys : List A) → is_some (find p xs) ≡ false → find p (xs ++ ys) ≡ find p ys
 find_second p [] ys h = refl
 find_second p (x ∷ xs) ys h = by (p x) h (λ k. find_second p xs ys k)

@@ -1,8 +1,6 @@
--- What is known of an instruction of a method that is neither outside of the profile nor malformed.
-use Rattle.std.proofs.Common.{◌≡◌, ℕ, zero, suc, ◌+◌, ◌-◌, List, [], ◌∷◌, map, get_or, Some, Bool, true, false, not, ◌||◌, cond, refl, sym, ap, subst, ◌∙◌, arith}
-use lib.Dec.{is_le}
-use Prim.Native.Nat.{compare}
-use Rattle.std.specs.Prelude.{ℤ, pos, negsuc, ◌+ℤ◌, slice_index_or, find}
+-- What is known of an instruction of a method in whose code a condition stands nowhere, and where its jumps lead.
+use Rattle.std.proofs.Common.{◌≡◌, ℕ, zero, suc, ◌+◌, ◌-◌, List, [], ◌∷◌, map, get_or, Some, Bool, true, false, not, ◌&&◌, ◌||◌, cond, refl, sym, ap, subst, ◌∙◌, arith}
+use Rattle.std.specs.Prelude.{ℤ, pos, negsuc, nat_lt, find}
 use Rattle.std.specs.List.{list_any, AllByRecursion}
 use Rattle.std.specs.Option.{option_map_or}
 use Rattle.model.specs.declared.instr.Instr.{Instr}
@@ -11,7 +9,9 @@ use Rattle.model.specs.Instruction.{instr_at, table_jump, lookup_pair, jump_coun
 use Rattle.model.specs.InstructionStarts.{starts, is_start}
 use Rattle.model.specs.Rows.{counting}
 use Rattle.replay.specs.Placed.{Leads, JumpsFit}
-use Rattle.replay.specs.Profile.{marked_from, some_instruction, is_marked, jumps_astray}
+use Rattle.model.specs.Tree.{CodeTree}
+use Rattle.model.specs.CodeParts.{marked_from, any_instruction, count_from}
+use Rattle.model.specs.CodeConditions.{lands, jump_off_boundary}
 
 -- ---- what is said of none
 
@@ -49,45 +49,42 @@ none_marked p n (false ∷ marks) (suc k) h e =
     let place : suc n + k ≡ n + suc k = omega arith in subst (λ q. p q ≡ false) place (none_marked p (suc n) marks k h e)
 
 -- not of an instruction
-pub none_at : (is_so : ℕ → Instr → Bool) (code : List ℕ) (pc : ℕ) (i : Instr) → some_instruction is_so code ≡ false → is_start code pc ≡ true → instr_at code pc ≡ Some i → is_so pc i ≡ false
-none_at is_so code pc i h start e =
+pub none_at : (test : ℕ → Instr → Bool) (c : CodeTree) (pc : ℕ) (i : Instr) → any_instruction test c ≡ false → is_start c.code pc ≡ true → instr_at c.code pc ≡ Some i → test pc i ≡ false
+none_at test c pc i h start e =
     let place : 0 + pc ≡ pc = omega arith in
-    ap (λ o. option_map_or (is_so pc) o false) (sym e) ∙ subst (λ q. option_map_or (is_so q) (instr_at code q) false ≡ false) place (none_marked (λ q. option_map_or (is_so q) (instr_at code q) false) 0 (starts code) pc h start)
+    ap (λ o. option_map_or (test pc) o false) (sym e) ∙ subst (λ q. option_map_or (test q) (instr_at c.code q) false ≡ false) place (none_marked (λ q. option_map_or (test q) (instr_at c.code q) false) 0 (starts c.code) pc h start)
 
 -- ---- jumps
 
--- a place that is marked, reached by going back
-marked_back : (marks : List Bool) (pc n : ℕ) → is_marked marks (pos pc +ℤ negsuc n) ≡ true → slice_index_or marks (pc - suc n) false ≡ true
-marked_back marks pc n h = by (is_le (compare (suc pc) (suc n))) h
-  where
-    by : (b : Bool) → is_marked marks (cond b (negsuc (suc n - suc pc)) (pos (pc - suc n))) ≡ true → slice_index_or marks (pc - suc n) false ≡ true
-    by true e = absurd cc
-    by false e = e
+and_right : (a b : Bool) → (a && b) ≡ true → b ≡ true
+and_right true b h = h
+and_right false b h = absurd cc
 
-lands : (code : List ℕ) (pc : ℕ) (by : ℤ) → not (is_marked (starts code) (pos pc +ℤ by)) ≡ false → Leads code pc by
-lands code pc (pos n) h = not_false (is_marked (starts code) (pos (pc + n))) h
-lands code pc (negsuc n) h = marked_back (starts code) pc n (not_false (is_marked (starts code) (pos pc +ℤ negsuc n)) h)
+leads_there : (code : List ℕ) (pc : ℕ) (by : ℤ) → not (lands code pc by) ≡ false → Leads code pc by
+leads_there code pc (pos n) h = not_false (is_start code (pc + n)) h
+leads_there code pc (negsuc n) h = and_right (nat_lt n pc) (is_start code (pc - suc n)) (not_false (nat_lt n pc && is_start code (pc - suc n)) h)
 
-all_land : (code : List ℕ) (pc : ℕ) (f : ℕ → ℤ) (ks : List ℕ) → list_any (λ by. not (is_marked (starts code) (pos pc +ℤ by))) (map f ks) ≡ false → AllByRecursion (λ k. Leads code pc (f k)) ks
-all_land code pc f [] h = tt
-all_land code pc f (k ∷ ks) h =
-    (lands code pc (f k) (left_false (not (is_marked (starts code) (pos pc +ℤ f k))) (list_any (λ by. not (is_marked (starts code) (pos pc +ℤ by))) (map f ks)) h), all_land code pc f ks (right_false (not (is_marked (starts code) (pos pc +ℤ f k))) (list_any (λ by. not (is_marked (starts code) (pos pc +ℤ by))) (map f ks)) h))
+all_lead : (code : List ℕ) (pc : ℕ) (f : ℕ → ℤ) (k n : ℕ) → list_any (λ by. not (lands code pc by)) (map f (count_from k n)) ≡ false → AllByRecursion (λ k. Leads code pc (f k)) (counting k n)
+all_lead code pc f k zero h = tt
+all_lead code pc f k (suc n) h =
+    let others = list_any (λ by. not (lands code pc by)) (map f (count_from (suc k) n)) in
+    (leads_there code pc (f k) (left_false (not (lands code pc (f k))) others h), all_lead code pc f (suc k) n (right_false (not (lands code pc (f k))) others h))
 
-module _ (code : List ℕ) (pc : ℕ) where
+module _ (c : CodeTree) (pc : ℕ) where
   abbrev astray : ℤ → Bool
-  astray by = not (is_marked (starts code) (pos pc +ℤ by))
+  astray by = not (lands c.code pc by)
 
-  first_lands : (by : ℤ) (others : List ℤ) → list_any astray (by ∷ others) ≡ false → Leads code pc by
-  first_lands by others h = lands code pc by (left_false (astray by) (list_any astray others) h)
+  first_leads : (by : ℤ) (others : List ℤ) → list_any astray (by ∷ others) ≡ false → Leads c.code pc by
+  first_leads by others h = leads_there c.code pc by (left_false (astray by) (list_any astray others) h)
 
-  pub jumps_land : (i : Instr) → jumps_astray code pc i ≡ false → JumpsFit code pc i
-  jumps_land (instr.If comparison by) h = first_lands by [] h
-  jumps_land (instr.IfInts comparison by) h = first_lands by [] h
-  jumps_land (instr.Goto by) h = first_lands by [] h
-  jumps_land (instr.TableSwitch default low high at) h =
-      let jumps = map (λ k. table_jump code at k) (counting 0 (jump_count low high)) in
-      (first_lands default jumps h, all_land code pc (λ k. table_jump code at k) (counting 0 (jump_count low high)) (right_false (astray default) (list_any astray jumps) h))
-  jumps_land (instr.LookupSwitch default pairs at) h =
-      let jumps = map (λ k. (lookup_pair code at k).1) (counting 0 pairs) in
-      (first_lands default jumps h, all_land code pc (λ k. (lookup_pair code at k).1) (counting 0 pairs) (right_false (astray default) (list_any astray jumps) h))
-  jumps_land _ h = tt
+  pub jumps_lead : (i : Instr) → jump_off_boundary c pc i ≡ false → JumpsFit c.code pc i
+  jumps_lead (instr.If comparison by) h = first_leads by [] h
+  jumps_lead (instr.IfInts comparison by) h = first_leads by [] h
+  jumps_lead (instr.Goto by) h = first_leads by [] h
+  jumps_lead (instr.TableSwitch default low high at) h =
+      let jumps = map (table_jump c.code at) (count_from 0 (jump_count low high)) in
+      (first_leads default jumps h, all_lead c.code pc (table_jump c.code at) 0 (jump_count low high) (right_false (astray default) (list_any astray jumps) h))
+  jumps_lead (instr.LookupSwitch default pairs at) h =
+      let jumps = map (λ k. (lookup_pair c.code at k).1) (count_from 0 pairs) in
+      (first_leads default jumps h, all_lead c.code pc (λ k. (lookup_pair c.code at k).1) 0 pairs (right_false (astray default) (list_any astray jumps) h))
+  jumps_lead _ h = tt

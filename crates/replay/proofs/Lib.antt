@@ -4,7 +4,8 @@ pub mod Enabled
 pub mod Runs
 pub mod Finds
 pub mod Profiles
-pub mod Linkings
+pub mod Takings
+pub mod Refusals
 pub mod Placed
 pub mod Inside
 pub mod Alone

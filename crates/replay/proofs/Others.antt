@@ -22,7 +22,7 @@ use Rattle.model.specs.Meanings.{MeaningOf, system_out_meaning, println_meaning,
 use Rattle.model.specs.Step.{SteppedOf, WrongKind, Next, PartOf, part}
 use Rattle.frames.specs.Places.{has_room, replaced, int_in, int_at}
 use Rattle.replay.specs.declared.machine.Stage.TheVariants as stages
-use Rattle.replay.specs.Linking.{program_of, main_in, main_code}
+use Rattle.replay.specs.Taking.{program_of, main_in, main_code}
 use Rattle.replay.specs.Machine.{frame_of, world_of, main_step, frame_by, does_by, is_print_stream, PartThrows, PartGoesOn}
 
 -- what main does at its place by a meaning

@@ -10,7 +10,7 @@ use Rattle.model.specs.declared.instr.Instr.{Instr}
 use Rattle.model.specs.declared.instr.Instr.TheVariants as instr
 use Rattle.model.specs.declared.value.Value.{Value}
 use Rattle.model.specs.Names.{Member, member_eq, system_out, println_int}
-use Rattle.model.specs.Tree.{Entry, Utf8, Integer, Float, Long, Double, Class, String, Field, Method, InterfaceMethod, NameAndType, Unusable, FileTree}
+use Rattle.model.specs.Tree.{Entry, Unusable, FileTree}
 use Rattle.model.specs.Spelling.{entry_at}
 use Rattle.model.specs.Pool.{field_at, method_at, integer_of, integers_of}
 use Rattle.model.specs.Instruction.{HasBytes, Sized, sized_at, length_at, instr_at}
@@ -22,12 +22,12 @@ use Rattle.model.proofs.InstructionLaws.{length_fits}
 use Rattle.frames.specs.Places.{own_row}
 use Rattle.replay.specs.declared.bytecode.Other.{Other}
 use Rattle.replay.specs.declared.bytecode.Other.TheVariants as others
-use Rattle.replay.specs.Linking.{program_of, main_in, main_body, main_code, IsLinked}
+use Rattle.replay.specs.Taking.{program_of, main_in, main_body, main_code, Suits}
 use Rattle.replay.specs.Placed.{IsPlaced, JumpsFit}
-use Rattle.replay.specs.Profile.{is_outside_instruction, is_other_constant, is_loadable, is_other_than, names_wrong_kind, lacks_local, jumps_astray, rise, matches_of}
+use Rattle.replay.specs.Profile.{is_outside_instruction, is_other_than}
 use Rattle.replay.specs.Machine.{meaning_at, other_of}
 use Rattle.replay.proofs.Inside.{left_false, right_false}
-use Rattle.replay.proofs.Alone.{taken, well_formed, jumps_fit}
+use Rattle.replay.proofs.Alone.{taken, jumps_fit}
 use Rattle.replay.proofs.Placed.{next_placed}
 
 -- ---- rows
@@ -47,28 +47,17 @@ meaning_by others.PrintInt next = println_meaning values next
 meaning_by others.Return next = return_meaning (Rattle.std.specs.Prelude.codes "([Ljava/lang/String;)V")
 
 -- a member is there, and is no other one
-is_one : (m : Member) (o : Option Member) → is_other_than m o ≡ false → is_none o ≡ false → (named : Member) × (o ≡ Some named) × (member_eq named m ≡ true)
-is_one m None h k = absurd cc
-is_one m (Some named) h k = (named, refl, true_of (member_eq named m) h)
+is_one : (m : Member) (o : Option Member) → is_other_than m o ≡ false → (named : Member) × (o ≡ Some named) × (member_eq named m ≡ true)
+is_one m None h = absurd cc
+is_one m (Some named) h = (named, refl, true_of (member_eq named m) h)
   where
     true_of : (b : Bool) → not b ≡ false → b ≡ true
     true_of true e = refl
     true_of false e = absurd cc
 
--- the int of an entry that is loadable, and is no other constant
-an_int : (e : Entry) → is_other_constant e ≡ false → not (is_loadable e) ≡ false → integer_of e ≡ None → ⊥
-an_int (Utf8 text) h k n = absurd cc
-an_int (Integer bits) h k n = absurd cc
-an_int (Float bits) h k n = absurd cc
-an_int (Long bits) h k n = absurd cc
-an_int (Double bits) h k n = absurd cc
-an_int (Class name) h k n = absurd cc
-an_int (String text) h k n = absurd cc
-an_int (Field class name_and_type) h k n = absurd cc
-an_int (Method class name_and_type) h k n = absurd cc
-an_int (InterfaceMethod class name_and_type) h k n = absurd cc
-an_int (NameAndType name descriptor) h k n = absurd cc
-an_int Unusable h k n = absurd cc
+some_int : (o : Option ℕ) → is_none o ≡ false → o ≡ None → ⊥
+some_int None h n = absurd cc
+some_int (Some bits) h n = absurd cc
 
 -- the ints of a constant pool, by their index
 integer_at : (pool : List Entry) (index : ℕ) → slice_index_or (integers_of pool) index None ≡ integer_of (entry_at pool index)
@@ -85,55 +74,56 @@ module _ (file : FileTree) (pc next : ℕ) where
   abbrev means : Instr → Option (MeaningOf Value)
   means i = other_meaning values (program_of file) (site i) i
 
-  gets : (index : ℕ) → is_other_than system_out (field_at file.pool index) ≡ false → is_none (field_at file.pool index) ≡ false → means (instr.Field access.GetStatic index) ≡ Some (system_out_meaning values next)
-  gets index h k = let o = is_one system_out (field_at file.pool index) h k in rw (o.1, o.2) refl
+  gets : (index : ℕ) → is_other_than system_out (field_at file.pool index) ≡ false → means (instr.Field access.GetStatic index) ≡ Some (system_out_meaning values next)
+  gets index h = let o = is_one system_out (field_at file.pool index) h in rw (o.1, o.2) refl
 
-  prints : (index : ℕ) → is_other_than println_int (method_at file.pool index) ≡ false → is_none (method_at file.pool index) ≡ false → means (instr.Invoke invocation.Virtual index) ≡ Some (println_meaning values next)
-  prints index h k = let o = is_one println_int (method_at file.pool index) h k in rw (o.1, o.2) refl
+  prints : (index : ℕ) → is_other_than println_int (method_at file.pool index) ≡ false → means (instr.Invoke invocation.Virtual index) ≡ Some (println_meaning values next)
+  prints index h = let o = is_one println_int (method_at file.pool index) h in rw (o.1, o.2) refl
 
-  pub other_is : (i : Instr) → is_outside_instruction file.pool i ≡ false → names_wrong_kind file.pool i ≡ false → own_row (integers_of file.pool) (main_code file).code pc next i ≡ None → means i ≡ Some (meaning_by (other_of i) next)
-  other_is instr.Nop h k n = absurd cc
-  other_is instr.Null h k n = absurd cc
-  other_is (instr.Const value) h k n = absurd cc
-  other_is (instr.LoadConstant index) h k n =
-      absurd (an_int (entry_at file.pool index) (right_false false (is_other_constant (entry_at file.pool index)) (left_false (false || is_other_constant (entry_at file.pool index)) false (left_false (false || is_other_constant (entry_at file.pool index) || false) false h))) k (sym (integer_at file.pool index) ∙ no_row next (slice_index_or (integers_of file.pool) index None) n))
-  other_is (instr.Load kind local) h k n = absurd cc
-  other_is (instr.Store kind local) h k n = absurd cc
-  other_is (instr.LoadElement kind) h k n = absurd cc
-  other_is (instr.StoreElement kind) h k n = absurd cc
-  other_is (instr.Move move) h k n = absurd cc
-  other_is (instr.Compute op) h k n = absurd cc
-  other_is instr.Negate h k n = absurd cc
-  other_is (instr.Increment local by) h k n = absurd cc
-  other_is (instr.Convert to) h k n = absurd cc
-  other_is (instr.If comparison by) h k n = absurd cc
-  other_is (instr.IfInts comparison by) h k n = absurd cc
-  other_is (instr.IfReferences equal by) h k n = absurd cc
-  other_is (instr.IfNull null by) h k n = absurd cc
-  other_is (instr.Goto by) h k n = absurd cc
-  other_is (instr.TableSwitch default low high at) h k n = absurd cc
-  other_is (instr.LookupSwitch default pairs at) h k n = absurd cc
-  other_is (instr.Return returned.Nothing) h k n = refl
-  other_is (instr.Return returned.Int) h k n = absurd cc
-  other_is (instr.Return returned.Reference) h k n = absurd cc
-  other_is (instr.Field access.GetStatic index) h k n =
-      gets index (right_false false (is_other_than system_out (field_at file.pool index)) (left_false (false || is_other_than system_out (field_at file.pool index)) false h)) k
-  other_is (instr.Field access.PutStatic index) h k n = absurd cc
-  other_is (instr.Field access.GetField index) h k n = absurd cc
-  other_is (instr.Field access.PutField index) h k n = absurd cc
-  other_is (instr.Invoke invocation.Virtual index) h k n = prints index (right_false false (is_other_than println_int (method_at file.pool index)) h) k
-  other_is (instr.Invoke invocation.Special index) h k n = absurd cc
-  other_is (instr.Invoke invocation.Static index) h k n = absurd cc
-  other_is (instr.InvokeInterface index count last) h k n = absurd cc
-  other_is (instr.New index) h k n = absurd cc
-  other_is (instr.NewArray code) h k n = absurd cc
-  other_is (instr.NewReferenceArray index) h k n = absurd cc
-  other_is instr.ArrayLength h k n = absurd cc
-  other_is instr.Throw h k n = absurd cc
-  other_is (instr.CheckCast index) h k n = absurd cc
-  other_is (instr.InstanceOf index) h k n = absurd cc
-  other_is instr.MonitorEnter h k n = absurd cc
-  other_is instr.MonitorExit h k n = absurd cc
+  pub other_is : (i : Instr) → is_outside_instruction file.pool i ≡ false → own_row (integers_of file.pool) (main_code file).code pc next i ≡ None → means i ≡ Some (meaning_by (other_of i) next)
+  other_is instr.Nop h n = absurd cc
+  other_is instr.Null h n = absurd cc
+  other_is (instr.Const value) h n = absurd cc
+  other_is (instr.LoadConstant index) h n =
+      let other = is_none (integer_of (entry_at file.pool index)) in
+      absurd (some_int (integer_of (entry_at file.pool index)) (right_false false other (left_false (false || other) false (left_false (false || other || false) false h))) (sym (integer_at file.pool index) ∙ no_row next (slice_index_or (integers_of file.pool) index None) n))
+  other_is (instr.Load kind local) h n = absurd cc
+  other_is (instr.Store kind local) h n = absurd cc
+  other_is (instr.LoadElement kind) h n = absurd cc
+  other_is (instr.StoreElement kind) h n = absurd cc
+  other_is (instr.Move move) h n = absurd cc
+  other_is (instr.Compute op) h n = absurd cc
+  other_is instr.Negate h n = absurd cc
+  other_is (instr.Increment local by) h n = absurd cc
+  other_is (instr.Convert to) h n = absurd cc
+  other_is (instr.If comparison by) h n = absurd cc
+  other_is (instr.IfInts comparison by) h n = absurd cc
+  other_is (instr.IfReferences equal by) h n = absurd cc
+  other_is (instr.IfNull null by) h n = absurd cc
+  other_is (instr.Goto by) h n = absurd cc
+  other_is (instr.TableSwitch default low high at) h n = absurd cc
+  other_is (instr.LookupSwitch default pairs at) h n = absurd cc
+  other_is (instr.Return returned.Nothing) h n = refl
+  other_is (instr.Return returned.Int) h n = absurd cc
+  other_is (instr.Return returned.Reference) h n = absurd cc
+  other_is (instr.Field access.GetStatic index) h n =
+      gets index (right_false false (is_other_than system_out (field_at file.pool index)) (left_false (false || is_other_than system_out (field_at file.pool index)) false h))
+  other_is (instr.Field access.PutStatic index) h n = absurd cc
+  other_is (instr.Field access.GetField index) h n = absurd cc
+  other_is (instr.Field access.PutField index) h n = absurd cc
+  other_is (instr.Invoke invocation.Virtual index) h n = prints index (right_false false (is_other_than println_int (method_at file.pool index)) h)
+  other_is (instr.Invoke invocation.Special index) h n = absurd cc
+  other_is (instr.Invoke invocation.Static index) h n = absurd cc
+  other_is (instr.InvokeInterface index count last) h n = absurd cc
+  other_is (instr.New index) h n = absurd cc
+  other_is (instr.NewArray code) h n = absurd cc
+  other_is (instr.NewReferenceArray index) h n = absurd cc
+  other_is instr.ArrayLength h n = absurd cc
+  other_is instr.Throw h n = absurd cc
+  other_is (instr.CheckCast index) h n = absurd cc
+  other_is (instr.InstanceOf index) h n = absurd cc
+  other_is instr.MonitorEnter h n = absurd cc
+  other_is instr.MonitorExit h n = absurd cc
 
 -- ---- the instruction at a place
 
@@ -149,7 +139,7 @@ pub at_start : (code : List ℕ) (pc : ℕ) (s : Sized) → IsPlaced code pc →
 at_start code pc s (inl start) e = start
 at_start code pc s (inr end) e = absurd (let n = none_at_end code pc (Some s) e end in cc)
 
-module _ (file : FileTree) (linked : IsLinked file) (pc : ℕ) (placed : IsPlaced (main_code file).code pc) where
+module _ (file : FileTree) (suits : Suits file) (pc : ℕ) (placed : IsPlaced (main_code file).code pc) where
   module _ (s : Sized) (e : sized_at (main_code file).code pc ≡ Some s) where
     abbrev start : is_start (main_code file).code pc ≡ true
     start = at_start (main_code file).code pc s placed e
@@ -158,15 +148,10 @@ module _ (file : FileTree) (linked : IsLinked file) (pc : ℕ) (placed : IsPlace
     here = ap (option_map (λ (x : Sized). x.0)) e
 
     pub inside : is_outside_instruction file.pool s.0 ≡ false
-    inside = taken file (main_code file) linked.inside linked.whole linked.main pc s.0 start here
-
-    pub named : names_wrong_kind file.pool s.0 ≡ false
-    named =
-        right_false (lacks_local (main_code file).max_locals s.0 || jumps_astray (main_code file).code pc s.0 || not (rise (matches_of (main_code file).code s.0))) (names_wrong_kind file.pool s.0)
-        (well_formed file (main_code file) linked.inside linked.whole linked.main pc s.0 start here)
+    inside = taken file (main_code file) suits.inside suits.main pc s.0 start here
 
     pub jumps : JumpsFit (main_code file).code pc s.0
-    jumps = jumps_fit file (main_code file) linked.inside linked.whole linked.main pc s.0 start here
+    jumps = jumps_fit file (main_code file) suits.inside suits.main suits.whole pc s.0 start here
 
     pub next_is_placed : IsPlaced (main_code file).code (pc + s.1)
     next_is_placed = next_placed (main_code file).code pc s.1 start (ap (option_map (λ (x : Sized). x.1)) e)
@@ -182,7 +167,7 @@ module _ (file : FileTree) (linked : IsLinked file) (pc : ℕ) (placed : IsPlace
     where
       by_row : (s : Sized) → sized_at (main_code file).code pc ≡ Some s → (o : Option Row) → own_row (integers_of file.pool) (main_code file).code pc (pc + s.1) s.0 ≡ o → P (local_or values (program_of file) (site_with (main_in file) (main_body file) pc s) o)
       by_row s e (Some row) r = local row
-      by_row s e None r = subst P (sym (other_is file pc (pc + s.1) s.0 (inside s e) (named s e) r)) (other (other_of s.0) (pc + s.1))
+      by_row s e None r = subst P (sym (other_is file pc (pc + s.1) s.0 (inside s e) r)) (other (other_of s.0) (pc + s.1))
 
       by_sized : (o : Option Sized) → sized_at (main_code file).code pc ≡ o → P (option_and_then (meaning_of values (program_of file)) (option_map (site_with (main_in file) (main_body file) pc) o))
       by_sized None e = none

@@ -18,15 +18,18 @@ use Rattle.model.specs.State.{State}
 use Rattle.model.specs.Opening.{opening}
 use Rattle.model.specs.Outcomes.{Free, Makes, Starts, Enters, Joins}
 use Rattle.model.specs.Step.{SteppedOf, NotEnabled, WrongKind, Next, stepped, step, next_by}
-use Rattle.model.specs.Run.{run_from, is_quiet}
+use Rattle.model.specs.Run.{run, run_from, is_quiet}
+use Rattle.soundness.specs.Steps.{is_wrong}
+use Rattle.soundness.proofs.Sound.{no_event_wrong}
+use Rattle.std.proofs.lemmas.Bool.{true≢false}
 use Rattle.replay.specs.declared.machine.Stepped.{Stepped}
 use Rattle.replay.specs.declared.machine.Stepped.TheVariants as steps
-use Rattle.replay.specs.Linking.{program_of}
+use Rattle.replay.specs.Taking.{program_of, IsOfTaken}
 use Rattle.replay.specs.Machine.{Machine, Shows, GoesOn, Throws, SaysOf, IsKept, meets, state_in, is_thrown}
 use Rattle.model.specs.declared.event.ScheduleEntry.{ScheduleEntry}
 use Rattle.model.specs.declared.end.End.TheVariants as ends
 use Rattle.model.specs.Schedule.{events_of}
-use Rattle.replay.specs.Replay.{Reports, Finishes, end_of, if_plain, run_plainly, Stands, EndFits, IsReplay, ShowsRun, ReportsOn, StopsAt}
+use Rattle.replay.specs.Replay.{Reports, Finishes, end_of, if_plain, run_plainly, Stands, EndFits, IsRight, IsReplay, ShowsRun, ReportsOn, StopsAt}
 
 -- ---- a plain run is a run
 
@@ -115,11 +118,20 @@ one_more start m n es e k run kept says =
 pub stays : (start m n : Machine) (es : List Event) → n ≡ m → ShowsRun start es m → ShowsRun start es n
 stays start m n es same run = subst (λ k. ShowsRun start es k) (sym same) run
 
+-- ---- operands of a wrong kind
+
+-- no event of a run of the file is answered by one
+abbrev pub NeverWrong : FileTree → Type 0
+NeverWrong file = (frames : ℕ) (events : List Event) (state : State) (event : Event) → run (program_of file) frames events ≡ Some state → is_wrong (stepped values (program_of file) frames state event) ≡ false
+
+pub never_wrong : (file : FileTree) → IsOfTaken file → NeverWrong file
+never_wrong file taken frames events state event e = no_event_wrong taken.0 (program_of file) taken.1.accepted frames events state event e
+
 -- ---- the whole replay
 
 -- the report and the end of a machine that shows the state after a front
-pub replayed : (start m : Machine) (events front left : List Event) (r : Report) (end : End) → events ≡ front ++ left → (shows : ShowsRun start front m) → ((s : State) → Shows m s → ReportsOn (program_of m.file) m.limits.frames s (length front) r) → EndFits (program_of start.file) start.limits.frames shows.state (length front) left end → IsReplay (program_of start.file) events start.limits r end
-replayed start m events front left r end parts shows reports ended =
+pub replayed : (start m : Machine) (events front left : List Event) (r : Report) (end : End) → events ≡ front ++ left → (shows : ShowsRun start front m) → ((s : State) → Shows m s → ReportsOn (program_of m.file) m.limits.frames s (length front) r) → EndFits (program_of start.file) start.limits.frames shows.state (length front) left end → IsRight end → IsReplay (program_of start.file) events start.limits r end
+replayed start m events front left r end parts shows reports ended right =
     let on : ReportsOn (program_of start.file) start.limits.frames shows.state (length front) r = subst (λ (q : Limits). ReportsOn (program_of start.file) q.frames shows.state (length front) r) shows.limits (subst (λ q. ReportsOn (program_of q) m.limits.frames shows.state (length front) r) shows.file (reports shows.state shows.shows)) in
     let reached : run_from (program_of start.file) start.limits.frames (opening values (program_of start.file)) front ≡ Some shows.state = plain_run (program_of start.file) start.limits.frames (opening values (program_of start.file)) front shows.state shows.plainly in
     record {
@@ -134,21 +146,27 @@ replayed start m events front left r end parts shows reports ended =
       count = on.count;
       means = rw (reached, on.printed, on.threads, on.count) refl;
       ended = ended;
+      right = right;
     }
 
 -- no more events
 pub whole : (start m : Machine) (events : List Event) (r : Report) (end : End) → ShowsRun start events m → Reports m (length events) r → Finishes m end → IsReplay (program_of start.file) events start.limits r end
 whole start m events r end shows reports finishes =
-    replayed start m events events [] r end (sym (append-nil events)) shows reports (ends_by (is_quiet (program_of start.file) start.limits.frames shows.state) refl (subst (λ (q : Limits). end ≡ (if is_quiet (program_of start.file) q.frames shows.state then ends.Quiet else ends.Schedule)) shows.limits (subst (λ q. end ≡ (if is_quiet (program_of q) m.limits.frames shows.state then ends.Quiet else ends.Schedule)) shows.file (finishes shows.state shows.shows))))
+    let how : end ≡ (if is_quiet (program_of start.file) start.limits.frames shows.state then ends.Quiet else ends.Schedule) = subst (λ (q : Limits). end ≡ (if is_quiet (program_of start.file) q.frames shows.state then ends.Quiet else ends.Schedule)) shows.limits (subst (λ q. end ≡ (if is_quiet (program_of q) m.limits.frames shows.state then ends.Quiet else ends.Schedule)) shows.file (finishes shows.state shows.shows)) in
+    replayed start m events events [] r end (sym (append-nil events)) shows reports (ends_by (is_quiet (program_of start.file) start.limits.frames shows.state) refl how) (right_by (is_quiet (program_of start.file) start.limits.frames shows.state) how)
   where
+    right_by : (b : Bool) → end ≡ (if b then ends.Quiet else ends.Schedule) → IsRight end
+    right_by true h = subst IsRight (sym h) tt
+    right_by false h = subst IsRight (sym h) tt
+
     ends_by : (b : Bool) → is_quiet (program_of start.file) start.limits.frames shows.state ≡ b → end ≡ (if b then ends.Quiet else ends.Schedule) → EndFits (program_of start.file) start.limits.frames shows.state (length events) [] end
     ends_by true q h = subst (EndFits (program_of start.file) start.limits.frames shows.state (length events) []) (sym h) (refl, q)
     ends_by false q h = subst (EndFits (program_of start.file) start.limits.frames shows.state (length events) []) (sym h) (refl, q)
 
 -- a stop at an event
-pub stopped : (start m : Machine) (events front left : List Event) (e : Event) (r : Report) (answer : Stepped) → events ≡ front ++ e ∷ left → (shows : ShowsRun start front m) → ((s : State) → Shows m s → ReportsOn (program_of m.file) m.limits.frames s (length front) r) → StopsAt answer m e → IsReplay (program_of start.file) events start.limits r (end_of answer (length front))
-stopped start m events front left e r answer parts shows reports stop =
-    replayed start m events front (e ∷ left) r (end_of answer (length front)) parts shows reports (by answer stop)
+pub stopped : (start m : Machine) (events front left : List Event) (e : Event) (r : Report) (answer : Stepped) → NeverWrong start.file → events ≡ front ++ e ∷ left → (shows : ShowsRun start front m) → ((s : State) → Shows m s → ReportsOn (program_of m.file) m.limits.frames s (length front) r) → StopsAt answer m e → IsReplay (program_of start.file) events start.limits r (end_of answer (length front))
+stopped start m events front left e r answer never parts shows reports stop =
+    replayed start m events front (e ∷ left) r (end_of answer (length front)) parts shows reports (by answer stop) (right_by answer stop)
   where
     same : meets m shows.state e ≡ stepped values (program_of start.file) start.limits.frames shows.state e
     same = rw (shows.file, shows.limits) refl
@@ -157,6 +175,23 @@ stopped start m events front left e r answer parts shows reports stop =
     by steps.Done h = absurd h
     by steps.NotEnabled h = (refl, sym same ∙ h shows.state shows.shows)
     by (steps.Refused cause) h = (refl, subst (Stands cause e.thread) same (h shows.state shows.shows))
+
+    reached : run (program_of start.file) start.limits.frames front ≡ Some shows.state
+    reached = plain_run (program_of start.file) start.limits.frames (opening values (program_of start.file)) front shows.state shows.plainly
+
+    right_by : (a : Stepped) → StopsAt a m e → IsRight (end_of a (length front))
+    right_by steps.Done h = absurd h
+    right_by steps.NotEnabled h = tt
+    right_by (steps.Refused causes.WrongKind) h =
+        let wrong = ap is_wrong (sym same ∙ h shows.state shows.shows) in
+        absurd (true≢false (sym wrong ∙ never start.limits.frames front shows.state e reached))
+    right_by (steps.Refused causes.Throws) h = tt
+    right_by (steps.Refused causes.Memory) h = tt
+    right_by (steps.Refused causes.Monitors) h = tt
+    right_by (steps.Refused causes.LockCount) h = tt
+    right_by (steps.Refused causes.Objects) h = tt
+    right_by (steps.Refused causes.Cells) h = tt
+    right_by (steps.Refused causes.Threads) h = tt
 
 -- ---- the entries of a schedule
 
@@ -184,7 +219,8 @@ pub whole_ok : (start m : Machine) (events : List Event) (result : Result (Repor
 whole_ok start m events (Ok r) file limits f l shows h = subst (λ q. IsReplay (program_of q) events limits r.0 r.1) f (subst (λ q. IsReplay (program_of start.file) events q r.0 r.1) l (whole start m events r.0 r.1 shows h.0 h.1))
 whole_ok start m events (Err e) file limits f l shows h = tt
 
-pub stopped_ok : (start m : Machine) (events front left : List Event) (e : Event) (answer : Stepped) (result : Result (Report × End) AllocError) (file : FileTree) (limits : Limits) → start.file ≡ file → start.limits ≡ limits → events ≡ front ++ e ∷ left → ShowsRun start front m → StopsAt answer m e → IfOk result (λ r. Reports m (length front) r.0 × (r.1 ≡ end_of answer (length front))) → IfOk result (λ r. IsReplay (program_of file) events limits r.0 r.1)
-stopped_ok start m events front left e answer (Ok r) file limits f l parts shows stop h =
-    subst (λ q. IsReplay (program_of q) events limits r.0 r.1) f (subst (λ q. IsReplay (program_of start.file) events q r.0 r.1) l (subst (λ q. IsReplay (program_of start.file) events start.limits r.0 q) (sym h.1) (stopped start m events front left e r.0 answer parts shows h.0 stop)))
-stopped_ok start m events front left e answer (Err x) file limits f l parts shows stop h = tt
+pub stopped_ok : (start m : Machine) (events front left : List Event) (e : Event) (answer : Stepped) (result : Result (Report × End) AllocError) (file : FileTree) (limits : Limits) → NeverWrong file → start.file ≡ file → start.limits ≡ limits → events ≡ front ++ e ∷ left → ShowsRun start front m → StopsAt answer m e → IfOk result (λ r. Reports m (length front) r.0 × (r.1 ≡ end_of answer (length front))) → IfOk result (λ r. IsReplay (program_of file) events limits r.0 r.1)
+stopped_ok start m events front left e answer (Ok r) file limits never f l parts shows stop h =
+    let safe = subst NeverWrong (sym f) never in
+    subst (λ q. IsReplay (program_of q) events limits r.0 r.1) f (subst (λ q. IsReplay (program_of start.file) events q r.0 r.1) l (subst (λ q. IsReplay (program_of start.file) events start.limits r.0 q) (sym h.1) (stopped start m events front left e r.0 answer safe parts shows h.0 stop)))
+stopped_ok start m events front left e answer (Err x) file limits never f l parts shows stop h = tt

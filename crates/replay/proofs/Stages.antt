@@ -16,14 +16,14 @@ use Rattle.model.specs.Opening.{opening_heap}
 use Rattle.model.specs.ClassInitialisation.{status_of, with_class_status, with_class_begun, with_constants}
 use Rattle.std.specs.Option.{option_and_then, option_map_or}
 use Rattle.replay.proofs.Finds.{find_second}
-use Rattle.replay.proofs.Alone.{no_interface, no_fields, none_initialises, methods_inside, below_object}
+use Rattle.replay.proofs.Alone.{no_fields, none_initialises, methods_inside, below_object}
 use Rattle.model.specs.Operands.{values}
 use Rattle.model.specs.State.{Place, State, World, StackOf, NotInitialised, InProgress, Super, Initialisation}
 use Rattle.model.specs.Outcomes.{Free}
 use Rattle.model.specs.Step.{on_to, SteppedOf, NotEnabled, WrongKind, Next, PartOf, put_back, settled, end_of, stepped}
 use Rattle.replay.specs.declared.machine.Stage.{Stage}
 use Rattle.replay.specs.declared.machine.Stage.TheVariants as stages
-use Rattle.replay.specs.Linking.{program_of, main_code, IsLinked}
+use Rattle.replay.specs.Taking.{program_of, main_code, Suits}
 use Rattle.replay.specs.declared.machine.Stepped.{Stepped}
 use Rattle.replay.specs.declared.machine.Stepped.TheVariants as steps
 use Rattle.replay.specs.declared.bytecode.FrameStep.{FrameStep}
@@ -41,20 +41,20 @@ same_name (b ∷ bs) = rw (eq-eqb b b refl, same_name bs) refl
 
 -- ---- what the steps look for in the program
 
-module _ (file : FileTree) (linked : IsLinked file) where
+module _ (file : FileTree) (suits : Suits file) where
   pub found : class_of (program_of file) (name_of file) ≡ Some file
-  found = find_second (is_named (name_of file)) built_in_classes (file ∷ []) linked.not_built_in ∙ rw (same_name (name_of file)) refl
+  found = find_second (is_named (name_of file)) built_in_classes (file ∷ []) suits.not_built_in ∙ rw (same_name (name_of file)) refl
 
   pub super_found : superclass_of (program_of file) (name_of file) ≡ Some java_lang_object
-  super_found = ap (option_and_then super_name_of) found ∙ below_object file linked.inside
+  super_found = ap (option_and_then super_name_of) found ∙ below_object file suits.inside
 
   pub class_found : is_interface (program_of file) (name_of file) ≡ false
-  class_found = rw found (no_interface file linked.inside)
+  class_found = rw found suits.no_interface
 
   pub no_initialiser_found : body_of (program_of file) (initialiser_of (name_of file)) ≡ None
-  no_initialiser_found = rw (found, none_initialises file.pool file.methods (methods_inside file linked.inside)) refl
+  no_initialiser_found = rw (found, none_initialises file.pool file.methods (methods_inside file suits.inside)) refl
 
-module _ (file : FileTree) (frames : ℕ) (printed : List ℤ) (place : Place) (linked : IsLinked file) where
+module _ (file : FileTree) (frames : ℕ) (printed : List ℤ) (place : Place) (suits : Suits file) where
   abbrev pub at_stage : Stage → SteppedOf State
   at_stage stage = stepped values (program_of file) frames (state_of file stage place printed) main_step
 
@@ -64,12 +64,12 @@ module _ (file : FileTree) (frames : ℕ) (printed : List ℤ) (place : Place) (
   -- there are no constants to be set
   begun : with_class_begun values (program_of file) 0 (name_of file) (world_of file stages.New printed) ≡ world_of file stages.Super printed
   begun =
-      ap (λ o. option_map_or (λ (f : FileTree). with_constants values (program_of file) (name_of file) f.pool marked f.fields) o marked) (found file linked)
-      ∙ ap (λ fs. with_constants values (program_of file) (name_of file) file.pool marked fs) (no_fields file linked.inside)
+      ap (λ o. option_map_or (λ (f : FileTree). with_constants values (program_of file) (name_of file) f.pool marked f.fields) o marked) (found file suits)
+      ∙ ap (λ fs. with_constants values (program_of file) (name_of file) file.pool marked fs) (no_fields file suits.inside)
       ∙ rw (same_name (name_of file)) refl
 
   is_new : status_of (world_of file stages.New printed) (name_of file) ≡ NotInitialised
-  is_new = rw (linked.not_built_in, same_name (name_of file)) refl
+  is_new = rw (suits.not_built_in, same_name (name_of file)) refl
 
   new_begins : at_stage stages.New ≡ put_back (state_of file stages.New place printed) 0 (settled 0 (on_to (with_class_begun values (program_of file) 0 (name_of file) (world_of file stages.New printed)) (Initialisation (name_of file) Super ∷ [])))
   new_begins = rw is_new refl
@@ -78,7 +78,7 @@ module _ (file : FileTree) (frames : ℕ) (printed : List ℤ) (place : Place) (
   new_step = new_begins ∙ ap (λ w. put_back (state_of file stages.New place printed) 0 (settled 0 (on_to w (Initialisation (name_of file) Super ∷ [])))) begun
 
   pub super_step : at_stage stages.Super ≡ Next Free (state_of file stages.End place printed)
-  super_step = rw (class_found file linked, super_found file linked, built_in_object, no_initialiser_found file linked) refl
+  super_step = rw (class_found file suits, super_found file suits, built_in_object, no_initialiser_found file suits) refl
 
   pub end_step : at_stage stages.End ≡ Next Free (state_of file stages.Ready place printed)
   end_step = rw (same_name (name_of file)) refl
@@ -88,10 +88,10 @@ module _ (file : FileTree) (frames : ℕ) (printed : List ℤ) (place : Place) (
   first_place = record { offset = 0; slots = record { locals = locals_with value.Unset (main_code file).max_locals (value.Reference 1 ∷ []); stack = [] } }
 
   pub ready_step : 1 ≤ frames → at_stage stages.Ready ≡ Next Free (state_of file stages.Runs first_place printed)
-  ready_step h = rw (linked.not_built_in, same_name (name_of file), linked.body, linked.enters, lt-ltb 0 frames (omega arith)) refl
+  ready_step h = rw (suits.not_built_in, same_name (name_of file), suits.body, suits.enters, lt-ltb 0 frames (omega arith)) refl
 
   pub runs_step : at_stage stages.Runs ≡ put_back (state_of file stages.Runs place printed) 0 (settled 0 (frame_event file frames printed place))
-  runs_step = rw linked.body refl
+  runs_step = rw suits.body refl
 
   pub ended_step : at_stage stages.Ended ≡ NotEnabled
   ended_step = refl
@@ -136,7 +136,7 @@ stage_after frame_steps.WrongKind = stages.Runs
 stage_after frame_steps.Throws = stages.Runs
 stage_after frame_steps.NoMemory = stages.Runs
 
-module _ (file : FileTree) (limits : Limits) (printed now : List ℤ) (place new : Place) (linked : IsLinked file) where
+module _ (file : FileTree) (limits : Limits) (printed now : List ℤ) (place new : Place) (suits : Suits file) where
   abbrev machine_at : Stage → Place → List ℤ → Machine
   machine_at stage p ns = record { file = file; limits = limits; stage = stage; place = p; printed = ns }
 
@@ -147,7 +147,7 @@ module _ (file : FileTree) (limits : Limits) (printed now : List ℤ) (place new
   out_of = stepped values (program_of file) limits.frames old_state main_step
 
   runs : out_of ≡ put_back old_state 0 (settled 0 (frame_event file limits.frames printed place))
-  runs = runs_step file limits.frames printed place linked
+  runs = runs_step file limits.frames printed place suits
 
   pub bytecode_says : (answer : FrameStep) → FrameSays answer (frame_event file limits.frames printed place) file printed now place new → SaysOf (stepped_of answer) 0 out_of (machine_at stages.Runs place printed) (machine_at (stage_after answer) new now)
   unfolding opening_heap
@@ -157,15 +157,15 @@ module _ (file : FileTree) (limits : Limits) (printed now : List ℤ) (place new
   bytecode_says frame_steps.Throws h = (rw runs (throws_back old_state (frame_event file limits.frames printed place) h.0), rw (h.1, h.2) refl)
   bytecode_says frame_steps.NoMemory h = (rw runs (goes_back old_state (frame_event file limits.frames printed place) h.0), rw (h.1, h.2) refl)
 
-pub super_says : (file : FileTree) (limits : Limits) (place : Place) (printed : List ℤ) → IsLinked file → (s : State) → Shows (record { file = file; limits = limits; stage = stages.Super; place = place; printed = printed }) s → SaysOf steps.Done 0 (meets (record { file = file; limits = limits; stage = stages.Super; place = place; printed = printed }) s main_step) (record { file = file; limits = limits; stage = stages.Super; place = place; printed = printed }) (record { file = file; limits = limits; stage = stages.End; place = place; printed = printed })
-super_says file limits place printed linked =
+pub super_says : (file : FileTree) (limits : Limits) (place : Place) (printed : List ℤ) → Suits file → (s : State) → Shows (record { file = file; limits = limits; stage = stages.Super; place = place; printed = printed }) s → SaysOf steps.Done 0 (meets (record { file = file; limits = limits; stage = stages.Super; place = place; printed = printed }) s main_step) (record { file = file; limits = limits; stage = stages.Super; place = place; printed = printed }) (record { file = file; limits = limits; stage = stages.End; place = place; printed = printed })
+super_says file limits place printed suits =
     says_met steps.Done (record { file = file; limits = limits; stage = stages.Super; place = place; printed = printed }) (record { file = file; limits = limits; stage = stages.End; place = place; printed = printed })
-    (rw (super_step file limits.frames printed place linked) (refl, refl, record { state_is = refl }))
+    (rw (super_step file limits.frames printed place suits) (refl, refl, record { state_is = refl }))
 
-pub new_says : (file : FileTree) (limits : Limits) (place : Place) (printed : List ℤ) → IsLinked file → (s : State) → Shows (record { file = file; limits = limits; stage = stages.New; place = place; printed = printed }) s → SaysOf steps.Done 0 (meets (record { file = file; limits = limits; stage = stages.New; place = place; printed = printed }) s main_step) (record { file = file; limits = limits; stage = stages.New; place = place; printed = printed }) (record { file = file; limits = limits; stage = stages.Super; place = place; printed = printed })
-new_says file limits place printed linked =
+pub new_says : (file : FileTree) (limits : Limits) (place : Place) (printed : List ℤ) → Suits file → (s : State) → Shows (record { file = file; limits = limits; stage = stages.New; place = place; printed = printed }) s → SaysOf steps.Done 0 (meets (record { file = file; limits = limits; stage = stages.New; place = place; printed = printed }) s main_step) (record { file = file; limits = limits; stage = stages.New; place = place; printed = printed }) (record { file = file; limits = limits; stage = stages.Super; place = place; printed = printed })
+new_says file limits place printed suits =
     says_met steps.Done (record { file = file; limits = limits; stage = stages.New; place = place; printed = printed }) (record { file = file; limits = limits; stage = stages.Super; place = place; printed = printed })
-    (rw (new_step file limits.frames printed place linked) (refl, refl, record { state_is = refl }))
+    (rw (new_step file limits.frames printed place suits) (refl, refl, record { state_is = refl }))
 
 -- an event of the main thread with no pick
 pub event_says : (e : Event) (answer : Stepped) (old new : Machine) → e.thread ≡ 0 → e.pick ≡ 0 → ((s : State) → Shows old s → SaysOf answer 0 (meets old s main_step) old new) → (s : State) → Shows old s → SaysOf answer e.thread (meets old s e) old new

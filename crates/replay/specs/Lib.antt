@@ -1,5 +1,5 @@
-pub mod Checks
-pub mod Linking
+pub mod Taking
+pub mod Outside
 pub mod Placed
 pub mod Machine
 pub mod Profile

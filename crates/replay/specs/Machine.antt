@@ -27,7 +27,7 @@ use Rattle.replay.specs.declared.bytecode.Other.TheVariants as others
 use Rattle.replay.specs.declared.bytecode.FrameStep.{FrameStep}
 use Rattle.replay.specs.declared.bytecode.FrameStep.TheVariants as frame_steps
 use Rattle.model.specs.Tree.{FileTree}
-use Rattle.replay.specs.Linking.{program_of, main_in, main_body, main_code}
+use Rattle.replay.specs.Taking.{program_of, main_in, main_body, main_code}
 
 -- ---- the state of a program whose only thread has come so far
 

@@ -17,7 +17,7 @@ use Rattle.model.specs.Step.{SteppedOf, NotEnabled, WrongKind, Next, stepped}
 use Rattle.model.specs.Run.{run, is_quiet}
 use Rattle.model.specs.Report.{end_state_of, report_text}
 use Rattle.model.specs.Meaning.{meaning, thread_ends}
-use Rattle.replay.specs.Linking.{program_of}
+use Rattle.replay.specs.Taking.{program_of}
 use Rattle.replay.specs.declared.machine.Stepped.{Stepped}
 use Rattle.replay.specs.declared.machine.Stepped.TheVariants as steps
 use Rattle.replay.specs.Machine.{Machine, Shows, GoesOn, Throws, meets, is_thrown}
@@ -68,10 +68,15 @@ EndFits files frames s done left ends.Budget = ⊥
 abbrev pub text_of : Report → End → List ℕ
 text_of r end = report_text r.printed.items (map end_state_of r.threads.items) r.events end
 
+-- no operand was of a wrong kind
+abbrev pub IsRight : End → Type 0
+IsRight (ends.Refused i causes.WrongKind) = ⊥
+IsRight end = Unit {0}
+
 -- ---- the theorem
 
 -- A front of the events was done, none of which a limit forbade; the report is its meaning; and the end says why
--- it is not longer.
+-- it is not longer, which is never an operand of a wrong kind.
 pub record IsReplay (files : Program) (events : List Event) (limits : Limits) (r : Report) (end : End) : Type 0 where
   pub front : List Event
   pub left : List Event
@@ -84,6 +89,7 @@ pub record IsReplay (files : Program) (events : List Event) (limits : Limits) (r
   pub count : r.events ≡ length front
   pub means : meaning files limits.frames front end ≡ Some (text_of r end)
   pub ended : EndFits files limits.frames state (length front) left end
+  pub right : IsRight end
 
 -- ---- along the run
 

@@ -5,13 +5,13 @@ ghost use Rattle.model.specs.Pool.{integers_of};
 ghost use Rattle.model.specs.Meanings.{system_out_meaning, println_meaning, return_meaning};
 ghost use Rattle.model.specs.Operands.{values};
 ghost use Rattle.frames.specs.Places.{own_row};
-ghost use Rattle.replay.specs.Linking.{main_in, main_code};
+ghost use Rattle.replay.specs.Taking.{main_in, main_code};
 ghost use Rattle.replay.specs.Placed.{IsPlaced};
-ghost use Rattle.replay.specs.Profile.{is_outside_instruction, names_wrong_kind};
+ghost use Rattle.replay.specs.Profile.{is_outside_instruction};
 ghost use Rattle.replay.specs.Machine.{FrameSays, frame_event, does_by, other_event, is_print_stream};
 ghost use Rattle.replay.specs.Machine as spec;
 
-use crate::linked::Linked;
+use crate::taken::Taken;
 use frames::{Frame, LocalStep};
 use model::{Instr, Limits, Value};
 
@@ -31,16 +31,16 @@ pub(crate) enum FrameStep {
 
 /// Does the instruction at the place of the frame. `printed` grows by what it prints.
 pub(crate) fn frame_step(
-    linked: &Linked,
+    taken: &Taken,
     limits: Limits,
     frame: &mut Frame,
     printed: &mut Vec<i32>,
 ) -> FrameStep
-    requires { IsPlaced (main_code linked.now).code frame.old.offset }
-    ensures says { FrameSays result (frame_event linked.now limits.frames printed.old.items frame.old) linked.now printed.old.items printed.new.items frame.old frame.new }
-    ensures placed { IsPlaced (main_code linked.now).code frame.new.offset }
+    requires { IsPlaced (main_code taken.now).code frame.old.offset }
+    ensures says { FrameSays result (frame_event taken.now limits.frames printed.old.items frame.old) taken.now printed.old.items printed.new.items frame.old frame.new }
+    ensures placed { IsPlaced (main_code taken.now).code frame.new.offset }
 {
-    let local = linked.local();
+    let local = taken.local();
     let offset = frame.offset();
     let Some((instr, length)) = local.sized_at(offset) else {
         return FrameStep::WrongKind;
@@ -50,7 +50,7 @@ pub(crate) fn frame_step(
         Ok(LocalStep::Throws) => FrameStep::Throws,
         Ok(LocalStep::WrongKind) => FrameStep::WrongKind,
         Ok(LocalStep::Elsewhere) => other_step(
-            linked,
+            taken,
             limits,
             instr,
             offset + length,
@@ -85,42 +85,41 @@ fn other_of(instr: Instr) -> Other
 
 /// Does an instruction that is not local, whose next one begins at `next`.
 fn other_step(
-    linked: &Linked,
+    taken: &Taken,
     limits: Limits,
     instr: Instr,
     next: usize,
     frame: &mut Frame,
     printed: &mut Vec<i32>,
 ) -> FrameStep
-    requires inside { is_outside_instruction linked.now.pool instr ≡ false }
-    requires named { names_wrong_kind linked.now.pool instr ≡ false }
-    requires elsewhere { own_row (integers_of linked.now.pool) (main_code linked.now).code frame.old.offset next instr ≡ None }
-    requires here { IsPlaced (main_code linked.now).code frame.old.offset }
-    requires placed { IsPlaced (main_code linked.now).code next }
-    ensures says { FrameSays result (other_event linked.now limits.frames printed.old.items frame.old instr next) linked.now printed.old.items printed.new.items frame.old frame.new }
-    ensures placed { IsPlaced (main_code linked.now).code frame.new.offset }
+    requires inside { is_outside_instruction taken.now.pool instr ≡ false }
+    requires elsewhere { own_row (integers_of taken.now.pool) (main_code taken.now).code frame.old.offset next instr ≡ None }
+    requires here { IsPlaced (main_code taken.now).code frame.old.offset }
+    requires placed { IsPlaced (main_code taken.now).code next }
+    ensures says { FrameSays result (other_event taken.now limits.frames printed.old.items frame.old instr next) taken.now printed.old.items printed.new.items frame.old frame.new }
+    ensures placed { IsPlaced (main_code taken.now).code frame.new.offset }
 {
     match other_of(instr) {
-        Other::GetSystemOut => get_static(linked, limits, next, frame, printed),
-        Other::PrintInt => invoke_virtual(linked, limits, next, frame, printed),
-        Other::Return => return_nothing(linked, limits, frame, printed),
+        Other::GetSystemOut => get_static(taken, limits, next, frame, printed),
+        Other::PrintInt => invoke_virtual(taken, limits, next, frame, printed),
+        Other::Return => return_nothing(taken, limits, frame, printed),
     }
 }
 
 /// `getstatic` of System.out.
 fn get_static(
-    linked: &Linked,
+    taken: &Taken,
     limits: Limits,
     next: usize,
     frame: &mut Frame,
     printed: &mut Vec<i32>,
 ) -> FrameStep
-    requires here { IsPlaced (main_code linked.now).code frame.old.offset }
-    requires placed { IsPlaced (main_code linked.now).code next }
-    ensures says { FrameSays result (does_by linked.now limits.frames printed.old.items frame.old (system_out_meaning values next)) linked.now printed.old.items printed.new.items frame.old frame.new }
-    ensures placed { IsPlaced (main_code linked.now).code frame.new.offset }
+    requires here { IsPlaced (main_code taken.now).code frame.old.offset }
+    requires placed { IsPlaced (main_code taken.now).code next }
+    ensures says { FrameSays result (does_by taken.now limits.frames printed.old.items frame.old (system_out_meaning values next)) taken.now printed.old.items printed.new.items frame.old frame.new }
+    ensures placed { IsPlaced (main_code taken.now).code frame.new.offset }
 {
-    if !frame.has_room(0, 1, linked.local().max_stack()) {
+    if !frame.has_room(0, 1, taken.local().max_stack()) {
         return FrameStep::WrongKind;
     }
     match frame.replace(0, Value::Reference(0), next) {
@@ -138,16 +137,16 @@ fn prints(value: Value) -> bool
 
 /// `invokevirtual` of PrintStream.println of an int.
 fn invoke_virtual(
-    linked: &Linked,
+    taken: &Taken,
     limits: Limits,
     next: usize,
     frame: &mut Frame,
     printed: &mut Vec<i32>,
 ) -> FrameStep
-    requires here { IsPlaced (main_code linked.now).code frame.old.offset }
-    requires placed { IsPlaced (main_code linked.now).code next }
-    ensures says { FrameSays result (does_by linked.now limits.frames printed.old.items frame.old (println_meaning values next)) linked.now printed.old.items printed.new.items frame.old frame.new }
-    ensures placed { IsPlaced (main_code linked.now).code frame.new.offset }
+    requires here { IsPlaced (main_code taken.now).code frame.old.offset }
+    requires placed { IsPlaced (main_code taken.now).code next }
+    ensures says { FrameSays result (does_by taken.now limits.frames printed.old.items frame.old (println_meaning values next)) taken.now printed.old.items printed.new.items frame.old frame.new }
+    ensures placed { IsPlaced (main_code taken.now).code frame.new.offset }
 {
     let Some(bits) = frame.int(0) else {
         return FrameStep::WrongKind;
@@ -158,7 +157,7 @@ fn invoke_virtual(
     if !prints(receiver) {
         return FrameStep::WrongKind;
     }
-    if !frame.has_room(2, 0, linked.local().max_stack()) {
+    if !frame.has_room(2, 0, taken.local().max_stack()) {
         return FrameStep::WrongKind;
     }
     if receiver == Value::Null {
@@ -173,16 +172,16 @@ fn invoke_virtual(
 
 /// `return`.
 fn return_nothing(
-    linked: &Linked,
+    taken: &Taken,
     limits: Limits,
     frame: &mut Frame,
     printed: &mut Vec<i32>,
 ) -> FrameStep
-    requires here { IsPlaced (main_code linked.now).code frame.old.offset }
-    ensures says { FrameSays result (does_by linked.now limits.frames printed.old.items frame.old (return_meaning (main_in linked.now).descriptor)) linked.now printed.old.items printed.new.items frame.old frame.new }
-    ensures placed { IsPlaced (main_code linked.now).code frame.new.offset }
+    requires here { IsPlaced (main_code taken.now).code frame.old.offset }
+    ensures says { FrameSays result (does_by taken.now limits.frames printed.old.items frame.old (return_meaning (main_in taken.now).descriptor)) taken.now printed.old.items printed.new.items frame.old frame.new }
+    ensures placed { IsPlaced (main_code taken.now).code frame.new.offset }
 {
-    if !frame.has_room(0, 0, linked.local().max_stack()) {
+    if !frame.has_room(0, 0, taken.local().max_stack()) {
         return FrameStep::WrongKind;
     }
     FrameStep::Returned

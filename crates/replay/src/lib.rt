@@ -1,19 +1,14 @@
 //! Replaying a schedule over class files.
 #![tactic(auto)]
 
-mod builtin;
 mod bytecode;
 mod instruction;
-mod linked;
-mod linker;
 mod machine;
-mod profile;
-mod refusal;
+mod own_profile;
 mod run;
-mod verifier;
+mod taken;
+mod taking;
 
-pub use linked::Linked;
-pub use linker::link;
-pub use refusal::{Refusal, RefusalKind};
 pub use run::replay;
-pub use verifier::{Verified, verify};
+pub use taken::Taken;
+pub use taking::take;

@@ -3,7 +3,7 @@
 ghost use Rattle.std.specs.Prelude.{◌≡◌, IfOk, ℕ};
 
 use crate::bytecode::{FrameStep, frame_step};
-use crate::linked::Linked;
+use crate::taken::Taken;
 use frames::Frame;
 use model::{EndState, Event, Limits, Report, RunCause, Value};
 use std::alloc::{AllocError, Global};
@@ -46,11 +46,11 @@ pub(crate) enum Stepped {
     Refused(RunCause),
 }
 
-/// A machine that runs the main thread of a class file that is linked.
+/// A machine that runs the main thread of a class file that is taken.
 #[derive(Drop)]
 pub(crate) struct Machine<'a> {
     alloc: Global,
-    linked: &'a Linked,
+    taken: &'a Taken,
     limits: Limits,
     stage: Stage,
     frame: Frame,
@@ -58,35 +58,35 @@ pub(crate) struct Machine<'a> {
 }
 
 impl<'a> Model for Machine<'a> {
-    ghost use Rattle.replay.specs.Linking.{main_code};
+    ghost use Rattle.replay.specs.Taking.{main_code};
     ghost use Rattle.replay.specs.Placed.{IsPlaced};
     ghost use Rattle.replay.specs.Machine as spec;
 
     ghost Value = { spec.Machine };
 
-    ghost view = { λ m. record { file = m.linked.now; limits = m.limits; stage = m.stage; place = m.frame; printed = m.printed.items } };
+    ghost view = { λ m. record { file = m.taken.now; limits = m.limits; stage = m.stage; place = m.frame; printed = m.printed.items } };
 
-    ghost invariant = { λ m. IsPlaced (main_code m.linked.now).code m.frame.offset };
+    ghost invariant = { λ m. IsPlaced (main_code m.taken.now).code m.frame.offset };
 }
 
 impl<'a> Machine<'a> {
     ghost use Rattle.model.specs.State.{State};
     ghost use Rattle.model.specs.Operands.{values};
     ghost use Rattle.model.specs.Opening.{opening};
-    ghost use Rattle.replay.specs.Linking.{program_of};
+    ghost use Rattle.replay.specs.Taking.{program_of};
     ghost use Rattle.replay.specs.Machine.{SaysOf, meets, Shows, IsKept, main_step};
 
     /// The machine before any event.
-    pub(crate) fn open(alloc: Global, linked: &'a Linked, limits: Limits) -> Machine<'a>
-        ensures shows { Shows result (opening values (program_of linked.now)) }
-        ensures file { result.file ≡ linked.now }
+    pub(crate) fn open(alloc: Global, taken: &'a Taken, limits: Limits) -> Machine<'a>
+        ensures shows { Shows result (opening values (program_of taken.now)) }
+        ensures file { result.file ≡ taken.now }
         ensures limits { result.limits ≡ limits }
     {
-        // what linking found out
-        let _ = linked.local();
+        // what is known of main
+        let _ = taken.local();
         Machine {
             alloc,
-            linked,
+            taken,
             limits,
             stage: Stage::New,
             frame: Frame::blank(alloc),
@@ -99,8 +99,8 @@ impl<'a> Machine<'a> {
         ensures says { (s : State) → Shows self.old s → SaysOf result event.thread (meets self.old s event) self.old self.new }
         ensures kept { IsKept self.old self.new }
     {
-        // what linking found out
-        let _ = self.linked.local();
+        // what is known of main
+        let _ = self.taken.local();
         if event.thread != 0 || event.pick != 0 {
             return Stepped::NotEnabled;
         }
@@ -112,8 +112,8 @@ impl<'a> Machine<'a> {
         ensures says { (s : State) → Shows self.old s → SaysOf result 0 (meets self.old s main_step) self.old self.new }
         ensures kept { IsKept self.old self.new }
     {
-        // what linking found out
-        let _ = self.linked.local();
+        // what is known of main
+        let _ = self.taken.local();
         match self.stage {
             Stage::New => {
                 self.stage = Stage::Super;
@@ -130,7 +130,7 @@ impl<'a> Machine<'a> {
             Stage::Ready => match Frame::with_argument(
                 self.alloc,
                 Value::Reference(1),
-                self.linked.max_locals().saturating_sub(1),
+                self.taken.max_locals().saturating_sub(1),
             ) {
                 Ok(frame) => {
                     self.frame = frame;
@@ -140,7 +140,7 @@ impl<'a> Machine<'a> {
                 Err(_) => Stepped::Refused(RunCause::Memory),
             },
             Stage::Runs => match frame_step(
-                self.linked,
+                self.taken,
                 self.limits,
                 &mut self.frame,
                 &mut self.printed,
@@ -165,7 +165,7 @@ impl<'a> Machine<'a> {
     ghost use Rattle.std.specs.Prelude.{[], ◌∷◌};
     ghost use Rattle.model.specs.Report.{end_state_of};
     ghost use Rattle.model.specs.Meaning.{thread_ends};
-    ghost use Rattle.replay.specs.Linking.{program_of};
+    ghost use Rattle.replay.specs.Taking.{program_of};
     ghost use Rattle.replay.specs.Machine.{Shows};
     ghost use Rattle.replay.specs.Replay.{ReportsOn};
 
@@ -173,7 +173,7 @@ impl<'a> Machine<'a> {
     pub(crate) fn is_quiet(&self) -> bool
         ensures { (s : State) → Shows self.now s → result ≡ is_quiet (program_of self.now.file) self.now.limits.frames s }
     {
-        let _ = self.linked.local();
+        let _ = self.taken.local();
         !self.stage.is_alive()
     }
 
@@ -181,7 +181,7 @@ impl<'a> Machine<'a> {
     fn thread_end(&self) -> EndState
         ensures { (s : State) → Shows self.now s → thread_ends (program_of self.now.file) self.now.limits.frames s ≡ end_state_of result ∷ [] }
     {
-        let _ = self.linked.local();
+        let _ = self.taken.local();
         if self.stage.is_alive() {
             EndState::Runnable
         } else {

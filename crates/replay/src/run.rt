@@ -3,11 +3,11 @@
 ghost use Rattle.std.specs.Prelude.{◌≡◌, IfOk, option_map};
 ghost use Rattle.std.specs.Arc.{arc_value};
 ghost use Rattle.model.specs.Schedule.{events_of};
-ghost use Rattle.replay.specs.Linking.{program_of};
+ghost use Rattle.replay.specs.Taking.{program_of};
 ghost use Rattle.replay.specs.Replay.{RanEntry, IsReplay, Reports, Finishes, end_of};
 
-use crate::linked::Linked;
 use crate::machine::{Machine, Stepped};
+use crate::taken::Taken;
 use model::{End, Limits, Report, ScheduleEntry};
 use schedule::Schedule;
 use std::alloc::{AllocError, Global};
@@ -69,13 +69,15 @@ fn finished(machine: &Machine<'_>, done: u64) -> Result<(Report, End), AllocErro
 /// why no more were. The only error is want of memory for the report.
 pub fn replay(
     alloc: Global,
-    verified: &Arc<Linked>,
+    taken: &Arc<Taken>,
     schedule: &Schedule,
     limits: Limits,
 ) -> Result<(Report, End), AllocError>
-    ensures { IfOk result (λ r. IsReplay (program_of (arc_value verified.now)) (events_of schedule.now) limits r.0 r.1) }
+    ensures { IfOk result (λ r. IsReplay (program_of (arc_value taken.now)) (events_of schedule.now) limits r.0 r.1) }
 {
-    let mut machine = Machine::open(alloc, verified, limits);
+    // what is known of the files
+    let _ = taken.verified();
+    let mut machine = Machine::open(alloc, taken, limits);
     let mut done = 0u64;
     'entries: for entry in schedule.entries() {
         match run_entry(&mut machine, *entry) {

@@ -1,8 +1,8 @@
 -- From a well-typed state no event is answered by a wrong kind.
-use Rattle.std.proofs.Common.{◌≡◌, ℕ, zero, suc, List, [], ◌∷◌, ◌++◌, Bool, true, false, not, ◌&&◌, ◌==◌, Option, Some, None, refl, sym, ap, ◌∙◌, subst}
+use Rattle.std.proofs.Common.{◌≡◌, ℕ, zero, suc, List, [], ◌∷◌, Bool, true, false, ◌==◌, Option, Some, None, refl, sym, subst}
 use Rattle.std.specs.Prelude.{slice_get, slice_index_or, nat_lt, if◌then◌else◌}
 use Rattle.std.specs.Option.{option_and_then}
-use Rattle.std.proofs.lemmas.Bool.{false≢true, cond_both}
+use Rattle.std.proofs.lemmas.Bool.{false≢true}
 use Rattle.model.specs.declared.event.Event.{Event}
 use Rattle.model.specs.declared.value.Value.{Value}
 use Rattle.model.specs.declared.value.Value.TheVariants as value
@@ -12,7 +12,7 @@ use Rattle.model.specs.Classes.{Program, Body, body_of}
 use Rattle.model.specs.ReferenceTypes.{ReferenceType, ClassType}
 use Rattle.model.specs.Types.{is_object_of}
 use Rattle.model.specs.Operands.{values, under}
-use Rattle.model.specs.State.{types_of, ThreadStatus, Running, Waiting, Relock, Erroneous, Ended, Thread, Frame, FrameOf, Invocation, Initialisation, Phase, Super, End, StackOf, World, WorldOf, State, WakeCause, Notified, Interrupted}
+use Rattle.model.specs.State.{types_of, ThreadStatus, Running, Waiting, Relock, Erroneous, Ended, Thread, Frame, Invocation, Initialisation, Phase, Super, End, StackOf, World, State, WakeCause, Notified, Interrupted}
 use Rattle.model.specs.Outcomes.{StackOverflow, IllegalMonitorState, OutcomeOf, Goes, Raises, Throws, Interrupts, Calls, Returns, Waits}
 use Rattle.model.specs.Worlds.{thread_at, no_thread, may_enter, entry_cost, with_entry, is_owner, with_exit, with_begun, with_status, with_monitors, is_done, object_at, class_of_object}
 use Rattle.model.specs.Monitors as monitors
@@ -22,9 +22,9 @@ use Rattle.model.specs.Lookup.{select}
 use Rattle.model.specs.ClassInitialisation.{with_class_status, Look, IsReady, IsNew, IsHeld, HasFailed, look_by, status_of}
 use Rattle.model.specs.Sites.{MeaningOf, site_at}
 use Rattle.model.specs.Meanings.{meaning_of}
-use Rattle.model.specs.Step.{SteppedOf, NotEnabled, WrongKind, Next, PartOf, enabled_if, unpicked, settled, raised, needing, needing_class, entering, pushed, leaving, become, part, on_to, before, handler_in, returned, ops_of, done, bytecode_by, bytecode_in, bytecode_event, initialiser_event, initialisation_event, initial_class, main_frame, main_event, run_frame, run_of, begin_event, unwound, failed, pending_event, after_wait, relock_event, running_event, going_event, thread_event, put_back, event_of, stepped}
-use Rattle.model.specs.WrongKind.{finds_operands, finds_in, finds}
-use Rattle.model.specs.WellTyped.{Ready, Beneath, IsRunning, IsStackTyped, IsThreadTyped, AreThreadsTyped, IsWellTyped}
+use Rattle.model.specs.Step.{SteppedOf, NotEnabled, WrongKind, Next, PartOf, enabled_if, unpicked, settled, raised, needing, needing_class, entering, pushed, leaving, become, part, on_to, before, handler_in, returned, ops_of, done, bytecode_by, bytecode_in, initialiser_event, initialisation_event, initial_class, main_frame, main_event, run_frame, run_of, begin_event, unwound, failed, pending_event, after_wait, relock_event, running_event, going_event, thread_event, put_back, event_of, stepped}
+use Rattle.model.specs.WrongKind.{finds_operands, finds_in}
+use Rattle.model.specs.WellTyped.{IsRunning, IsStackTyped, IsThreadTyped, AreThreadsTyped, IsWellTyped}
 use Rattle.soundness.specs.Steps.{Rooted, HasMain, is_wrong}
 use Rattle.soundness.proofs.Progress.{ready_finds}
 
@@ -176,7 +176,7 @@ module _ (files : Program) where
     event_right stack thread (Ended exception) e h = refl
 
 -- the thread of a stack
-thread_of_stack : (files : Program) (os : List ReferenceType) (threads : List Thread) (stacks : List (StackOf Value)) (t : ℕ) (stack : StackOf Value) → AreThreadsTyped files os threads stacks → slice_get stacks t ≡ Some stack → IsThreadTyped files os (slice_index_or threads t no_thread) stack
+pub thread_of_stack : (files : Program) (os : List ReferenceType) (threads : List Thread) (stacks : List (StackOf Value)) (t : ℕ) (stack : StackOf Value) → AreThreadsTyped files os threads stacks → slice_get stacks t ≡ Some stack → IsThreadTyped files os (slice_index_or threads t no_thread) stack
 thread_of_stack files os threads [] t stack h e = absurd cc
 thread_of_stack files os [] (s ∷ stacks) t stack h e = absurd h
 thread_of_stack files os (thread ∷ threads) (s ∷ stacks) zero stack h e = let q : s ≡ stack = cc in subst (IsThreadTyped files os thread) q h.0

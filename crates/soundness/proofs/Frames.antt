@@ -1,17 +1,17 @@
 -- Frames that go on: at an offset that their typing reaches they are ready, and results bring those below to theirs.
-use Rattle.std.proofs.Common.{◌≡◌, ℕ, List, [], ◌∷◌, ◌++◌, Bool, true, false, Option, Some, None, refl, sym, subst}
-use Rattle.std.proofs.lemmas.Bool.{and_parts, and_from}
+use Rattle.std.proofs.Common.{◌≡◌, ℕ, List, [], ◌∷◌, ◌++◌, true, sym, subst}
+use Rattle.std.proofs.lemmas.Bool.{and_parts}
 use Rattle.model.specs.declared.value.Value.{Value}
 use Rattle.model.specs.Classes.{Program}
 use Rattle.model.specs.ReferenceTypes.{ReferenceType}
 use Rattle.model.specs.Types.{VerificationType}
 use Rattle.model.specs.Operands.{Slots}
-use Rattle.model.specs.TypeOrder.{FrameType, pairwise, is_local_below, is_stack_below, is_frame_below}
+use Rattle.model.specs.TypeOrder.{FrameType, pairwise, is_local_below, is_stack_below}
 use Rattle.model.specs.State.{Frame, Invocation, Initialisation, StackOf}
 use Rattle.model.specs.Frames.{at_offset}
 use Rattle.model.specs.Step.{next_of, returned}
 use Rattle.model.specs.Typing.{Reaches}
-use Rattle.model.specs.WellTyped.{has_type, are_typed, Stands, Stopped, Ready, Awaits, Results, Instruction, Beneath}
+use Rattle.model.specs.WellTyped.{has_type, are_typed, Stands, Ready, Awaits, Results, Instruction, Beneath}
 use Rattle.soundness.specs.Steps.{Rooted, AreTyped}
 use Rattle.soundness.proofs.Lists.{pair_through, pairs_of, of_pairs, pair_append}
 use Rattle.soundness.proofs.Order.{local_above, stack_above}
@@ -41,7 +41,7 @@ module _ (files : Program) (rooted : Rooted files) (os : List ReferenceType) whe
         stack = stack_types_above t.slots.stack r.there.slots.stack vs.stack stack.0 h.stack;
       }
 
-  are_appended : (ss ts : List VerificationType) (us vs : List Value) → are_typed files os ss us ≡ true → are_typed files os ts vs ≡ true → are_typed files os (ss ++ ts) (us ++ vs) ≡ true
+  pub are_appended : (ss ts : List VerificationType) (us vs : List Value) → are_typed files os ss us ≡ true → are_typed files os ts vs ≡ true → are_typed files os (ss ++ ts) (us ++ vs) ≡ true
   are_appended ss ts us vs h g =
       of_pairs (has_type files os) (ss ++ ts) (us ++ vs) (pair_append (has_type files os) ss us ts vs (pairs_of _ ss us h) (pairs_of _ ts vs g))
 

@@ -1,7 +1,6 @@
 -- What holds of a well-typed state goes on to hold as objects are added.
-use Rattle.std.proofs.Common.{◌≡◌, ℕ, List, [], ◌∷◌, ◌++◌, Bool, true, Option, Some, None, refl}
+use Rattle.std.proofs.Common.{◌≡◌, ℕ, List, [], ◌∷◌, true, Option, Some, None}
 use Rattle.std.specs.List.{list_all}
-use Rattle.std.proofs.lemmas.Bool.{and_parts, and_from}
 use Rattle.model.specs.declared.value.Value.{Value}
 use Rattle.model.specs.declared.value.Value.TheVariants as value
 use Rattle.model.specs.Names.{Name, Member}
@@ -11,7 +10,7 @@ use Rattle.model.specs.Types.{VerificationType, OfType}
 use Rattle.model.specs.DescribedTypes.{field_declared, made_type, verification_type}
 use Rattle.model.specs.Calls.{result_types}
 use Rattle.model.specs.State.{ObjectOf, Instance, Primitives, References, ThreadStatus, Running, Waiting, Relock, Ended, Thread, Frame, Invocation, Initialisation, StackOf}
-use Rattle.model.specs.WellTyped.{has_type, is_object_in, is_field_typed, is_object_typed, are_typed, Stands, Stopped, Ready, Awaits, Above, Results, Instruction, Beneath, Failing, IsRunning, IsWaiting, IsStackTyped, IsThreadTyped, AreThreadsTyped}
+use Rattle.model.specs.WellTyped.{has_type, is_object_in, is_field_typed, is_object_typed, are_typed, Stopped, Ready, Awaits, Above, Results, Instruction, Beneath, Failing, IsRunning, IsWaiting, IsStackTyped, IsThreadTyped, AreThreadsTyped}
 use Rattle.soundness.proofs.Lists.{pairwise_weaken, all_weaken}
 use Rattle.soundness.proofs.Order.{Extends, has_type_more}
 
@@ -79,13 +78,13 @@ module _ (files : Program) (os ps : List ReferenceType) (x : Extends os ps) wher
   running_more None stack h = beneath_more Instruction stack h
   running_more (Some exception) stack h = (object_in_more _ exception h.0, failing_more stack h.1)
 
-  waiting_more : (object : ℕ) (stack : StackOf Value) → IsWaiting files os object stack → IsWaiting files ps object stack
-  waiting_more object stack h = (object_in_more _ object h.0, beneath_more (Results []) stack h.1)
+  waiting_more : (pending : Option ℕ) (object : ℕ) (stack : StackOf Value) → IsWaiting files os pending object stack → IsWaiting files ps pending object stack
+  waiting_more pending object stack h = (h.0, (object_in_more _ object h.1.0, beneath_more (Results []) stack h.1.1))
 
   stack_more : (pending : Option ℕ) (stack : StackOf Value) (status : ThreadStatus) → IsStackTyped files os pending stack status → IsStackTyped files ps pending stack status
   stack_more pending stack Running h = running_more pending stack h
-  stack_more pending stack (Waiting object count) h = waiting_more object stack h
-  stack_more pending stack (Relock object count cause) h = waiting_more object stack h
+  stack_more pending stack (Waiting object count) h = waiting_more pending object stack h
+  stack_more pending stack (Relock object count cause) h = waiting_more pending object stack h
   stack_more pending stack (Ended exception) h = tt
 
   pub thread_more : (thread : Thread) (stack : StackOf Value) → IsThreadTyped files os thread stack → IsThreadTyped files ps thread stack

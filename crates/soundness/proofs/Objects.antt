@@ -1,21 +1,21 @@
 -- Objects and fields: what is read is of the type that is declared, and what is written keeps them so.
-use Rattle.std.proofs.Common.{◌≡◌, ℕ, zero, suc, List, [], ◌∷◌, ◌++◌, map, length, Bool, true, false, eqb, ◌==◌, Option, Some, None, refl, sym, ◌∙◌, ap, subst, arith}
+use Rattle.std.proofs.Common.{◌≡◌, ℕ, zero, suc, List, [], ◌∷◌, ◌++◌, map, length, Bool, true, ◌==◌, Option, Some, None, refl, sym, subst, arith}
 use Rattle.std.specs.Prelude.{slice_get, slice_set, slice_index_or, replicate, if◌then◌else◌}
 use Rattle.std.specs.List.{list_all}
 use Rattle.std.specs.Option.{option_map_or}
 use Rattle.std.proofs.lemmas.Bool.{false≢true, and_parts, and_from, cond_both, eqb-true}
 use Rattle.model.specs.declared.value.Value.{Value}
 use Rattle.model.specs.declared.value.Value.TheVariants as value
-use Rattle.model.specs.Names.{Name, Member, name_eq, member_eq}
+use Rattle.model.specs.Names.{Name, Member, member_eq}
 use Rattle.model.specs.Descriptors as descriptors
 use Rattle.model.specs.Descriptors.{ElementType, FieldType}
 use Rattle.model.specs.DescriptorScan.{field_type}
 use Rattle.model.specs.Classes.{Program}
-use Rattle.model.specs.ReferenceTypes.{ReferenceType, ClassType, is_assignable}
-use Rattle.model.specs.Types.{VerificationType, OfType, is_object_below}
-use Rattle.model.specs.DescribedTypes.{DeclaredType, DeclaredInt, DeclaredReference, element_declared, declared_with, declared_of, field_declared, made_type, verification_type}
+use Rattle.model.specs.ReferenceTypes.{ReferenceType, is_assignable}
+use Rattle.model.specs.Types.{is_object_below}
+use Rattle.model.specs.DescribedTypes.{DeclaredType, DeclaredInt, DeclaredReference, element_declared, declared_with, declared_of, field_declared, verification_type}
 use Rattle.model.specs.Operands.{values}
-use Rattle.model.specs.State.{ObjectOf, Instance, Primitives, References, type_of, types_of}
+use Rattle.model.specs.State.{ObjectOf, References, type_of, types_of}
 use Rattle.model.specs.Opening.{first_value, first_of, with_first, new_instance}
 use Rattle.model.specs.Lookup.{instance_fields}
 use Rattle.model.specs.Worlds.{value_in, with_value, type_kept, element_kept, put_value}

@@ -1,5 +1,5 @@
 -- The opening state is well typed.
-use Rattle.std.proofs.Common.{◌≡◌, ℕ, zero, suc, List, [], ◌∷◌, ◌++◌, map, length, Bool, true, refl, ap}
+use Rattle.std.proofs.Common.{◌≡◌, ℕ, suc, List, [], ◌∷◌, map, length, true, refl, ap}
 use Rattle.std.specs.List.{list_all}
 use Rattle.std.proofs.lemmas.Bool.{and_from}
 use Rattle.model.specs.declared.value.Value.{Value}
@@ -8,11 +8,11 @@ use Rattle.model.specs.Classes.{Program, classes_of}
 use Rattle.model.specs.ReferenceTypes.{ClassType}
 use Rattle.model.specs.Operands.{values}
 use Rattle.model.specs.StringConstants.{string_texts}
-use Rattle.model.specs.State.{ObjectOf, Instance, Monitor, Thread, types_of, new_thread}
+use Rattle.model.specs.State.{ObjectOf, Instance, Thread, types_of, new_thread}
 use Rattle.model.specs.Monitors.{unlocked}
 use Rattle.model.specs.Opening.{with_first, static_fields, main_thread_reference, opening_heap, opening}
 use Rattle.model.specs.WellTyped.{is_object_typed, is_field_typed, are_wait_sets, IsWellTyped}
-use Rattle.soundness.proofs.Order.{assignable_self}
+use Rattle.soundness.proofs.Order.{extends_self, assignable_self}
 use Rattle.soundness.proofs.Objects.{all_map, all_append, first_of_typed, new_instance_typed}
 
 heap_typed : (files : Program) → list_all (is_object_typed files (types_of (opening_heap values files))) (opening_heap values files) ≡ true
@@ -36,6 +36,7 @@ pub opening_typed : (files : Program) → IsWellTyped files (opening values file
 unfolding opening_heap
 opening_typed files =
     record {
+      opened = extends_self (types_of (opening_heap values files));
       heap = heap_typed files;
       statics = all_map (is_field_typed files (types_of (opening_heap values files))) (with_first values) (static_fields files) (first_of_typed files (types_of (opening_heap values files)));
       monitors = same_length (λ object. unlocked) (opening_heap values files);

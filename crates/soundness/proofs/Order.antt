@@ -1,5 +1,5 @@
 -- The order of the verifier's types: it is one, and a value of a type is of each type above it.
-use Rattle.std.proofs.Common.{◌≡◌, ℕ, List, ◌++◌, Bool, true, false, eqb, ◌==◌, ◌&&◌, ◌||◌, Option, Some, None, refl, sym, ◌∙◌, ap, subst, ⊎_elim}
+use Rattle.std.proofs.Common.{◌≡◌, ℕ, List, ◌++◌, Bool, true, false, ◌==◌, Option, Some, None, refl, sym, ◌∙◌, subst, ⊎_elim}
 use Rattle.std.specs.Prelude.{slice_get}
 use Rattle.std.specs.Option.{option_map_or}
 use Rattle.std.proofs.lemmas.Bool.{false≢true, and_parts, or_cases, or_right, cond_both, eqb-true, eq-eqb}
@@ -10,15 +10,12 @@ use Rattle.model.specs.Classes.{Program, superclass_of, is_within, is_subclass}
 use Rattle.model.specs.ReferenceTypes.{Primitive, Boolean, Char, Byte, Short, Int, primitive_number, ReferenceType, ClassType, PrimitiveArray, ReferenceArray, is_assignable}
 use Rattle.model.specs.Types.{VerificationType, Unusable, IntType, NullType, OfType, Uninitialised, UninitialisedThis, Want, AnyWord, AnInt, AnyReference, AReference, AReceiver, AnOwner, AnArray, AByteArray, is_array_type, is_byte_or_boolean, is_byte_array_type, has_type_with, is_value_with, is_int, is_reference, is_of, is_receiver, is_owner, type_meets, is_int_value, is_reference_value, is_object_below, is_value_below, value_meets}
 use Rattle.model.specs.InitialisedTypes.{is_made_at, is_uninitialised, is_uninitialised_this, forgotten, initialised}
-use Rattle.model.specs.TypeOrder.{is_null, is_unusable, is_stack_below, is_local_below}
+use Rattle.model.specs.TypeOrder.{is_null, is_stack_below, is_local_below}
 use Rattle.model.specs.WellTyped.{is_null_value, has_type}
+pub use Rattle.model.specs.WellTyped.{Extends}
 use Rattle.soundness.specs.Steps.{Rooted}
 use Rattle.soundness.proofs.Lists.{get_front}
 use Rattle.soundness.proofs.Classes.{names_same, name_self, subclass_self, subclass_trans, above_object, within_subclass}
-
--- the types of the objects that were there stay
-pub record Extends (os ps : List ReferenceType) : Type 0 where
-  pub keeps : (r : ℕ) (t : ReferenceType) → slice_get os r ≡ Some t → slice_get ps r ≡ Some t
 
 pub extends_self : (os : List ReferenceType) → Extends os os
 extends_self os = record { keeps = λ r t e. e }
@@ -41,7 +38,7 @@ module _ (files : Program) where
       subst (λ n. name_eq n java_lang_object ≡ true) is (name_self java_lang_object)
 
   -- below an array there are arrays alone, and below one of bytes or booleans such arrays alone
-  array_down : (u t : ReferenceType) → is_assignable files u t ≡ true → is_array_type t ≡ true → is_array_type u ≡ true
+  pub array_down : (u t : ReferenceType) → is_assignable files u t ≡ true → is_array_type t ≡ true → is_array_type u ≡ true
   array_down (ClassType c) (ClassType d) p q = q
   array_down (ClassType c) (PrimitiveArray b) p q = p
   array_down (ClassType c) (ReferenceArray b) p q = p
@@ -67,7 +64,7 @@ module _ (files : Program) where
   byte_down Int Short p q = q
   byte_down Int Int p q = q
 
-  byte_array_down : (u t : ReferenceType) → is_assignable files u t ≡ true → is_byte_array_type t ≡ true → is_byte_array_type u ≡ true
+  pub byte_array_down : (u t : ReferenceType) → is_assignable files u t ≡ true → is_byte_array_type t ≡ true → is_byte_array_type u ≡ true
   byte_array_down (ClassType c) (ClassType d) p q = q
   byte_array_down (ClassType c) (PrimitiveArray b) p q = p
   byte_array_down (ClassType c) (ReferenceArray b) p q = p

@@ -1,21 +1,21 @@
 -- In a well-typed state every thread that is to do an instruction finds it, and its operands.
-use Rattle.std.proofs.Common.{◌≡◌, ℕ, zero, suc, List, [], ◌∷◌, ◌++◌, Bool, true, false, not, ◌&&◌, Option, Some, None, refl, sym, ap, subst}
+use Rattle.std.proofs.Common.{◌≡◌, ℕ, zero, suc, List, [], ◌∷◌, Bool, true, false, not, ◌&&◌, Option, Some, None, refl, sym, ap, subst}
 use Rattle.std.specs.Prelude.{slice_get, if◌then◌else◌}
 use Rattle.std.specs.Option.{option_and_then, option_map}
 use Rattle.std.proofs.lemmas.Bool.{and_parts}
 use Rattle.model.specs.declared.value.Value.{Value}
-use Rattle.model.specs.Classes.{Program, Body, body_of}
+use Rattle.model.specs.Classes.{Program, Body}
 use Rattle.model.specs.Instruction.{Sized, sized_at}
 use Rattle.model.specs.ReferenceTypes.{ReferenceType}
 use Rattle.model.specs.Types.{type_meets}
 use Rattle.model.specs.Operands.{values, over_types, is_ready}
 use Rattle.model.specs.TypeOrder.{FrameType}
 use Rattle.model.specs.State.{types_of, Frame, ThreadStatus, Running, Waiting, Relock, Ended, Thread, Invocation, Initialisation, StackOf, State}
-use Rattle.model.specs.Sites.{MeaningOf, Site, site_with, site_at}
+use Rattle.model.specs.Sites.{MeaningOf, site_with}
 use Rattle.model.specs.Meanings.{meaning_of}
-use Rattle.model.specs.Typing.{may_stand, flow_by, flow_at, flow}
+use Rattle.model.specs.Typing.{may_stand, flow_by, flow_at}
 use Rattle.model.specs.WrongKind.{finds_operands, finds_in, finds, is_wrong_on, is_wrong_by, is_wrong_of, has_wrong_kind}
-use Rattle.model.specs.WellTyped.{Ready, Beneath, Instruction, IsRunning, IsStackTyped, IsThreadTyped, AreThreadsTyped, IsWellTyped}
+use Rattle.model.specs.WellTyped.{Ready, IsRunning, IsStackTyped, AreThreadsTyped, IsWellTyped}
 use Rattle.soundness.specs.Steps.{Rooted, AreTyped}
 use Rattle.soundness.proofs.Rows.{ready_both, slots_of}
 

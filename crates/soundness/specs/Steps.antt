@@ -12,9 +12,11 @@ use Rattle.model.specs.Rows.{Row, after_row}
 use Rattle.model.specs.TypeOrder.{is_local_below}
 use Rattle.model.specs.State.{State}
 use Rattle.model.specs.Opening.{opening}
-use Rattle.model.specs.Step.{SteppedOf, NotEnabled, WrongKind, Next, initial_class, stepped}
+use Rattle.model.specs.Step.{SteppedOf, NotEnabled, WrongKind, Next, initial_class, stepped, step}
+use Rattle.model.specs.Run.{run}
 use Rattle.model.specs.WellTyped.{has_type, are_typed, IsWellTyped}
 use Rattle.model.specs.WrongKind.{has_wrong_kind}
+use Rattle.model.specs.Accepted.{IsAccepted}
 
 -- the superclasses of a class end, by so many steps at most
 abbrev pub ends : Program → ℕ → Name → Bool
@@ -77,3 +79,15 @@ IsNeverWrong files =
 -- the opening state is well typed
 abbrev pub IsOpenedTyped : Program → Type 0
 IsOpenedTyped files = IsWellTyped files (opening values files)
+
+-- an event at a well-typed state of accepted files leads to a well-typed state
+abbrev pub IsStepKept : Type 0
+IsStepKept =
+    (files : List (List ℕ)) (trees : Program) → IsAccepted files trees → (frames : ℕ) (state : State) (event : Event) (next : State)
+    → IsWellTyped trees state → step trees frames state event ≡ Some next → IsWellTyped trees next
+
+-- no event of a run of accepted files is answered by a wrong kind
+abbrev pub IsNoEventWrong : Type 0
+IsNoEventWrong =
+    (files : List (List ℕ)) (trees : Program) → IsAccepted files trees → (frames : ℕ) (events : List Event) (state : State) (event : Event)
+    → run trees frames events ≡ Some state → IsFalse (is_wrong (stepped values trees frames state event))

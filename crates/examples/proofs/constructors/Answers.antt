@@ -1,4 +1,5 @@
 use Rattle.std.proofs.Common.{refl}
+use Rattle.model.specs.InstructionStarts.{starts_from}
 use Rattle.model.specs.OpcodeTable.{low_form, high_form}
 use Rattle.model.specs.BuiltIn.{built_in_classes}
 use Rattle.model.specs.DescriptorScan.{element_at, field_at, field_type, parameters_at, method_type}
@@ -7,7 +8,7 @@ use Rattle.examples.proofs.TypingProofs.{is_typed}
 use Rattle.examples.proofs.constructors.Goals as goal
 
 pub returns : goal.returns
-unfolding low_form high_form built_in_classes element_at field_at field_type parameters_at method_type
+unfolding starts_from low_form high_form built_in_classes element_at field_at field_type parameters_at method_type
 returns c =
     record {
       holds = record {

@@ -64,7 +64,7 @@ struct Case {
 /// Prints 7, as `println(7)` of javac.
 const PRINTS_SEVEN: [u8; 9] = [0xb2, 0x00, 0x0d, 0x10, 0x07, 0xb6, 0x00, 0x13, 0xb1];
 
-const CASES: [Case; 11] = [
+const CASES: [Case; 10] = [
     Case {
         locals: 1,
         code: &PRINTS_SEVEN,
@@ -141,13 +141,6 @@ const CASES: [Case; 11] = [
         code: &PRINTS_SEVEN,
         schedule: &[],
         report: "thread 0 runnable\nevents 0\nend schedule\n",
-    },
-    // iadd with one operand
-    Case {
-        locals: 1,
-        code: &[0x03, 0x60, 0xb1],
-        schedule: &[(0, 6)],
-        report: "thread 0 runnable\nevents 5\nend refused 5 wrongkind\n",
     },
     // 1 / 0
     Case {
@@ -231,7 +224,7 @@ struct Refused {
     line: &'static str,
 }
 
-const REFUSED: [Refused; 7] = [
+const REFUSED: [Refused; 8] = [
     Refused {
         at: 0,
         byte: 0xcb,
@@ -270,7 +263,13 @@ const REFUSED: [Refused; 7] = [
     Refused {
         at: 43,
         byte: 0x65,
-        line: "refused 2 OutsideProfile file 0 method mein([Ljava/lang/String;)V",
+        line: "refused 7 NoMain",
+    },
+    // main is synchronized
+    Refused {
+        at: 205,
+        byte: 0x29,
+        line: "refused 2 OutsideProfile file 0 method main([Ljava/lang/String;)V",
     },
 ];
 
@@ -312,7 +311,101 @@ fn names_what_it_refuses(rt: HostRuntime) -> Result<(), Fail> {
     assert_eq!(rt; told(alloc, &events, &[])?.as_str(), "refused 7 NoMain");
     assert_eq!(rt;
         told(alloc, &events, &[bytes, bytes])?.as_str(),
-        "refused 8 TooLarge"
+        "refused 3 DuplicateClass file 1"
     );
+    Ok(())
+}
+
+/// Code that is refused, with the line.
+struct RefusedCode {
+    locals: u8,
+    code: &'static [u8],
+    line: &'static str,
+}
+
+const REFUSED_CODES: [RefusedCode; 7] = [
+    // iadd with one operand
+    RefusedCode {
+        locals: 1,
+        code: &[0x03, 0x60, 0xb1],
+        line: "refused 6 Unverified file 0 method main([Ljava/lang/String;)V offset 1",
+    },
+    // a nop behind which the code ends
+    RefusedCode {
+        locals: 1,
+        code: &[0x00],
+        line: "refused 6 Unverified file 0 method main([Ljava/lang/String;)V offset 0",
+    },
+    // a third operand
+    RefusedCode {
+        locals: 1,
+        code: &[0x03, 0x03, 0x03, 0xb1],
+        line: "refused 6 Unverified file 0 method main([Ljava/lang/String;)V offset 2",
+    },
+    // a reference is returned as an int: verified before aload_0 is met, which this machine leaves out
+    RefusedCode {
+        locals: 1,
+        code: &[0x2a, 0xac],
+        line: "refused 6 Unverified file 0 method main([Ljava/lang/String;)V offset 1",
+    },
+    // iload_1, where there is one local variable, and where there are two
+    RefusedCode {
+        locals: 1,
+        code: &[0x1b, 0xb1],
+        line: "refused 1 Malformed file 0 offset 226 Code",
+    },
+    RefusedCode {
+        locals: 2,
+        code: &[0x1b, 0xb1],
+        line: "refused 6 Unverified file 0 method main([Ljava/lang/String;)V offset 0",
+    },
+    // aload_0, which has a typing
+    RefusedCode {
+        locals: 1,
+        code: &[0x00, 0x2a, 0x57, 0xb1],
+        line: "refused 2 OutsideProfile file 0 method main([Ljava/lang/String;)V offset 1",
+    },
+];
+
+#[test]
+fn verifies_before_it_runs(rt: HostRuntime) -> Result<(), Fail> {
+    let alloc = rt.alloc();
+    for refused in &REFUSED_CODES {
+        let file = class_file(alloc, refused.locals, refused.code)?;
+        let line = told(alloc, &[(0, 8)], &[file.as_slice()])?;
+        assert_eq!(rt; line.as_str(), refused.line);
+    }
+    Ok(())
+}
+
+/// The name of the class is B.
+const OTHER_NAME: Refused = Refused {
+    at: 13,
+    byte: 0x42,
+    line: "refused 8 TooLarge",
+};
+
+/// The class file that prints 7, with a field.
+fn with_field(alloc: Global, bytes: &[u8]) -> Result<Vec<u8>, AllocError> {
+    let mut file = Vec::from_slice(alloc, &bytes[..200])?;
+    file.extend_from_slice(&[0, 1, 0, 0, 0, 10, 0, 11, 0, 0])?;
+    file.extend_from_slice(&bytes[202..])?;
+    Ok(file)
+}
+
+#[test]
+fn leaves_out_what_it_cannot_run(rt: HostRuntime) -> Result<(), Fail> {
+    let alloc = rt.alloc();
+    let file = class_file(alloc, 1, &PRINTS_SEVEN)?;
+    let bytes = file.as_slice();
+    let other = changed(alloc, bytes, &OTHER_NAME)?;
+    let line = told(alloc, &[(0, 8)], &[bytes, other.as_slice()])?;
+    assert_eq!(rt; line.as_str(), OTHER_NAME.line);
+    let with_field = with_field(alloc, bytes)?;
+    let line = told(alloc, &[(0, 8)], &[with_field.as_slice()])?;
+    assert_eq!(rt; line.as_str(), "refused 2 OutsideProfile file 0");
+    // a fault of linking comes first
+    let line = told(alloc, &[(0, 8)], &[with_field.as_slice(), bytes])?;
+    assert_eq!(rt; line.as_str(), "refused 3 DuplicateClass file 1");
     Ok(())
 }

@@ -4,8 +4,8 @@ use super::replay_engine;
 use crate::device::Counted;
 use crate::device::fake::{FailingReader, FailingWriter};
 use crate::fault::Fault;
-use crate::options::LimitOptions;
 use crate::status::Status;
+use command_line::LimitOptions;
 use std::alloc::Global;
 use std::test::Fail;
 

@@ -2,7 +2,7 @@ use Rattle.std.proofs.Common.{◌≡◌, ◌∙◌, ap, subst, sym}
 use Rattle.reading.specs.declared.fault.Malformed.{Malformed}
 use Rattle.model.specs.Tree.{FileTree}
 use Rattle.model.specs.Spells.{IsWhole}
-use Rattle.classfile.specs.View.{file_of}
+use Rattle.class_tree.specs.View.{file_of}
 use Rattle.classfile.proofs.Promises.{stops_not}
 use Rattle.classfile.proofs.file.decode.Goals as goal
 

@@ -4,8 +4,8 @@ use Rattle.std.specs.Io.KnownBytes.{Appends}
 use Rattle.std.proofs.lemmas.Result.{err_from_is_err_and}
 use Rattle.model.specs.Devices.{AppendsFront, Writes}
 use Rattle.model.specs.Listing.{class_line, field_line, method_lines}
-use Rattle.classfile.specs.declared.tree.Field.{Field}
-use Rattle.classfile.specs.declared.tree.Method.{Method}
+use Rattle.class_tree.specs.declared.tree.Field.{Field}
+use Rattle.class_tree.specs.declared.tree.Method.{Method}
 use Rattle.classfile.specs.View.{field_of, file_of, method_of}
 use Rattle.disasm.proofs.Writing.{first_fails, then_fails, then_writes, flat_map_over}
 use Rattle.disasm.proofs.listing.list.Goals as goal

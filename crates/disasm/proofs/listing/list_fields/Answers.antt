@@ -1,6 +1,6 @@
 use Rattle.std.proofs.Common.{◌∙◌}
 use Rattle.std.proofs.lemmas.Result.{err_from_is_err_and}
-use Rattle.classfile.specs.declared.tree.Field.{Field}
+use Rattle.class_tree.specs.declared.tree.Field.{Field}
 use Rattle.model.specs.Listing.{field_line}
 use Rattle.classfile.specs.View.{field_of}
 use Rattle.disasm.proofs.Writing.{element_fails, element_written}

@@ -1,6 +1,6 @@
 use Rattle.std.proofs.Common.{◌∙◌}
 use Rattle.std.proofs.lemmas.Result.{err_from_is_err_and}
-use Rattle.classfile.specs.declared.tree.Method.{Method}
+use Rattle.class_tree.specs.declared.tree.Method.{Method}
 use Rattle.model.specs.Listing.{method_lines}
 use Rattle.classfile.specs.View.{method_of}
 use Rattle.disasm.proofs.Writing.{element_fails, element_written}

@@ -11,6 +11,12 @@ returns-in_err-bytes-clause-faulty g c =
     let p = err_from_is_err_and c.from_residual.result c.from_residual.ensures.1 in
     rw (p.1, p.2) (λ left options sink. c.in_err-bytes.ensures.faulty left (map g.S.Source.remaining c.args.files.now) options sink)
 
+pub returns-in_err-bytes-clause-of_file : goal.returns-in_err-bytes-clause-of_file
+returns-in_err-bytes-clause-of_file g c =
+    let p = err_from_is_err_and c.from_residual.result c.from_residual.ensures.1 in
+    let within : c.loop-number.number < length c.args.files.now = omega (arith, c.loop-number-test.true, c.loop-number.auto.number-end, c.loop-number.auto.files) in
+    rw (p.1, p.2) (c.loop-number.number, within, c.in_err-bytes.ensures.of_file)
+
 pub returns-in_err-bytes-clause-counted : goal.returns-in_err-bytes-clause-counted
 returns-in_err-bytes-clause-counted g c =
     let p = err_from_is_err_and c.from_residual.result c.from_residual.ensures.1 in

@@ -3,7 +3,7 @@ use Rattle.std.proofs.lemmas.Result.{err_from_is_err_and}
 use Rattle.std.specs.Io.KnownBytes.{Appends}
 use Rattle.model.specs.Devices.{AppendsFront}
 use Rattle.jvm.specs.Engines.{ReadsEach}
-use Rattle.replay.specs.Linking.{IsAccepted}
+use Rattle.replay.specs.Taking.{IsTaken}
 use Rattle.jvm.proofs.EngineLemmas.{part_is_faulty, counts_sum}
 use Rattle.jvm.proofs.engine.replay_engine.Goals as goal
 
@@ -17,32 +17,32 @@ returns-in_err-files-clause-faulty g c =
     let p = err_from_is_err_and c.from_residual-in_err-files.result c.from_residual-in_err-files.ensures.1 in
     rw (p.1, p.2) (c.in_err-files.ensures.faulty _ _ _)
 
-pub returns-in_err-verified-clause-faulty : goal.returns-in_err-verified-clause-faulty
-returns-in_err-verified-clause-faulty g c =
-    let p = err_from_is_err_and c.from_residual-in_err-verified.result c.from_residual-in_err-verified.ensures.1 in
+pub returns-in_err-taken-clause-faulty : goal.returns-in_err-taken-clause-faulty
+returns-in_err-taken-clause-faulty g c =
+    let p = err_from_is_err_and c.from_residual-in_err-taken.result c.from_residual-in_err-taken.ensures.1 in
     let schedule = c.in_ok-schedule.ensures.read in
     let files = subst (λ files. ReadsEach (map g.S.Source.remaining c.args.files.now) (map vec_items files)) (sym c.as_slice.ensures.value) c.in_ok-files.ensures.read in
-    rw (p.1, p.2) (c.in_err-verified.ensures.faulty _ _ _ _ _ _ schedule.1 files schedule.2)
+    rw (p.1, p.2) (c.in_err-taken.ensures.faulty _ _ _ _ _ _ schedule.1 files schedule.2)
 
-pub returns-in_err-verified-clause-counted : goal.returns-in_err-verified-clause-counted
-returns-in_err-verified-clause-counted g c =
-    let p = err_from_is_err_and c.from_residual-in_err-verified.result c.from_residual-in_err-verified.ensures.1 in
-    rw (p.1, p.2) (counts_sum _ _ _ _ _ _ c.in_ok-schedule.ensures.counted c.in_ok-files.ensures.counted (c.in_err-verified.ensures.counted _))
+pub returns-in_err-taken-clause-counted : goal.returns-in_err-taken-clause-counted
+returns-in_err-taken-clause-counted g c =
+    let p = err_from_is_err_and c.from_residual-in_err-taken.result c.from_residual-in_err-taken.ensures.1 in
+    rw (p.1, p.2) (counts_sum _ _ _ _ _ _ c.in_ok-schedule.ensures.counted c.in_ok-files.ensures.counted (c.in_err-taken.ensures.counted _))
 
 pub returns-in_err-write_all-clause-faulty : goal.returns-in_err-write_all-clause-faulty
 returns-in_err-write_all-clause-faulty g c =
     let p = err_from_is_err_and c.from_residual-in_err-write_all.result c.from_residual-in_err-write_all.ensures.1 in
     let contents = g.W.Sink.contents in
     let schedule = c.in_ok-schedule.ensures.read in
-    let verified = subst (λ files. IsAccepted (map vec_items files) c.in_ok-verified.verified.value) c.as_slice.ensures.value c.in_ok-verified.ensures.verified in
+    let taken = subst (λ files. IsTaken (map vec_items files) c.in_ok-taken.taken.value) c.as_slice.ensures.value c.in_ok-taken.ensures.taken in
     let written = subst (λ text. AppendsFront (contents c.args.report.now) (contents c.write_all.new.self) text) c.as_slice-2.ensures.value c.in_err-write_all.ensures.part in
     rw (p.1, p.2) (part_is_faulty _ _ _ _ _ _
-    (inr (_, _, (schedule.0, _, schedule.1, c.in_ok-files.ensures.read, c.in_ok-text.ensures _ _ schedule.2 verified), written)))
+    (inr (_, _, (schedule.0, _, schedule.1, c.in_ok-files.ensures.read, c.in_ok-text.ensures _ _ schedule.2 taken), written)))
 
 pub returns-clause-replayed : goal.returns-clause-replayed
 returns-clause-replayed g c =
     let contents = g.W.Sink.contents in
     let schedule = c.in_ok-schedule.ensures.read in
-    let verified = subst (λ files. IsAccepted (map vec_items files) c.in_ok-verified.verified.value) c.as_slice.ensures.value c.in_ok-verified.ensures.verified in
+    let taken = subst (λ files. IsTaken (map vec_items files) c.in_ok-taken.taken.value) c.as_slice.ensures.value c.in_ok-taken.ensures.taken in
     let written = subst (λ text. Appends (contents c.args.report.now) (contents c.write_all.new.self) text) c.as_slice-2.ensures.value c.in_ok-write_all.ensures.written in
-    (_, (schedule.0, _, schedule.1, c.in_ok-files.ensures.read, c.in_ok-text.ensures _ _ schedule.2 verified), written)
+    (_, (schedule.0, _, schedule.1, c.in_ok-files.ensures.read, c.in_ok-text.ensures _ _ schedule.2 taken), written)

@@ -13,4 +13,4 @@ returns-clause-says c =
 pub returns-then-event-ne0-clause-says : goal.returns-then-event-ne0-clause-says
 returns-then-event-ne0-clause-says c =
     let other : c.args.event.thread ≡ 0 → (c.args.event.pick == 0) ≡ false = search rules in
-    rw (← c.self.view_is) (λ s shows. (other_not_enabled c.self.inside.linked.now c.self.inside.limits c.self.inside.printed.items c.self.inside.frame c.local.ensures.linked c.self.invariant c.self.inside.stage c.args.event other s shows, refl))
+    rw (← c.self.view_is) (λ s shows. (other_not_enabled c.self.inside.taken.now c.self.inside.limits c.self.inside.printed.items c.self.inside.frame c.local.ensures.suits c.self.invariant c.self.inside.stage c.args.event other s shows, refl))

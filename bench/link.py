@@ -1,0 +1,228 @@
+#!/usr/bin/env python3
+"""Measures linking on class files that it makes.
+
+    link.py [--program PROGRAM] [--command COMMAND] [--chain N] [--rungs N] [NAME..]
+
+PROGRAM is the built program `linker_bench` [default: crates/linker_bench/out/linker_bench, which `rt run` leaves]. With
+a COMMAND it is run as `PROGRAM COMMAND FILE..`, as `jvm verify`, which does more than to link. One line is printed for
+each program of class files [default: all]: files a second of the processor, and the peak resident memory, also for each
+byte of the files. The files are read and decoded too. The programs are:
+
+many_files    10,000 classes and interfaces with 100,000 methods, which call each other
+chain         N superclasses above each other [default: 5000], which redeclare a method
+many_methods  a class of 65,535 methods, which call each other
+many_fields   a class of 65,535 fields
+ladder        two interfaces a rung, each of which stands on both of the rung below, of N rungs [default: 1000]
+"""
+
+import argparse
+import os
+import resource
+import subprocess
+import sys
+import tempfile
+import time
+
+sys.dont_write_bytecode = True
+
+from class_file import pair, u2, utf8
+from disasm import ROOT, u4
+from replay import peak_kilobytes
+
+PUBLIC, STATIC, INTERFACE, ABSTRACT = 0x0001, 0x0008, 0x0200, 0x0400
+
+RETURN = b"\xb1"
+
+
+class Maker:
+    """A class file whose constant pool has each entry once."""
+
+    def __init__(self, name, superclass="java/lang/Object", interfaces=(), flags=PUBLIC):
+        self.entries, self.indices = [], {}
+        self.fields, self.methods = [], []
+        self.flags, self.this, self.superclass = flags, self.named(name), self.named(superclass)
+        self.interfaces = [self.named(interface) for interface in interfaces]
+
+    def entry(self, data):
+        if data not in self.indices:
+            self.entries.append(data)
+            self.indices[data] = len(self.entries)
+        return self.indices[data]
+
+    def text(self, text):
+        return self.entry(utf8(text))
+
+    def named(self, name):
+        return self.entry(b"\x07" + u2(self.text(name)))
+
+    def member(self, tag, owner, name, descriptor):
+        """The entry of a Fieldref (9), a Methodref (10) or an InterfaceMethodref (11)."""
+        described = self.entry(pair(12, self.text(name), self.text(descriptor)))
+        return self.entry(pair(tag, self.named(owner), described))
+
+    def calls(self, owner, name, descriptor="()V"):
+        """An invokestatic."""
+        return b"\xb8" + u2(self.member(10, owner, name, descriptor))
+
+    def calls_on_null(self, owner, name):
+        """An invokeinterface of a method without parameters on null."""
+        return b"\x01\xb9" + u2(self.member(11, owner, name, "()V")) + b"\x01\x00"
+
+    def increments(self, owner, name):
+        """A static int is read and written."""
+        reference = u2(self.member(9, owner, name, "I"))
+        return b"\xb2" + reference + b"\x04\x60\xb3" + reference
+
+    def field(self, flags, name, descriptor="I"):
+        self.fields.append(u2(flags) + u2(self.text(name)) + u2(self.text(descriptor)) + u2(0))
+
+    def method(self, flags, name, descriptor="()V", code=None):
+        attributes = b""
+        if code is not None:
+            body = u2(2) + u2(4) + u4(len(code)) + code + u2(0) + u2(0)
+            attributes = u2(self.text("Code")) + u4(len(body)) + body
+        head = u2(flags) + u2(self.text(name)) + u2(self.text(descriptor))
+        self.methods.append(head + u2(bool(attributes)) + attributes)
+
+    def main(self, code=b""):
+        self.method(PUBLIC | STATIC, "main", "([Ljava/lang/String;)V", code + RETURN)
+
+    def data(self):
+        head = b"\xca\xfe\xba\xbe" + u4(49) + u2(len(self.entries) + 1) + b"".join(self.entries)
+        head += u2(self.flags) + u2(self.this) + u2(self.superclass)
+        for members in ([u2(index) for index in self.interfaces], self.fields, self.methods):
+            head += u2(len(members)) + b"".join(members)
+        return head + u2(0)
+
+
+def many_files(_options):
+    """9,000 classes, each below another and below an interface, with 10 methods, and 1,000 interfaces of 10 methods."""
+    for number in range(9_000):
+        above = f"C{number // 8}" if number >= 8 else "java/lang/Object"
+        made = Maker(f"C{number}", above, [f"I{number % 1_000}"], PUBLIC | ABSTRACT)
+        made.field(PUBLIC | STATIC, "count")
+        made.field(PUBLIC, f"field{number}")
+        if number == 0:
+            made.main()
+        for method in range(10 - (number == 0)):
+            other = (number * 7 + method * 1_001 + 1) % 9_000
+            code = made.calls(f"C{other}", f"s{(method + 1) % 9}") + made.increments(f"C{other}", "count")
+            code += made.calls_on_null(f"I{other % 1_000}", "m0_0")
+            made.method(PUBLIC | STATIC, f"s{method}", "()V", code + RETURN)
+        yield f"C{number}", made
+    for number in range(1_000):
+        above = sorted({f"I{number // 2}", f"I{number // 3}"}) if number else []
+        made = Maker(f"I{number}", "java/lang/Object", above, PUBLIC | INTERFACE | ABSTRACT)
+        for method in range(10):
+            made.method(PUBLIC | ABSTRACT, f"m{number}_{method}")
+        yield f"I{number}", made
+
+
+def chain(options):
+    """Classes, each below the next, with a method each; the first calls and reads what the last declares."""
+    for number in range(options.chain):
+        is_last = number + 1 == options.chain
+        above = "java/lang/Object" if is_last else f"C{number + 1}"
+        made = Maker(f"C{number}", above)
+        made.method(PUBLIC, "m", "()V", RETURN)
+        if number == 0:
+            made.main(made.calls("C0", "top") + made.increments("C0", "count"))
+        if is_last:
+            made.field(PUBLIC | STATIC, "count")
+            made.method(PUBLIC | STATIC, "top", "()V", RETURN)
+        yield f"C{number}", made
+
+
+def many_methods(_options):
+    """65,535 methods, of 16,384 names and 4 descriptors, each of which calls another."""
+    made = Maker("A")
+    made.main()
+    for number in range(65_534):
+        code = made.calls("A", f"m{(number * 5 + 1) % 16_000}")
+        made.method(PUBLIC | STATIC, f"m{number % 16_384}", "(" + "I" * (number // 16_384) + ")V", code + RETURN)
+    yield "A", made
+
+
+def many_fields(_options):
+    """65,535 instance fields, of 16,384 names and 4 types."""
+    made = Maker("A")
+    made.main()
+    for number in range(65_535):
+        made.field(PUBLIC, f"f{number % 16_384}", "IZCS"[number // 16_384])
+    yield "A", made
+
+
+def ladder(options):
+    """Two interfaces a rung, a class below the upmost ones, and a call of what the lowest declares."""
+    upmost = [f"{side}{options.rungs - 1}" for side in "LR"]
+    made = Maker("A", "java/lang/Object", upmost, PUBLIC | ABSTRACT)
+    made.main(b"".join(made.calls_on_null(interface, "m") for interface in upmost))
+    yield "A", made
+    for rung in range(options.rungs):
+        below = [f"{side}{rung - 1}" for side in "LR"] if rung else []
+        for side in "LR":
+            made = Maker(f"{side}{rung}", "java/lang/Object", below, PUBLIC | INTERFACE | ABSTRACT)
+            if rung == 0:
+                made.method(PUBLIC | ABSTRACT, "m")
+            yield f"{side}{rung}", made
+
+
+def written(folder, classes):
+    """The names of the files, their methods and their bytes together."""
+    names, methods, size = [], 0, 0
+    for name, made in classes:
+        data = made.data()
+        with open(os.path.join(folder, name), "wb") as file:
+            file.write(data)
+        names.append(name)
+        methods += len(made.methods)
+        size += len(data)
+    return names, methods, size
+
+
+def measured(command, folder):
+    """Seconds of the processor and peak kilobytes of one run."""
+    peak = 0
+    before = resource.getrusage(resource.RUSAGE_CHILDREN)
+    with subprocess.Popen(command, cwd=folder, stdout=subprocess.PIPE, stderr=subprocess.STDOUT) as process:
+        while process.poll() is None:
+            peak = max(peak, peak_kilobytes(process))
+            time.sleep(0.001)
+        said = process.stdout.read().decode()
+    after = resource.getrusage(resource.RUSAGE_CHILDREN)
+    if process.returncode != 0 or not said.startswith(("linked", "verified")):
+        sys.exit(f"status {process.returncode}: {said}")
+    return after.ru_utime + after.ru_stime - before.ru_utime - before.ru_stime, peak
+
+
+PROGRAMS = (many_files, chain, many_methods, many_fields, ladder)
+
+
+def main():
+    built = os.path.join(ROOT, "crates/linker_bench/out/linker_bench")
+    parser = argparse.ArgumentParser(description=__doc__, formatter_class=argparse.RawDescriptionHelpFormatter)
+    parser.add_argument("--program", default=built)
+    parser.add_argument("--command")
+    parser.add_argument("--chain", type=int, default=5_000)
+    parser.add_argument("--rungs", type=int, default=1_000)
+    parser.add_argument("names", nargs="*", metavar="NAME")
+    options = parser.parse_args()
+    program = os.path.abspath(options.program)
+    for made in PROGRAMS:
+        if options.names and made.__name__ not in options.names:
+            continue
+        with tempfile.TemporaryDirectory() as folder:
+            names, methods, size = written(folder, made(options))
+            with open(os.path.join(folder, "sets"), "w") as file:
+                file.write(" ".join(names) + "\n")
+            command = [program, options.command, *names] if options.command else [program, "sets"]
+            seconds, peak = measured(command, folder)
+        print(
+            f"{made.__name__}: {len(names)} files, {methods} methods, {size / 1e6:.1f} MB in {seconds:.3f} s: "
+            f"{len(names) / seconds:.0f} files a second, {peak / 1e3:.0f} MB of memory, {peak * 1024 / size:.1f} bytes a byte",
+            flush=True,
+        )
+
+
+if __name__ == "__main__":
+    main()

@@ -1,0 +1,274 @@
+#!/usr/bin/env python3
+"""Measures the verifier by the program `verifier_bench`, on class files that it makes.
+
+    verifier.py [--program PROGRAM] [--keep FOLDER] [NAME..]
+
+PROGRAM is the built program [default: crates/verifier_bench/out/verifier_bench, which `rt run` leaves]. One line is
+printed for each set of class files: bytes of code, the seconds of the verification alone, bytes a second, and the peak
+resident memory. The sets: 10,000 methods that javac compiles (`ordinary`); a method of 65,535 bytes with a thousand
+handlers over all of it, without and with stores to local variables (`handlers`, `stores`); one with 65,535 local
+variables (`locals`), and one of 65,535 bytes with as many (`both`); 5,000 joins up a chain of 5,000 classes, of one place
+after all (`ladder`) and at the head of a loop (`loop`). All names are the sets that are made [default: all].
+"""
+
+import argparse
+import glob
+import os
+import random
+import struct
+import subprocess
+import sys
+import tempfile
+
+sys.dont_write_bytecode = True
+
+from class_file import class_entry, pair, u2, utf8
+
+ROOT = os.path.dirname(os.path.dirname(os.path.abspath(__file__)))
+
+CLASSES = 20
+METHODS = 500
+CHAIN = 5_000
+LONGEST = 65_535
+
+
+def u4(number):
+    return struct.pack(">I", number)
+
+
+# ---- what javac compiles
+
+STATEMENTS = [
+    "for (int i = {c}; i < y; i++) {{ s += i * {d}; if ((s & {e}) == 0) {{ s = {call}; }} else {{ s ^= a; }} }}",
+    "G{k} o = new G{k}(s); o.a = s + y; o.next = this; s -= o.b;",
+    "int[] t = new int[{e}]; t[y & {c}] = a; for (int j = 0; j < t.length; j++) {{ t[j] = t[j] * {d} + s; s -= t[j] >> {c}; }}",
+    "while (s > {d}) {{ s = s / {e} - b; if (y == s) {{ break; }} }}",
+    "try {{ s = ((G{k}) next).a + {call}; }} catch (ArithmeticException f) {{ s = -{c}; }} catch (RuntimeException f) {{ s = {d}; }}",
+    "switch (s) {{ case {c}: s = {d}; break; case {e}: a = s; default: b = y + {c}; }}",
+    "if (next instanceof G{k}) {{ G0 p = (G{k}) next; s += p.a; }} else if (next != null) {{ s -= {call}; }}",
+    "synchronized (this) {{ a += s; b -= {d}; }}",
+    "G0[] r = new G0[{e}]; r[{c}] = s > y ? next : this; G0 q = r[{c}]; if (q != null) {{ s = {call}; }}",
+    "System.out.println(s * {d}); count = count + s;",
+    "s = (s << {c}) | (y >>> {e}) & ~(a % {d});",
+]
+
+
+def statement(rng, method):
+    callee = rng.randrange(METHODS)
+    call = f"{rng.choice(['', 'this.', 'other().'])}m{callee}(s, y - {rng.randrange(9)})"
+    numbers = {"c": rng.randrange(1, 6), "d": rng.choice([7, 100, 1000, 40_000]), "e": rng.randrange(7, 30)}
+    return rng.choice(STATEMENTS).format(k=rng.randrange(CLASSES), call=call, **numbers)
+
+
+def method_source(rng, number):
+    lines = [f"{{ {statement(rng, number)} }}" for _ in range(4)]
+    return f"int m{number}(int x, int y) {{ int s = x; {' '.join(lines)} return s; }}"
+
+
+def class_source(rng, number):
+    head = f"class G{number} extends G{number // 2 - 1}" if number > 1 else f"class G{number}"
+    if number == 0:
+        head += " { int a; int b; G0 next; static int count;"
+        head += " public static void main(String[] words) { System.out.println(new G0(1).m0(1, 2)); }"
+    elif number == 1:
+        head = "class G1 extends G0 {"
+    else:
+        head += " {"
+    above = "" if number == 0 else "super(a); "
+    head += f" G{number}(int a) {{ {above}this.a = a; b = a - 1; }} G0 other() {{ return next == null ? this : next; }}"
+    methods = [method_source(rng, method) for method in range(METHODS)]
+    return "\n".join([head, *methods, "}"])
+
+
+def ordinary(folder):
+    """Classes that javac compiles, as files of version 49."""
+    rng = random.Random(1)
+    sources = []
+    for number in range(CLASSES):
+        sources.append(os.path.join(folder, f"G{number}.java"))
+        with open(sources[-1], "w") as file:
+            file.write(class_source(rng, number))
+    command = ["javac", "-nowarn", "-g:none", "--release", "7", "-d", folder, *sources]
+    subprocess.run(command, check=True, stderr=subprocess.DEVNULL)
+    paths = [os.path.join(folder, f"G{number}.class") for number in range(CLASSES)]
+    for path in paths:
+        with open(path, "r+b") as file:
+            file.seek(4)
+            file.write(b"\x00\x00\x00\x31")
+    return paths
+
+
+# ---- one class with one long method
+
+MAIN, DESCRIPTOR, CODE, CLASS, OBJECT, THROWABLE, NAMES = 1, 2, 3, 5, 7, 9, 10
+
+
+def head():
+    """The entries 1 to 9: main, its descriptor, Code, the class A, Object and Throwable."""
+    names = [utf8("main"), utf8("([Ljava/lang/String;)V"), utf8("Code")]
+    return [
+        *names,
+        *[utf8("A"), class_entry(4)],
+        *[utf8("java/lang/Object"), class_entry(6)],
+        *[utf8("java/lang/Throwable"), class_entry(8)],
+    ]
+
+
+def write_class(path, entries, this_class, super_class, fields, methods):
+    pool = u2(len(entries) + 1) + b"".join(entries)
+    members = u2(len(fields)) + b"".join(fields) + u2(len(methods)) + b"".join(methods)
+    with open(path, "wb") as file:
+        header = b"\xca\xfe\xba\xbe" + u4(49) + pool + u2(0x0021) + u2(this_class) + u2(super_class)
+        file.write(header + u2(0) + members + u2(0))
+    return path
+
+
+def main_method(code, stack, local_count, handlers=()):
+    table = u2(len(handlers)) + b"".join(u2(start) + u2(end) + u2(at) + u2(kind) for start, end, at, kind in handlers)
+    attribute = u2(stack) + u2(local_count) + u4(len(code)) + code + table + u2(0)
+    return u2(0x0009) + u2(MAIN) + u2(DESCRIPTOR) + u2(1) + u2(CODE) + u4(len(attribute)) + attribute
+
+
+def write_main(folder, code, stack, local_count, handlers=(), entries=(), fields=()):
+    method = main_method(code, stack, local_count, handlers)
+    return write_class(os.path.join(folder, "A.class"), [*head(), *entries], CLASS, OBJECT, list(fields), [method])
+
+
+def with_handlers(folder, body):
+    """A thousand handlers over all of 65,535 bytes of code; each drops what it caught and returns."""
+    handler = bytes.fromhex("57 b1")
+    length = LONGEST - 1000 * len(handler)
+    code = body * ((length - 1) // len(body))
+    code += b"\x00" * (length - 1 - len(code)) + b"\xb1"
+    places = [len(code) + len(handler) * number for number in range(1000)]
+    code += handler * 1000
+    kinds = [THROWABLE, 0]
+    handlers = [(0, LONGEST, at, kinds[at // 2 % 2]) for at in places]
+    return [write_main(folder, code, 2, 4, handlers)]
+
+
+def handlers(folder):
+    return with_handlers(folder, b"\x00")
+
+
+def stores(folder):
+    """iconst_0, istore_1, iinc 1 1, aload_0, astore_1, aconst_null, astore_2"""
+    return with_handlers(folder, bytes.fromhex("03 3c 84 01 01 2a 4c 01 4d"))
+
+
+def local_variables(folder):
+    """Three thousand instructions that store in the last of 65,535 local variables."""
+    body = bytes.fromhex("03 c4 36 fffe 2a c4 3a fffe")
+    return [write_main(folder, body * 750 + b"\xb1", 1, LONGEST)]
+
+
+def both(folder):
+    body = bytes.fromhex("03 c4 36 fffe 2a c4 3a fffe")
+    code = body * ((LONGEST - 1) // len(body))
+    return [write_main(folder, code + b"\x00" * (LONGEST - 1 - len(code)) + b"\xb1", 1, LONGEST)]
+
+
+# ---- joins
+
+def chain(folder):
+    """A chain of classes C0, C1, .. in files of their own, C0 directly below Object."""
+    paths = []
+    for number in range(CHAIN):
+        entries = [utf8(f"C{number}"), class_entry(1)]
+        entries += [utf8(f"C{number - 1}" if number else "java/lang/Object"), class_entry(3)]
+        paths.append(write_class(os.path.join(folder, f"C{number}.class"), entries, 2, 4, [], []))
+    return paths
+
+
+def fields_of_chain():
+    """Static fields f0, f1, .. of the classes of the chain, the last first: entries, the fields, and their references."""
+    entries = []
+    fields = []
+    references = []
+    first = NAMES
+    for number in range(CHAIN):
+        at = first + len(entries)
+        entries += [utf8(f"f{number}"), utf8(f"LC{CHAIN - 1 - number};"), pair(12, at, at + 1), pair(9, CLASS, at + 2)]
+        fields.append(u2(0x0009) + u2(at) + u2(at + 1) + u2(0))
+        references.append(at + 3)
+    return entries, fields, references
+
+
+def joins(folder, to_head):
+    """A switch on an int to 5,000 places, each of which stores a field of another class of the chain in local variable 1,
+    and goes on behind them all, or back to the head."""
+    entries, fields, references = fields_of_chain()
+    head_code = bytes.fromhex("01 4c 03 3d")
+    at = len(head_code)
+    # iload_2, tableswitch
+    switch_at = at + 1
+    padding = (3 - switch_at) % 4
+    table_at = switch_at + 1 + padding
+    cases_at = table_at + 12 + 4 * CHAIN
+    # getstatic, astore_1, goto_w
+    rung = 9
+    end = cases_at + rung * CHAIN
+    code = head_code + b"\x1c\xaa" + b"\x00" * padding
+    code += u4(end - switch_at) + u4(0) + u4(CHAIN - 1)
+    code += b"".join(u4(cases_at + rung * number - switch_at) for number in range(CHAIN))
+    for number, reference in enumerate(references):
+        target = at if to_head else end
+        jump = target - (cases_at + rung * number + 4)
+        code += b"\xb2" + u2(reference) + b"\x4c\xc8" + struct.pack(">i", jump)
+    code += b"\xb1"
+    return [write_main(folder, code, 1, 3, entries=entries, fields=fields), *chain(folder)]
+
+
+def ladder(folder):
+    return joins(folder, False)
+
+
+def loop(folder):
+    return joins(folder, True)
+
+
+SETS = {
+    "ordinary": ordinary,
+    "handlers": handlers,
+    "stores": stores,
+    "locals": local_variables,
+    "both": both,
+    "ladder": ladder,
+    "loop": loop,
+}
+
+
+def measured(program, paths):
+    """What the program says, the microseconds of the verification, and peak kilobytes."""
+    command = ["/usr/bin/time", "-f", "%M", program, *paths]
+    ran = subprocess.run(command, capture_output=True, text=True)
+    told = ran.stderr.split("\n")
+    if ran.returncode != 0 or len(told) < 2 or not told[0].endswith(" microseconds"):
+        return f"status {ran.returncode}: {ran.stdout.strip()} {ran.stderr.strip()}", None, None
+    return ran.stdout.strip(), int(told[0].split()[0]), int(told[1])
+
+
+def main():
+    parser = argparse.ArgumentParser(description=__doc__, formatter_class=argparse.RawDescriptionHelpFormatter)
+    parser.add_argument("--program", default=os.path.join(ROOT, "crates/verifier_bench/out/verifier_bench"))
+    parser.add_argument("--keep", help="a folder for the class files, in place of a temporary one")
+    parser.add_argument("names", nargs="*")
+    options = parser.parse_args()
+    for name in options.names or SETS:
+        with tempfile.TemporaryDirectory() as temporary:
+            folder = os.path.join(options.keep, name) if options.keep else temporary
+            os.makedirs(folder, exist_ok=True)
+            paths = SETS[name](folder)
+            if options.keep:
+                continue
+            said, microseconds, peak = measured(os.path.abspath(options.program), paths)
+        if microseconds is None:
+            print(f"{name}: {said}", flush=True)
+            continue
+        count = int(said.split()[0])
+        seconds = max(microseconds, 1) / 1e6
+        print(f"{name}: {said} in {seconds:.3f} s: {count / 1e6 / seconds:.2f} MB a second, peak {peak / 1024:.0f} MiB", flush=True)
+
+
+if __name__ == "__main__":
+    main()

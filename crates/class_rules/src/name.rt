@@ -1,0 +1,65 @@
+//! Names (JVMS 4.2), and flags.
+
+ghost use Rattle.std.specs.Prelude.{◌≡◌, ◌/◌, ◌%◌, ◌<◌, ◌==◌, option_map};
+ghost use Rattle.model.specs.Classes.{name_of, super_name_of, package_of, same_package};
+ghost use Rattle.model.specs.Hierarchy.{is_special_name};
+ghost use Rattle.model.specs.DescriptorParts.{is_array_class};
+ghost use Rattle.classfile.specs.View.{file_of};
+
+use classfile::ClassFile;
+
+/// Whether a flag is set (JVMS tables 4.1-B, 4.6-A).
+pub(crate) fn has(flags: u16, flag: u16) -> bool
+    requires { 0 < flag }
+    ensures { result ≡ (flags / flag % 2 == 1) }
+{
+    flags / flag % 2 == 1
+}
+
+/// The name of the class that a file declares (JVMS 4.1, this_class).
+pub(crate) fn class_name(file: &ClassFile) -> &[u8]
+    ensures { result.now ≡ name_of (file_of file.now) }
+{
+    file.class_name(file.this_class).unwrap_or(b"")
+}
+
+/// The name of its direct superclass (JVMS 4.1, super_class).
+pub(crate) fn superclass_name(file: &ClassFile) -> Option<&[u8]>
+    ensures { option_map (λ t. t.now) result ≡ super_name_of (file_of file.now) }
+{
+    file.class_name(file.super_class)
+}
+
+/// Whether a method of this name is a constructor or an initialiser (JVMS 2.9).
+pub(crate) fn is_special_name(name: &[u8]) -> bool
+    ensures { result ≡ is_special_name name.now }
+{
+    name == b"<init>".as_slice() || name == b"<clinit>".as_slice()
+}
+
+/// Whether the name of a class is that of an array class (JVMS 4.4.1).
+pub(crate) fn is_array_class(name: &[u8]) -> bool
+    ensures { result ≡ is_array_class name.now }
+{
+    matches!(name, [b'[', ..])
+}
+
+/// The package in a class's name (JVMS 5.3): what stands in it up to its last slash.
+fn package_of(name: &[u8]) -> &[u8]
+    ensures { result.now ≡ package_of name.now }
+{
+    let mut end = 0;
+    for (place, byte) in name.iter().enumerate() {
+        if *byte == b'/' {
+            end = place + 1;
+        }
+    }
+    &name[..end]
+}
+
+/// Whether two classes are of one package.
+pub(crate) fn is_same_package(class: &[u8], other: &[u8]) -> bool
+    ensures { result ≡ same_package class.now other.now }
+{
+    package_of(class) == package_of(other)
+}

@@ -1,0 +1,132 @@
+-- What the parser found, and the values of a command.
+use Rattle.std.proofs.Common.{◌≡◌, ℕ, ◌≤◌, List, Option, None, Some, option_map, unwrap_or, get_or, eqb, [], true, false, codes, inl, refl, sym, ap, subst, ◌∙◌, Box, Global}
+use Rattle.std.specs.Box.{box_value}
+use Rattle.std.specs.Str.Parse.{IsNumeral, digits_value}
+use Rattle.clap.proofs.OnLiterals.{clap_on_literals}
+use Rattle.clap.proofs.WalkLemmas.{first_value-rows, raw_values-rows}
+use Rattle.clap.specs.Words.{HasMatchesOf, Row, Text, all_of, first_of, first_value, found_of, is_simple, matched_of, raw_values, rows_of, subcommand_name_of, subcommand_of, subcommand_rows, subcommand_rows_of, takes}
+use Rattle.clap.specs.declared.parser.matches.ArgMatches.{ArgMatches}
+use Rattle.clap.specs.declared.parser.matches.ArgMatches.TheViews.{out-ArgMatches, out-SubCommand}
+use Rattle.clap.specs.declared.parser.matches.SubCommand.{SubCommand}
+use Rattle.command_line.specs.CommandLine.{AreFiles, AreValues, IsFile, IsNumber, Refuses, Spells, SpellsNothing, jvm}
+use Rattle.command_line.specs.declared.parse.Usage.{Usage}
+use Rattle.command_line.specs.declared.parse.Usage.TheVariants.{Parser, OutOfMemory}
+use Rattle.command_line.specs.declared.options.Command.{Command}
+use Rattle.command_line.specs.declared.options.Command.TheVariants as commands
+use Rattle.command_line.specs.declared.options.Disasm.{Disasm}
+use Rattle.command_line.specs.declared.options.Replay.{Replay}
+use Rattle.command_line.specs.declared.options.Verify.{Verify}
+
+pub refuses : (usage : Usage) (reason : Type 0) → reason → Refuses usage reason
+refuses OutOfMemory reason known = tt
+refuses (Parser error) reason known = known
+
+-- the first value of an option
+pub first_is : (matches : ArgMatches) (id : Text) (text : Option Text) → text ≡ first_value (found_of matches) id → first_of id (rows_of (found_of matches)) ≡ text
+first_is matches id text found = sym (found ∙ first_value-rows (found_of matches) id)
+
+pub is_number : (text : Text) (least most number : ℕ) → IsNumeral 10 text → least ≤ digits_value 10 text → digits_value 10 text ≤ most → number ≡ digits_value 10 text → IsNumber least most (Some text) (Some number)
+is_number text least most number digits low high value = (digits, sym value, rw (value) low, rw (value) high)
+
+pub no_number : (text : Text) (least most : ℕ) → (IsNumeral 10 text × (least ≤ digits_value 10 text) × (digits_value 10 text ≤ most) → ⊥) → (number : Option ℕ) → IsNumber least most (Some text) number → ⊥
+no_number text least most none None is = is
+no_number text least most none (Some number) is = none (is.0, rw (is.1) is.2, rw (is.1) is.3)
+
+-- all the values of an argument
+pub all_is : (matches : ArgMatches) (id : Text) (texts : Option (List Text)) → texts ≡ option_map raw_values (matched_of (found_of matches) id) → all_of id (rows_of (found_of matches)) ≡ texts
+all_is matches id texts found = sym (found ∙ raw_values-rows (found_of matches) id)
+
+-- what isn't there is no value
+pub no_value : {A : Type 0} (there : Option A) → there ≡ None → (value : A) → there ≡ Some value → ⊥
+no_value there none value some = let bad : None ≡ Some value = sym none ∙ some in cc
+
+-- the parser refused the words
+pub parser_refuses : (usage : Usage) (words : List Text) (of_memory : Type 0) → (of_memory → usage ≡ OutOfMemory) → (takes jvm words ≡ true → of_memory) → Refuses usage (SpellsNothing words)
+parser_refuses OutOfMemory words of_memory gives passes = tt
+parser_refuses (Parser error) words of_memory gives passes = inl (λ taken. let bad : Parser error ≡ OutOfMemory = gives (passes taken) in cc)
+
+pub is_simple_jvm : is_simple jvm ≡ true
+unfolding clap_on_literals
+is_simple_jvm = refl
+
+-- the subcommand that was met, by its name and by its rows
+pub named_rows : (matches : ArgMatches) → option_map (λ p. p.0) (subcommand_rows_of matches) ≡ subcommand_name_of matches
+named_rows matches = go (out-ArgMatches matches).subcommand
+  where
+    go : (met : Option (Box SubCommand Global)) → option_map (λ p. p.0) (subcommand_rows met) ≡ option_map (λ b. (out-SubCommand (box_value b)).name.now) met
+    go None = refl
+    go (Some met) = refl
+
+both_of : {A B : Type 0} (pair : Option (A × B)) (a : A) (b : B) → option_map (λ p. p.0) pair ≡ Some a → option_map (λ p. p.1) pair ≡ Some b → pair ≡ Some (a, b)
+both_of None a b first second = let bad : None ≡ Some a = first in cc
+both_of (Some (x, y)) a b first second = cc
+
+-- the rows of the subcommand with this name
+pub rows_met : (matches : ArgMatches) (words : List Text) (name : Text) (rows : List Row) → HasMatchesOf jvm words matches → subcommand_name_of matches ≡ Some name → option_map (λ p. p.1) (subcommand_rows_of matches) ≡ Some rows → subcommand_of jvm words ≡ Some (name, rows)
+rows_met matches words name rows has met rows_are = sym (has is_simple_jvm).1 ∙ both_of (subcommand_rows_of matches) name rows (named_rows matches ∙ met) rows_are
+
+-- where no subcommand is met, the words spell no command
+pub spells_none : (matches : ArgMatches) (words : List Text) → HasMatchesOf jvm words matches → (subcommand_name_of matches ≡ Some (codes "replay") → ⊥) → (subcommand_name_of matches ≡ Some (codes "verify") → ⊥) → (subcommand_name_of matches ≡ Some (codes "disasm") → ⊥) → (command : Command) → Spells words command → ⊥
+spells_none matches words has no_replay no_verify no_disasm (commands.Replay replay) spelled =
+    no_replay (sym (named_rows matches) ∙ ap (option_map (λ p. p.0)) ((has is_simple_jvm).1 ∙ spelled.1))
+spells_none matches words has no_replay no_verify no_disasm (commands.Verify verify) spelled =
+    no_verify (sym (named_rows matches) ∙ ap (option_map (λ p. p.0)) ((has is_simple_jvm).1 ∙ spelled.1))
+spells_none matches words has no_replay no_verify no_disasm (commands.Disasm disasm) spelled =
+    no_disasm (sym (named_rows matches) ∙ ap (option_map (λ p. p.0)) ((has is_simple_jvm).1 ∙ spelled.1))
+
+-- the first byte of the name of a subcommand
+first_byte : Option (Text × List Row) → ℕ
+first_byte met = get_or (unwrap_or (option_map (λ p. p.0) met) []) 0 0
+
+rows_in : Option (Text × List Row) → List Row
+rows_in met = unwrap_or (option_map (λ p. p.1) met) []
+
+-- where the rows are those of no command, the words spell none
+pub spells_other_replay : (words : List Text) (rows : List Row) → subcommand_of jvm words ≡ Some (codes "replay", rows) → ((replay : Replay) → AreValues rows replay → ⊥) → (command : Command) → Spells words command → ⊥
+unfolding first_byte rows_in
+spells_other_replay words rows met none (commands.Replay replay) spelled =
+    let same : Some (codes "replay", rows) ≡ Some (codes "replay", spelled.0) = sym met ∙ spelled.1 in
+    let rows_are : rows ≡ spelled.0 = ap rows_in same in
+    none replay (subst (λ r. AreValues r replay) (sym rows_are) spelled.2)
+spells_other_replay words rows met none (commands.Verify verify) spelled =
+    let same : Some (codes "replay", rows) ≡ Some (codes "verify", spelled.0) = sym met ∙ spelled.1 in
+    let bad : true ≡ false = ap (λ met. eqb (first_byte met) 114) same in
+    cc
+spells_other_replay words rows met none (commands.Disasm disasm) spelled =
+    let same : Some (codes "replay", rows) ≡ Some (codes "disasm", spelled.0) = sym met ∙ spelled.1 in
+    let bad : true ≡ false = ap (λ met. eqb (first_byte met) 114) same in
+    cc
+
+pub spells_other_verify : (words : List Text) (rows : List Row) → subcommand_of jvm words ≡ Some (codes "verify", rows) → ((verify : Verify) → AreFiles rows verify → ⊥) → (command : Command) → Spells words command → ⊥
+unfolding first_byte rows_in
+spells_other_verify words rows met none (commands.Verify verify) spelled =
+    let same : Some (codes "verify", rows) ≡ Some (codes "verify", spelled.0) = sym met ∙ spelled.1 in
+    let rows_are : rows ≡ spelled.0 = ap rows_in same in
+    none verify (subst (λ r. AreFiles r verify) (sym rows_are) spelled.2)
+spells_other_verify words rows met none (commands.Replay replay) spelled =
+    let same : Some (codes "verify", rows) ≡ Some (codes "replay", spelled.0) = sym met ∙ spelled.1 in
+    let bad : true ≡ false = ap (λ met. eqb (first_byte met) 118) same in
+    cc
+spells_other_verify words rows met none (commands.Disasm disasm) spelled =
+    let same : Some (codes "verify", rows) ≡ Some (codes "disasm", spelled.0) = sym met ∙ spelled.1 in
+    let bad : true ≡ false = ap (λ met. eqb (first_byte met) 118) same in
+    cc
+
+pub spells_other_disasm : (words : List Text) (rows : List Row) → subcommand_of jvm words ≡ Some (codes "disasm", rows) → ((disasm : Disasm) → IsFile rows disasm → ⊥) → (command : Command) → Spells words command → ⊥
+unfolding first_byte rows_in
+spells_other_disasm words rows met none (commands.Disasm disasm) spelled =
+    let same : Some (codes "disasm", rows) ≡ Some (codes "disasm", spelled.0) = sym met ∙ spelled.1 in
+    let rows_are : rows ≡ spelled.0 = ap rows_in same in
+    none disasm (subst (λ r. IsFile r disasm) (sym rows_are) spelled.2)
+spells_other_disasm words rows met none (commands.Verify verify) spelled =
+    let same : Some (codes "disasm", rows) ≡ Some (codes "verify", spelled.0) = sym met ∙ spelled.1 in
+    let bad : true ≡ false = ap (λ met. eqb (first_byte met) 100) same in
+    cc
+spells_other_disasm words rows met none (commands.Replay replay) spelled =
+    let same : Some (codes "disasm", rows) ≡ Some (codes "replay", spelled.0) = sym met ∙ spelled.1 in
+    let bad : true ≡ false = ap (λ met. eqb (first_byte met) 100) same in
+    cc
+
+pub refuses_more : (usage : Usage) (reason other : Type 0) → (reason → other) → Refuses usage reason → Refuses usage other
+refuses_more OutOfMemory reason other on known = tt
+refuses_more (Parser error) reason other on known = on known

@@ -1,0 +1,126 @@
+-- The command line (own), in the words of the crate `clap`: which options there are, and which command the words
+-- spell.
+use Rattle.std.specs.Prelude.{◌≡◌, ◌≤◌, ◌⊎◌, ℕ, ◌-◌, ◌^◌, List, map, true, false, codes, Option, Some, None, string_bytes}
+use Rattle.std.specs.Str.Parse.{IsNumeral, digits_value}
+use Rattle.clap.specs.Words.{App, Row, Rule, Shape, Text, all_of, first_of, new_app, new_rule, subcommand_of, takes, with_rule, with_subcommand}
+use Rattle.clap.specs.declared.builder.command.Command as parser
+use Rattle.clap.specs.declared.builder.command.Command.TheViews.{out-Command}
+use Rattle.clap.specs.declared.builder.ArgAction.TheVariants.{Set, Append}
+use Rattle.clap.specs.declared.builder.value_parser.ValueParser.TheVariants.{Unsigned}
+use Rattle.command_line.specs.declared.parse.Usage.{Usage}
+use Rattle.command_line.specs.declared.parse.Usage.TheVariants.{Parser, OutOfMemory}
+use Rattle.command_line.specs.declared.options.Command.{Command}
+use Rattle.command_line.specs.declared.options.Command.TheVariants as commands
+use Rattle.command_line.specs.declared.options.Disasm.{Disasm}
+use Rattle.command_line.specs.declared.options.LimitOptions.{LimitOptions}
+use Rattle.command_line.specs.declared.options.Replay.{Replay}
+use Rattle.command_line.specs.declared.options.Verify.{Verify}
+
+-- `--NAME NUMBER`, a number from least to most
+abbrev pub number_option : Text → ℕ → ℕ → Rule
+number_option name least most = record (new_rule name) {
+  long = Some name;
+  value_names = 1;
+  action = Some Set;
+  parser = Some (Unsigned least most);
+}
+
+-- `--schedule FILE`, which has to be there
+abbrev pub schedule_option : Rule
+schedule_option = record (new_rule (codes "schedule")) {
+  long = Some (codes "schedule");
+  value_names = 1;
+  required = true;
+  action = Some Set;
+}
+
+-- `FILE..`, at least one
+abbrev pub class_files : Rule
+class_files = record (new_rule (codes "files")) {
+  value_names = 1;
+  required = true;
+  range = Some (record { start_inclusive = 1; end_inclusive = 2 ^ 64 - 1 });
+  action = Some Append;
+}
+
+abbrev pub with_limits : App → App
+with_limits app = with_rule (with_rule (with_rule (with_rule (with_rule app
+    (number_option (codes "objects") 0 4000000000))
+    (number_option (codes "cells") 0 4294967295))
+    (number_option (codes "monitors") 0 8388608))
+    (number_option (codes "threads") 1 32767))
+    (number_option (codes "frames") 1 65535)
+
+abbrev pub jvm_replay : App
+jvm_replay = with_rule (with_limits (with_rule (new_app (codes "replay")) schedule_option)) class_files
+
+abbrev pub jvm_verify : App
+jvm_verify = with_rule (new_app (codes "verify")) class_files
+
+-- `FILE`, which has to be there
+abbrev pub class_file : Rule
+class_file = record (new_rule (codes "file")) {
+  value_names = 1;
+  required = true;
+  action = Some Set;
+}
+
+abbrev pub jvm_disasm : App
+jvm_disasm = with_rule (new_app (codes "disasm")) class_file
+
+abbrev pub without_help_subcommand : Shape → Shape
+without_help_subcommand shape = record shape { disable_help_subcommand = true; subcommand_required = true }
+
+abbrev pub jvm : App
+jvm = with_subcommand (with_subcommand (with_subcommand
+    (record (new_app (codes "jvm")) { top = without_help_subcommand (new_app (codes "jvm")).top })
+    jvm_replay.top)
+    jvm_verify.top)
+    jvm_disasm.top
+
+-- no argument of the parser is one of its subcommands' too
+abbrev pub IsLocal : parser.Command → Type 0
+IsLocal command = (out-Command command).has_globals ≡ false
+
+-- the number of an option, where it is there: digits alone spell it
+abbrev pub IsNumber : ℕ → ℕ → Option Text → Option ℕ → Type 0
+IsNumber least most None None = Unit {0}
+IsNumber least most (Some text) (Some number) = IsNumeral 10 text × (digits_value 10 text ≡ number) × (least ≤ number) × (number ≤ most)
+IsNumber least most None (Some number) = ⊥
+IsNumber least most (Some text) None = ⊥
+
+pub record AreLimitNumbers (rows : List Row) (limits : LimitOptions) : Type 0 where
+  pub objects : IsNumber 0 4000000000 (first_of (codes "objects") rows) limits.objects
+  pub cells : IsNumber 0 4294967295 (first_of (codes "cells") rows) limits.cells
+  pub monitors : IsNumber 0 8388608 (first_of (codes "monitors") rows) limits.monitors
+  pub threads : IsNumber 1 32767 (first_of (codes "threads") rows) limits.threads
+  pub frames : IsNumber 1 65535 (first_of (codes "frames") rows) limits.frames
+
+-- the values that the words give to `jvm replay`
+pub record AreValues (rows : List Row) (replay : Replay) : Type 0 where
+  pub schedule : first_of (codes "schedule") rows ≡ Some (string_bytes replay.schedule)
+  pub limits : AreLimitNumbers rows replay.limits
+  pub files : all_of (codes "files") rows ≡ Some (map string_bytes replay.files.items)
+
+-- the values that the words give to `jvm verify`
+abbrev pub AreFiles : List Row → Verify → Type 0
+AreFiles rows verify = all_of (codes "files") rows ≡ Some (map string_bytes verify.files.items)
+
+-- the value that the words give to `jvm disasm`
+abbrev pub IsFile : List Row → Disasm → Type 0
+IsFile rows disasm = first_of (codes "file") rows ≡ Some (string_bytes disasm.file)
+
+-- the words, the program's name first, spell the command
+abbrev pub Spells : List Text → Command → Type 0
+Spells words (commands.Replay replay) = (rows : List Row) × (subcommand_of jvm words ≡ Some (codes "replay", rows)) × AreValues rows replay
+Spells words (commands.Verify verify) = (rows : List Row) × (subcommand_of jvm words ≡ Some (codes "verify", rows)) × AreFiles rows verify
+Spells words (commands.Disasm disasm) = (rows : List Row) × (subcommand_of jvm words ≡ Some (codes "disasm", rows)) × IsFile rows disasm
+
+-- memory apart, there is no command because this holds
+abbrev pub Refuses : Usage → Type 0 → Type 0
+Refuses OutOfMemory reason = Unit {0}
+Refuses (Parser error) reason = reason
+
+-- the parser doesn't take the words, or they spell no command
+abbrev pub SpellsNothing : List Text → Type 0
+SpellsNothing words = (takes jvm words ≡ true → ⊥) ⊎ ((command : Command) → Spells words command → ⊥)

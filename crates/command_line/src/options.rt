@@ -1,0 +1,68 @@
+//! What the program is asked to do.
+
+ghost use Rattle.std.specs.Prelude.{◌≡◌, ◌≤◌, unwrap_or};
+
+use model::Limits;
+
+/// A subcommand with the values of its options.
+#[derive(Debug, Drop, PartialEq, Eq)]
+pub enum Command {
+    Replay(Replay),
+    Verify(Verify),
+    Disasm(Disasm),
+}
+
+/// `jvm replay`: class files are run under a schedule, and what comes of it is reported.
+#[derive(Debug, Drop, PartialEq, Eq)]
+pub struct Replay {
+    /// The path of the schedule file.
+    pub schedule: String,
+    pub limits: LimitOptions,
+    /// The paths of the class files. The first holds the class whose `main` is run.
+    pub files: Vec<String>,
+}
+
+/// `jvm verify`: class files are linked and verified, and nothing is run.
+#[derive(Debug, Drop, PartialEq, Eq)]
+pub struct Verify {
+    /// The paths of the class files. The first holds the class that has to have a `main`.
+    pub files: Vec<String>,
+}
+
+/// `jvm disasm`: the listing of a class file is written.
+#[derive(Debug, Drop, PartialEq, Eq)]
+pub struct Disasm {
+    /// The path of the class file.
+    pub file: String,
+}
+
+/// The limits that are asked for, each in its range, and `None` for the usual one.
+#[derive(Clone, Copy, Debug, PartialEq, Eq)]
+pub struct LimitOptions {
+    pub objects: Option<u32>,
+    pub cells: Option<u32>,
+    pub monitors: Option<u32>,
+    pub threads: Option<u32>,
+    pub frames: Option<u32>,
+    pub ghost objects_fit: { unwrap_or objects 1000000 ≤ 4000000000 },
+    pub ghost monitors_fit: { unwrap_or monitors 65536 ≤ 8388608 },
+    pub ghost threads_fit: { (1 ≤ unwrap_or threads 256) × (unwrap_or threads 256 ≤ 32767) },
+    pub ghost frames_fit: { (1 ≤ unwrap_or frames 1024) × (unwrap_or frames 1024 ≤ 65535) },
+}
+
+impl LimitOptions {
+    ghost use Rattle.command_line.specs.Choices.{AreChosen};
+
+    /// The limits of the run.
+    pub fn limits(&self) -> Limits
+        ensures { AreChosen self.now result }
+    {
+        Limits {
+            objects: self.objects.unwrap_or(1_000_000),
+            cells: self.cells.unwrap_or(16_000_000),
+            monitors: self.monitors.unwrap_or(65_536),
+            threads: self.threads.unwrap_or(256),
+            frames: self.frames.unwrap_or(1024),
+        }
+    }
+}

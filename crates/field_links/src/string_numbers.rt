@@ -1,0 +1,165 @@
+//! The texts of string constants, by their numbers.
+
+ghost use Rattle.std.specs.Prelude.{◌≡◌, length, map, option_map, position, IfOk, OnOk};
+ghost use Rattle.std.specs.Option.{option_and_then, option_to_list};
+ghost use Rattle.model.specs.Classes.{Program};
+ghost use Rattle.model.specs.Pool.{string_of, string_at};
+ghost use Rattle.model.specs.StringConstants.{texts_in, string_texts};
+ghost use Rattle.constant_pool.specs.View.{entry_of};
+ghost use Rattle.classfile.specs.View.{file_of};
+ghost use Rattle.limits_of_linking.specs.Texts.{with_texts};
+ghost use Rattle.field_links.specs.Numbers.{number_in, text_number, string_number, IsStringRow, SayNumbers, AreStringNumbers};
+
+use crate::place::{file_at, file_count};
+use crate::texts::Texts;
+use classfile::{ClassFile, Constant};
+use hierarchy::ClassSet;
+use std::alloc::{AllocError, Global};
+use std::marker::Model;
+
+/// For each String of the constant pools of a program's classes the number of its text, and how many texts there are. Equal
+/// texts of all files have one number; they count from 0 in the order of the files.
+#[derive(Drop)]
+pub struct StringNumbers {
+    /// For each class those that its constant pool has, by their index.
+    rows: Vec<Vec<Option<usize>>>,
+    count: usize,
+}
+
+impl Model for StringNumbers {
+    ghost use Rattle.std.specs.Prelude.{map};
+    ghost use Rattle.field_links.specs.Numbers.{StringTables};
+
+    ghost Value = { StringTables };
+
+    ghost view = { λ s. record { rows = map (λ row. row.items) s.rows.items; count = s.count } };
+}
+
+/// The text of a String, where the entry is one.
+fn string_text<'a>(file: &'a ClassFile, constant: &Constant) -> Option<&'a [u8]>
+    ensures { option_map (λ t. t.now) result ≡ string_of file.now.pool (entry_of constant.now) }
+{
+    match constant {
+        Constant::String { text } => file.utf8(*text),
+        _ => None,
+    }
+}
+
+/// Adds a text that is there.
+fn add_text(alloc: Global, texts: &mut Texts, text: Option<&[u8]>) -> Result<(), AllocError>
+    ensures { OnOk result (texts.new ≡ with_texts texts.old (option_to_list (option_map (λ t. t.now) text.entry))) }
+{
+    match text {
+        Some(text) => texts.add(alloc, text),
+        None => Ok(()),
+    }
+}
+
+/// Adds the texts of a file's string constants.
+fn add_texts(alloc: Global, texts: &mut Texts, file: &ClassFile) -> Result<(), AllocError>
+    ensures { OnOk result (texts.new ≡ with_texts texts.old (texts_in (file_of file.now))) }
+{
+    let constants = file.pool.constants();
+    for constant in constants {
+        add_text(alloc, texts, string_text(file, constant))?;
+    }
+    Ok(())
+}
+
+/// The texts of the string constants of files.
+fn all_texts(alloc: Global, set: &ClassSet) -> Result<Texts, AllocError>
+    ensures { IfOk result (λ texts. texts ≡ string_texts set.now) }
+{
+    let mut texts = Texts::new(alloc);
+    for number in 0..file_count(set) {
+        let Some(file) = file_at(set, number) else {
+            return Ok(texts);
+        };
+        add_texts(alloc, &mut texts, file)?;
+    }
+    Ok(texts)
+}
+
+/// The number of the text of the String of an index.
+fn number_of(texts: &Texts, file: &ClassFile, index: u16) -> Option<usize>
+    ensures { result ≡ option_and_then (text_number texts.now) (string_at file.now.pool index) }
+{
+    match file.pool.string(index) {
+        Some(text) => texts.number_of(text),
+        None => None,
+    }
+}
+
+/// Those of a file, by their index.
+fn number_row(
+    alloc: Global,
+    texts: &Texts,
+    file: &ClassFile,
+) -> Result<Vec<Option<usize>>, AllocError>
+    ensures { IfOk result (λ row. IsStringRow texts.now (file_of file.now) row.items) }
+{
+    let mut row = Vec::new(alloc);
+    let indices = (file.pool.constants().len() + 1).min(0x1_0000);
+    for index in 0..indices {
+        row.push(number_of(texts, file, index as u16))?;
+    }
+    Ok(row)
+}
+
+/// Those of each class.
+fn number_rows(
+    alloc: Global,
+    set: &ClassSet,
+    texts: &Texts,
+) -> Result<Vec<Vec<Option<usize>>>, AllocError>
+    requires { texts.now ≡ string_texts set.now }
+    ensures { IfOk result (λ rows. SayNumbers set.now (map (λ row. row.items) rows.items)) }
+{
+    let mut rows = Vec::new(alloc);
+    for place in 0..set.count() {
+        let Some(file) = set.class_at(place) else {
+            return Ok(rows);
+        };
+        rows.push(number_row(alloc, texts, file)?)?;
+    }
+    Ok(rows)
+}
+
+/// What a row says of an index.
+fn entry_of_row(row: &[Option<usize>], index: u16) -> Option<usize>
+    ensures { result ≡ number_in row.now index }
+{
+    row.get(index as usize).copied().unwrap_or(None)
+}
+
+impl StringNumbers {
+    /// The numbers in a set of classes. This alone takes memory.
+    pub fn new(alloc: Global, set: &ClassSet) -> Result<StringNumbers, AllocError>
+        ensures { IfOk result (λ numbers. AreStringNumbers set.now numbers) }
+    {
+        let texts = all_texts(alloc, set)?;
+        let rows = number_rows(alloc, set, &texts)?;
+        Ok(StringNumbers {
+            rows,
+            count: texts.count(),
+        })
+    }
+
+    /// The number of the text of the String of an index, in the constant pool of the class with a number. `None` where the
+    /// index names no String.
+    pub fn string(&self, class: usize, index: u16) -> Option<usize>
+        ensures { (files : Program) → AreStringNumbers files self.now → result ≡ string_number files class index }
+    {
+        match self.rows.get(class) {
+            Some(row) => entry_of_row(row, index),
+            None => None,
+        }
+    }
+
+    /// How many texts there are.
+    pub fn count(&self) -> usize
+        ensures { (files : Program) → AreStringNumbers files self.now → result ≡ length (string_texts files) }
+    {
+        self.count
+    }
+}

@@ -1,0 +1,7 @@
+pub mod Anywhere
+pub mod Filling
+pub mod LinkedTypes
+pub mod AtBoundaries
+pub mod Locally
+pub mod Refused
+pub mod Flowing

@@ -1,0 +1,4 @@
+pub mod Handlers
+pub mod Leads
+pub mod Successors
+pub mod Local

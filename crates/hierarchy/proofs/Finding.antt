@@ -1,0 +1,53 @@
+-- Finding in lists.
+use Rattle.std.proofs.Common.{◌≡◌, ℕ, ◌<◌, Bool, true, false, ltb, cond, List, [], ◌∷◌, length, map, refl, ap, subst, ◌∙◌, Some, None}
+use Rattle.std.specs.Prelude.{find, position, slice_get}
+use Rattle.std.specs.Option.{option_and_then}
+use Rattle.std.specs.List.{position_or_len}
+use Rattle.std.proofs.lemmas.List.{length-map}
+use Rattle.std.proofs.lemmas.List.Folds.{find_at}
+use Rattle.std.proofs.lemmas.Option.{slice_get_past}
+use borrow.Author.Tests.{ltb-true, ltb-false}
+
+pub position_or_len-map : {A B : Type 0} (p : B → Bool) (f : A → B) (xs : List A) → position_or_len p (map f xs) ≡ position_or_len (λ x. p (f x)) xs
+position_or_len-map p f [] = refl
+position_or_len-map p f (x ∷ xs) = rw (position_or_len-map p f xs) refl
+
+pub position-map : {A B : Type 0} (p : B → Bool) (f : A → B) (xs : List A) → position p (map f xs) ≡ position (λ x. p (f x)) xs
+position-map p f xs = rw (position_or_len-map p f xs, length-map xs f) refl
+
+pub position_or_len_same : {A : Type 0} (p q : A → Bool) → ((x : A) → p x ≡ q x) → (xs : List A) → position_or_len p xs ≡ position_or_len q xs
+position_or_len_same p q same [] = refl
+position_or_len_same p q same (x ∷ xs) = rw (same x, position_or_len_same p q same xs) refl
+
+pub position_same : {A : Type 0} (p q : A → Bool) → ((x : A) → p x ≡ q x) → (xs : List A) → position p xs ≡ position q xs
+position_same p q same xs = rw (position_or_len_same p q same xs) refl
+
+-- what is found stands at the position
+pub find_by_position : {A : Type 0} (p : A → Bool) (xs : List A) → find p xs ≡ option_and_then (slice_get xs) (position p xs)
+find_by_position p xs = by (ltb (position_or_len p xs) (length xs)) refl
+  where
+    by : (b : Bool) → ltb (position_or_len p xs) (length xs) ≡ b → find p xs ≡ option_and_then (slice_get xs) (cond b (Some (position_or_len p xs)) None)
+    by true h = find_at p xs
+    by false h = find_at p xs ∙ slice_get_past xs (position_or_len p xs) (ltb-false _ _ h)
+
+-- a position is found within the list, where the test holds
+pub position_within : {A : Type 0} (p : A → Bool) (xs : List A) (i : ℕ) → position p xs ≡ Some i → i < length xs
+position_within p xs i = by (ltb (position_or_len p xs) (length xs)) refl
+  where
+    by : (b : Bool) → ltb (position_or_len p xs) (length xs) ≡ b → cond b (Some (position_or_len p xs)) None ≡ Some i → i < length xs
+    by true h e = let same : position_or_len p xs ≡ i = cc in subst (λ k. k < length xs) same (ltb-true _ _ h)
+    by false h e = absurd cc
+
+pub find_passes : {A : Type 0} (p : A → Bool) (xs : List A) (x : A) → find p xs ≡ Some x → p x ≡ true
+find_passes p [] x e = absurd cc
+find_passes p (y ∷ ys) x e = by (p y) refl (find_passes p ys x) e
+  where
+    by : (b : Bool) → p y ≡ b → (find p ys ≡ Some x → p x ≡ true) → cond b (Some y) (find p ys) ≡ Some x → p x ≡ true
+    by true h more e = let same : y ≡ x = cc in subst (λ z. p z ≡ true) same h
+    by false h more e = more e
+
+pub passes_at : {A : Type 0} (p : A → Bool) (xs : List A) (i : ℕ) (x : A) → position p xs ≡ Some i → slice_get xs i ≡ Some x → find p xs ≡ Some x
+passes_at p xs i x e at = find_by_position p xs ∙ ap (λ o. option_and_then (slice_get xs) o) e ∙ at
+
+pub nowhere : {A : Type 0} (p : A → Bool) (xs : List A) → position p xs ≡ None → find p xs ≡ None
+nowhere p xs e = find_by_position p xs ∙ ap (λ o. option_and_then (slice_get xs) o) e

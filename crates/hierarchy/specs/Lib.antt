@@ -1,0 +1,5 @@
+pub mod Set
+pub mod Places
+pub mod Wanted
+pub mod Above
+pub mod Types

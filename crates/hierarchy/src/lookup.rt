@@ -1,0 +1,149 @@
+//! The members that classes declare, and which method a call runs (JVMS 6.5).
+
+ghost use Rattle.std.specs.Prelude.{◌≡◌, ◌/◌, ◌%◌, ◌<◌, ◌==◌, option_map, IfSome};
+ghost use Rattle.constant_pool.specs.View.{reference_of};
+ghost use Rattle.classfile.specs.View.{method_of};
+ghost use Rattle.model.specs.Classes.{lineage};
+ghost use Rattle.model.specs.Lookup.{method_declared, first_found, select, any_method, field_declared};
+ghost use Rattle.hierarchy.specs.Places.{member_in, IsFieldAt, IsMethodAt};
+ghost use Rattle.hierarchy.specs.Wanted.{wants};
+
+use crate::declared::{field_place, method_place};
+use crate::place::MemberPlace;
+use crate::set::ClassSet;
+use classfile::{Method, Reference};
+
+/// ACC_PUBLIC, ACC_PRIVATE and ACC_STATIC (JVMS table 4.6-A).
+const PUBLIC: u16 = 0x0001;
+
+const PRIVATE: u16 = 0x0002;
+
+const STATIC: u16 = 0x0008;
+
+/// Which methods count in a look-up.
+#[derive(Clone, Copy, Debug)]
+pub(crate) enum Wanted {
+    Any,
+    /// An instance method that is not private.
+    Selectable,
+    /// A public instance method.
+    PublicInstance,
+}
+
+fn has(flags: u16, flag: u16) -> bool
+    requires { 0 < flag }
+    ensures { result ≡ (flags / flag % 2 == 1) }
+{
+    flags / flag % 2 == 1
+}
+
+fn counts(wanted: Wanted, method: &Method) -> bool
+    ensures { result ≡ wants wanted (method_of method.now) }
+{
+    match wanted {
+        Wanted::Any => true,
+        Wanted::Selectable => !has(method.flags, STATIC) && !has(method.flags, PRIVATE),
+        Wanted::PublicInstance => has(method.flags, PUBLIC) && !has(method.flags, STATIC),
+    }
+}
+
+impl ClassSet {
+    /// The method that a class itself declares, where it counts.
+    pub(crate) fn method_in(
+        &self,
+        class: &[u8],
+        method: Reference<'_>,
+        wanted: Wanted,
+    ) -> Option<MemberPlace>
+        ensures found { option_map (λ p. member_in self.now (reference_of method.entry) p) result ≡ method_declared self.now (wants wanted) (reference_of method.entry) class.now }
+        ensures place { IfSome result (IsMethodAt self.now (reference_of method.entry)) }
+    {
+        let Some(place) = self.place_of(class) else {
+            return None;
+        };
+        let Some(file) = self.class_at(place) else {
+            return None;
+        };
+        let Some(member) = method_place(file, method.name, method.descriptor) else {
+            return None;
+        };
+        let Some(declared) = file.methods.get(member) else {
+            return None;
+        };
+        if !counts(wanted, declared) {
+            return None;
+        }
+        Some(MemberPlace {
+            class: place,
+            member,
+        })
+    }
+
+    /// The nearest declaration, from a class upwards, that counts.
+    pub(crate) fn method_above(
+        &self,
+        class: &[u8],
+        method: Reference<'_>,
+        wanted: Wanted,
+    ) -> Option<MemberPlace>
+        ensures found { option_map (λ p. member_in self.now (reference_of method.entry) p) result ≡ first_found (method_declared self.now (wants wanted) (reference_of method.entry)) (lineage self.now class.now) }
+        ensures place { IfSome result (IsMethodAt self.now (reference_of method.entry)) }
+    {
+        let mut class = class;
+        for _step in 0..self.count() {
+            if let Some(found) = self.method_in(class, method, wanted) {
+                return Some(found);
+            }
+            let Some(next) = self.superclass_of(class) else {
+                return None;
+            };
+            class = next;
+        }
+        None
+    }
+
+    /// The method that a receiver of a class has of this name and descriptor (JVMS 6.5, invokevirtual): the nearest
+    /// declaration that is neither static nor private, abstract or not. Takes no memory.
+    pub fn select(&self, class: &[u8], method: Reference<'_>) -> Option<MemberPlace>
+        ensures found { option_map (λ p. member_in self.now (reference_of method.entry) p) result ≡ select self.now class.now (reference_of method.entry) }
+        ensures place { IfSome result (IsMethodAt self.now (reference_of method.entry)) }
+    {
+        self.method_above(class, method, Wanted::Selectable)
+    }
+
+    /// The method of this name and descriptor that the class of a reference itself declares (JVMS 4.6). Takes no memory.
+    pub fn declared_method(&self, method: Reference<'_>) -> Option<MemberPlace>
+        ensures found { option_map (λ p. member_in self.now (reference_of method.entry) p) result ≡ method_declared self.now any_method (reference_of method.entry) method.entry.class.now }
+        ensures place { IfSome result (IsMethodAt self.now (reference_of method.entry)) }
+    {
+        self.method_in(method.class, method, Wanted::Any)
+    }
+
+    /// The field of this name and descriptor that the class of a reference itself declares (JVMS 4.5). Takes no memory.
+    pub fn declared_field(&self, field: Reference<'_>) -> Option<MemberPlace>
+        ensures found { option_map (λ p. member_in self.now (reference_of field.entry) p) result ≡ field_declared self.now (reference_of field.entry) field.entry.class.now }
+        ensures place { IfSome result (IsFieldAt self.now (reference_of field.entry)) }
+    {
+        self.field_in(field.class, field)
+    }
+
+    /// The field that a class itself declares.
+    pub(crate) fn field_in(&self, class: &[u8], field: Reference<'_>) -> Option<MemberPlace>
+        ensures found { option_map (λ p. member_in self.now (reference_of field.entry) p) result ≡ field_declared self.now (reference_of field.entry) class.now }
+        ensures place { IfSome result (IsFieldAt self.now (reference_of field.entry)) }
+    {
+        let Some(place) = self.place_of(class) else {
+            return None;
+        };
+        let Some(file) = self.class_at(place) else {
+            return None;
+        };
+        let Some(member) = field_place(file, field.name, field.descriptor) else {
+            return None;
+        };
+        Some(MemberPlace {
+            class: place,
+            member,
+        })
+    }
+}

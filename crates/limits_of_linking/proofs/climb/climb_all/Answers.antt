@@ -1,0 +1,6 @@
+use Rattle.std.proofs.Common.{◌<◌, sym, subst}
+use Rattle.limits_of_linking.proofs.ClimbLaws.{some_classes}
+use Rattle.limits_of_linking.proofs.climb.climb_all.Goals as goal
+
+pub steps_each-requires : goal.steps_each-requires
+steps_each-requires c = subst (λ k. 0 < k) (sym c.count.ensures) (some_classes c.args.set.now)

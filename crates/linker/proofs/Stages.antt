@@ -1,0 +1,152 @@
+-- What the parts of linking leave for the next ones.
+use Rattle.std.proofs.Common.{◌≡◌, ℕ, Bool, true, false, not, List, refl, sym, ap, subst, inl, inr, ⊎_elim, ◌∙◌, Option, Some, None}
+use Rattle.std.specs.Prelude.{slice_get}
+use Rattle.std.specs.Option.{option_and_then, option_map_or}
+use Rattle.std.specs.List.{list_any}
+use Rattle.model.specs.Tree.{FileTree}
+use Rattle.model.specs.Classes.{Program}
+use Rattle.model.specs.Profile.{is_outside_profile}
+use Rattle.model.specs.CodeConditions.{has_malformed_code}
+use Rattle.model.specs.Hierarchy.{in_cycle, has_bad_hierarchy}
+use Rattle.model.specs.Resolution.{is_unresolved}
+use Rattle.model.specs.Linkable.{LinkCondition, TooLarge, DuplicateClass, OutsideProfile, MalformedCode, BadHierarchy, Unresolved, TooManyFields, NoMain, too_many_fields, stands, stands_first, some_stands, earlier, before_walk, before_links, all_conditions, AreSpelled}
+use Rattle.reading.specs.declared.fault.Cause.{Cause}
+use Rattle.refusal.specs.declared.why.RefusalKind.{RefusalKind}
+use Rattle.refusal.specs.declared.why.RefusalKind.TheVariants as kinds
+use Rattle.profile.specs.declared.fault.Flaw.{Flaw}
+use Rattle.profile.specs.declared.fault.Flaw.TheVariants as flaws
+use Rattle.profile.specs.Faults.{has_flaw}
+use Rattle.linker.specs.Linking.{IsFaultRefusal, size_condition, IsRefusedWith, MayRefuse, IsUnreadable, IsFirst, RefusesTrees, RefusesFor, WalkRefuses}
+use Rattle.linker.proofs.Lists.{here, later, alone, of_both, not_both, any_at}
+
+-- ---- a condition stands first
+
+pub stands_now : (trees : Program) (condition : LinkCondition) → stands trees condition ≡ true → list_any (stands trees) (earlier condition) ≡ false → stands_first trees condition ≡ true
+stands_now trees condition h none = alone (stands trees condition) (list_any (stands trees) (earlier condition)) h none
+
+-- in the file with a number
+named_at : (p : FileTree → Bool) (trees : Program) (tree : FileTree) (number : ℕ) (file : Option ℕ) → slice_get trees number ≡ Some tree → file ≡ Some number → p tree ≡ true → option_map_or p (option_and_then (slice_get trees) file) false ≡ true
+named_at p trees tree number file at e h = ap (λ o. option_map_or p (option_and_then (slice_get trees) o) false) e ∙ ap (λ o. option_map_or p o false) at ∙ h
+
+pub outside_first : (trees : Program) (tree : FileTree) (number : ℕ) (file : Option ℕ) → list_any (stands trees) before_walk ≡ false → slice_get trees number ≡ Some tree → file ≡ Some number → is_outside_profile tree ≡ true → IsFirst OutsideProfile trees file
+outside_first trees tree number file none at e h = record {
+  first = stands_now trees OutsideProfile (any_at is_outside_profile trees number tree at h) none;
+  named = named_at is_outside_profile trees tree number file at e h;
+}
+
+pub malformed_first : (trees : Program) (tree : FileTree) (number : ℕ) (file : Option ℕ) → list_any (stands trees) before_walk ≡ false → slice_get trees number ≡ Some tree → file ≡ Some number → has_malformed_code trees tree ≡ true → IsFirst MalformedCode trees file
+malformed_first trees tree number file none at e h = record {
+  first = stands_now trees MalformedCode (any_at (has_malformed_code trees) trees number tree at h) none;
+  named = named_at (has_malformed_code trees) trees tree number file at e h;
+}
+
+pub rules_first : (trees : Program) (tree : FileTree) (number : ℕ) (file : Option ℕ) → list_any (stands trees) before_links ≡ false → slice_get trees number ≡ Some tree → file ≡ Some number → has_bad_hierarchy trees tree ≡ true → IsFirst BadHierarchy trees file
+rules_first trees tree number file none at e h = record {
+  first = stands_now trees BadHierarchy (any_at (has_bad_hierarchy trees) trees number tree at h) none;
+  named = named_at (has_bad_hierarchy trees) trees tree number file at e h;
+}
+
+pub names_first : (trees : Program) (tree : FileTree) (number : ℕ) (file : Option ℕ) → list_any (stands trees) (earlier Unresolved) ≡ false → slice_get trees number ≡ Some tree → file ≡ Some number → is_unresolved trees tree ≡ true → IsFirst Unresolved trees file
+names_first trees tree number file none at e h = record {
+  first = stands_now trees Unresolved (any_at (is_unresolved trees) trees number tree at h) none;
+  named = named_at (is_unresolved trees) trees tree number file at e h;
+}
+
+pub fields_first : (trees : Program) (tree : FileTree) (number : ℕ) (file : Option ℕ) → list_any (stands trees) (earlier TooManyFields) ≡ false → slice_get trees number ≡ Some tree → file ≡ Some number → too_many_fields trees tree ≡ true → IsFirst TooManyFields trees file
+fields_first trees tree number file none at e h = record {
+  first = stands_now trees TooManyFields (any_at (too_many_fields trees) trees number tree at h) none;
+  named = named_at (too_many_fields trees) trees tree number file at e h;
+}
+
+-- ---- refusals of trees
+
+pub memory_refused : (trees : Program) (kind : RefusalKind) (file : Option ℕ) (cause : Option Cause) → kind ≡ kinds.OutOfMemory → RefusesTrees trees kind file cause
+memory_refused trees kind file cause e = subst (λ k. RefusesTrees trees k file cause) (sym e) tt
+
+pub walk_refused : (trees : Program) (tree : FileTree) (number : ℕ) (kind : RefusalKind) (file : Option ℕ) (cause : Option Cause) → list_any (stands trees) before_walk ≡ false → slice_get trees number ≡ Some tree
+    → WalkRefuses trees tree number kind file cause → RefusesTrees trees kind file cause
+walk_refused trees tree number kind file cause none at (inl (inl e)) = memory_refused trees kind file cause e
+walk_refused trees tree number kind file cause none at (inl (inr r)) =
+    subst (λ k. RefusesTrees trees k file cause) (sym r.0) (outside_first trees tree number file none at r.1 r.2)
+walk_refused trees tree number kind file cause none at (inr r) =
+    ⊎_elim (λ e. memory_refused trees kind file cause e)
+    (λ s. subst (λ k. RefusesTrees trees k file cause) (sym s.0) (r.0, malformed_first trees tree number file none at s.1 s.2)) r.1
+
+pub rules_refused : (trees : Program) (tree : FileTree) (number : ℕ) (kind : RefusalKind) (file : Option ℕ) (cause : Option Cause) → list_any (stands trees) before_links ≡ false → slice_get trees number ≡ Some tree
+    → RefusesFor kinds.BadHierarchy (has_bad_hierarchy trees tree) number kind file → RefusesTrees trees kind file cause
+rules_refused trees tree number kind file cause none at (inl e) = memory_refused trees kind file cause e
+rules_refused trees tree number kind file cause none at (inr r) = subst (λ k. RefusesTrees trees k file cause) (sym r.0) (rules_first trees tree number file none at r.1 r.2)
+
+pub names_refused : (trees : Program) (tree : FileTree) (number : ℕ) (kind : RefusalKind) (file : Option ℕ) (cause : Option Cause) → list_any (stands trees) (earlier Unresolved) ≡ false → slice_get trees number ≡ Some tree
+    → RefusesFor kinds.Unresolved (is_unresolved trees tree) number kind file → RefusesTrees trees kind file cause
+names_refused trees tree number kind file cause none at (inl e) = memory_refused trees kind file cause e
+names_refused trees tree number kind file cause none at (inr r) = subst (λ k. RefusesTrees trees k file cause) (sym r.0) (names_first trees tree number file none at r.1 r.2)
+
+-- ---- refusals of files
+
+refused_with : (condition : LinkCondition) (files : List (List ℕ)) (trees : Program) (file : Option ℕ) → AreSpelled files trees → IsFirst condition trees file → IsRefusedWith condition files file
+refused_with condition files trees file spelled r = record { trees = trees; refused = record { spelled = spelled; first = r.first }; named = r.named }
+
+pub may_refuse : (files : List (List ℕ)) (trees : Program) (kind : RefusalKind) (file : Option ℕ) (cause : Option Cause) → AreSpelled files trees → RefusesTrees trees kind file cause → MayRefuse files kind file cause
+may_refuse files trees kinds.OutOfMemory file cause s r = tt
+may_refuse files trees kinds.Malformed file cause s r = inr (r.0, refused_with MalformedCode files trees file s r.1)
+may_refuse files trees kinds.OutsideProfile file cause s r = refused_with OutsideProfile files trees file s r
+may_refuse files trees kinds.DuplicateClass file cause s r = refused_with DuplicateClass files trees file s r
+may_refuse files trees kinds.Unresolved file cause s r = refused_with Unresolved files trees file s r
+may_refuse files trees kinds.BadHierarchy file cause s r = refused_with BadHierarchy files trees file s r
+may_refuse files trees kinds.Unverified file cause s r = absurd r
+may_refuse files trees kinds.NoMain file cause s r = refused_with NoMain files trees file s r
+may_refuse files trees kinds.TooLarge file cause s r = refused_with (size_condition file) files trees file s r
+
+pub unread_refused : (files : List (List ℕ)) (kind : RefusalKind) (file : Option ℕ) (cause : Option Cause) → IsUnreadable files kind file → MayRefuse files kind file cause
+unread_refused files kind file cause (inl e) = subst (λ k. MayRefuse files k file cause) (sym e) tt
+unread_refused files kind file cause (inr r) = subst (λ k. MayRefuse files k file cause) (sym r.0) (inl r.1)
+
+-- ---- no condition stands in files that may be linked
+
+among_all : (s : LinkCondition → Bool) (condition : LinkCondition) → s condition ≡ true → list_any s all_conditions ≡ true
+among_all s NoMain h = here (s NoMain) _ h
+among_all s TooManyFields h = later (s NoMain) _ (here (s TooManyFields) _ h)
+among_all s Unresolved h = later (s NoMain) _ (later (s TooManyFields) _ (here (s Unresolved) _ h))
+among_all s BadHierarchy h = later (s NoMain) _ (later (s TooManyFields) _ (later (s Unresolved) _ (here (s BadHierarchy) _ h)))
+among_all s OutsideProfile h = later (s NoMain) _ (later (s TooManyFields) _ (later (s Unresolved) _ (later (s BadHierarchy) _ (here (s OutsideProfile) _ h))))
+among_all s MalformedCode h = later (s NoMain) _ (later (s TooManyFields) _ (later (s Unresolved) _ (later (s BadHierarchy) _ (later (s OutsideProfile) _ (here (s MalformedCode) _ h)))))
+among_all s TooLarge h = later (s NoMain) _ (later (s TooManyFields) _ (later (s Unresolved) _ (later (s BadHierarchy) _ (later (s OutsideProfile) _ (later (s MalformedCode) _ (here (s TooLarge) _ h))))))
+among_all s DuplicateClass h =
+    later (s NoMain) _ (later (s TooManyFields) _ (later (s Unresolved) _ (later (s BadHierarchy) _ (later (s OutsideProfile) _ (later (s MalformedCode) _ (later (s TooLarge) _ (here (s DuplicateClass) _ h)))))))
+
+contradicts : {G : Type 0} (trees : Program) (condition : LinkCondition) (file : Option ℕ) → some_stands trees ≡ false → IsFirst condition trees file → G
+contradicts trees condition file none r =
+    not_both (some_stands trees) (among_all (stands trees) condition (of_both (stands trees condition) (not (list_any (stands trees) (earlier condition))) r.first)) none
+
+pub refused_memory : (trees : Program) (kind : RefusalKind) (file : Option ℕ) (cause : Option Cause) → some_stands trees ≡ false → RefusesTrees trees kind file cause → kind ≡ kinds.OutOfMemory
+refused_memory trees kinds.OutOfMemory file cause none r = refl
+refused_memory trees kinds.Malformed file cause none r = contradicts trees MalformedCode file none r.1
+refused_memory trees kinds.OutsideProfile file cause none r = contradicts trees OutsideProfile file none r
+refused_memory trees kinds.DuplicateClass file cause none r = contradicts trees DuplicateClass file none r
+refused_memory trees kinds.Unresolved file cause none r = contradicts trees Unresolved file none r
+refused_memory trees kinds.BadHierarchy file cause none r = contradicts trees BadHierarchy file none r
+refused_memory trees kinds.Unverified file cause none r = absurd r
+refused_memory trees kinds.NoMain file cause none r = contradicts trees NoMain file none r
+refused_memory trees kinds.TooLarge file cause none r = contradicts trees (size_condition file) file none r
+
+-- TooLarge of a file is that of its class's fields
+pub fields_refused : (trees : Program) (tree : FileTree) (number : ℕ) (kind : RefusalKind) (file : Option ℕ) (cause : Option Cause) → list_any (stands trees) (earlier TooManyFields) ≡ false → slice_get trees number ≡ Some tree
+    → kind ≡ kinds.TooLarge → file ≡ Some number → too_many_fields trees tree ≡ true → RefusesTrees trees kind file cause
+fields_refused trees tree number kind file cause none at is named h =
+    subst (λ k. RefusesTrees trees k file cause) (sym is)
+    (subst (λ f. RefusesTrees trees kinds.TooLarge f cause) (sym named) (fields_first trees tree number (Some number) none at refl h))
+
+-- a class that is above itself
+pub cycle_refused : (trees : Program) (number : ℕ) (kind : RefusalKind) (file : Option ℕ) (cause : Option Cause) → list_any (stands trees) before_links ≡ false → option_map_or (in_cycle trees) (slice_get trees number) false ≡ true
+    → kind ≡ kinds.BadHierarchy → file ≡ Some number → RefusesTrees trees kind file cause
+cycle_refused trees number kind file cause none h is named = by (slice_get trees number) refl h
+  where
+    by : (o : Option FileTree) → slice_get trees number ≡ o → option_map_or (in_cycle trees) o false ≡ true → RefusesTrees trees kind file cause
+    by None at h = absurd cc
+    by (Some tree) at h = subst (λ k. RefusesTrees trees k file cause) (sym is) (rules_first trees tree number file none at named (here (in_cycle trees tree) _ h))
+
+-- a fault that is found
+pub fault_refused : (trees : Program) (tree : FileTree) (number : ℕ) (flaw : Flaw) (kind : RefusalKind) (file : Option ℕ) (cause : Option Cause) → has_flaw trees tree flaw ≡ true → IsFaultRefusal flaw number kind file cause → WalkRefuses trees tree number kind file cause
+fault_refused trees tree number flaws.OutsideProfile kind file cause h r = inl (inr (r.0, r.1, h))
+fault_refused trees tree number flaws.MalformedCode kind file cause h r = inr (r.2, inr (r.0, r.1, h))

@@ -1,0 +1,6 @@
+use Rattle.std.proofs.Common.{arith}
+use Rattle.linker.proofs.Lists.{class_count}
+use Rattle.linker.proofs.place.file_count.Goals as goal
+
+pub returns-clause-count : goal.returns-clause-count
+returns-clause-count c = omega (arith, c.count.ensures, class_count c.args.set.now)

@@ -1,0 +1,16 @@
+use Rattle.std.proofs.Common.{◌∙◌, sym}
+use Rattle.model.specs.Linkable.{too_many_fields}
+use Rattle.linker.proofs.Lists.{neither, position_passes, position_none}
+use Rattle.linker.proofs.Stages.{fields_refused}
+use Rattle.linker.proofs.set.check_fields.Goals as goal
+
+pub returns-in-Some-clause-refused : goal.returns-in-Some-clause-refused
+returns-in-Some-clause-refused c =
+    let trees = c.args.set.now in
+    let found = position_passes (too_many_fields trees) trees c.in-Some.number (sym c.in_ok-number.ensures ∙ c.in-Some.is) in
+    fields_refused trees found.0 c.in-Some.number c.of_file.result.kind c.of_file.result.file c.of_file.result.cause c.requires found.1 c.of_file.ensures.kind c.of_file.ensures.file found.2
+
+pub returns-in-None-clause-passed : goal.returns-in-None-clause-passed
+returns-in-None-clause-passed c =
+    let trees = c.args.set.now in
+    neither _ _ (position_none (too_many_fields trees) trees (sym c.in_ok-number.ensures ∙ c.in-None.is)) c.requires

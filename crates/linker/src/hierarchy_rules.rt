@@ -1,0 +1,99 @@
+//! What is above each class, and what classes have to be to one another.
+
+ghost use Rattle.std.specs.Prelude.{◌≡◌, false, true, slice_get, MatchOption, IfOk, IfErr, IsFalse, OnOk};
+ghost use Rattle.std.specs.Option.{option_map_or};
+ghost use Rattle.std.specs.List.{list_any};
+ghost use Rattle.model.specs.Hierarchy.{in_cycle, has_bad_hierarchy};
+ghost use Rattle.model.specs.Linkable.{stands, before_links, earlier, DuplicateClass, Unresolved};
+ghost use Rattle.classfile.specs.View.{file_of};
+ghost use Rattle.linker.specs.Linking.{RefusesTrees, RefusesFor};
+
+use crate::place::{class_name, file_at, file_count, method_text};
+use class_rules::{RulePlace, first_broken_rule};
+use classfile::ClassFile;
+use hierarchy::{ClassSet, Hierarchy};
+use refusal::{Refusal, RefusalKind};
+use std::alloc::{AllocError, Global};
+
+/// The number of the first file whose class is above itself.
+fn first_in_cycle(hierarchy: &Hierarchy) -> Option<usize>
+    ensures { MatchOption result (list_any (in_cycle hierarchy.now) hierarchy.now ≡ false) (λ k. option_map_or (in_cycle hierarchy.now) (slice_get hierarchy.now k) false ≡ true) }
+{
+    let set = hierarchy.set();
+    for number in 0..file_count(set) {
+        let Some(file) = file_at(set, number) else {
+            return None;
+        };
+        if hierarchy.is_above_itself(class_name(file)) {
+            return Some(number);
+        }
+    }
+    None
+}
+
+/// A refusal of a broken rule of a file.
+fn refusal_of(
+    alloc: Global,
+    number: usize,
+    file: &ClassFile,
+    place: RulePlace,
+) -> Result<Refusal, AllocError>
+    ensures kind { IfOk result (λ r. r.kind ≡ RefusalKind.BadHierarchy) }
+    ensures file { IfOk result (λ r. r.file ≡ Some number) }
+{
+    match place {
+        RulePlace::Class => Ok(Refusal::of_file(RefusalKind::BadHierarchy, number)),
+        RulePlace::Method { method } | RulePlace::Exception { method, .. } => {
+            Ok(Refusal::of_method(
+                RefusalKind::BadHierarchy,
+                number,
+                method_text(alloc, file, method)?,
+                None,
+            ))
+        }
+    }
+}
+
+/// That the class of the file with this number breaks no rule.
+fn check_file(alloc: Global, set: &ClassSet, number: usize, file: &ClassFile) -> Result<(), Refusal>
+    requires differ { IsFalse (stands set.now DuplicateClass) }
+    requires acyclic { in_cycle set.now (file_of file.now) ≡ false }
+    ensures passed { OnOk result (has_bad_hierarchy set.now (file_of file.now) ≡ false) }
+    ensures refused { IfErr result (λ r. RefusesFor RefusalKind.BadHierarchy (has_bad_hierarchy set.now (file_of file.now)) number r.kind r.file) }
+{
+    match first_broken_rule(set, file) {
+        Some(place) => Err(refusal_of(alloc, number, file, place)?),
+        None => Ok(()),
+    }
+}
+
+/// That no class breaks a rule, where none is above itself.
+fn check_rules(alloc: Global, set: &ClassSet) -> Result<(), Refusal>
+    requires passed { list_any (stands set.now) before_links ≡ false }
+    requires acyclic { list_any (in_cycle set.now) set.now ≡ false }
+    ensures passed { OnOk result (list_any (stands set.now) (earlier Unresolved) ≡ false) }
+    ensures refused { IfErr result (λ r. RefusesTrees set.now r.kind r.file r.cause) }
+{
+    for number in 0..file_count(set) {
+        let Some(file) = file_at(set, number) else {
+            return Ok(());
+        };
+        check_file(alloc, set, number, file)?;
+    }
+    Ok(())
+}
+
+/// A set with what is above each of its classes, where they are to one another as they have to be: BadHierarchy.
+pub(crate) fn hierarchy_of(alloc: Global, set: ClassSet) -> Result<Hierarchy, Refusal>
+    requires { list_any (stands set) before_links ≡ false }
+    ensures set { IfOk result (λ hierarchy. hierarchy ≡ set) }
+    ensures passed { OnOk result (list_any (stands set) (earlier Unresolved) ≡ false) }
+    ensures refused { IfErr result (λ r. RefusesTrees set r.kind r.file r.cause) }
+{
+    let hierarchy = Hierarchy::new(alloc, set)?;
+    if let Some(number) = first_in_cycle(&hierarchy) {
+        return Err(Refusal::of_file(RefusalKind::BadHierarchy, number));
+    }
+    check_rules(alloc, hierarchy.set())?;
+    Ok(hierarchy)
+}

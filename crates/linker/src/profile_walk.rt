@@ -1,0 +1,93 @@
+//! The walk over the files that finds what is outside of the profile, and malformed code.
+
+ghost use Rattle.std.specs.Prelude.{◌≡◌, false, IfOk, IfErr, OnOk};
+ghost use Rattle.std.specs.List.{list_any};
+ghost use Rattle.model.specs.Profile.{is_outside_profile};
+ghost use Rattle.model.specs.CodeConditions.{has_malformed_code};
+ghost use Rattle.model.specs.Linkable.{stands, before_walk, before_links};
+ghost use Rattle.classfile.specs.View.{file_of};
+ghost use Rattle.linker.specs.Linking.{RefusesTrees, WalkRefuses, IsFaultRefusal};
+
+use crate::aside::class_aside;
+use crate::place::{file_at, file_count, method_text};
+use classfile::ClassFile;
+use hierarchy::ClassSet;
+use profile::{Fault, Flaw, Place, Spot, first_fault};
+use reading::Cause;
+use refusal::{Refusal, RefusalKind};
+use std::alloc::{AllocError, Global};
+
+/// The offset in the code of a method, where the place is an instruction.
+fn code_offset(spot: Spot) -> Option<usize> {
+    match spot {
+        Spot::Instruction { pc } => Some(pc),
+        _ => None,
+    }
+}
+
+/// A refusal of what is outside of the profile at a place of a file.
+fn outside_profile(
+    alloc: Global,
+    number: usize,
+    file: &ClassFile,
+    place: Place,
+) -> Result<Refusal, AllocError>
+    ensures kind { IfOk result (λ r. r.kind ≡ RefusalKind.OutsideProfile) }
+    ensures file { IfOk result (λ r. r.file ≡ Some number) }
+{
+    match place {
+        Place::Field { .. } => Ok(Refusal::of_file(RefusalKind::OutsideProfile, number)),
+        Place::Method { method, spot } => Ok(Refusal::of_method(
+            RefusalKind::OutsideProfile,
+            number,
+            method_text(alloc, file, method)?,
+            code_offset(spot),
+        )),
+    }
+}
+
+/// A refusal of a fault of a file.
+fn refusal_of(
+    alloc: Global,
+    number: usize,
+    file: &ClassFile,
+    fault: Fault,
+) -> Result<Refusal, AllocError>
+    ensures { IfOk result (λ r. IsFaultRefusal fault.flaw number r.kind r.file r.cause) }
+{
+    match fault.flaw {
+        Flaw::OutsideProfile => outside_profile(alloc, number, file, fault.place),
+        Flaw::MalformedCode => {
+            let offset = fault.place.code_offset(file);
+            Ok(Refusal::malformed(number, offset, Cause::Code))
+        }
+    }
+}
+
+/// That the file with this number is in the profile, and that no code of it is malformed.
+fn check_file(alloc: Global, set: &ClassSet, number: usize, file: &ClassFile) -> Result<(), Refusal>
+    ensures inside { OnOk result (is_outside_profile (file_of file.now) ≡ false) }
+    ensures whole { OnOk result (has_malformed_code set.now (file_of file.now) ≡ false) }
+    ensures refused { IfErr result (λ r. WalkRefuses set.now (file_of file.now) number r.kind r.file r.cause) }
+{
+    let aside = class_aside(alloc, set, file)?;
+    match first_fault(alloc, file, &aside)? {
+        Some(fault) => Err(refusal_of(alloc, number, file, fault)?),
+        None => Ok(()),
+    }
+}
+
+/// That each file is in the profile, and that no code is malformed: OutsideProfile, Malformed with the cause Code.
+pub(crate) fn check_profile(alloc: Global, set: &ClassSet) -> Result<(), Refusal>
+    requires { list_any (stands set.now) before_walk ≡ false }
+    ensures passed { OnOk result (list_any (stands set.now) before_links ≡ false) }
+    ensures refused { IfErr result (λ r. RefusesTrees set.now r.kind r.file r.cause) }
+{
+    for number in 0..file_count(set) {
+        let Some(file) = file_at(set, number) else {
+            return Ok(());
+        };
+        check_file(alloc, set, number, file)?;
+    }
+    Ok(())
+}

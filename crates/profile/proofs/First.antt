@@ -1,0 +1,285 @@
+-- The first fault.
+use Rattle.std.proofs.Common.{◌≡◌, ℕ, zero, suc, ◌<◌, List, [], ◌∷◌, length, map, get_or, take, Option, Some, None, Bool, true, false, not, ◌&&◌, ◌||◌, refl, sym, ap, subst, ◌∙◌, arith}
+use Rattle.std.specs.Prelude.{Result, Ok, Err, IfOk, nat_lt, ◌==◌, is_some, option_map}
+use Rattle.std.specs.List.{list_any, slice_get}
+use Rattle.std.specs.Option.{option_map_or}
+use Rattle.std.proofs.lemmas.Bool.{ltb-true, eqb-true}
+use Rattle.std.proofs.lemmas.List.{take-map}
+use Rattle.std.proofs.lemmas.Option.{slice_get-map, slice_get_read}
+use Rattle.model.specs.declared.class_file.ExceptionEntry.{ExceptionEntry}
+use Rattle.model.specs.declared.instr.Instr.{Instr}
+use Rattle.model.specs.Tree.{Entry, FieldTree, MethodTree, CodeTree, FileTree}
+use Rattle.model.specs.Instruction.{Sized, sized_at, instr_at}
+use Rattle.model.specs.InstructionStarts.{starts, is_start}
+use Rattle.model.specs.Classes.{code_in}
+use Rattle.model.specs.CodeParts.{boundaries}
+use Rattle.model.specs.Profile.{is_known_opcode, field_outside_profile, method_outside_profile, instruction_outside_profile}
+use Rattle.model.specs.CodeConditions.{too_few_locals, malformed_offset, malformed_exception}
+use Rattle.profile.specs.declared.fault.Flaw.{Flaw}
+use Rattle.profile.specs.declared.fault.Flaw.TheVariants.{OutsideProfile, MalformedCode}
+use Rattle.profile.specs.declared.fault.ExceptionField.{ExceptionField}
+use Rattle.profile.specs.declared.fault.ExceptionField.TheVariants.{StartPc, EndPc, HandlerPc}
+use Rattle.profile.specs.declared.fault.Spot.{Spot}
+use Rattle.profile.specs.declared.fault.Spot.TheVariants.{Declaration, MaxLocals, Instruction, Exception}
+use Rattle.profile.specs.declared.fault.Place.{Place}
+use Rattle.profile.specs.declared.fault.Place.TheVariants as places
+use Rattle.profile.specs.declared.fault.MethodFault.{MethodFault}
+use Rattle.profile.specs.Faults.{malformed_instruction_by, malformed_code_by, instruction_outside_at, instruction_malformed_at, malformed_method_by, code_outside_profile, whole_method_outside_profile, outside_at, malformed_at, exception_stands, is_first_field, code_stands, declaration_stands, method_stands, field_stands, place_stands, field_before, spot_before, place_before, IsFirstBy, IsFirstInMethod, FindsInMethod, IsFirstInCode, FindsInCode, Says, NothingAt, FindsAmong, FindsEntry}
+use Rattle.profile.proofs.Walks.{or_left, or_right, and_left, and_right, neither_left, neither_right, either, some_exception, method_is_outside, method_is_malformed}
+use Rattle.profile.proofs.Marks.{list_any-map, none_of_marks}
+use Rattle.profile.proofs.Sized.{known_there, formed_there}
+
+-- ---- truth
+
+not_so : (a b : Bool) → (a ≡ true → b ≡ true) → b ≡ false → a ≡ false
+not_so true b h e = sym (h refl) ∙ e
+not_so false b h e = refl
+
+guarded : (a b : Bool) → (a ≡ true → b ≡ false) → (a && b) ≡ false
+guarded true b h = h refl
+guarded false b h = refl
+
+neither : (a b : Bool) → a ≡ false → b ≡ false → (a || b) ≡ false
+neither true b h k = h
+neither false b h k = k
+
+denied : (a b : Bool) → (not a && b) ≡ true → a ≡ false
+denied true b h = absurd cc
+denied false b h = refl
+
+-- ---- elements of lists
+
+module _ {A : Type 0} (p : A → Bool) where
+  none_at : (xs : List A) (k : ℕ) → list_any p xs ≡ false → option_map_or p (slice_get xs k) false ≡ false
+  none_at [] k h = refl
+  none_at (x ∷ xs) zero h = neither_left (p x) _ h
+  none_at (x ∷ xs) (suc k) h = none_at xs k (neither_right (p x) _ h)
+
+  none_of_first : (xs : List A) (n k : ℕ) → k < n → list_any p (take n xs) ≡ false → option_map_or p (slice_get xs k) false ≡ false
+  none_of_first [] n k lt h = refl
+  none_of_first (x ∷ xs) zero k lt h = absurd (omega arith)
+  none_of_first (x ∷ xs) (suc n) zero lt h = neither_left (p x) _ h
+  none_of_first (x ∷ xs) (suc n) (suc k) lt h = none_of_first xs n k (omega arith) (neither_right (p x) _ h)
+
+-- the first ones, seen as other values
+pub none_taken : {V A : Type 0} (p : A → Bool) (f : V → A) (vs : List V) (n : ℕ) → list_any (λ v. p (f v)) (take n vs) ≡ false → list_any p (take n (map f vs)) ≡ false
+none_taken p f vs n h = ap (list_any p) (take-map f n vs) ∙ list_any-map p f (take n vs) ∙ h
+
+-- an element that a loop reads, seen as another value
+pub read_at : {V A : Type 0} (f : V → A) (vs : List V) (k : ℕ) (v : V) → k < length vs → v ≡ get_or vs k v → slice_get (map f vs) k ≡ Some (f v)
+read_at f vs k v below is = rw (slice_get-map f vs k, slice_get_read vs (length vs) k v refl below is) refl
+
+-- ---- instructions
+
+pub no_instr : (o : Option Sized) → option_map (λ (s : Sized). s.0) o ≡ None → is_some o ≡ false
+no_instr None h = refl
+no_instr (Some s) h = absurd cc
+
+some_instr : (o : Option Sized) (i : Instr) → option_map (λ (s : Sized). s.0) o ≡ Some i → is_some o ≡ true
+some_instr None i h = absurd cc
+some_instr (Some s) i h = refl
+
+-- where a whole instruction is, only the instruction counts
+pub of_instr : (aside : ℕ → Bool) (pool : List Entry) (c : CodeTree) (pc : ℕ) (i : Instr) → pc < length c.code → instr_at c.code pc ≡ Some i → (a b : Bool) → instruction_outside_profile pool i ≡ a → malformed_instruction_by aside pool c pc i ≡ b
+    → (outside_at pool c pc ≡ a) × (malformed_at aside pool c pc ≡ b)
+of_instr aside pool c pc i here is a b outside malformed =
+    let whole : is_some (sized_at c.code pc) ≡ true = some_instr (sized_at c.code pc) i is in (
+      ap (λ (x : Bool). x || instruction_outside_at pool c pc) (known_there c.code pc here whole) ∙ ap (λ (o : Option Instr). option_map_or (instruction_outside_profile pool) o false) is ∙ outside,
+      ap (λ (x : Bool). x || instruction_malformed_at aside pool c pc) (formed_there c.code pc here whole) ∙ ap (λ (o : Option Instr). option_map_or (malformed_instruction_by aside pool c pc) o false) is ∙ malformed,
+    )
+
+-- a mark is within the marks
+pub mark_within : (marks : List Bool) (k : ℕ) → get_or marks k false ≡ true → k < length marks
+mark_within [] k h = absurd cc
+mark_within (m ∷ marks) zero h = omega arith
+mark_within (m ∷ marks) (suc k) h = let rest = mark_within marks k h in omega (arith, rest)
+
+-- what is so of each start is so of each boundary
+none_of_boundaries : (p : ℕ → Bool) (code : List ℕ) → ((k : ℕ) → is_start code k ≡ true → p k ≡ false) → list_any p (boundaries code) ≡ false
+none_of_boundaries p code h = none_of_marks p code (starts code) refl (λ k below m. h k m)
+
+-- ---- exception entries
+
+first_stands : (c : CodeTree) (field : ExceptionField) (e : ExceptionEntry) → is_first_field c field e ≡ true → exception_stands c field e ≡ true
+first_stands c StartPc e h = h
+first_stands c EndPc e h = and_right (not (exception_stands c StartPc e)) _ h
+first_stands c HandlerPc e h = and_right (not (exception_stands c EndPc e)) _ (and_right (not (exception_stands c StartPc e)) _ h)
+
+none_earlier : (c : CodeTree) (other field : ExceptionField) (e : ExceptionEntry) → field_before other field ≡ true → is_first_field c field e ≡ true → exception_stands c other e ≡ false
+none_earlier c StartPc StartPc e lt h = absurd cc
+none_earlier c StartPc EndPc e lt h = denied (exception_stands c StartPc e) _ h
+none_earlier c StartPc HandlerPc e lt h = denied (exception_stands c StartPc e) _ h
+none_earlier c EndPc StartPc e lt h = absurd cc
+none_earlier c EndPc EndPc e lt h = absurd cc
+none_earlier c EndPc HandlerPc e lt h = denied (exception_stands c EndPc e) _ (and_right (not (exception_stands c StartPc e)) _ h)
+none_earlier c HandlerPc StartPc e lt h = absurd cc
+none_earlier c HandlerPc EndPc e lt h = absurd cc
+none_earlier c HandlerPc HandlerPc e lt h = absurd cc
+
+entry_stands : (c : CodeTree) (field : ExceptionField) (o : Option ExceptionEntry) → option_map_or (is_first_field c field) o false ≡ true → option_map_or (exception_stands c field) o false ≡ true
+entry_stands c field None h = absurd cc
+entry_stands c field (Some e) h = first_stands c field e h
+
+no_earlier_field : (c : CodeTree) (other field : ExceptionField) (o : Option ExceptionEntry) → field_before other field ≡ true → option_map_or (is_first_field c field) o false ≡ true → option_map_or (exception_stands c other) o false ≡ false
+no_earlier_field c other field None lt h = absurd cc
+no_earlier_field c other field (Some e) lt h = none_earlier c other field e lt h
+
+-- ---- a code
+
+module _ (aside : ℕ → Bool) (file : FileTree) (m : MethodTree) where
+  no_declaration : (c : CodeTree) (flaw : Flaw) → code_stands aside file m flaw Declaration c ≡ false
+  no_declaration c OutsideProfile = refl
+  no_declaration c MalformedCode = refl
+
+  no_locals : (c : CodeTree) (flaw : Flaw) → too_few_locals file m c ≡ false → code_stands aside file m flaw MaxLocals c ≡ false
+  no_locals c OutsideProfile h = refl
+  no_locals c MalformedCode h = h
+
+  no_instruction : (c : CodeTree) (pc : ℕ) (flaw : Flaw) → NothingAt c.code (outside_at file.pool c) (malformed_at aside file.pool c) pc → code_stands aside file m flaw (Instruction pc) c ≡ false
+  no_instruction c pc OutsideProfile h = guarded (is_start c.code pc) _ (λ s. (h s).0)
+  no_instruction c pc MalformedCode h = guarded (is_start c.code pc) _ (λ s. (h s).1)
+
+  no_exception : (c : CodeTree) (entry : ℕ) (field : ExceptionField) (flaw : Flaw) → option_map_or (malformed_exception c) (slice_get c.exceptions entry) false ≡ false → code_stands aside file m flaw (Exception entry field) c ≡ false
+  no_exception c entry field OutsideProfile h = refl
+  no_exception c entry field MalformedCode h = not_so _ _ (some_exception aside file m c field (slice_get c.exceptions entry)) h
+
+  no_field_of : (c : CodeTree) (entry : ℕ) (other field : ExceptionField) (flaw : Flaw) → field_before other field ≡ true → option_map_or (is_first_field c field) (slice_get c.exceptions entry) false ≡ true → code_stands aside file m flaw (Exception entry other) c ≡ false
+  no_field_of c entry other field OutsideProfile lt h = refl
+  no_field_of c entry other field MalformedCode lt h = no_earlier_field c other field (slice_get c.exceptions entry) lt h
+
+  pub locals_first : (c : CodeTree) → too_few_locals file m c ≡ true → IsFirstInCode aside file m c (record { flaw = MalformedCode; spot = MaxLocals })
+  locals_first c few = record { stands = few; none_before = before; outside_told = λ e. refl }
+    where
+      before : (flaw : Flaw) (spot : Spot) → spot_before spot MaxLocals ≡ true → code_stands aside file m flaw spot c ≡ false
+      before flaw Declaration e = no_declaration c flaw
+      before flaw MaxLocals e = absurd cc
+      before flaw (Instruction pc) e = absurd cc
+      before flaw (Exception entry field) e = absurd cc
+
+  pub instruction_first : (c : CodeTree) (pc : ℕ) (flaw : Flaw) → too_few_locals file m c ≡ false → FindsAmong c.code (outside_at file.pool c) (malformed_at aside file.pool c) (Some (pc, flaw))
+      → IsFirstInCode aside file m c (record { flaw = flaw; spot = Instruction pc })
+  instruction_first c pc flaw enough found = record { stands = so flaw found.1; none_before = before; outside_told = told flaw found.1 }
+    where
+      so : (flaw : Flaw) → Says (Some flaw) (outside_at file.pool c pc) (malformed_at aside file.pool c pc) → code_stands aside file m flaw (Instruction pc) c ≡ true
+      so OutsideProfile h = rw found.0 h
+      so MalformedCode h = rw found.0 h.1
+
+      told : (flaw : Flaw) → Says (Some flaw) (outside_at file.pool c pc) (malformed_at aside file.pool c pc) → flaw ≡ MalformedCode → code_stands aside file m OutsideProfile (Instruction pc) c ≡ false
+      told OutsideProfile h e = absurd cc
+      told MalformedCode h e = guarded (is_start c.code pc) _ (λ s. h.0)
+
+      before : (flaw : Flaw) (spot : Spot) → spot_before spot (Instruction pc) ≡ true → code_stands aside file m flaw spot c ≡ false
+      before flaw Declaration e = no_declaration c flaw
+      before flaw MaxLocals e = no_locals c flaw enough
+      before flaw (Instruction j) e = no_instruction c j flaw (found.2 j (ltb-true _ _ e))
+      before flaw (Exception entry field) e = absurd cc
+
+  pub exception_first : (c : CodeTree) (entry : ℕ) (field : ExceptionField) → too_few_locals file m c ≡ false → FindsAmong c.code (outside_at file.pool c) (malformed_at aside file.pool c) None → FindsEntry c (Some (entry, field))
+      → IsFirstInCode aside file m c (record { flaw = MalformedCode; spot = Exception entry field })
+  exception_first c entry field enough instructions found =
+      record { stands = entry_stands c field (slice_get c.exceptions entry) found.1; none_before = before; outside_told = λ e. refl }
+    where
+      before : (flaw : Flaw) (spot : Spot) → spot_before spot (Exception entry field) ≡ true → code_stands aside file m flaw spot c ≡ false
+      before flaw Declaration e = no_declaration c flaw
+      before flaw MaxLocals e = no_locals c flaw enough
+      before flaw (Instruction j) e = no_instruction c j flaw (instructions j)
+      before flaw (Exception j other) e =
+          either (nat_lt j entry) (j == entry && field_before other field) e
+          (λ lt. no_exception c j other flaw (none_of_first (malformed_exception c) c.exceptions entry j (ltb-true _ _ lt) found.0))
+          (λ later.
+          let same : j ≡ entry = eqb-true _ _ (and_left (j == entry) _ later) in
+          subst (λ (n : ℕ). code_stands aside file m flaw (Exception n other) c ≡ false) (sym same)
+          (no_field_of c entry other field flaw (and_right (j == entry) _ later) found.1))
+
+  pub code_none : (c : CodeTree) → too_few_locals file m c ≡ false → FindsAmong c.code (outside_at file.pool c) (malformed_at aside file.pool c) None → FindsEntry c None → FindsInCode aside file m c None
+  code_none c enough found exceptions = (
+    neither _ _ (none_of_boundaries (λ pc. not (is_known_opcode c.code pc)) c.code (λ k s. neither_left _ _ (found k s).0))
+        (none_of_boundaries (instruction_outside_at file.pool c) c.code (λ k s. neither_right _ _ (found k s).0)),
+    neither _ _ enough
+        (neither _ _ (none_of_boundaries (malformed_offset c) c.code (λ k s. neither_left _ _ (found k s).1))
+        (neither _ _ (none_of_boundaries (instruction_malformed_at aside file.pool c) c.code (λ k s. neither_right _ _ (found k s).1)) exceptions)),
+  )
+
+-- ---- a method
+
+module _ (aside : ℕ → Bool) (file : FileTree) (m : MethodTree) where
+  no_declared : (flaw : Flaw) (spot : Spot) → method_outside_profile file m ≡ false → declaration_stands file flaw spot m ≡ false
+  no_declared OutsideProfile Declaration h = h
+  no_declared OutsideProfile MaxLocals h = refl
+  no_declared OutsideProfile (Instruction pc) h = refl
+  no_declared OutsideProfile (Exception entry field) h = refl
+  no_declared MalformedCode spot h = refl
+
+  pub declaration_first : method_outside_profile file m ≡ true → IsFirstInMethod aside file m (record { flaw = OutsideProfile; spot = Declaration })
+  declaration_first h = record { stands = or_left _ _ h; none_before = before; outside_told = λ e. absurd cc }
+    where
+      before : (flaw : Flaw) (spot : Spot) → spot_before spot Declaration ≡ true → method_stands aside file flaw spot m ≡ false
+      before flaw Declaration e = absurd cc
+      before flaw MaxLocals e = absurd cc
+      before flaw (Instruction pc) e = absurd cc
+      before flaw (Exception entry field) e = absurd cc
+
+  of_code : (c : CodeTree) (f : MethodFault) → code_in m.parts ≡ Some c → method_outside_profile file m ≡ false → IsFirstInCode aside file m c f → IsFirstInMethod aside file m f
+  of_code c f is declared h = record {
+    stands = or_right (declaration_stands file f.flaw f.spot m) _ (there true f.flaw f.spot h.stands);
+    none_before = λ flaw spot e. neither _ _ (no_declared flaw spot declared) (there false flaw spot (h.none_before flaw spot e));
+    outside_told = λ e. neither _ _ (no_declared OutsideProfile f.spot declared) (there false OutsideProfile f.spot (h.outside_told e));
+  }
+    where
+      there : (b : Bool) (flaw : Flaw) (spot : Spot) → code_stands aside file m flaw spot c ≡ b → option_map_or (code_stands aside file m flaw spot) (code_in m.parts) false ≡ b
+      there b flaw spot e = subst (λ (o : Option CodeTree). option_map_or (code_stands aside file m flaw spot) o false ≡ b) (sym is) e
+
+  pub in_code : {E : Type 0} (c : CodeTree) → code_in m.parts ≡ Some c → method_outside_profile file m ≡ false → (r : Result (Option MethodFault) E) → IfOk r (FindsInCode aside file m c) → IfOk r (FindsInMethod aside file m)
+  in_code c is declared (Ok None) h = (
+    neither _ _ declared (subst (λ (o : Option CodeTree). option_map_or (code_outside_profile file) o false ≡ false) (sym is) h.0),
+    subst (λ (o : Option CodeTree). option_map_or (malformed_code_by aside file m) o false ≡ false) (sym is) h.1,
+  )
+  in_code c is declared (Ok (Some f)) h = of_code c f is declared h
+  in_code c is declared (Err e) h = tt
+
+-- ---- a class file
+
+module _ (aside : ℕ → Bool) (file : FileTree) where
+  no_field : (flaw : Flaw) (o : Option FieldTree) → option_map_or (field_outside_profile file) o false ≡ false → option_map_or (field_stands file flaw) o false ≡ false
+  no_field flaw None h = refl
+  no_field OutsideProfile (Some f) h = h
+  no_field MalformedCode (Some f) h = refl
+
+  no_method : (flaw : Flaw) (spot : Spot) (o : Option MethodTree) → option_map_or (whole_method_outside_profile file) o false ≡ false → option_map_or (malformed_method_by aside file) o false ≡ false → option_map_or (method_stands aside file flaw spot) o false ≡ false
+  no_method flaw spot None outside malformed = refl
+  no_method OutsideProfile spot (Some m) outside malformed = not_so _ _ (method_is_outside aside file m spot) outside
+  no_method MalformedCode spot (Some m) outside malformed = not_so _ _ (method_is_malformed aside file m spot) malformed
+
+  pub field_first : (k : ℕ) → list_any (field_outside_profile file) (take k file.fields) ≡ false → option_map_or (field_outside_profile file) (slice_get file.fields k) false ≡ true
+      → IsFirstBy aside file (record { flaw = OutsideProfile; place = places.Field k })
+  field_first k none here = record { stands = here; none_before = before; outside_told = λ e. absurd cc }
+    where
+      before : (flaw : Flaw) (place : Place) → place_before place (places.Field k) ≡ true → place_stands aside file flaw place ≡ false
+      before flaw (places.Field j) e = no_field flaw (slice_get file.fields j) (none_of_first (field_outside_profile file) file.fields k j (ltb-true _ _ e) none)
+      before flaw (places.Method j other) e = absurd cc
+
+  pub method_first : (k : ℕ) (m : MethodTree) (f : MethodFault) → slice_get file.methods k ≡ Some m
+      → list_any (whole_method_outside_profile file) (take k file.methods) ≡ false → list_any (malformed_method_by aside file) (take k file.methods) ≡ false
+      → IsFirstInMethod aside file m f → list_any (field_outside_profile file) file.fields ≡ false
+      → IsFirstBy aside file (record { flaw = f.flaw; place = places.Method k f.spot })
+  method_first k m f is outside malformed h fields = record {
+    stands = there true f.flaw f.spot h.stands;
+    none_before = before;
+    outside_told = λ e. there false OutsideProfile f.spot (h.outside_told e);
+  }
+    where
+      there : (b : Bool) (flaw : Flaw) (spot : Spot) → method_stands aside file flaw spot m ≡ b → option_map_or (method_stands aside file flaw spot) (slice_get file.methods k) false ≡ b
+      there b flaw spot e = subst (λ (o : Option MethodTree). option_map_or (method_stands aside file flaw spot) o false ≡ b) (sym is) e
+
+      before : (flaw : Flaw) (place : Place) → place_before place (places.Method k f.spot) ≡ true → place_stands aside file flaw place ≡ false
+      before flaw (places.Field j) e = no_field flaw (slice_get file.fields j) (none_at (field_outside_profile file) file.fields j fields)
+      before flaw (places.Method j other) e =
+          either (nat_lt j k) (j == k && spot_before other f.spot) e
+          (λ lt.
+          no_method flaw other (slice_get file.methods j)
+          (none_of_first (whole_method_outside_profile file) file.methods k j (ltb-true _ _ lt) outside)
+          (none_of_first (malformed_method_by aside file) file.methods k j (ltb-true _ _ lt) malformed))
+          (λ later.
+          let same : j ≡ k = eqb-true _ _ (and_left (j == k) _ later) in
+          subst (λ (n : ℕ). option_map_or (method_stands aside file flaw other) (slice_get file.methods n) false ≡ false) (sym same)
+          (there false flaw other (h.none_before flaw other (and_right (j == k) _ later))))

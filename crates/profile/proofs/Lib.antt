@@ -1,0 +1,5 @@
+pub mod Marks
+pub mod Sized
+pub mod Operands
+pub mod Walks
+pub mod First

@@ -1,0 +1,40 @@
+-- The line that tells a refusal (own).
+use Rattle.std.specs.Prelude.{ℕ, List, [], ◌++◌, Option, Some, None, String, codes, string_bytes}
+use Rattle.std.specs.declared.alloc.Global.{Global}
+use Rattle.model.specs.Report.{number}
+use Rattle.reading.specs.Names.{cause_name}
+use Rattle.reading.specs.declared.fault.Cause.{Cause}
+use Rattle.refusal.specs.declared.why.RefusalKind.{RefusalKind}
+use Rattle.refusal.specs.declared.why.RefusalKind.TheVariants as kinds
+use Rattle.refusal.specs.declared.why.Refusal.{Refusal}
+
+-- the number of a kind, and its name
+abbrev pub kind_words : RefusalKind → List ℕ
+kind_words kinds.Malformed = codes "1 Malformed"
+kind_words kinds.OutsideProfile = codes "2 OutsideProfile"
+kind_words kinds.DuplicateClass = codes "3 DuplicateClass"
+kind_words kinds.Unresolved = codes "4 Unresolved"
+kind_words kinds.BadHierarchy = codes "5 BadHierarchy"
+kind_words kinds.Unverified = codes "6 Unverified"
+kind_words kinds.NoMain = codes "7 NoMain"
+kind_words kinds.TooLarge = codes "8 TooLarge"
+kind_words kinds.OutOfMemory = codes "9 OutOfMemory"
+
+-- a number behind a word, where there is one
+abbrev pub numbered : List ℕ → Option ℕ → List ℕ
+numbered word None = []
+numbered word (Some n) = word ++ number n
+
+abbrev pub method_words : Option (String Global) → List ℕ
+method_words None = []
+method_words (Some method) = codes " method " ++ string_bytes method
+
+abbrev pub cause_words : Option Cause → List ℕ
+cause_words None = []
+cause_words (Some cause) = codes " " ++ cause_name cause
+
+-- what is refused, and where
+abbrev pub refusal_line : Refusal → List ℕ
+refusal_line r =
+    codes "refused " ++ (kind_words r.kind
+    ++ (numbered (codes " file ") r.file ++ (method_words r.method ++ (numbered (codes " offset ") r.offset ++ cause_words r.cause))))

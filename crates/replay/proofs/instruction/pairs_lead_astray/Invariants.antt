@@ -1,8 +1,0 @@
-use Rattle.std.proofs.Common.{◌≡◌, ℕ, ◌<◌, true}
-use Rattle.std.specs.Prelude.{pos, ◌+ℤ◌}
-use Rattle.model.specs.Instruction.{lookup_pair}
-use Rattle.replay.specs.Profile.{is_marked}
-use Rattle.replay.proofs.instruction.pairs_lead_astray.Given as goal
-
-abbrev pub invariant-loop-k : goal.invariant-loop-k
-invariant-loop-k l = (j : ℕ) → j < l.k → is_marked l.marks (pos l.pc +ℤ (lookup_pair l.code l.at j).1) ≡ true

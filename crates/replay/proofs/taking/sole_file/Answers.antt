@@ -1,0 +1,12 @@
+use Rattle.std.proofs.Common.{arith}
+use Rattle.classfile.specs.View.{file_of}
+use Rattle.replay.proofs.Takings.{class_count, sole}
+use Rattle.replay.proofs.taking.sole_file.Goals as goal
+
+pub returns-then-count : goal.returns-then-count
+returns-then-count c = omega (arith, c.if-count.true, c.count.ensures, class_count c.args.set.now)
+
+pub returns : goal.returns
+returns c =
+    sole (λ v. file_of v.now) c.args.set.now c.class_at.result c.requires.0 c.requires.1
+    (omega (arith, c.if-count.false, c.count.ensures, class_count c.args.set.now)) c.class_at.ensures

@@ -1,0 +1,75 @@
+//! Classes by their places in a set.
+
+ghost use Rattle.std.specs.Prelude.{◌≡◌, option_map};
+ghost use Rattle.model.specs.Names.{name_eq, java_lang_object};
+ghost use Rattle.model.specs.Classes.{superclass_of, is_subclass};
+ghost use Rattle.model.specs.TypeJoin.{class_join};
+ghost use Rattle.hierarchy.specs.Places.{name_at};
+ghost use Rattle.types.specs.Superclasses.{HasSuperclasses};
+
+use hierarchy::ClassSet;
+
+/// The place of java/lang/Object, in every set.
+pub(crate) const OBJECT: usize = 0;
+
+/// The name of the class at a place; no bytes where there is no class.
+fn name_at(set: &ClassSet, place: usize) -> &[u8]
+    ensures { result.now ≡ name_at set.now place }
+{
+    match set.class_at(place) {
+        Some(class) => class.class_name(class.this_class).unwrap_or(b""),
+        None => b"",
+    }
+}
+
+/// Whether the classes at two places have one name.
+pub(crate) fn is_same_class(set: &ClassSet, c: usize, d: usize) -> bool
+    ensures { result ≡ name_eq (name_at set.now c) (name_at set.now d) }
+{
+    c == d || name_at(set, c) == name_at(set, d)
+}
+
+pub(crate) fn is_object(set: &ClassSet, class: usize) -> bool
+    ensures { result ≡ name_eq (name_at set.now class) java_lang_object }
+{
+    class == OBJECT || name_at(set, class) == b"java/lang/Object".as_slice()
+}
+
+/// Whether the first class is the second, or a subclass of it (JVMS 2.4).
+pub(crate) fn is_subclass(set: &ClassSet, class: usize, superclass: usize) -> bool
+    ensures { result ≡ is_subclass set.now (name_at set.now class) (name_at set.now superclass) }
+{
+    class == superclass || set.is_subclass(name_at(set, class), name_at(set, superclass))
+}
+
+/// The direct superclass.
+fn superclass_of(set: &ClassSet, class: usize) -> Option<usize>
+    requires { HasSuperclasses set.now }
+    ensures { option_map (name_at set.now) result ≡ superclass_of set.now (name_at set.now class) }
+{
+    let Some(name) = set.superclass_of(name_at(set, class)) else {
+        return None;
+    };
+    set.place_of(name)
+}
+
+/// The first class, from one upwards, of which another is a subclass.
+pub(crate) fn class_join(set: &ClassSet, c: usize, d: usize) -> Option<usize>
+    requires { HasSuperclasses set.now }
+    ensures { option_map (name_at set.now) result ≡ class_join set.now (name_at set.now c) (name_at set.now d) }
+{
+    let mut class = c;
+    for _step in 0..set.count() {
+        if is_subclass(set, d, class) {
+            return Some(class);
+        }
+        let Some(next) = superclass_of(set, class) else {
+            return None;
+        };
+        class = next;
+    }
+    if is_subclass(set, d, class) {
+        return Some(class);
+    }
+    None
+}

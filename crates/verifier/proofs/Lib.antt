@@ -1,0 +1,6 @@
+pub mod Linked
+pub mod Runs
+pub mod Entries
+pub mod Merges
+pub mod Turns
+pub mod Members

@@ -1,0 +1,17 @@
+use Rattle.std.proofs.Common.{◌∷◌, [], subst, sym}
+use Rattle.method_code.specs.View.{files_of}
+use Rattle.verifier.specs.Found.{led_to, ClashesWith}
+use Rattle.verifier.specs.Verified.{OnUnverified}
+use Rattle.verifier.proofs.Entries.{lead_caught}
+use Rattle.verifier.proofs.found.Found.merge_lead.Goals as goal
+
+pub returns-in-Err-clause-clash : goal.returns-in-Err-clause-clash
+returns-in-Err-clause-clash c =
+    let m = c.args.method.now in
+    subst (λ o. OnUnverified c.in-Err.fault (ClashesWith m c.args.self.now ((c.args.lead.offset, led_to (files_of m) c.args.origin.now.before c.args.origin.now.after o) ∷ []))) (sym c.in-None.is) c.in-Err.ensures.clash
+
+pub returns-in-Err-merge-clause-clash : goal.returns-in-Err-merge-clause-clash
+returns-in-Err-merge-clause-clash c =
+    let m = c.args.method.now in
+    let kept = c.in_ok-leave_on_stack-in-Some.ensures in
+    subst (λ t. OnUnverified c.in-Err-merge.fault (ClashesWith m c.args.self.now ((c.args.lead.offset, t) ∷ []))) (lead_caught (files_of m) c.args.origin.now.before c.args.origin.now.after c.leave_on_stack.new.self c.in-Some.t _ kept.locals kept.stack kept.constructed c.in-Some.is) c.in-Err-merge.ensures.clash

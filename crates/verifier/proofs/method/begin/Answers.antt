@@ -1,0 +1,30 @@
+use Rattle.std.proofs.Common.{◌≡◌, ◌∙◌, [], ◌∷◌, length, ap, subst, arith}
+use Rattle.model.specs.Tree.{CodeTree}
+use Rattle.typing_search.specs.Search.{Clashes}
+use Rattle.typing_search.specs.Tables.{typing_of}
+use Rattle.typing_search.proofs.Linking.{ordered_from}
+use Rattle.method_code.specs.View.{files_of, member_of, body_of}
+use Rattle.verifier.specs.Packed.{parts_in}
+use Rattle.verifier.specs.Found.{tables_in, HasMerged}
+use Rattle.verifier.proofs.Entries.{none_found, on_unverified}
+use Rattle.verifier.proofs.Turns.{begins, refused}
+use Rattle.verifier.proofs.method.begin.Goals as goal
+
+pub returns-in-Ok-clause-search : goal.returns-in-Ok-clause-search
+returns-in-Ok-clause-search c =
+    let m = c.args.method.now in
+    let files = files_of m in
+    let before = tables_in files c.in_ok-found.found in
+    let n : c.len.result ≡ length c.code.result.now.code.items = omega arith in
+    let long = n ∙ ap (λ (code : CodeTree). length code.code) c.code.ensures in
+    begins files (ordered_from files c.requires.linked.1.no_refusal) (member_of m) (body_of m) before (none_found files c.in_ok-found.found _ _ c.in_ok-found.ensures long) (tables_in files c.merge.new.self) (subst (λ t. HasMerged files (body_of m) before ((0, t) ∷ []) (tables_in files c.merge.new.self)) (ap (parts_in files) c.in_ok-frame-2.ensures ∙ c.in_ok-frame.ensures) c.in-Ok.ensures.merged)
+
+pub returns-in-Err-clause-exact : goal.returns-in-Err-clause-exact
+returns-in-Err-clause-exact c =
+    let m = c.args.method.now in
+    let files = files_of m in
+    let before = tables_in files c.in_ok-found.found in
+    let n : c.len.result ≡ length c.code.result.now.code.items = omega arith in
+    let long = n ∙ ap (λ (code : CodeTree). length code.code) c.code.ensures in
+    on_unverified c.in-Err.fault _ _
+    (λ clash. refused files (ordered_from files c.requires.linked.1.no_refusal) (member_of m) (body_of m) before (none_found files c.in_ok-found.found _ _ c.in_ok-found.ensures long) (subst (λ t. Clashes files (member_of m) (body_of m) (typing_of before.types) ((0, t) ∷ [])) (ap (parts_in files) c.in_ok-frame-2.ensures ∙ c.in_ok-frame.ensures) clash)) c.in-Err.ensures.clash

@@ -1,0 +1,49 @@
+-- Methods by their places: the place of their class in a program, and their own among the methods of the class. And what a
+-- refusal says of such a method.
+use Rattle.std.specs.Prelude.{◌≡◌, ◌⊎◌, ℕ, ◌-◌, ◌++◌, nat_lt, if◌then◌else◌, length, Option, Some, None, option_map}
+use Rattle.std.specs.String.{string_bytes}
+use Rattle.std.specs.Str.Lossy.{utf8_lossy}
+use Rattle.model.specs.Names.{Member}
+use Rattle.model.specs.BuiltIn.{built_in_classes}
+use Rattle.model.specs.Classes.{Program, Body}
+use Rattle.model.specs.Typing.{HasTyping}
+use Rattle.method_code.specs.View.{shown_at}
+use Rattle.refusal.specs.declared.why.Refusal.{Refusal}
+use Rattle.refusal.specs.declared.why.RefusalKind.TheVariants as kinds
+use Rattle.typing_search.specs.Search.{HasNoTyping}
+
+-- ---- methods that pass verification
+
+-- the method at a place passes it, if there is one with code
+abbrev pub IsTypedAt : Program → ℕ → ℕ → Type 0
+IsTypedAt files class method = (member : Member) (body : Body) → shown_at files class method ≡ Some (member, body) → HasTyping files member body
+
+-- so do those of a class
+abbrev pub AreTypedIn : Program → ℕ → Type 0
+AreTypedIn files class = (method : ℕ) → IsTypedAt files class method
+
+-- ---- methods that do not
+
+-- the files stand behind the built-in classes
+abbrev pub file_number : ℕ → Option ℕ
+file_number class = if nat_lt class (length built_in_classes) then None else Some (class - length built_in_classes)
+
+-- a refusal says that a method of the class at a place is not verified: by its file, and by its name and its descriptor
+pub record IsRefusalOf (class : ℕ) (member : Member) (refusal : Refusal) : Type 0 where
+  pub kind : refusal.kind ≡ kinds.Unverified
+  pub file : refusal.file ≡ file_number class
+  pub method : option_map (λ text. string_bytes text) refusal.method ≡ Some (utf8_lossy (member.name ++ member.descriptor))
+
+-- a method with code has no typing, and the refusal is of it
+pub record IsUnverified (files : Program) (refusal : Refusal) : Type 0 where
+  pub class : ℕ
+  pub method : ℕ
+  pub member : Member
+  pub body : Body
+  pub stands : shown_at files class method ≡ Some (member, body)
+  pub none : HasNoTyping files member body
+  pub named : IsRefusalOf class member refusal
+
+-- when linked classes may be refused so
+abbrev pub Refuses : Program → Refusal → Type 0
+Refuses files refusal = (refusal.kind ≡ kinds.OutOfMemory) ⊎ IsUnverified files refusal

@@ -1,0 +1,19 @@
+//! The verifier (JVMS 4.10.2): a worklist finds frame types at the offsets of a method's code that agree with its instructions,
+//! or shows that there are none.
+#![tactic(auto)]
+
+mod fault;
+mod found;
+mod frames;
+mod method;
+mod packed;
+mod raised;
+mod run;
+#[cfg(test)]
+mod tests;
+mod verified;
+mod waiting;
+
+pub use fault::MethodFault;
+pub use method::verify_method;
+pub use verified::{Verified, verify};

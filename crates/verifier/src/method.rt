@@ -1,0 +1,95 @@
+//! The worklist (JVMS 4.10.2.2): it takes the lowest offset that waits, and merges what its instruction leads to.
+
+ghost use Rattle.std.specs.Prelude.{◌≡◌, ◌<◌, length, OnOk, IfOk, IfErr};
+ghost use Rattle.model.specs.InstructionStarts.{starts as starts_of};
+ghost use Rattle.model.specs.Typing.{HasTyping};
+ghost use Rattle.typing_search.specs.Search.{HasNoTyping};
+ghost use Rattle.method_code.specs.Linked.{IsLinked};
+ghost use Rattle.method_code.specs.View.{files_of, member_of, body_of};
+ghost use Rattle.flow.specs.Handlers.{AreHandlers};
+ghost use Rattle.verifier.specs.Found.{tables_in, waiting_again, IsSearch, HasTurned};
+ghost use Rattle.verifier.specs.Verified.{OnUnverified};
+
+use crate::fault::MethodFault;
+use crate::found::{Edge, Found, Origin};
+use crate::packed::PackedFrame;
+use flow::{Handler, entry_frame, flow_at, handlers};
+use method_code::MethodCode;
+use opcodes::starts;
+use std::alloc::Global;
+
+/// A search that has found the frame type where the method begins.
+fn begin(alloc: Global, method: &MethodCode<'_>, starts: &[bool]) -> Result<Found, MethodFault>
+    requires linked { IsLinked (files_of method.now) }
+    requires starts { starts.now ≡ starts_of (body_of method.now).code.code }
+    ensures search { IfOk result (λ found. IsSearch (files_of method.now) (member_of method.now) (body_of method.now) (tables_in (files_of method.now) found)) }
+    ensures exact { IfErr result (λ fault. OnUnverified fault (HasNoTyping (files_of method.now) (member_of method.now) (body_of method.now))) }
+{
+    let mut found = Found::new(alloc, method.code().code.len())?;
+    let frame = entry_frame(alloc, method)?;
+    let frame = PackedFrame::pack(alloc, &frame)?;
+    match found.merge(alloc, method, starts, Edge { from: 0, to: 0 }, &frame) {
+        Ok(()) => Ok(found),
+        Err(fault) => Err(fault),
+    }
+}
+
+/// Merges what the instruction at an offset leads to, which has been taken off.
+fn turn(
+    alloc: Global,
+    method: &MethodCode<'_>,
+    starts: &[bool],
+    handlers: &[Handler],
+    found: &mut Found,
+    offset: usize,
+) -> Result<(), MethodFault>
+    requires linked { IsLinked (files_of method.now) }
+    requires starts { starts.now ≡ starts_of (body_of method.now).code.code }
+    requires handlers { AreHandlers method.now handlers.now }
+    requires offset { offset < length found.old.types.items }
+    requires search { IsSearch (files_of method.now) (member_of method.now) (body_of method.now) (waiting_again (tables_in (files_of method.now) found.old) offset) }
+    ensures turned { OnOk result (HasTurned (files_of method.now) (member_of method.now) (body_of method.now) (tables_in (files_of method.now) found.old) (tables_in (files_of method.now) found.new)) }
+    ensures exact { IfErr result (λ fault. OnUnverified fault (HasNoTyping (files_of method.now) (member_of method.now) (body_of method.now))) }
+{
+    let Some(packed) = &found.types[offset] else {
+        return Ok(());
+    };
+    let before = packed.copy(alloc)?;
+    let mut frame = packed.unpack(alloc)?;
+    match flow_at(alloc, method, handlers, offset, &mut frame) {
+        Err(_) => Err(MethodFault::OutOfMemory),
+        Ok(None) => Err(MethodFault::Unverified { offset }),
+        Ok(Some(leads)) => {
+            let after = PackedFrame::pack(alloc, &frame)?;
+            let origin = Origin {
+                offset,
+                before,
+                after,
+            };
+            match found.merge_all(alloc, method, starts, origin, &leads) {
+                Ok(()) => Ok(()),
+                Err(fault) => Err(fault),
+            }
+        }
+    }
+}
+
+/// Whether there are frame types at the offsets of a method's code that agree with its instructions.
+pub fn verify_method(alloc: Global, method: &MethodCode<'_>) -> Result<(), MethodFault>
+    requires { IsLinked (files_of method.now) }
+    ensures typed { OnOk result (HasTyping (files_of method.now) (member_of method.now) (body_of method.now)) }
+    ensures exact { IfErr result (λ fault. OnUnverified fault (HasNoTyping (files_of method.now) (member_of method.now) (body_of method.now))) }
+{
+    let starts = starts(alloc, &method.code().code)?;
+    let handlers = handlers(alloc, method)?;
+    let mut found = match begin(alloc, method, &starts) {
+        Ok(found) => found,
+        Err(fault) => return Err(fault),
+    };
+    while let Some(offset) = found.waiting.take_lowest() {
+        if let Err(fault) = turn(alloc, method, &starts, &handlers, &mut found, offset) {
+            return Err(fault);
+        }
+    }
+    Ok(())
+}

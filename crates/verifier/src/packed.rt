@@ -1,0 +1,105 @@
+//! Frame types as a search keeps them.
+
+ghost use Rattle.std.specs.Prelude.{◌≡◌, [], ◌∷◌, length, IfOk, OnOk, IsTrue};
+ghost use Rattle.verifier.specs.Packed.{parts_of};
+
+use crate::run::{Run, are_same_runs, are_same_types, runs_of, types_of};
+use std::alloc::{AllocError, Global};
+use std::marker::Model;
+use types::{FrameType, VerificationType};
+
+/// A frame type in which types of local variables that are the same and follow one another stand once.
+#[derive(Drop)]
+pub(crate) struct PackedFrame {
+    locals: Vec<Run>,
+    /// How many local variables there are.
+    local_count: usize,
+    /// The top comes last.
+    stack: Vec<VerificationType>,
+    constructed: bool,
+}
+
+impl Model for PackedFrame {
+    ghost use Rattle.std.specs.Prelude.{◌≡◌, length};
+    ghost use Rattle.verifier.specs.Packed.{Parts, unpacked};
+
+    ghost Value = { Parts };
+
+    ghost view = { λ f. record { locals = unpacked f.locals.items; stack = f.stack.items; constructed = f.constructed } };
+
+    ghost invariant = { λ f. f.local_count ≡ length (unpacked f.locals.items) };
+}
+
+impl PackedFrame {
+    pub fn pack(alloc: Global, frame: &FrameType) -> Result<PackedFrame, AllocError>
+        ensures { IfOk result (λ packed. packed ≡ parts_of frame.now) }
+    {
+        let locals = runs_of(alloc, &frame.locals)?;
+        let stack = Vec::from_slice(alloc, &frame.stack)?;
+        Ok(PackedFrame {
+            locals,
+            local_count: frame.locals.len(),
+            stack,
+            constructed: frame.constructed,
+        })
+    }
+
+    pub fn unpack(&self, alloc: Global) -> Result<FrameType, AllocError>
+        ensures { IfOk result (λ frame. parts_of frame ≡ self.now) }
+    {
+        let locals = types_of(alloc, &self.locals, self.local_count)?;
+        let stack = Vec::from_slice(alloc, &self.stack)?;
+        Ok(FrameType {
+            locals,
+            stack,
+            constructed: self.constructed,
+        })
+    }
+
+    pub fn copy(&self, alloc: Global) -> Result<PackedFrame, AllocError>
+        ensures { IfOk result (λ copy. copy ≡ self.now) }
+    {
+        let locals = Vec::from_slice(alloc, &self.locals)?;
+        let stack = Vec::from_slice(alloc, &self.stack)?;
+        Ok(PackedFrame {
+            locals,
+            local_count: self.local_count,
+            stack,
+            constructed: self.constructed,
+        })
+    }
+
+    /// Leaves one type alone on the stack.
+    pub fn leave_on_stack(&mut self, t: VerificationType) -> Result<(), AllocError>
+        ensures stack { OnOk result (self.new.stack ≡ t ∷ []) }
+        ensures locals { self.new.locals ≡ self.old.locals }
+        ensures constructed { self.new.constructed ≡ self.old.constructed }
+    {
+        self.stack.clear();
+        self.stack.push(t)?;
+        Ok(())
+    }
+
+    /// Whether two are the same frame type.
+    pub fn is_same(&self, other: &PackedFrame) -> bool
+        ensures { IsTrue result → self.now ≡ other.now }
+    {
+        self.constructed == other.constructed
+            && are_same_types(&self.stack, &other.stack)
+            && are_same_runs(&self.locals, &other.locals)
+    }
+
+    /// How many local variables there are.
+    pub fn local_count(&self) -> usize
+        ensures { result ≡ length self.now.locals }
+    {
+        self.local_count
+    }
+
+    /// How many words there are on the stack.
+    pub fn stack_depth(&self) -> usize
+        ensures { result ≡ length self.now.stack }
+    {
+        self.stack.len()
+    }
+}

@@ -1,0 +1,104 @@
+//! Runs of types: so many of one type, one after another.
+
+ghost use Rattle.std.specs.Prelude.{◌≡◌, ◌++◌, replicate, OnOk, IfOk, IsTrue};
+ghost use Rattle.verifier.specs.Packed.{unpacked};
+
+use std::alloc::{AllocError, Global};
+use types::VerificationType;
+
+/// So many types, each of which is this one.
+#[derive(Clone, Copy)]
+pub(crate) struct Run {
+    pub(crate) of: VerificationType,
+    pub(crate) count: usize,
+}
+
+/// Whether two types are the same, by place and all.
+fn is_same_type(a: VerificationType, b: VerificationType) -> bool
+    ensures { IsTrue result → a ≡ b }
+{
+    a == b
+}
+
+fn is_same_run(a: Run, b: Run) -> bool
+    ensures { IsTrue result → a ≡ b }
+{
+    a.count == b.count && is_same_type(a.of, b.of)
+}
+
+/// Whether these are the same types, one by one.
+pub(crate) fn are_same_types(a: &[VerificationType], b: &[VerificationType]) -> bool
+    ensures { IsTrue result → a.now ≡ b.now }
+{
+    if a.len() != b.len() {
+        return false;
+    }
+    for i in 0..a.len() {
+        if !is_same_type(a[i], b[i]) {
+            return false;
+        }
+    }
+    true
+}
+
+/// Whether these are the same runs, one by one.
+pub(crate) fn are_same_runs(a: &[Run], b: &[Run]) -> bool
+    ensures { IsTrue result → a.now ≡ b.now }
+{
+    if a.len() != b.len() {
+        return false;
+    }
+    for i in 0..a.len() {
+        if !is_same_run(a[i], b[i]) {
+            return false;
+        }
+    }
+    true
+}
+
+/// The runs of types.
+pub(crate) fn runs_of(alloc: Global, types: &[VerificationType]) -> Result<Vec<Run>, AllocError>
+    ensures { IfOk result (λ runs. unpacked runs.items ≡ types.now) }
+{
+    let mut runs = Vec::new(alloc);
+    let mut begin: usize = 0;
+    'types: for i in 0..types.len() {
+        if !is_same_type(types[i], types[begin]) {
+            runs.push(Run {
+                of: types[begin],
+                count: i - begin,
+            })?;
+            begin = i;
+        }
+    }
+    if begin < types.len() {
+        runs.push(Run {
+            of: types[begin],
+            count: types.len() - begin,
+        })?;
+    }
+    Ok(runs)
+}
+
+/// The types of runs, of which there are so many.
+pub(crate) fn types_of(
+    alloc: Global,
+    runs: &[Run],
+    count: usize,
+) -> Result<Vec<VerificationType>, AllocError>
+    ensures { IfOk result (λ types. types.items ≡ unpacked runs.now) }
+{
+    let mut types = Vec::with_capacity(alloc, count)?;
+    'runs: for run in runs {
+        add_run(&mut types, *run)?;
+    }
+    Ok(types)
+}
+
+/// Adds the types of a run.
+fn add_run(types: &mut Vec<VerificationType>, run: Run) -> Result<(), AllocError>
+    ensures { OnOk result (types.new.items ≡ types.old.items ++ replicate run.count run.of) }
+{
+    let room = types.len().saturating_add(run.count);
+    types.resize(room, run.of)
+}
