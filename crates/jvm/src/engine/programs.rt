@@ -385,27 +385,32 @@ const OTHER_NAME: Refused = Refused {
     line: "refused 8 TooLarge",
 };
 
-/// The class file that prints 7, with a field.
+/// The class file that prints 7, with a field: its bytes 200 and 201 are the number of its fields.
 fn with_field(alloc: Global, bytes: &[u8]) -> Result<Vec<u8>, AllocError> {
-    let mut file = Vec::from_slice(alloc, &bytes[..200])?;
+    let before = bytes.get(..200).unwrap_or(&[]);
+    let mut file = Vec::from_slice(alloc, before)?;
     file.extend_from_slice(&[0, 1, 0, 0, 0, 10, 0, 11, 0, 0])?;
-    file.extend_from_slice(&bytes[202..])?;
+    file.extend_from_slice(bytes.get(202..).unwrap_or(&[]))?;
     Ok(file)
+}
+
+/// What is told of two class files.
+fn told_of_two<'a>(alloc: Global, first: &'a [u8], second: &'a [u8]) -> Result<String, Fail> {
+    told(alloc, &[(0, 8)], &[first, second])
 }
 
 #[test]
 fn leaves_out_what_it_cannot_run(rt: HostRuntime) -> Result<(), Fail> {
     let alloc = rt.alloc();
     let file = class_file(alloc, 1, &PRINTS_SEVEN)?;
-    let bytes = file.as_slice();
-    let other = changed(alloc, bytes, &OTHER_NAME)?;
-    let line = told(alloc, &[(0, 8)], &[bytes, other.as_slice()])?;
+    let other = changed(alloc, file.as_slice(), &OTHER_NAME)?;
+    let line = told_of_two(alloc, file.as_slice(), other.as_slice())?;
     assert_eq!(rt; line.as_str(), OTHER_NAME.line);
-    let with_field = with_field(alloc, bytes)?;
+    let with_field = with_field(alloc, file.as_slice())?;
     let line = told(alloc, &[(0, 8)], &[with_field.as_slice()])?;
     assert_eq!(rt; line.as_str(), "refused 2 OutsideProfile file 0");
     // a fault of linking comes first
-    let line = told(alloc, &[(0, 8)], &[with_field.as_slice(), bytes])?;
+    let line = told_of_two(alloc, with_field.as_slice(), file.as_slice())?;
     assert_eq!(rt; line.as_str(), "refused 3 DuplicateClass file 1");
     Ok(())
 }
