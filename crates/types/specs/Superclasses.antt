@@ -20,7 +20,7 @@ abbrev pub class_above : Program → ℕ → Name → Option Name
 class_above files zero class = Some class
 class_above files (suc n) class = option_and_then (λ s. class_above files n s) (superclass_of files class)
 
--- the first class that is above both of two by as many steps, by fewer than so many
+-- the first class that stands as many steps above one class as above another, fewer than so many
 abbrev pub meeting_below : Program → ℕ → Name → Name → Option Name
 meeting_below files zero c d = None
 meeting_below files (suc n) c d =

@@ -53,7 +53,7 @@ fn superclass_of(set: &ClassSet, class: usize) -> Option<usize>
     set.place_of(name)
 }
 
-/// How many superclasses a class has; none where they do not end, as in a set with a class that is above itself.
+/// How many superclasses a class has; nothing where they do not end, as those of a class that is above itself.
 fn depth(set: &ClassSet, class: usize) -> Option<usize>
     requires { HasSuperclasses set.now }
     ensures { result ≡ depth_below set.now (length (classes_of set.now)) (name_at set.now class) }
@@ -83,7 +83,7 @@ fn class_above(set: &ClassSet, class: usize, steps: usize) -> Option<usize>
     Some(class)
 }
 
-/// The class in which the superclasses of two classes meet, both by as many steps.
+/// The first class that stands as many steps above one class as above another.
 fn meeting(set: &ClassSet, c: usize, d: usize) -> Option<usize>
     requires { HasSuperclasses set.now }
     ensures { option_map (name_at set.now) result ≡ meeting_below set.now (length (classes_of set.now)) (name_at set.now c) (name_at set.now d) }
@@ -106,7 +106,7 @@ fn meeting(set: &ClassSet, c: usize, d: usize) -> Option<usize>
     None
 }
 
-/// The join of classes that have so many superclasses: the deeper one goes up first.
+/// The join of classes that have so many superclasses: the deeper class goes up to the depth of the other, then both do.
 fn join_by_depths(
     set: &ClassSet,
     c: usize,
@@ -131,7 +131,8 @@ fn join_by_depths(
     meeting(set, level, d)
 }
 
-/// The join by the definition: it serves for any superclasses, and takes as many steps as the two depths multiplied.
+/// The join as the definition has it, also where superclasses do not end. Takes up to as many steps as the square of the
+/// number of classes.
 fn join_by_search(set: &ClassSet, c: usize, d: usize) -> Option<usize>
     requires { HasSuperclasses set.now }
     ensures { option_map (name_at set.now) result ≡ class_join set.now (name_at set.now c) (name_at set.now d) }
@@ -152,8 +153,8 @@ fn join_by_search(set: &ClassSet, c: usize, d: usize) -> Option<usize>
     None
 }
 
-/// The first class, from one upwards, of which another is a subclass. Takes no memory, and no more steps than the classes
-/// have superclasses, where these end.
+/// The first class, from one upwards, of which another is a subclass. Takes no memory, and where the superclasses of both end,
+/// as in linked files, a few steps for each of them.
 pub(crate) fn class_join(set: &ClassSet, c: usize, d: usize) -> Option<usize>
     requires { HasSuperclasses set.now }
     ensures { option_map (name_at set.now) result ≡ class_join set.now (name_at set.now c) (name_at set.now d) }

@@ -1,6 +1,5 @@
-//! Joins of classes with many superclasses. Below Throwable stands a ladder of classes, each below the one before it; beside each
-//! step but the first stands a class that is directly below the step before, and beside the whole ladder one of other names,
-//! whose first class is directly below Object.
+//! Joins of classes that have many superclasses. The class A of each step is directly below the A of the step before, the first
+//! below Throwable, and so is the B of the step; the C of each step is below the C before, the first below Object.
 
 ghost use Rattle.std.specs.Prelude.{IfOk};
 ghost use Rattle.types.specs.Superclasses.{HasSuperclasses};
@@ -114,5 +113,24 @@ fn classes_of_two_ladders_join_to_object(rt: HostRuntime) -> Result<(), Fail> {
         assert_eq!(rt; class_join(&set, c, OBJECT), Some(OBJECT));
         assert_eq!(rt; class_join(&set, OBJECT, a), Some(OBJECT));
     }
+    Ok(())
+}
+
+#[test]
+fn superclasses_that_do_not_end_are_joined(rt: HostRuntime) -> Result<(), Fail> {
+    let alloc = rt.alloc();
+    let mut files = Vec::new(alloc);
+    files.push(class_below(alloc, b"A", b"B")?)?;
+    files.push(class_below(alloc, b"B", b"A")?)?;
+    files.push(class_below(alloc, b"C", b"A")?)?;
+    let set = ClassSet::new(alloc, files).ok().ok_or("refused")?;
+    if !has_superclasses(&set) {
+        return None.ok_or("a superclass is missing")?;
+    }
+    let (a, b, c) = places(0);
+    assert_eq!(rt; class_join(&set, c, b), Some(a));
+    assert_eq!(rt; class_join(&set, b, c), Some(b));
+    assert_eq!(rt; class_join(&set, c, OBJECT), None);
+    assert_eq!(rt; class_join(&set, OBJECT, c), None);
     Ok(())
 }
