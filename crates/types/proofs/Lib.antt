@@ -1,4 +1,5 @@
 pub mod Classes
+pub mod Climbing
 pub mod References
 pub mod Pairwise
 pub mod FrameTypes

@@ -7,6 +7,8 @@ mod class;
 mod frame_type;
 mod frames;
 mod join;
+#[cfg(test)]
+mod ladder_tests;
 mod order;
 mod reference_type;
 mod superclasses;

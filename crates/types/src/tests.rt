@@ -24,7 +24,11 @@ const B: usize = 31;
 const C: usize = 32;
 
 /// A public class of a name directly below another, with no members.
-fn class_below(alloc: Global, name: &[u8], superclass: &[u8]) -> Result<ClassFile, AllocError> {
+pub(crate) fn class_below(
+    alloc: Global,
+    name: &[u8],
+    superclass: &[u8],
+) -> Result<ClassFile, AllocError> {
     let mut pool = Vec::new(alloc);
     pool.push(Constant::Utf8(Vec::from_slice(alloc, name)?))?;
     pool.push(Constant::Class { name: 1 })?;
