@@ -4,7 +4,7 @@ use Rattle.std.specs.Prelude.{position, slice_get}
 use Rattle.std.specs.Option.{option_and_then, option_map_or}
 use Rattle.model.specs.Names.{Name, Member}
 use Rattle.model.specs.Tree.{FileTree, MethodTree}
-use Rattle.model.specs.Classes.{Program, name_of, classes_of, is_named, is_method}
+use Rattle.model.specs.Classes.{Program, name_of, classes_of, is_method}
 use Rattle.model.specs.Lookup.{is_field, in_class, field_declared, method_declared}
 use Rattle.hierarchy.specs.Places.{place_of, name_at}
 use Rattle.hierarchy.specs.Members.{field_place, method_place}

@@ -1,6 +1,6 @@
-use Rattle.std.proofs.Common.{◌≡◌, ◌∙◌, None, Some, length, map, refl, sym, ap}
+use Rattle.std.proofs.Common.{◌≡◌, ◌∙◌, None, Some, map, refl, sym, ap}
 use Rattle.std.proofs.lemmas.List.{length-map}
-use Rattle.model.specs.Names.{Name, name_eq}
+use Rattle.model.specs.Names.{name_eq}
 use Rattle.hierarchy.specs.Above.{with_name}
 use Rattle.hierarchy.specs.Members.{number_of}
 use Rattle.hierarchy.proofs.Finding.{position-map}

@@ -1,4 +1,4 @@
-use Rattle.std.proofs.Common.{◌≡◌, ◌∙◌, ◌<◌, List, length, get_or, sym, ap, subst}
+use Rattle.std.proofs.Common.{◌≡◌, ◌<◌, List, length, get_or, subst}
 use Rattle.class_tree.specs.declared.tree.Method.{Method}
 use Rattle.classfile.specs.View.{method_of}
 use Rattle.model.specs.Pool.{utf8_at}

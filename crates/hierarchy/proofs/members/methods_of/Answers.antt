@@ -1,4 +1,3 @@
-use Rattle.std.proofs.Common.{◌≡◌, ◌∙◌, sym, ap, subst}
 use Rattle.std.specs.Prelude.{position}
 use Rattle.model.specs.Tree.{FileTree}
 use Rattle.model.specs.Classes.{is_method}

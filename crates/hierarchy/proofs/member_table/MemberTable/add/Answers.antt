@@ -1,4 +1,4 @@
-use Rattle.std.proofs.Common.{◌≡◌, ◌∙◌, ℕ, ◌&&◌, cond, List, Option, Some, None, map, sym, ap, subst}
+use Rattle.std.proofs.Common.{◌∙◌, ℕ, ◌&&◌, cond, List, Option, Some, None, map, sym, ap, subst}
 use Rattle.model.specs.Names.{Name, name_eq}
 use Rattle.hierarchy.specs.Above.{with_name}
 use Rattle.hierarchy.specs.Members.{Table, number_of, key_of, AreNumbered, Adds}

@@ -1,7 +1,6 @@
 use Rattle.std.proofs.Common.{◌∙◌, List, sym, ap}
 use Rattle.model.specs.Tree.{FileTree}
 use Rattle.model.specs.Classes.{classes_of}
-use Rattle.hierarchy.specs.Set.{trees_of}
 use Rattle.hierarchy.specs.Members.{method_place}
 use Rattle.hierarchy.proofs.set.ClassSet.method_place.Goals as goal
 
