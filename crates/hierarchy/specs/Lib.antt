@@ -1,3 +1,4 @@
+pub mod Members
 pub mod Set
 pub mod Places
 pub mod Wanted

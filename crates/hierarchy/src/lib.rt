@@ -1,11 +1,12 @@
 //! Sets of classes (JVMS 5.3), and which field or method a symbolic reference names in them (JVMS 5.4.3).
 #![tactic(auto)]
 
-mod declared;
 mod hierarchy;
 #[cfg(test)]
 mod hierarchy_tests;
 mod lookup;
+mod member_table;
+mod members;
 mod name_set;
 mod place;
 mod reference_type;

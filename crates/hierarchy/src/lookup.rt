@@ -8,7 +8,6 @@ ghost use Rattle.model.specs.Lookup.{method_declared, first_found, select, any_m
 ghost use Rattle.hierarchy.specs.Places.{member_in, IsFieldAt, IsMethodAt};
 ghost use Rattle.hierarchy.specs.Wanted.{wants};
 
-use crate::declared::{field_place, method_place};
 use crate::place::MemberPlace;
 use crate::set::ClassSet;
 use classfile::{Method, Reference};
@@ -61,10 +60,10 @@ impl ClassSet {
         let Some(place) = self.place_of(class) else {
             return None;
         };
-        let Some(file) = self.class_at(place) else {
+        let Some(member) = self.method_place(place, method.name, method.descriptor) else {
             return None;
         };
-        let Some(member) = method_place(file, method.name, method.descriptor) else {
+        let Some(file) = self.class_at(place) else {
             return None;
         };
         let Some(declared) = file.methods.get(member) else {
@@ -135,10 +134,7 @@ impl ClassSet {
         let Some(place) = self.place_of(class) else {
             return None;
         };
-        let Some(file) = self.class_at(place) else {
-            return None;
-        };
-        let Some(member) = field_place(file, field.name, field.descriptor) else {
+        let Some(member) = self.field_place(place, field.name, field.descriptor) else {
             return None;
         };
         Some(MemberPlace {

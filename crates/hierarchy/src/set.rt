@@ -7,7 +7,10 @@ ghost use Rattle.model.specs.BuiltIn.{built_in_classes as classes_of_the_model};
 ghost use Rattle.classfile.specs.View.{file_of};
 ghost use Rattle.hierarchy.specs.Set.{trees_of, files_of, IsRefused};
 ghost use Rattle.hierarchy.specs.Places.{place_of, class_at};
+ghost use Rattle.hierarchy.specs.Members.{field_place, method_place};
 
+use crate::member_table::MemberTable;
+use crate::members::{fields_of, methods_of};
 use crate::refusal::SetRefusal;
 use builtin::built_in_classes;
 use classfile::ClassFile;
@@ -21,6 +24,9 @@ pub struct ClassSet {
     classes: Vec<ClassFile>,
     /// The name of each class.
     names: IndexSet<Vec<u8>>,
+    /// The fields and the methods of each class.
+    fields: MemberTable,
+    methods: MemberTable,
 }
 
 impl Model for ClassSet {
@@ -32,7 +38,7 @@ impl Model for ClassSet {
 
     ghost view = { λ s. files_of (trees_of s.classes.items) };
 
-    ghost invariant = { λ s. Holds (trees_of s.classes.items) (map (λ name. name.items) s.names.keys) };
+    ghost invariant = { λ s. Holds (trees_of s.classes.items) (map (λ name. name.items) s.names.keys) s.fields s.methods };
 }
 
 /// The name of the class that a file declares (JVMS 4.1, this_class).
@@ -85,7 +91,16 @@ impl ClassSet {
         let built_in = classes.len();
         classes.append(&mut files)?;
         match names_of(alloc, &classes, built_in) {
-            Ok(names) => Ok(ClassSet { classes, names }),
+            Ok(names) => {
+                let fields = fields_of(alloc, &classes)?;
+                let methods = methods_of(alloc, &classes)?;
+                Ok(ClassSet {
+                    classes,
+                    names,
+                    fields,
+                    methods,
+                })
+            }
             Err(refusal) => Err(refusal),
         }
     }
@@ -109,6 +124,20 @@ impl ClassSet {
         ensures place { result ≡ place_of self.now name.now }
     {
         self.names.get_index_of(name)
+    }
+
+    /// The place of the field of this name and descriptor that the class at a place declares (JVMS 4.5).
+    pub(crate) fn field_place(&self, class: usize, name: &[u8], descriptor: &[u8]) -> Option<usize>
+        ensures { result ≡ field_place (classes_of self.now) class name.now descriptor.now }
+    {
+        self.fields.place_of(class, name, descriptor)
+    }
+
+    /// The place of the method of this name and descriptor that the class at a place declares (JVMS 4.6).
+    pub(crate) fn method_place(&self, class: usize, name: &[u8], descriptor: &[u8]) -> Option<usize>
+        ensures { result ≡ method_place (classes_of self.now) class name.now descriptor.now }
+    {
+        self.methods.place_of(class, name, descriptor)
     }
 
     /// The class of a name (JVMS 5.3).

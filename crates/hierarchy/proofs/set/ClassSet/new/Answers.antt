@@ -3,6 +3,7 @@ use Rattle.model.specs.Classes.{Program, classes_of, name_of}
 use Rattle.model.specs.Linkable.{two_of_one_name}
 use Rattle.class_tree.specs.declared.tree.ClassFile.{ClassFile}
 use Rattle.hierarchy.specs.Set.{trees_of, files_of, IsRefused}
+use Rattle.hierarchy.specs.Members.{AreFields, AreMethods}
 use Rattle.hierarchy.proofs.Adding.{new_trees, its_files, is_whole, all_differ}
 use Rattle.hierarchy.proofs.set.ClassSet.new.Goals as goal
 
@@ -17,6 +18,8 @@ invariant_of-result c =
     record {
       whole = is_whole c.append.new.self.items (trees_of c.args.files.items) all;
       named = c.in-Ok.ensures.named ∙ ap (λ (l : List ClassFile). map name_of (trees_of l)) c.deref.ensures.value;
+      of_fields = subst (λ (l : List ClassFile). AreFields (trees_of l) c.in_ok-fields-in-Ok.fields) c.deref-in-Ok.ensures.value c.in_ok-fields-in-Ok.ensures;
+      of_methods = subst (λ (l : List ClassFile). AreMethods (trees_of l) c.in_ok-methods-in-Ok.methods) c.deref-in-Ok-2.ensures.value c.in_ok-methods-in-Ok.ensures;
     }
 
 pub returns-in-Ok-clause-set : goal.returns-in-Ok-clause-set
