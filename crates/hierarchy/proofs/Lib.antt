@@ -5,4 +5,7 @@ pub mod SetLaws
 pub mod Adding
 pub mod RowLaws
 pub mod Walks
+pub mod Indices
+pub mod RankLaws
+pub mod FieldLaws
 pub mod TypeLaws

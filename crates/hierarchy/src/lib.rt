@@ -1,13 +1,18 @@
 //! Sets of classes (JVMS 5.3), and which field or method a symbolic reference names in them (JVMS 5.4.3).
 #![tactic(auto)]
 
+mod cycles;
 mod declared;
+mod fields;
 mod hierarchy;
 #[cfg(test)]
 mod hierarchy_tests;
 mod lookup;
 mod name_set;
+mod order;
 mod place;
+mod ranked_rows;
+mod ranks;
 mod reference_type;
 mod refusal;
 mod rows;
@@ -15,6 +20,7 @@ mod set;
 #[cfg(test)]
 mod tests;
 
+pub use cycles::first_in_cycle;
 pub use hierarchy::Hierarchy;
 pub use place::MemberPlace;
 pub use reference_type::{Innermost, Primitive, ReferenceType};
