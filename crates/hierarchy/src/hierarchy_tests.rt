@@ -150,14 +150,27 @@ fn cycles_are_seen(rt: HostRuntime) -> Result<(), Fail> {
     let hierarchy = Hierarchy::new(alloc, set)?;
     assert_eq!(rt;
         hierarchy.find_field(field_of(b"C", b"m")),
-        Some(first_of(2))
+        Some(first_of(FIRST + 2))
     );
+    Ok(())
+}
+
+#[test]
+fn cycles_of_interfaces_are_seen(rt: HostRuntime) -> Result<(), Fail> {
+    let alloc = rt.alloc();
+    let object = b"java/lang/Object";
     let mut files = Vec::new(alloc);
     files.push(class(alloc, b"D", object, b"", b"")?)?;
     files.push(class(alloc, b"I", object, b"J", b"")?)?;
     files.push(class(alloc, b"J", object, b"I", b"")?)?;
     let set = ClassSet::new(alloc, files).ok().ok_or("refused")?;
     assert_eq!(rt; first_in_cycle(alloc, &set)?, Some(1));
+    Ok(())
+}
+
+#[test]
+fn a_class_below_itself_is_seen(rt: HostRuntime) -> Result<(), Fail> {
+    let alloc = rt.alloc();
     let mut files = Vec::new(alloc);
     files.push(class(alloc, b"A", b"A", b"", b"")?)?;
     let set = ClassSet::new(alloc, files).ok().ok_or("refused")?;
@@ -165,12 +178,9 @@ fn cycles_are_seen(rt: HostRuntime) -> Result<(), Fail> {
     Ok(())
 }
 
-/// The first member of a file.
-fn first_of(file: usize) -> MemberPlace {
-    MemberPlace {
-        class: FIRST + file,
-        member: 0,
-    }
+/// The first member of the class at a place.
+fn first_of(class: usize) -> MemberPlace {
+    MemberPlace { class, member: 0 }
 }
 
 /// A reference to a field of type int.
@@ -205,15 +215,15 @@ fn a_chain_and_a_diamond_are_no_cycle(rt: HostRuntime) -> Result<(), Fail> {
     assert!(rt; !hierarchy.implements(b"D", b"N"));
     assert_eq!(rt;
         hierarchy.find_field(field_of(b"A", b"d")),
-        Some(first_of(3))
+        Some(first_of(FIRST + 3))
     );
     assert_eq!(rt;
         hierarchy.find_field(field_of(b"A", b"n")),
-        Some(first_of(5))
+        Some(first_of(FIRST + 5))
     );
     assert_eq!(rt;
         hierarchy.find_field(field_of(b"A", b"i")),
-        Some(first_of(7))
+        Some(first_of(FIRST + 7))
     );
     assert_eq!(rt; hierarchy.find_field(field_of(b"D", b"c")), None);
     Ok(())
@@ -234,7 +244,7 @@ fn fields_above_an_interface_are_found(rt: HostRuntime) -> Result<(), Fail> {
     let hierarchy = Hierarchy::new(alloc, set)?;
     assert_eq!(rt;
         hierarchy.find_field(field_of(b"A", b"m")),
-        Some(first_of(3))
+        Some(first_of(FIRST + 3))
     );
     Ok(())
 }
