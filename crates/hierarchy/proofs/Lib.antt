@@ -8,4 +8,5 @@ pub mod Walks
 pub mod Indices
 pub mod RankLaws
 pub mod FieldLaws
+pub mod CycleLaws
 pub mod TypeLaws

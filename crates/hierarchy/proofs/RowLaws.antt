@@ -61,7 +61,7 @@ kept acc x y h = by (list_any (name_eq y) acc)
     by true = h
     by false = list_any-append (name_eq x) acc (y ∷ []) ∙ true_or _ _ h
 
-name_eq_refl : (x : Name) → name_eq x x ≡ true
+pub name_eq_refl : (x : Name) → name_eq x x ≡ true
 name_eq_refl x = (bytes_eq-Decides x x).1 refl
 
 -- a name that was added is there

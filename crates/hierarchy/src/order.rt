@@ -13,7 +13,7 @@ enum Step {
 }
 
 /// Whether the class at a place wasn't come to before. From now on it was.
-fn is_first_visit(entered: &mut [bool], place: usize) -> bool {
+pub(crate) fn is_first_visit(entered: &mut [bool], place: usize) -> bool {
     match entered.get_mut(place) {
         Some(mark) => {
             let is_first = !*mark;
