@@ -15,12 +15,8 @@ use Rattle.hierarchy.specs.Ranks.{rank_of}
 use Rattle.hierarchy.proofs.Names.{or_neither, not_false}
 use Rattle.hierarchy.proofs.SetLaws.{same_name, field_of_none}
 use Rattle.hierarchy.proofs.Indices.{not_found}
-use Rattle.hierarchy.proofs.Walks.{found-append, lineage_last, above_is, class_count}
+use Rattle.hierarchy.proofs.Walks.{or_else_assoc, or_else_none, found-append, lineage_last, above_is, class_count}
 use Rattle.hierarchy.proofs.RankLaws.{Ranked, ranked_by, steady}
-
-or_nothing : (a : Option Member) → option_or a None ≡ a
-or_nothing None = refl
-or_nothing (Some m) = refl
 
 -- ---- Object, which declares no field
 
@@ -51,7 +47,7 @@ each_found f g h late other (x ∷ xs) low flat same =
     ∙ sym (found-append f (x ∷ h x) (flat_map (λ x. x ∷ h x) xs))
 
 -- no superinterface of a class is below another class than Object
-pub interfaces_flat : (files : Program) (class : Name) → list_any (has_interface_below_other files) (classes_of files) ≡ false → list_any (is_below_other files) (superinterfaces_of files class) ≡ false
+interfaces_flat : (files : Program) (class : Name) → list_any (has_interface_below_other files) (classes_of files) ≡ false → list_any (is_below_other files) (superinterfaces_of files class) ≡ false
 interfaces_flat files class flat = by (class_of files class) refl
   where
     by : (o : Option FileTree) → class_of files class ≡ o → list_any (is_below_other files) (superinterfaces_of files class) ≡ false
@@ -63,15 +59,11 @@ from_interface : (files : Program) (rank : Name → ℕ) → Ranked files rank �
 from_interface files rank r flat m zero i low here = sym (ap (λ o. option_or o None) (field_of_none files m i (r.none i low)))
 from_interface files rank r flat m (suc n) i low here =
     ap (λ o. option_or (field_declared files m i) (option_or (first_found (λ j. field_from files n m j) (superinterfaces_of files i)) o)) (nothing_above files m n (superclass_of files i) here)
-    ∙ ap (option_or (field_declared files m i)) (or_nothing _
+    ∙ ap (option_or (field_declared files m i)) (or_else_none _
     ∙ each_found (field_declared files m) (λ j. field_from files n m j) (names_above (directly_above files above.Interfaces) n) (λ s. nat_le (rank i) (rank s)) (is_below_other files) (superinterfaces_of files i) (r.interfaces i) (interfaces_flat files i flat)
     (λ j below near. let less : rank j < rank i = leb-false (rank i) (rank j) below in from_interface files rank r flat m n j (omega arith) near))
 
 -- ---- along superclasses
-
-or_else_assoc : (a b c : Option Member) → option_or a (option_or b c) ≡ option_or (option_or a b) c
-or_else_assoc None b c = refl
-or_else_assoc (Some m) b c = refl
 
 from_class : (files : Program) (rank : Name → ℕ) → Ranked files rank → list_any (has_interface_below_other files) (classes_of files) ≡ false → (m : Member) (n : ℕ) (class : Name) → rank class ≤ n
     → field_from files n m class ≡ first_found (field_declared files m) (flat_map (λ c. c ∷ interfaces_above files c) (lineage_of files n class))
@@ -84,7 +76,7 @@ from_class files rank r flat m (suc n) class low =
     (λ i below near. from_interface files rank r flat m n i (one_less (rank i) (rank class) n (leb-false (rank class) (rank i) below) low) near)
     ∙ ap (first_found (field_declared files m)) (steady files rank r (suc n) (suc count) class low few ∙ above_is files class) in
     ap (λ o. option_or (field_declared files m class) (option_or o (option_and_then (λ s. field_from files n m s) (superclass_of files class)))) inside
-    ∙ or_else_assoc (field_declared files m class) (first_found (field_declared files m) (interfaces_above files class)) (option_and_then (λ s. field_from files n m s) (superclass_of files class))
+    ∙ sym (or_else_assoc (field_declared files m class) (first_found (field_declared files m) (interfaces_above files class)) (option_and_then (λ s. field_from files n m s) (superclass_of files class)))
     ∙ ap (option_or (first_found (field_declared files m) (class ∷ interfaces_above files class))) (super (superclass_of files class) (r.superclass class) (λ s less. from_class files rank r flat m n s less))
     ∙ sym (found-append (field_declared files m) (class ∷ interfaces_above files class) (flat_map (λ c. c ∷ interfaces_above files c) (option_map_or (λ s. lineage_of files n s) (superclass_of files class) [])))
   where
@@ -128,7 +120,3 @@ pub of_rows : (files : Program) (rows : List (List Name)) → rows ≡ rows_of f
 unfolding rows_of
 of_rows files [] e = absurd (no_row _ (classes_of files) _ (class_count files) e)
 of_rows files (row ∷ rows) e = e
-
-pub kept_rows : (files : Program) (rows : List (List Name)) → HasSupertypes files rows → (rows ≡ [] → ⊥) → rows ≡ rows_of files above.Supertypes (length (classes_of files) - 1)
-kept_rows files [] h some = absurd (some refl)
-kept_rows files (row ∷ rows) h some = h

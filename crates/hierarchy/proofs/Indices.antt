@@ -7,7 +7,7 @@ use Rattle.std.proofs.lemmas.List.Folds.{list_any-append}
 use Rattle.model.specs.Names.{Name}
 use Rattle.model.specs.BuiltIn.{built_in_classes}
 use Rattle.model.specs.Classes.{Program, classes_of}
-use Rattle.hierarchy.proofs.Names.{or_neither, same_or_later}
+use Rattle.hierarchy.proofs.Names.{neither_or, or_neither, or_second, same_or_later}
 use Rattle.hierarchy.proofs.Walks.{any_index}
 
 -- ---- indices of names
@@ -26,15 +26,7 @@ no_index q h read xs i o b same less is test fails before =
 
 -- ---- tests of items
 
-neither : (a b : Bool) → a ≡ false → b ≡ false → (a || b) ≡ false
-neither false b h k = k
-neither true b h k = absurd cc
-
-later : (a b : Bool) → b ≡ true → (a || b) ≡ true
-later true b h = refl
-later false b h = h
-
-pub take_one_more : {A : Type 0} (xs : List A) (i : ℕ) (x : A) → slice_get xs i ≡ Some x → take (i + 1) xs ≡ take i xs ++ x ∷ []
+take_one_more : {A : Type 0} (xs : List A) (i : ℕ) (x : A) → slice_get xs i ≡ Some x → take (i + 1) xs ≡ take i xs ++ x ∷ []
 take_one_more [] i x e = absurd cc
 take_one_more (y ∷ xs) zero x e = let same : y ≡ x = cc in ap (λ z. z ∷ []) same
 take_one_more (y ∷ xs) (suc i) x e = let more : suc i + 1 ≡ suc (i + 1) = omega arith in rw more (ap (λ l. y ∷ l) (take_one_more xs i x e))
@@ -46,7 +38,7 @@ take_whole (y ∷ xs) zero e = absurd cc
 take_whole (y ∷ xs) (suc i) e = ap (λ l. y ∷ l) (take_whole xs i e)
 
 pub none_more : {A : Type 0} (p : A → Bool) (xs : List A) (i : ℕ) (x : A) → slice_get xs i ≡ Some x → list_any p (take i xs) ≡ false → p x ≡ false → list_any p (take (i + 1) xs) ≡ false
-none_more p xs i x e h k = ap (list_any p) (take_one_more xs i x e) ∙ list_any-append p (take i xs) (x ∷ []) ∙ neither _ _ h (neither _ _ k refl)
+none_more p xs i x e h k = ap (list_any p) (take_one_more xs i x e) ∙ list_any-append p (take i xs) (x ∷ []) ∙ neither_or _ _ h (neither_or _ _ k refl)
 
 pub none_all : {A : Type 0} (p : A → Bool) (xs : List A) (i : ℕ) → slice_get xs i ≡ None → list_any p (take i xs) ≡ false → list_any p xs ≡ false
 none_all p xs i e h = ap (list_any p) (sym (take_whole xs i e)) ∙ h
@@ -54,7 +46,7 @@ none_all p xs i e h = ap (list_any p) (sym (take_whole xs i e)) ∙ h
 pub one_at : {A : Type 0} (p : A → Bool) (xs : List A) (k : ℕ) (x : A) → slice_get xs k ≡ Some x → p x ≡ true → list_any p xs ≡ true
 one_at p [] k x e h = absurd cc
 one_at p (y ∷ xs) zero x e h = let same : y ≡ x = cc in rw (same, h) refl
-one_at p (y ∷ xs) (suc k) x e h = later (p y) (list_any p xs) (one_at p xs k x e h)
+one_at p (y ∷ xs) (suc k) x e h = or_second (p y) (list_any p xs) (one_at p xs k x e h)
 
 -- what is so of no item isn't so of the one that is found
 pub not_found : {A : Type 0} (p q : A → Bool) (xs : List A) (x : A) → find p xs ≡ Some x → list_any q xs ≡ false → q x ≡ false
