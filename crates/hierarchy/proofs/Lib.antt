@@ -7,4 +7,8 @@ pub mod Declared
 pub mod Adding
 pub mod RowLaws
 pub mod Walks
+pub mod Indices
+pub mod RankLaws
+pub mod FieldLaws
+pub mod CycleLaws
 pub mod TypeLaws

@@ -32,7 +32,7 @@ or_neither false false h = (refl, refl)
 or_neither false true h = absurd cc
 or_neither true b h = absurd cc
 
-neither_or : (a b : Bool) → a ≡ false → b ≡ false → (a || b) ≡ false
+pub neither_or : (a b : Bool) → a ≡ false → b ≡ false → (a || b) ≡ false
 neither_or false b h k = k
 neither_or true b h k = absurd cc
 

@@ -61,7 +61,7 @@ kept acc x y h = by (list_any (name_eq y) acc)
     by true = h
     by false = list_any-append (name_eq x) acc (y ∷ []) ∙ true_or _ _ h
 
-name_eq_refl : (x : Name) → name_eq x x ≡ true
+pub name_eq_refl : (x : Name) → name_eq x x ≡ true
 name_eq_refl x = (bytes_eq-Decides x x).1 refl
 
 -- a name that was added is there
@@ -120,7 +120,7 @@ above_none : (next : Name → List Name) (n : ℕ) (name : Name) → next name �
 above_none next zero name e = refl
 above_none next (suc n) name e = ap (λ l. flat_map (λ i. i ∷ names_above next n i) l) e
 
-get_map : {A B : Type 0} (f : A → B) (xs : List A) (i : ℕ) (x : A) → slice_get xs i ≡ Some x → slice_get (map f xs) i ≡ Some (f x)
+pub get_map : {A B : Type 0} (f : A → B) (xs : List A) (i : ℕ) (x : A) → slice_get xs i ≡ Some x → slice_get (map f xs) i ≡ Some (f x)
 get_map f [] i x e = absurd cc
 get_map f (y ∷ xs) zero x e = let same : y ≡ x = cc in ap (λ z. Some (f z)) same
 get_map f (y ∷ xs) (suc i) x e = get_map f xs i x e
@@ -140,7 +140,7 @@ row_is files kind n name = at (place_of files name) refl
             ap (λ (o : Option (List Name)). option_map_or (λ row. row) o []) (get_map (λ (file : FileTree). each_once (names_above (directly_above files kind) n (name_of file))) (classes_of files) k file g)
             ∙ ap (λ m. each_once (names_above (directly_above files kind) n m)) (name_at_place files name k file e g)
 
-map_same : {A B : Type 0} (f g : A → B) → ((x : A) → f x ≡ g x) → (xs : List A) → map f xs ≡ map g xs
+pub map_same : {A B : Type 0} (f g : A → B) → ((x : A) → f x ≡ g x) → (xs : List A) → map f xs ≡ map g xs
 map_same f g same [] = refl
 map_same f g same (x ∷ xs) = rw (same x, map_same f g same xs) refl
 
@@ -162,6 +162,10 @@ from_here xs ys i x y at there e h = drop_at xs i x at ∙ ap (λ z. z ∷ drop 
 
 pub at_end : {A : Type 0} (xs ys : List A) (i : ℕ) → i ≡ length xs → length xs ≡ length ys → drop i xs ≡ drop i ys
 at_end xs ys i e h = drop_all xs i e ∙ sym (drop_all ys i (e ∙ h))
+
+-- a list that is what another is made into, from a place on
+pub made_here : {A B : Type 0} (f : A → B) (xs : List A) (made : List B) (i : ℕ) (x : A) (y : B) → slice_get xs i ≡ Some x → slice_get made i ≡ Some y → f x ≡ y → map f (drop (i + 1) xs) ≡ drop (i + 1) made → map f (drop i xs) ≡ drop i made
+made_here f xs made i x y at there e rest = ap (map f) (drop_at xs i x at) ∙ ap (λ z. z ∷ map f (drop (i + 1) xs)) e ∙ ap (λ l. y ∷ l) rest ∙ sym (drop_at made i y there)
 
 -- ---- one name more among keys
 

@@ -60,11 +60,11 @@ any_flip d (x ∷ xs) = rw (name_eq_sym d x, any_flip d xs) refl
 
 -- ---- what is found first in them
 
-or_else_assoc : (a b c : Option Member) → option_or (option_or a b) c ≡ option_or a (option_or b c)
+pub or_else_assoc : (a b c : Option Member) → option_or (option_or a b) c ≡ option_or a (option_or b c)
 or_else_assoc None b c = refl
 or_else_assoc (Some m) b c = refl
 
-or_else_none : (a : Option Member) → option_or a None ≡ a
+pub or_else_none : (a : Option Member) → option_or a None ≡ a
 or_else_none None = refl
 or_else_none (Some m) = refl
 

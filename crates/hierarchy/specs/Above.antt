@@ -1,5 +1,5 @@
 -- The names that stand above the classes of a program.
-use Rattle.std.specs.Prelude.{◌≡◌, ◌-◌, length, ℕ, zero, suc, List, [], ◌∷◌, ◌++◌, ◌||◌, Bool, if◌then◌else◌, map, slice_get}
+use Rattle.std.specs.Prelude.{◌-◌, length, ℕ, zero, suc, List, [], ◌∷◌, ◌++◌, ◌||◌, Bool, if◌then◌else◌, map, slice_get}
 use Rattle.std.specs.Option.{option_and_then, option_map_or, option_to_list}
 use Rattle.std.specs.List.{flat_map, list_any}
 use Rattle.model.specs.Names.{Name, name_eq}
@@ -51,12 +51,6 @@ next_row files kind rows class = each_once (flat_map (λ name. name ∷ row_of f
 
 abbrev pub next_rows : Program → declared_above.Above → List (List Name) → List (List Name)
 next_rows files kind rows = map (λ (file : FileTree). next_row files kind rows (name_of file)) (classes_of files)
-
--- The rows that look-ups go through: the superinterfaces of each class without those of its superclasses, and all that is
--- above each class.
-pub record HasRows (files : Program) (interfaces supertypes : List (List Name)) : Type 0 where
-  pub by_interfaces : interfaces ≡ rows_of files above.Interfaces (suc (length (classes_of files)))
-  pub by_supertypes : supertypes ≡ rows_of files above.Supertypes (length (classes_of files) - 1)
 
 -- the second class is the first one, or the first is above it by fewer steps than there are classes
 abbrev pub leads_to : Program → Name → Name → Bool

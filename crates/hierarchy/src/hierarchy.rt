@@ -1,25 +1,25 @@
 //! Look-ups that go through superinterfaces (JVMS 5.4.3).
 
-ghost use Rattle.std.specs.Prelude.{◌≡◌, ◌-◌, [], length, option_map, IfOk, IfSome};
-ghost use Rattle.std.specs.Option.{option_map_or, option_to_list};
+ghost use Rattle.std.specs.Prelude.{◌≡◌, [], option_map, IfOk, IfSome};
+ghost use Rattle.std.specs.Option.{option_map_or};
 ghost use Rattle.std.specs.List.{list_any};
 ghost use Rattle.model.specs.Names.{name_eq};
 ghost use Rattle.constant_pool.specs.View.{reference_of};
-ghost use Rattle.classfile.specs.View.{file_of};
-ghost use Rattle.model.specs.Hierarchy.{is_above};
 ghost use Rattle.model.specs.ReferenceTypes.{is_subclass_or_implements};
-ghost use Rattle.model.specs.Classes.{classes_of, interface_names, interfaces_above, all_superinterfaces, implements};
-ghost use Rattle.model.specs.Lookup.{method_declared, any_method, first_found, field_declared, find_field, find_method, find_interface_method};
-ghost use Rattle.hierarchy.specs.declared.rows.Above.TheVariants as above;
-ghost use Rattle.hierarchy.specs.Above.{each_once, leads_to, directly_above, names_above};
+ghost use Rattle.model.specs.Classes.{interfaces_above, all_superinterfaces, implements};
+ghost use Rattle.model.specs.Lookup.{method_declared, any_method, first_found, find_field, find_method, find_interface_method};
+ghost use Rattle.hierarchy.specs.Above.{each_once};
 ghost use Rattle.hierarchy.specs.Places.{member_in, IsFieldAt, IsMethodAt};
 
+use crate::fields::{field_along_superclasses, field_among_supertypes, rows_for_fields};
 use crate::lookup::Wanted;
 use crate::name_set::NameSet;
 use crate::place::MemberPlace;
-use crate::rows::{Above, row_of, rows_above, rows_within};
-use crate::set::{ClassSet, superclass_name};
-use classfile::{ClassFile, Reference};
+use crate::ranked_rows::ordered_interface_rows;
+use crate::ranks::ranked_order;
+use crate::rows::{interface_rows, row_of, supertype_rows};
+use crate::set::ClassSet;
+use classfile::Reference;
 use std::alloc::{AllocError, Global};
 use std::marker::Model;
 
@@ -29,13 +29,13 @@ pub struct Hierarchy {
     set: ClassSet,
     /// For each class its direct superinterfaces and what is above these, without the superinterfaces of its superclass.
     interfaces: Vec<NameSet>,
-    /// For each class all that is above it.
+    /// For each class all that is above it. Empty where fields are found along superclasses.
     supertypes: Vec<NameSet>,
 }
 
 impl Model for Hierarchy {
     ghost use Rattle.model.specs.Classes.{Program};
-    ghost use Rattle.hierarchy.specs.Above.{HasRows};
+    ghost use Rattle.hierarchy.specs.Fields.{HasRows};
 
     ghost Value = { Program };
 
@@ -60,31 +60,29 @@ fn method_among(set: &ClassSet, row: &NameSet, method: Reference<'_>) -> Option<
     None
 }
 
-/// The first of the names of a row whose class declares the field.
-fn field_among(set: &ClassSet, row: &NameSet, field: Reference<'_>) -> Option<MemberPlace>
-    ensures found { option_map (λ p. member_in set.now (reference_of field.entry) p) result ≡ first_found (field_declared set.now (reference_of field.entry)) row.now }
-    ensures place { IfSome result (IsFieldAt set.now (reference_of field.entry)) }
-{
-    for place in 0..row.count() {
-        let Some(name) = row.get(place) else {
-            return None;
-        };
-        if let Some(found) = set.field_in(name, field) {
-            return Some(found);
-        }
-    }
-    None
-}
-
 impl Hierarchy {
+    /// The hierarchy of a set in which a class is above itself.
+    fn by_steps(alloc: Global, set: ClassSet) -> Result<Hierarchy, AllocError>
+        ensures { IfOk result (λ hierarchy. hierarchy ≡ set) }
+    {
+        let interfaces = interface_rows(alloc, &set)?;
+        let supertypes = supertype_rows(alloc, &set)?;
+        Ok(Hierarchy {
+            set,
+            interfaces,
+            supertypes,
+        })
+    }
+
     /// The hierarchy of a set of classes. This alone takes memory.
     pub fn new(alloc: Global, set: ClassSet) -> Result<Hierarchy, AllocError>
         ensures { IfOk result (λ hierarchy. hierarchy ≡ set) }
     {
-        let count = set.count();
-        let near = rows_within(alloc, &set, Above::Interfaces, count)?;
-        let interfaces = rows_above(alloc, &set, &near, Above::Interfaces)?;
-        let supertypes = rows_within(alloc, &set, Above::Supertypes, count.saturating_sub(1))?;
+        let Some(order) = ranked_order(alloc, &set)? else {
+            return Hierarchy::by_steps(alloc, set);
+        };
+        let interfaces = ordered_interface_rows(alloc, &set, &order)?;
+        let supertypes = rows_for_fields(alloc, &set)?;
         Ok(Hierarchy {
             set,
             interfaces,
@@ -189,24 +187,15 @@ impl Hierarchy {
         self.method_in_superinterfaces(method.class, method)
     }
 
-    /// The names of all that is above a class.
-    fn supertypes_of(&self, class: &[u8]) -> Option<&NameSet>
-        ensures { option_map_or (λ row. row.now) result [] ≡ each_once (names_above (directly_above self.now above.Supertypes) (length (classes_of self.now) - 1) class.now) }
-    {
-        row_of(&self.set, &self.supertypes, class)
-    }
-
     /// The field that a symbolic reference names (JVMS 5.4.3.2). Takes no memory.
     pub fn find_field(&self, field: Reference<'_>) -> Option<MemberPlace>
         ensures found { option_map (λ p. member_in self.now (reference_of field.entry) p) result ≡ find_field self.now (reference_of field.entry) }
         ensures place { IfSome result (IsFieldAt self.now (reference_of field.entry)) }
     {
-        if let Some(found) = self.set.declared_field(field) {
-            return Some(found);
-        }
-        match self.supertypes_of(field.class) {
-            Some(row) => field_among(&self.set, row, field),
-            None => None,
+        if self.supertypes.is_empty() {
+            field_along_superclasses(&self.set, &self.interfaces, field)
+        } else {
+            field_among_supertypes(&self.set, &self.supertypes, field)
         }
     }
 
@@ -215,46 +204,5 @@ impl Hierarchy {
         ensures { result ≡ is_subclass_or_implements self.now class.now other.now }
     {
         self.set.is_subclass(class, other) || self.implements(class, other)
-    }
-
-    /// Whether a class has another one above it.
-    fn has_above(&self, class: &[u8], other: &[u8]) -> bool
-        ensures { result ≡ is_above self.now (length (classes_of self.now) - 1) class.now other.now }
-    {
-        match self.supertypes_of(class) {
-            Some(row) => row.contains(other),
-            None => false,
-        }
-    }
-
-    /// Whether a class that is named is the other one, or has it above it.
-    fn leads_to(&self, name: Option<&[u8]>, other: &[u8]) -> bool
-        ensures { result ≡ list_any (leads_to self.now other.now) (option_to_list (option_map (λ t. t.now) name.entry)) }
-    {
-        match name {
-            Some(name) => name == other || self.has_above(name, other),
-            None => false,
-        }
-    }
-
-    fn an_interface_leads_to(&self, file: &ClassFile, other: &[u8]) -> bool
-        ensures { result ≡ list_any (leads_to self.now other.now) (interface_names (file_of file.now)) }
-    {
-        for index in &file.interfaces {
-            if self.leads_to(file.class_name(*index), other) {
-                return true;
-            }
-        }
-        false
-    }
-
-    /// Whether the class of a name is above itself (JVMS 5.3.5). Takes no memory.
-    pub fn is_above_itself(&self, class: &[u8]) -> bool
-        ensures { result ≡ is_above self.now (length (classes_of self.now)) class.now class.now }
-    {
-        let Some(file) = self.set.class_of(class) else {
-            return false;
-        };
-        self.leads_to(superclass_name(file), class) || self.an_interface_leads_to(file, class)
     }
 }

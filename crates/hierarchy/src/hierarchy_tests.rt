@@ -1,6 +1,8 @@
 //! Look-ups in a small tree of classes and interfaces, and cycles.
 
-use crate::{ClassSet, Hierarchy, Innermost, MemberPlace, Primitive, ReferenceType};
+use crate::{
+    ClassSet, Hierarchy, Innermost, MemberPlace, Primitive, ReferenceType, first_in_cycle,
+};
 use classfile::{ClassFile, Constant, Field, Method, Pool, Reference};
 use std::alloc::{AllocError, Global};
 use std::test::Fail;
@@ -138,16 +140,112 @@ fn members_are_found_in_superinterfaces(rt: HostRuntime) -> Result<(), Fail> {
 #[test]
 fn cycles_are_seen(rt: HostRuntime) -> Result<(), Fail> {
     let alloc = rt.alloc();
+    let object = b"java/lang/Object";
     let mut files = Vec::new(alloc);
-    files.push(class(alloc, b"A", b"B", b"", b"")?)?;
-    files.push(class(alloc, b"B", b"java/lang/Object", b"A", b"")?)?;
     files.push(class(alloc, b"C", b"A", b"", b"")?)?;
+    files.push(class(alloc, b"A", b"B", b"", b"")?)?;
+    files.push(class(alloc, b"B", object, b"A", b"m")?)?;
     let set = ClassSet::new(alloc, files).ok().ok_or("refused")?;
+    assert_eq!(rt; first_in_cycle(alloc, &set)?, Some(1));
     let hierarchy = Hierarchy::new(alloc, set)?;
-    assert!(rt; hierarchy.is_above_itself(b"A"));
-    assert!(rt; hierarchy.is_above_itself(b"B"));
-    assert!(rt; !hierarchy.is_above_itself(b"C"));
-    assert!(rt; !hierarchy.is_above_itself(b"java/lang/Error"));
+    assert_eq!(rt;
+        hierarchy.find_field(field_of(b"C", b"m")),
+        Some(first_of(FIRST + 2))
+    );
+    Ok(())
+}
+
+#[test]
+fn cycles_of_interfaces_are_seen(rt: HostRuntime) -> Result<(), Fail> {
+    let alloc = rt.alloc();
+    let object = b"java/lang/Object";
+    let mut files = Vec::new(alloc);
+    files.push(class(alloc, b"D", object, b"", b"")?)?;
+    files.push(class(alloc, b"I", object, b"J", b"")?)?;
+    files.push(class(alloc, b"J", object, b"I", b"")?)?;
+    let set = ClassSet::new(alloc, files).ok().ok_or("refused")?;
+    assert_eq!(rt; first_in_cycle(alloc, &set)?, Some(1));
+    Ok(())
+}
+
+#[test]
+fn a_class_below_itself_is_seen(rt: HostRuntime) -> Result<(), Fail> {
+    let alloc = rt.alloc();
+    let mut files = Vec::new(alloc);
+    files.push(class(alloc, b"A", b"A", b"", b"")?)?;
+    let set = ClassSet::new(alloc, files).ok().ok_or("refused")?;
+    assert_eq!(rt; first_in_cycle(alloc, &set)?, Some(0));
+    Ok(())
+}
+
+/// The first member of the class at a place.
+fn first_of(class: usize) -> MemberPlace {
+    MemberPlace { class, member: 0 }
+}
+
+/// A reference to a field of type int.
+fn field_of<'a>(class: &'a [u8], name: &'a [u8]) -> Reference<'a> {
+    Reference {
+        class,
+        name,
+        descriptor: b"I",
+    }
+}
+
+/// A chain of classes, each file before the one above it, with interfaces in a diamond: both `M` of `A` and `N` of `B` stand
+/// below `K`.
+#[test]
+fn a_chain_and_a_diamond_are_no_cycle(rt: HostRuntime) -> Result<(), Fail> {
+    let alloc = rt.alloc();
+    let object = b"java/lang/Object";
+    let mut files = Vec::new(alloc);
+    files.push(class(alloc, b"A", b"B", b"M", b"")?)?;
+    files.push(class(alloc, b"B", b"C", b"N", b"")?)?;
+    files.push(class(alloc, b"C", b"D", b"", b"c")?)?;
+    files.push(class(alloc, b"D", object, b"K", b"d")?)?;
+    files.push(class(alloc, b"M", object, b"K", b"m")?)?;
+    files.push(class(alloc, b"N", object, b"K", b"n")?)?;
+    files.push(class(alloc, b"K", object, b"I", b"k")?)?;
+    files.push(class(alloc, b"I", object, b"", b"i")?)?;
+    let set = ClassSet::new(alloc, files).ok().ok_or("refused")?;
+    assert_eq!(rt; first_in_cycle(alloc, &set)?, None);
+    let hierarchy = Hierarchy::new(alloc, set)?;
+    assert!(rt; hierarchy.implements(b"A", b"I"));
+    assert!(rt; hierarchy.implements(b"A", b"N"));
+    assert!(rt; !hierarchy.implements(b"D", b"N"));
+    assert_eq!(rt;
+        hierarchy.find_field(field_of(b"A", b"d")),
+        Some(first_of(FIRST + 3))
+    );
+    assert_eq!(rt;
+        hierarchy.find_field(field_of(b"A", b"n")),
+        Some(first_of(FIRST + 5))
+    );
+    assert_eq!(rt;
+        hierarchy.find_field(field_of(b"A", b"i")),
+        Some(first_of(FIRST + 7))
+    );
+    assert_eq!(rt; hierarchy.find_field(field_of(b"D", b"c")), None);
+    Ok(())
+}
+
+/// An interface below another class than Object: class rules refuse it, and look-ups still find what stands above.
+#[test]
+fn fields_above_an_interface_are_found(rt: HostRuntime) -> Result<(), Fail> {
+    let alloc = rt.alloc();
+    let object = b"java/lang/Object";
+    let mut files = Vec::new(alloc);
+    files.push(class(alloc, b"A", b"B", b"I", b"")?)?;
+    files.push(class(alloc, b"B", object, b"", b"m")?)?;
+    files.push(class(alloc, b"I", b"C", b"", b"")?)?;
+    files.push(class(alloc, b"C", object, b"", b"m")?)?;
+    let set = ClassSet::new(alloc, files).ok().ok_or("refused")?;
+    assert_eq!(rt; first_in_cycle(alloc, &set)?, None);
+    let hierarchy = Hierarchy::new(alloc, set)?;
+    assert_eq!(rt;
+        hierarchy.find_field(field_of(b"A", b"m")),
+        Some(first_of(FIRST + 3))
+    );
     Ok(())
 }
 

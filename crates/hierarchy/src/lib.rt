@@ -1,6 +1,9 @@
 //! Sets of classes (JVMS 5.3), and which field or method a symbolic reference names in them (JVMS 5.4.3).
 #![tactic(auto)]
 
+mod components;
+mod cycles;
+mod fields;
 mod hierarchy;
 #[cfg(test)]
 mod hierarchy_tests;
@@ -8,7 +11,10 @@ mod lookup;
 mod member_table;
 mod members;
 mod name_set;
+mod order;
 mod place;
+mod ranked_rows;
+mod ranks;
 mod reference_type;
 mod refusal;
 mod rows;
@@ -16,6 +22,7 @@ mod set;
 #[cfg(test)]
 mod tests;
 
+pub use cycles::first_in_cycle;
 pub use hierarchy::Hierarchy;
 pub use place::MemberPlace;
 pub use reference_type::{Innermost, Primitive, ReferenceType};

@@ -1,10 +1,11 @@
 //! For each class of a set the names of what is above it.
 
-ghost use Rattle.std.specs.Prelude.{◌≡◌, ◌∷◌, [], zero, option_map, IfOk, OnOk, true};
+ghost use Rattle.std.specs.Prelude.{◌≡◌, ◌∷◌, ◌-◌, [], zero, suc, length, option_map, IfOk, OnOk, true};
 ghost use Rattle.std.specs.Option.{option_map_or, option_to_list};
 ghost use Rattle.std.specs.List.{flat_map};
 ghost use Rattle.classfile.specs.View.{file_of};
-ghost use Rattle.model.specs.Classes.{interface_names};
+ghost use Rattle.model.specs.Classes.{classes_of, interface_names};
+ghost use Rattle.hierarchy.specs.declared.rows.Above.TheVariants as above;
 ghost use Rattle.hierarchy.specs.Above.{with_names, row_of, next_row, next_rows, rows_of};
 
 use crate::name_set::NameSet;
@@ -81,7 +82,7 @@ fn add_interfaces(
 }
 
 /// The row of a class, by the rows of what stands directly above it.
-fn row_above(
+pub(crate) fn row_above(
     alloc: Global,
     set: &ClassSet,
     rows: &[NameSet],
@@ -125,7 +126,11 @@ pub(crate) fn rows_above(
 }
 
 /// Empty rows, one for each class.
-fn empty_rows(alloc: Global, set: &ClassSet, kind: Above) -> Result<Vec<NameSet>, AllocError>
+pub(crate) fn empty_rows(
+    alloc: Global,
+    set: &ClassSet,
+    kind: Above,
+) -> Result<Vec<NameSet>, AllocError>
     ensures { IfOk result (λ rows. rows.items ≡ rows_of set.now kind zero) }
 {
     let mut rows = Vec::new(alloc);
@@ -176,4 +181,19 @@ pub(crate) fn rows_within(
         rows = next;
     }
     Ok(rows)
+}
+
+/// For each class its superinterfaces without those of its superclasses, step by step.
+pub(crate) fn interface_rows(alloc: Global, set: &ClassSet) -> Result<Vec<NameSet>, AllocError>
+    ensures { IfOk result (λ rows. rows.items ≡ rows_of set.now above.Interfaces (suc (length (classes_of set.now)))) }
+{
+    let near = rows_within(alloc, set, Above::Interfaces, set.count())?;
+    rows_above(alloc, set, &near, Above::Interfaces)
+}
+
+/// For each class all that is above it, step by step.
+pub(crate) fn supertype_rows(alloc: Global, set: &ClassSet) -> Result<Vec<NameSet>, AllocError>
+    ensures { IfOk result (λ rows. rows.items ≡ rows_of set.now above.Supertypes (length (classes_of set.now) - 1)) }
+{
+    rows_within(alloc, set, Above::Supertypes, set.count().saturating_sub(1))
 }

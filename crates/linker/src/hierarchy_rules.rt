@@ -1,35 +1,18 @@
 //! What is above each class, and what classes have to be to one another.
 
-ghost use Rattle.std.specs.Prelude.{◌≡◌, false, true, slice_get, MatchOption, IfOk, IfErr, IsFalse, OnOk};
-ghost use Rattle.std.specs.Option.{option_map_or};
+ghost use Rattle.std.specs.Prelude.{◌≡◌, false, IfOk, IfErr, IsFalse, OnOk};
 ghost use Rattle.std.specs.List.{list_any};
 ghost use Rattle.model.specs.Hierarchy.{in_cycle, has_bad_hierarchy};
 ghost use Rattle.model.specs.Linkable.{stands, before_links, earlier, DuplicateClass, Unresolved};
 ghost use Rattle.classfile.specs.View.{file_of};
 ghost use Rattle.linker.specs.Linking.{RefusesTrees, RefusesFor};
 
-use crate::place::{class_name, file_at, file_count, method_text};
+use crate::place::{file_at, file_count, method_text};
 use class_rules::{RulePlace, first_broken_rule};
 use classfile::ClassFile;
-use hierarchy::{ClassSet, Hierarchy};
+use hierarchy::{ClassSet, Hierarchy, first_in_cycle};
 use refusal::{Refusal, RefusalKind};
 use std::alloc::{AllocError, Global};
-
-/// The number of the first file whose class is above itself.
-fn first_in_cycle(hierarchy: &Hierarchy) -> Option<usize>
-    ensures { MatchOption result (list_any (in_cycle hierarchy.now) hierarchy.now ≡ false) (λ k. option_map_or (in_cycle hierarchy.now) (slice_get hierarchy.now k) false ≡ true) }
-{
-    let set = hierarchy.set();
-    for number in 0..file_count(set) {
-        let Some(file) = file_at(set, number) else {
-            return None;
-        };
-        if hierarchy.is_above_itself(class_name(file)) {
-            return Some(number);
-        }
-    }
-    None
-}
 
 /// A refusal of a broken rule of a file.
 fn refusal_of(
@@ -90,10 +73,11 @@ pub(crate) fn hierarchy_of(alloc: Global, set: ClassSet) -> Result<Hierarchy, Re
     ensures passed { OnOk result (list_any (stands set) (earlier Unresolved) ≡ false) }
     ensures refused { IfErr result (λ r. RefusesTrees set r.kind r.file r.cause) }
 {
-    let hierarchy = Hierarchy::new(alloc, set)?;
-    if let Some(number) = first_in_cycle(&hierarchy) {
+    let found = first_in_cycle(alloc, &set)?;
+    if let Some(number) = found {
         return Err(Refusal::of_file(RefusalKind::BadHierarchy, number));
     }
-    check_rules(alloc, hierarchy.set())?;
+    check_rules(alloc, &set)?;
+    let hierarchy = Hierarchy::new(alloc, set)?;
     Ok(hierarchy)
 }

@@ -1,0 +1,181 @@
+//! Classes that are above themselves (JVMS 5.3.5).
+
+ghost use Rattle.std.specs.Prelude.{◌≡◌, ◌-◌, length, option_map, slice_get, false, true, IfOk, IfSome, MatchOption};
+ghost use Rattle.std.specs.Option.{option_map_or, option_to_list};
+ghost use Rattle.std.specs.List.{list_any};
+ghost use Rattle.classfile.specs.View.{file_of};
+ghost use Rattle.model.specs.Names.{name_eq};
+ghost use Rattle.model.specs.Hierarchy.{is_above, in_cycle, direct_supertypes};
+ghost use Rattle.model.specs.Classes.{classes_of, interface_names};
+ghost use Rattle.hierarchy.specs.declared.rows.Above.TheVariants as above;
+ghost use Rattle.hierarchy.specs.Above.{leads_to, rows_of};
+
+use crate::components::{classes_below, classes_in_cycles, is_marked, ways_up};
+use crate::name_set::NameSet;
+use crate::ranks::ranked_order;
+use crate::rows::{row_of, supertype_rows};
+use crate::set::{ClassSet, class_name, superclass_name};
+use classfile::ClassFile;
+use std::alloc::{AllocError, Global};
+
+/// How many classes are built in. The first file stands behind them.
+const BUILT_IN: usize = 30;
+
+/// Whether a class has another one above it, by the rows of all that is above classes.
+fn has_above(set: &ClassSet, supertypes: &[NameSet], class: &[u8], other: &[u8]) -> bool
+    requires { supertypes.now ≡ rows_of set.now above.Supertypes (length (classes_of set.now) - 1) }
+    ensures { result ≡ is_above set.now (length (classes_of set.now) - 1) class.now other.now }
+{
+    match row_of(set, supertypes, class) {
+        Some(row) => row.contains(other),
+        None => false,
+    }
+}
+
+/// Whether a class that is named is the other one, or has it above it.
+fn leads_to(set: &ClassSet, supertypes: &[NameSet], name: Option<&[u8]>, other: &[u8]) -> bool
+    requires { supertypes.now ≡ rows_of set.now above.Supertypes (length (classes_of set.now) - 1) }
+    ensures { result ≡ list_any (leads_to set.now other.now) (option_to_list (option_map (λ t. t.now) name.entry)) }
+{
+    match name {
+        Some(name) => name == other || has_above(set, supertypes, name, other),
+        None => false,
+    }
+}
+
+fn an_interface_leads_to(
+    set: &ClassSet,
+    supertypes: &[NameSet],
+    file: &ClassFile,
+    other: &[u8],
+) -> bool
+    requires { supertypes.now ≡ rows_of set.now above.Supertypes (length (classes_of set.now) - 1) }
+    ensures { result ≡ list_any (leads_to set.now other.now) (interface_names (file_of file.now)) }
+{
+    for index in &file.interfaces {
+        if leads_to(set, supertypes, file.class_name(*index), other) {
+            return true;
+        }
+    }
+    false
+}
+
+/// Whether the class of a name is above itself.
+fn is_above_itself(set: &ClassSet, supertypes: &[NameSet], class: &[u8]) -> bool
+    requires { supertypes.now ≡ rows_of set.now above.Supertypes (length (classes_of set.now) - 1) }
+    ensures { result ≡ is_above set.now (length (classes_of set.now)) class.now class.now }
+{
+    let Some(file) = set.class_of(class) else {
+        return false;
+    };
+    leads_to(set, supertypes, superclass_name(file), class)
+        || an_interface_leads_to(set, supertypes, file, class)
+}
+
+/// The number of the first file whose class is above itself, by the rows of all that is above classes.
+fn first_above_itself(set: &ClassSet, supertypes: &[NameSet]) -> Option<usize>
+    requires { supertypes.now ≡ rows_of set.now above.Supertypes (length (classes_of set.now) - 1) }
+    ensures { MatchOption result (list_any (in_cycle set.now) set.now ≡ false) (λ k. option_map_or (in_cycle set.now) (slice_get set.now k) false ≡ true) }
+{
+    for number in 0..set.count().saturating_sub(BUILT_IN) {
+        let Some(file) = set.class_at(BUILT_IN + number) else {
+            return None;
+        };
+        if is_above_itself(set, supertypes, class_name(file)) {
+            return Some(number);
+        }
+    }
+    None
+}
+
+/// Whether a name is there and is this one.
+fn is_name(name: Option<&[u8]>, other: &[u8]) -> bool
+    ensures { result ≡ list_any (λ s. name_eq s other.now) (option_to_list (option_map (λ t. t.now) name.entry)) }
+{
+    match name {
+        Some(name) => name == other,
+        None => false,
+    }
+}
+
+fn has_interface(file: &ClassFile, interface: &[u8]) -> bool
+    ensures { result ≡ list_any (λ s. name_eq s interface.now) (interface_names (file_of file.now)) }
+{
+    for index in &file.interfaces {
+        if is_name(file.class_name(*index), interface) {
+            return true;
+        }
+    }
+    false
+}
+
+/// Whether the class of a name has another one directly above it.
+fn is_directly_below(set: &ClassSet, class: &[u8], other: &[u8]) -> bool
+    ensures { result ≡ list_any (λ s. name_eq s other.now) (direct_supertypes set.now class.now) }
+{
+    match set.class_of(class) {
+        Some(file) => is_name(superclass_name(file), other) || has_interface(file, other),
+        None => false,
+    }
+}
+
+/// Whether a way up from a class leads back to it: for each class the place of one directly above it.
+fn leads_back(set: &ClassSet, ways: &[usize], place: usize, class: &[u8]) -> bool
+    ensures { result ≡ true → is_above set.now (length (classes_of set.now)) class.now class.now ≡ true }
+{
+    let mut lower = class;
+    let mut place = place;
+    for _step in 0..set.count() {
+        let Some(next) = ways.get(place) else {
+            return false;
+        };
+        let Some(file) = set.class_at(*next) else {
+            return false;
+        };
+        let upper = class_name(file);
+        if !is_directly_below(set, lower, upper) {
+            return false;
+        }
+        if upper == class {
+            return true;
+        }
+        lower = upper;
+        place = *next;
+    }
+    false
+}
+
+/// The number of the first file whose class is found to be above itself by a way that leads back to it.
+fn first_led_back(alloc: Global, set: &ClassSet) -> Result<Option<usize>, AllocError>
+    ensures { IfOk result (λ found. IfSome found (λ k. option_map_or (in_cycle set.now) (slice_get set.now k) false ≡ true)) }
+{
+    let below = classes_below(alloc, set)?;
+    let marks = classes_in_cycles(alloc, set, &below)?;
+    for number in 0..set.count().saturating_sub(BUILT_IN) {
+        let place = BUILT_IN + number;
+        let Some(file) = set.class_at(place) else {
+            return Ok(None);
+        };
+        if is_marked(&marks, place) {
+            let ways = ways_up(alloc, &below, place)?;
+            if leads_back(set, &ways, place, class_name(file)) {
+                return Ok(Some(number));
+            }
+        }
+    }
+    Ok(None)
+}
+
+/// The number of the first file whose class is above itself (JVMS 5.3.5). Files are counted from 0.
+pub fn first_in_cycle(alloc: Global, set: &ClassSet) -> Result<Option<usize>, AllocError>
+    ensures { IfOk result (λ found. MatchOption found (list_any (in_cycle set.now) set.now ≡ false) (λ k. option_map_or (in_cycle set.now) (slice_get set.now k) false ≡ true)) }
+{
+    if let Some(_order) = ranked_order(alloc, set)? {
+        return Ok(None);
+    }
+    if let Some(number) = first_led_back(alloc, set)? {
+        return Ok(Some(number));
+    }
+    let supertypes = supertype_rows(alloc, set)?;
+    Ok(first_above_itself(set, &supertypes))
+}
