@@ -13,6 +13,7 @@ mod reference_type;
 mod refusal;
 mod rows;
 mod set;
+mod superclasses;
 #[cfg(test)]
 mod tests;
 
