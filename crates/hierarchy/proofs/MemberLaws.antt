@@ -16,9 +16,10 @@ use Rattle.model.specs.Tree.{FileTree}
 use Rattle.class_tree.specs.declared.tree.ClassFile.{ClassFile}
 use Rattle.classfile.specs.View.{file_of}
 use Rattle.hierarchy.specs.declared.member_table.MemberKey.{MemberKey}
+use Rattle.hierarchy.specs.declared.member_table.MemberNumbers.{MemberNumbers}
 use Rattle.hierarchy.specs.Set.{trees_of}
 use Rattle.hierarchy.specs.Above.{with_name}
-use Rattle.hierarchy.specs.Members.{Table, is_key, key_of, number_of, place_numbered, place_in, AreNumbered, Adds}
+use Rattle.hierarchy.specs.Members.{Table, is_key, key_of, number_of, both_numbers, place_in, AreNumbered, Adds}
 use Rattle.hierarchy.proofs.Names.{found_any}
 use Rattle.hierarchy.proofs.Finding.{passes_at, nowhere}
 use Rattle.hierarchy.proofs.SetLaws.{same_name}
@@ -156,6 +157,10 @@ number_pushed texts t none =
 
 abbrev pub Places : Type 0
 Places = List (MemberKey × ℕ)
+
+-- the place by the numbers of a name and of a descriptor
+abbrev place_numbered : Places → ℕ → Option ℕ → Option ℕ → Option ℕ
+place_numbered places class name descriptor = option_and_then (λ (m : MemberNumbers). lookup (is_key (key_of class m.name m.descriptor)) places) (both_numbers name descriptor)
 
 numbered_more : (texts more : List Name) (places : Places) → length texts ≤ length more → AreNumbered (record { texts = texts; places = places }) → AreNumbered (record { texts = more; places = places })
 numbered_more texts more places le h = record {

@@ -7,6 +7,7 @@ use Rattle.model.specs.Tree.{FileTree}
 use Rattle.model.specs.Classes.{is_method}
 use Rattle.model.specs.Lookup.{is_field}
 use Rattle.hierarchy.specs.declared.member_table.MemberKey.{MemberKey}
+use Rattle.hierarchy.specs.declared.member_table.MemberNumbers.{MemberNumbers}
 
 -- Names and descriptors, each once; and for each member its place in its class, by the place of that class and by the numbers
 -- of its name and its descriptor.
@@ -24,15 +25,22 @@ key_of class name descriptor = record { class = class; name = name; descriptor =
 abbrev pub number_of : List Name → Name → Option ℕ
 number_of texts text = position (name_eq text) texts
 
+-- the numbers of two texts that are there
+abbrev pub both_numbers : Option ℕ → Option ℕ → Option MemberNumbers
+both_numbers (Some name) (Some descriptor) = Some (record { name = name; descriptor = descriptor })
+both_numbers (Some name) None = None
+both_numbers None descriptor = None
+
+abbrev pub numbers_of : Table → Name → Name → Option MemberNumbers
+numbers_of table name descriptor = both_numbers (number_of table.texts name) (number_of table.texts descriptor)
+
 -- the place by the numbers of a name and a descriptor
-abbrev pub place_numbered : List (MemberKey × ℕ) → ℕ → Option ℕ → Option ℕ → Option ℕ
-place_numbered places class (Some name) (Some descriptor) = lookup (is_key (key_of class name descriptor)) places
-place_numbered places class (Some name) None = None
-place_numbered places class None descriptor = None
+abbrev pub place_at : Table → ℕ → MemberNumbers → Option ℕ
+place_at table class member = lookup (is_key (key_of class member.name member.descriptor)) table.places
 
 -- the place of the member of this name and descriptor in the class at a place
 abbrev pub place_in : Table → ℕ → Name → Name → Option ℕ
-place_in table class name descriptor = place_numbered table.places class (number_of table.texts name) (number_of table.texts descriptor)
+place_in table class name descriptor = option_and_then (place_at table class) (numbers_of table name descriptor)
 
 -- each number in the table is that of a text
 pub record AreNumbered (table : Table) : Type 0 where

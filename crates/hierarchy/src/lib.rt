@@ -19,6 +19,7 @@ mod reference_type;
 mod refusal;
 mod rows;
 mod set;
+mod superclasses;
 #[cfg(test)]
 mod tests;
 

@@ -5,7 +5,7 @@ ghost use Rattle.std.specs.Option.{option_or};
 ghost use Rattle.std.specs.Map.{lookup};
 ghost use Rattle.model.specs.Names.{Name, name_eq, spells};
 ghost use Rattle.hierarchy.specs.Above.{with_name};
-ghost use Rattle.hierarchy.specs.Members.{number_of, is_key, place_in, AreNumbered, Adds};
+ghost use Rattle.hierarchy.specs.Members.{number_of, is_key, numbers_of, place_at, place_in, AreNumbered, Adds};
 
 use indexmap::{IndexMap, IndexSet};
 use std::alloc::{AllocError, Global};
@@ -15,6 +15,13 @@ use std::marker::Model;
 #[derive(Clone, Copy, Debug, PartialEq, Eq, Hash)]
 struct MemberKey {
     class: usize,
+    name: usize,
+    descriptor: usize,
+}
+
+/// The numbers of a name and a descriptor in a table.
+#[derive(Clone, Copy, Debug)]
+pub(crate) struct MemberNumbers {
     name: usize,
     descriptor: usize,
 }
@@ -125,9 +132,9 @@ impl MemberTable {
         self.add(alloc, class, name, descriptor, member)
     }
 
-    /// The place of the member of this name and descriptor in the class at a place. Takes no memory.
-    pub(crate) fn place_of(&self, class: usize, name: &[u8], descriptor: &[u8]) -> Option<usize>
-        ensures { result ≡ place_in self.now class name.now descriptor.now }
+    /// The numbers of a name and a descriptor. Where there are none no class declares such a member. Takes no memory.
+    pub(crate) fn numbers_of(&self, name: &[u8], descriptor: &[u8]) -> Option<MemberNumbers>
+        ensures { result ≡ numbers_of self.now name.now descriptor.now }
     {
         let Some(name) = self.texts.get_index_of(name) else {
             return None;
@@ -135,11 +142,28 @@ impl MemberTable {
         let Some(descriptor) = self.texts.get_index_of(descriptor) else {
             return None;
         };
+        Some(MemberNumbers { name, descriptor })
+    }
+
+    /// The place of the member of these numbers in the class at a place. Takes no memory.
+    pub(crate) fn place_at(&self, class: usize, member: MemberNumbers) -> Option<usize>
+        ensures { result ≡ place_at self.now class member }
+    {
         let key = MemberKey {
             class,
-            name,
-            descriptor,
+            name: member.name,
+            descriptor: member.descriptor,
         };
         self.places.get(&key).copied()
+    }
+
+    /// The place of the member of this name and descriptor in the class at a place. Takes no memory.
+    pub(crate) fn place_of(&self, class: usize, name: &[u8], descriptor: &[u8]) -> Option<usize>
+        ensures { result ≡ place_in self.now class name.now descriptor.now }
+    {
+        let Some(member) = self.numbers_of(name, descriptor) else {
+            return None;
+        };
+        self.place_at(class, member)
     }
 }
