@@ -61,15 +61,31 @@ fn class(
     })
 }
 
-/// Interfaces `I` and, below it, `J`; class `A` below `J`, and `B` below `A`.
-fn tree(alloc: Global) -> Result<Hierarchy, Fail> {
-    let object = b"java/lang/Object";
+/// What a class file says of its class: its name, its superclass, its superinterface and its members. The last two may be
+/// empty.
+type Said = (&'static [u8], &'static [u8], &'static [u8], &'static [u8]);
+
+const OBJECT: &[u8] = b"java/lang/Object";
+
+fn set_of(alloc: Global, classes: &[Said]) -> Result<ClassSet, Fail> {
     let mut files = Vec::new(alloc);
-    files.push(class(alloc, b"I", object, b"", b"m")?)?;
-    files.push(class(alloc, b"J", object, b"I", b"n")?)?;
-    files.push(class(alloc, b"A", object, b"J", b"")?)?;
-    files.push(class(alloc, b"B", b"A", b"", b"")?)?;
+    for (name, superclass, interface, member) in classes {
+        files.push(class(alloc, name, superclass, interface, member)?)?;
+    }
     let set = ClassSet::new(alloc, files).ok().ok_or("refused")?;
+    Ok(set)
+}
+
+/// Interfaces `I` and, below it, `J`; class `A` below `J`, and `B` below `A`.
+const TREE: [Said; 4] = [
+    (b"I", OBJECT, b"", b"m"),
+    (b"J", OBJECT, b"I", b"n"),
+    (b"A", OBJECT, b"J", b""),
+    (b"B", b"A", b"", b""),
+];
+
+fn tree(alloc: Global) -> Result<Hierarchy, Fail> {
+    let set = set_of(alloc, &TREE)?;
     let hierarchy = Hierarchy::new(alloc, set)?;
     Ok(hierarchy)
 }
@@ -137,15 +153,17 @@ fn members_are_found_in_superinterfaces(rt: HostRuntime) -> Result<(), Fail> {
     Ok(())
 }
 
+/// `A` and `B` are above each other, and `C` is below them.
+const CYCLE: [Said; 3] = [
+    (b"C", b"A", b"", b""),
+    (b"A", b"B", b"", b""),
+    (b"B", OBJECT, b"A", b"m"),
+];
+
 #[test]
 fn cycles_are_seen(rt: HostRuntime) -> Result<(), Fail> {
     let alloc = rt.alloc();
-    let object = b"java/lang/Object";
-    let mut files = Vec::new(alloc);
-    files.push(class(alloc, b"C", b"A", b"", b"")?)?;
-    files.push(class(alloc, b"A", b"B", b"", b"")?)?;
-    files.push(class(alloc, b"B", object, b"A", b"m")?)?;
-    let set = ClassSet::new(alloc, files).ok().ok_or("refused")?;
+    let set = set_of(alloc, &CYCLE)?;
     assert_eq!(rt; first_in_cycle(alloc, &set)?, Some(1));
     let hierarchy = Hierarchy::new(alloc, set)?;
     assert_eq!(rt;
@@ -155,15 +173,16 @@ fn cycles_are_seen(rt: HostRuntime) -> Result<(), Fail> {
     Ok(())
 }
 
+const CYCLE_OF_INTERFACES: [Said; 3] = [
+    (b"D", OBJECT, b"", b""),
+    (b"I", OBJECT, b"J", b""),
+    (b"J", OBJECT, b"I", b""),
+];
+
 #[test]
 fn cycles_of_interfaces_are_seen(rt: HostRuntime) -> Result<(), Fail> {
     let alloc = rt.alloc();
-    let object = b"java/lang/Object";
-    let mut files = Vec::new(alloc);
-    files.push(class(alloc, b"D", object, b"", b"")?)?;
-    files.push(class(alloc, b"I", object, b"J", b"")?)?;
-    files.push(class(alloc, b"J", object, b"I", b"")?)?;
-    let set = ClassSet::new(alloc, files).ok().ok_or("refused")?;
+    let set = set_of(alloc, &CYCLE_OF_INTERFACES)?;
     assert_eq!(rt; first_in_cycle(alloc, &set)?, Some(1));
     Ok(())
 }
@@ -171,9 +190,7 @@ fn cycles_of_interfaces_are_seen(rt: HostRuntime) -> Result<(), Fail> {
 #[test]
 fn a_class_below_itself_is_seen(rt: HostRuntime) -> Result<(), Fail> {
     let alloc = rt.alloc();
-    let mut files = Vec::new(alloc);
-    files.push(class(alloc, b"A", b"A", b"", b"")?)?;
-    let set = ClassSet::new(alloc, files).ok().ok_or("refused")?;
+    let set = set_of(alloc, &[(b"A", b"A", b"", b"")])?;
     assert_eq!(rt; first_in_cycle(alloc, &set)?, Some(0));
     Ok(())
 }
@@ -194,52 +211,55 @@ fn field_of<'a>(class: &'a [u8], name: &'a [u8]) -> Reference<'a> {
 
 /// A chain of classes, each file before the one above it, with interfaces in a diamond: both `M` of `A` and `N` of `B` stand
 /// below `K`.
+const DIAMOND: [Said; 8] = [
+    (b"A", b"B", b"M", b""),
+    (b"B", b"C", b"N", b""),
+    (b"C", b"D", b"", b"c"),
+    (b"D", OBJECT, b"K", b"d"),
+    (b"M", OBJECT, b"K", b"m"),
+    (b"N", OBJECT, b"K", b"n"),
+    (b"K", OBJECT, b"I", b"k"),
+    (b"I", OBJECT, b"", b"i"),
+];
+
 #[test]
 fn a_chain_and_a_diamond_are_no_cycle(rt: HostRuntime) -> Result<(), Fail> {
     let alloc = rt.alloc();
-    let object = b"java/lang/Object";
-    let mut files = Vec::new(alloc);
-    files.push(class(alloc, b"A", b"B", b"M", b"")?)?;
-    files.push(class(alloc, b"B", b"C", b"N", b"")?)?;
-    files.push(class(alloc, b"C", b"D", b"", b"c")?)?;
-    files.push(class(alloc, b"D", object, b"K", b"d")?)?;
-    files.push(class(alloc, b"M", object, b"K", b"m")?)?;
-    files.push(class(alloc, b"N", object, b"K", b"n")?)?;
-    files.push(class(alloc, b"K", object, b"I", b"k")?)?;
-    files.push(class(alloc, b"I", object, b"", b"i")?)?;
-    let set = ClassSet::new(alloc, files).ok().ok_or("refused")?;
+    let set = set_of(alloc, &DIAMOND)?;
     assert_eq!(rt; first_in_cycle(alloc, &set)?, None);
     let hierarchy = Hierarchy::new(alloc, set)?;
     assert!(rt; hierarchy.implements(b"A", b"I"));
     assert!(rt; hierarchy.implements(b"A", b"N"));
     assert!(rt; !hierarchy.implements(b"D", b"N"));
-    assert_eq!(rt;
-        hierarchy.find_field(field_of(b"A", b"d")),
-        Some(first_of(FIRST + 3))
-    );
-    assert_eq!(rt;
-        hierarchy.find_field(field_of(b"A", b"n")),
-        Some(first_of(FIRST + 5))
-    );
-    assert_eq!(rt;
-        hierarchy.find_field(field_of(b"A", b"i")),
-        Some(first_of(FIRST + 7))
-    );
+    Ok(())
+}
+
+#[test]
+fn fields_are_found_along_superclasses(rt: HostRuntime) -> Result<(), Fail> {
+    let alloc = rt.alloc();
+    let hierarchy = Hierarchy::new(alloc, set_of(alloc, &DIAMOND)?)?;
+    for (class, name, place) in [(b"A", b"d", 3), (b"A", b"n", 5), (b"A", b"i", 7)] {
+        assert_eq!(rt;
+            hierarchy.find_field(field_of(class, name)),
+            Some(first_of(FIRST + place))
+        );
+    }
     assert_eq!(rt; hierarchy.find_field(field_of(b"D", b"c")), None);
     Ok(())
 }
 
 /// An interface below another class than Object: class rules refuse it, and look-ups still find what stands above.
+const INTERFACE_BELOW_OTHER: [Said; 4] = [
+    (b"A", b"B", b"I", b""),
+    (b"B", OBJECT, b"", b"m"),
+    (b"I", b"C", b"", b""),
+    (b"C", OBJECT, b"", b"m"),
+];
+
 #[test]
 fn fields_above_an_interface_are_found(rt: HostRuntime) -> Result<(), Fail> {
     let alloc = rt.alloc();
-    let object = b"java/lang/Object";
-    let mut files = Vec::new(alloc);
-    files.push(class(alloc, b"A", b"B", b"I", b"")?)?;
-    files.push(class(alloc, b"B", object, b"", b"m")?)?;
-    files.push(class(alloc, b"I", b"C", b"", b"")?)?;
-    files.push(class(alloc, b"C", object, b"", b"m")?)?;
-    let set = ClassSet::new(alloc, files).ok().ok_or("refused")?;
+    let set = set_of(alloc, &INTERFACE_BELOW_OTHER)?;
     assert_eq!(rt; first_in_cycle(alloc, &set)?, None);
     let hierarchy = Hierarchy::new(alloc, set)?;
     assert_eq!(rt;

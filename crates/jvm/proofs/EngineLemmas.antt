@@ -4,6 +4,7 @@ use Rattle.std.proofs.lemmas.List.{drop_more, take_more, map-append}
 use Rattle.std.proofs.lemmas.List.Sums.{sum_by-set}
 use Rattle.model.specs.declared.device.DeviceFault.{DeviceFault}
 use Rattle.model.specs.declared.device.DeviceFault.TheVariants as devices
+use Rattle.model.specs.Devices.{CountsFault}
 use Rattle.model.specs.declared.event.Event.{Event}
 use Rattle.model.specs.Schedule.{ScheduleFile}
 use Rattle.schedule.specs.declared.fault.ScheduleFault.{ScheduleFault}
@@ -64,6 +65,11 @@ counts_sum faults.Device a b c d sum first second counted = absurd (omega (arith
 counts_sum faults.Memory a b c d sum first second counted = omega (arith, first, second)
 counts_sum (faults.Schedule fault) a b c d sum first second counted = omega (arith, first, second)
 counts_sum (faults.Refusal refusal) a b c d sum first second counted = omega (arith, first, second)
+
+-- where a write failed and nothing before it did, the sum of the counts is what it counted
+pub counts_write : (fault : DeviceFault) (a b c d old new : ℕ) → a ≡ c → b ≡ d → CountsFault fault old new → CountsWith (fault_of fault) (c + d + old) (a + b + new)
+counts_write devices.Device a b c d old new first second counted = omega (arith, first, second, counted)
+counts_write devices.Memory a b c d old new first second counted = omega (arith, first, second, counted)
 
 -- a fault of a schedule file whose bytes spell nothing, memory aside
 pub schedule_is_faulty : (fault : ScheduleFault) (left : Option (List ℕ)) (bytes : List ℕ) → Reads left bytes → ((events : List Event) → ScheduleFile bytes None events → fault ≡ schedules.OutOfMemory)

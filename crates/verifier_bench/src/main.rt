@@ -5,7 +5,9 @@
 use anyhow::{Context, Result};
 use classfile::{Method, MethodAttribute};
 use hierarchy::ClassSet;
-use linker::link;
+use linker::{Linked, link};
+use refusal::Refusal;
+use std::alloc::Global;
 use std::io::Read;
 use std::time::Instant;
 use std::{env, fs};
@@ -34,6 +36,14 @@ fn code_of_all(set: &ClassSet) -> u64 {
     bytes
 }
 
+/// Why classes do not pass, where they do not.
+fn refusal_of(alloc: Global, linked: Linked) -> Option<Refusal> {
+    match verify(alloc, linked) {
+        Ok(_) => None,
+        Err(refusal) => Some(refusal),
+    }
+}
+
 fn main(rt: HostRuntime) -> Result<()> {
     let mut files = Vec::new(rt.alloc());
     let mut args = env::args(&rt)?;
@@ -52,12 +62,13 @@ fn main(rt: HostRuntime) -> Result<()> {
         }
     };
     let bytes = code_of_all(linked.set());
-    let start = Instant::now(&rt)?;
-    let verified = verify(rt.alloc(), linked);
-    let elapsed = start.elapsed(&rt)?;
-    match verified {
-        Ok(_) => println!(rt; "{bytes} bytes of code verified")?,
-        Err(refusal) => println!(rt; "{bytes} bytes of code {refusal}")?,
+    // (errors of the clock are told once the classes are gone)
+    let start = Instant::now(&rt);
+    let refusal = refusal_of(rt.alloc(), linked);
+    let elapsed = start?.elapsed(&rt)?;
+    match refusal {
+        None => println!(rt; "{bytes} bytes of code verified")?,
+        Some(refusal) => println!(rt; "{bytes} bytes of code {refusal}")?,
     }
     eprintln!(rt; "{} microseconds", elapsed.as_micros())?;
     Ok(())

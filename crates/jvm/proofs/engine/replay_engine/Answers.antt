@@ -4,7 +4,7 @@ use Rattle.std.specs.Io.KnownBytes.{Appends}
 use Rattle.model.specs.Devices.{AppendsFront}
 use Rattle.jvm.specs.Engines.{ReadsEach}
 use Rattle.replay.specs.Taking.{IsTaken}
-use Rattle.jvm.proofs.EngineLemmas.{part_is_faulty, counts_sum}
+use Rattle.jvm.proofs.EngineLemmas.{part_is_faulty, counts_sum, counts_write}
 use Rattle.jvm.proofs.engine.replay_engine.Goals as goal
 
 pub returns-in_err-schedule-clause-faulty : goal.returns-in_err-schedule-clause-faulty
@@ -38,6 +38,11 @@ returns-in_err-write_all-clause-faulty g c =
     let written = subst (λ text. AppendsFront (contents c.args.report.now) (contents c.write_all.new.self) text) c.as_slice-2.ensures.value c.in_err-write_all.ensures.part in
     rw (p.1, p.2) (part_is_faulty _ _ _ _ _ _
     (inr (_, _, (schedule.0, _, schedule.1, c.in_ok-files.ensures.read, c.in_ok-text.ensures _ _ schedule.2 taken), written)))
+
+pub returns-in_err-write_all-clause-counted : goal.returns-in_err-write_all-clause-counted
+returns-in_err-write_all-clause-counted g c =
+    let p = err_from_is_err_and c.from_residual-in_err-write_all.result c.from_residual-in_err-write_all.ensures.1 in
+    rw (p.1, p.2) (counts_write c.in_err-write_all.field-0.0 _ _ _ _ _ _ c.in_ok-schedule.ensures.counted c.in_ok-files.ensures.counted c.in_err-write_all.ensures.counted)
 
 pub returns-clause-replayed : goal.returns-clause-replayed
 returns-clause-replayed g c =
