@@ -1,10 +1,7 @@
 pub mod Names
 pub mod Finding
 pub mod Chains
-pub mod Steps
 pub mod SetLaws
-pub mod MemberLaws
-pub mod Declared
 pub mod Adding
 pub mod RowLaws
 pub mod Walks

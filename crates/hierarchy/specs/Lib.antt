@@ -1,4 +1,3 @@
-pub mod Members
 pub mod Set
 pub mod Places
 pub mod Wanted

@@ -1,6 +1,5 @@
 -- What a set of classes holds, and which files are refused.
-use Rattle.std.specs.Prelude.{◌≡◌, ℕ, List, drop, take, length, map, Option, Some, true, is_some, position, slice_get}
-use Rattle.std.specs.Option.{option_and_then}
+use Rattle.std.specs.Prelude.{◌≡◌, ℕ, List, drop, take, length, map, Some, true, is_some, slice_get}
 use Rattle.hierarchy.specs.declared.refusal.SetRefusal as declared_refusal
 use Rattle.hierarchy.specs.declared.refusal.SetRefusal.TheVariants as refusals
 use Rattle.model.specs.Linkable as linkable
@@ -9,8 +8,7 @@ use Rattle.classfile.specs.View.{file_of}
 use Rattle.model.specs.Tree.{FileTree}
 use Rattle.model.specs.BuiltIn.{built_in_classes}
 use Rattle.model.specs.Names.{Name}
-use Rattle.model.specs.Classes.{Program, name_of, super_name_of, classes_of, class_of, is_named}
-use Rattle.hierarchy.specs.Members.{Table, AreFields, AreMethods}
+use Rattle.model.specs.Classes.{Program, name_of, classes_of, class_of}
 
 abbrev pub trees_of : List ClassFile → List FileTree
 trees_of classes = map file_of classes
@@ -19,21 +17,10 @@ trees_of classes = map file_of classes
 unfoldable pub files_of : List FileTree → Program
 files_of trees = drop (length built_in_classes) trees
 
--- the place of the direct superclass of a class among classes, where it is one of them
-abbrev pub superclass_place : List FileTree → FileTree → Option ℕ
-superclass_place trees file = option_and_then (λ name. position (is_named name) trees) (super_name_of file)
-
-abbrev pub superclass_places : List FileTree → List (Option ℕ)
-superclass_places trees = map (superclass_place trees) trees
-
--- The trees are those of the built-in classes, and of files; the names are theirs, in this order, and so are the superclasses
--- and the members.
-pub record Holds (trees : List FileTree) (names : List Name) (superclasses : List (Option ℕ)) (fields methods : Table) : Type 0 where
+-- The trees are those of the built-in classes, and of files; the names are theirs, in this order.
+pub record Holds (trees : List FileTree) (names : List Name) : Type 0 where
   pub whole : classes_of (files_of trees) ≡ trees
   pub named : names ≡ map name_of trees
-  pub of_superclasses : superclasses ≡ superclass_places trees
-  pub of_fields : AreFields trees fields
-  pub of_methods : AreMethods trees methods
 
 -- the class of the file at a place has the name of a built-in class, or of a file before it
 pub record IsAgain (files : Program) (place : ℕ) : Type 0 where

@@ -3,13 +3,12 @@
 
 mod components;
 mod cycles;
+mod declared;
 mod fields;
 mod hierarchy;
 #[cfg(test)]
 mod hierarchy_tests;
 mod lookup;
-mod member_table;
-mod members;
 mod name_set;
 mod order;
 mod place;
@@ -19,7 +18,6 @@ mod reference_type;
 mod refusal;
 mod rows;
 mod set;
-mod superclasses;
 #[cfg(test)]
 mod tests;
 

@@ -1,16 +1,14 @@
 //! The members that classes declare, and which method a call runs (JVMS 6.5).
 
-ghost use Rattle.std.specs.Prelude.{◌≡◌, ◌/◌, ◌%◌, ◌<◌, ◌==◌, Some, option_map, IfSome};
+ghost use Rattle.std.specs.Prelude.{◌≡◌, ◌/◌, ◌%◌, ◌<◌, ◌==◌, option_map, IfSome};
 ghost use Rattle.constant_pool.specs.View.{reference_of};
 ghost use Rattle.classfile.specs.View.{method_of};
-ghost use Rattle.model.specs.Names.{Name, Member};
-ghost use Rattle.model.specs.Classes.{classes_of, lineage};
+ghost use Rattle.model.specs.Classes.{lineage};
 ghost use Rattle.model.specs.Lookup.{method_declared, first_found, select, any_method, field_declared};
-ghost use Rattle.hierarchy.specs.Places.{place_of, member_in, IsFieldAt, IsMethodAt};
-ghost use Rattle.hierarchy.specs.Members.{method_place, numbers_of, AreMethods};
+ghost use Rattle.hierarchy.specs.Places.{member_in, IsFieldAt, IsMethodAt};
 ghost use Rattle.hierarchy.specs.Wanted.{wants};
 
-use crate::member_table::{MemberNumbers, MemberTable};
+use crate::declared::{field_place, method_place};
 use crate::place::MemberPlace;
 use crate::set::ClassSet;
 use classfile::{Method, Reference};
@@ -50,23 +48,6 @@ fn counts(wanted: Wanted, method: &Method) -> bool
 }
 
 impl ClassSet {
-    /// A method of the class at a place, where it counts.
-    fn counted(&self, class: usize, member: usize, wanted: Wanted) -> Option<MemberPlace>
-        ensures found { (name : Name) (m : Member) → place_of self.now name ≡ Some class → method_place (classes_of self.now) class m.name m.descriptor ≡ Some member → option_map (λ p. member_in self.now m p) result ≡ method_declared self.now (wants wanted) m name }
-        ensures place { (m : Member) → method_place (classes_of self.now) class m.name m.descriptor ≡ Some member → IfSome result (IsMethodAt self.now m) }
-    {
-        let Some(file) = self.class_at(class) else {
-            return None;
-        };
-        let Some(declared) = file.methods.get(member) else {
-            return None;
-        };
-        if !counts(wanted, declared) {
-            return None;
-        }
-        Some(MemberPlace { class, member })
-    }
-
     /// The method that a class itself declares, where it counts.
     pub(crate) fn method_in(
         &self,
@@ -80,28 +61,22 @@ impl ClassSet {
         let Some(place) = self.place_of(class) else {
             return None;
         };
-        let Some(member) = self.method_place(place, method.name, method.descriptor) else {
+        let Some(file) = self.class_at(place) else {
             return None;
         };
-        self.counted(place, member, wanted)
-    }
-
-    /// The method of these numbers that the class at a place itself declares, where it counts.
-    fn method_at(
-        &self,
-        methods: &MemberTable,
-        class: usize,
-        method: MemberNumbers,
-        wanted: Wanted,
-    ) -> Option<MemberPlace>
-        requires methods { AreMethods (classes_of self.now) methods.now }
-        ensures found { (name : Name) (m : Member) → place_of self.now name ≡ Some class → numbers_of methods.now m.name m.descriptor ≡ Some method → option_map (λ p. member_in self.now m p) result ≡ method_declared self.now (wants wanted) m name }
-        ensures place { (m : Member) → numbers_of methods.now m.name m.descriptor ≡ Some method → IfSome result (IsMethodAt self.now m) }
-    {
-        let Some(member) = methods.place_at(class, method) else {
+        let Some(member) = method_place(file, method.name, method.descriptor) else {
             return None;
         };
-        self.counted(class, member, wanted)
+        let Some(declared) = file.methods.get(member) else {
+            return None;
+        };
+        if !counts(wanted, declared) {
+            return None;
+        }
+        Some(MemberPlace {
+            class: place,
+            member,
+        })
     }
 
     /// The nearest declaration, from a class upwards, that counts.
@@ -114,22 +89,15 @@ impl ClassSet {
         ensures found { option_map (λ p. member_in self.now (reference_of method.entry) p) result ≡ first_found (method_declared self.now (wants wanted) (reference_of method.entry)) (lineage self.now class.now) }
         ensures place { IfSome result (IsMethodAt self.now (reference_of method.entry)) }
     {
-        let methods = self.methods();
-        let Some(numbers) = methods.numbers_of(method.name, method.descriptor) else {
-            return None;
-        };
-        let Some(first) = self.place_of(class) else {
-            return None;
-        };
-        let mut place = first;
+        let mut class = class;
         for _step in 0..self.count() {
-            if let Some(found) = self.method_at(methods, place, numbers, wanted) {
+            if let Some(found) = self.method_in(class, method, wanted) {
                 return Some(found);
             }
-            let Some(next) = self.superclass_place(place) else {
+            let Some(next) = self.superclass_of(class) else {
                 return None;
             };
-            place = next;
+            class = next;
         }
         None
     }
@@ -167,7 +135,10 @@ impl ClassSet {
         let Some(place) = self.place_of(class) else {
             return None;
         };
-        let Some(member) = self.field_place(place, field.name, field.descriptor) else {
+        let Some(file) = self.class_at(place) else {
+            return None;
+        };
+        let Some(member) = field_place(file, field.name, field.descriptor) else {
             return None;
         };
         Some(MemberPlace {

@@ -2,18 +2,13 @@
 
 ghost use Rattle.std.specs.Prelude.{◌≡◌, length, map, false, option_map, IfOk, IfErr, OnOk};
 ghost use Rattle.model.specs.Classes.{classes_of, class_of, superclass_of, is_subclass, is_interface, name_of, super_name_of};
-ghost use Rattle.std.specs.Option.{option_and_then};
 ghost use Rattle.model.specs.Linkable.{stands, DuplicateClass, two_of_one_name};
 ghost use Rattle.model.specs.BuiltIn.{built_in_classes as classes_of_the_model};
 ghost use Rattle.classfile.specs.View.{file_of};
 ghost use Rattle.hierarchy.specs.Set.{trees_of, files_of, IsRefused};
 ghost use Rattle.hierarchy.specs.Places.{place_of, class_at};
-ghost use Rattle.hierarchy.specs.Members.{field_place, method_place, AreMethods};
 
-use crate::member_table::MemberTable;
-use crate::members::{fields_of, methods_of};
 use crate::refusal::SetRefusal;
-use crate::superclasses::{read, superclasses_of};
 use builtin::built_in_classes;
 use classfile::ClassFile;
 use indexmap::IndexSet;
@@ -26,11 +21,6 @@ pub struct ClassSet {
     classes: Vec<ClassFile>,
     /// The name of each class.
     names: IndexSet<Vec<u8>>,
-    /// For each class the place of its direct superclass, where this is in the set.
-    superclasses: Vec<Option<usize>>,
-    /// The fields and the methods of each class.
-    fields: MemberTable,
-    methods: MemberTable,
 }
 
 impl Model for ClassSet {
@@ -42,7 +32,7 @@ impl Model for ClassSet {
 
     ghost view = { λ s. files_of (trees_of s.classes.items) };
 
-    ghost invariant = { λ s. Holds (trees_of s.classes.items) (map (λ name. name.items) s.names.keys) s.superclasses.items s.fields s.methods };
+    ghost invariant = { λ s. Holds (trees_of s.classes.items) (map (λ name. name.items) s.names.keys) };
 }
 
 /// The name of the class that a file declares (JVMS 4.1, this_class).
@@ -95,18 +85,7 @@ impl ClassSet {
         let built_in = classes.len();
         classes.append(&mut files)?;
         match names_of(alloc, &classes, built_in) {
-            Ok(names) => {
-                let superclasses = superclasses_of(alloc, &classes, &names)?;
-                let fields = fields_of(alloc, &classes)?;
-                let methods = methods_of(alloc, &classes)?;
-                Ok(ClassSet {
-                    classes,
-                    names,
-                    superclasses,
-                    fields,
-                    methods,
-                })
-            }
+            Ok(names) => Ok(ClassSet { classes, names }),
             Err(refusal) => Err(refusal),
         }
     }
@@ -132,27 +111,6 @@ impl ClassSet {
         self.names.get_index_of(name)
     }
 
-    /// The place of the field of this name and descriptor that the class at a place declares (JVMS 4.5).
-    pub(crate) fn field_place(&self, class: usize, name: &[u8], descriptor: &[u8]) -> Option<usize>
-        ensures { result ≡ field_place (classes_of self.now) class name.now descriptor.now }
-    {
-        self.fields.place_of(class, name, descriptor)
-    }
-
-    /// The place of the method of this name and descriptor that the class at a place declares (JVMS 4.6).
-    pub(crate) fn method_place(&self, class: usize, name: &[u8], descriptor: &[u8]) -> Option<usize>
-        ensures { result ≡ method_place (classes_of self.now) class name.now descriptor.now }
-    {
-        self.methods.place_of(class, name, descriptor)
-    }
-
-    /// The methods of the classes.
-    pub(crate) fn methods(&self) -> &MemberTable
-        ensures { AreMethods (classes_of self.now) result.now }
-    {
-        &self.methods
-    }
-
     /// The class of a name (JVMS 5.3).
     pub fn class_of(&self, name: &[u8]) -> Option<&ClassFile>
         ensures { option_map (λ c. file_of c.now) result ≡ class_of self.now name.now }
@@ -173,47 +131,21 @@ impl ClassSet {
         superclass_name(class)
     }
 
-    /// The place of the direct superclass of the class at a place, where it is in the set. Takes no memory.
-    pub fn superclass_place(&self, place: usize) -> Option<usize>
-        ensures { result ≡ option_and_then (place_of self.now) (option_and_then super_name_of (class_at self.now place)) }
-    {
-        read(&self.superclasses, place)
-    }
-
-    /// The name of the direct superclass of the class at a place.
-    fn superclass_name_at(&self, place: usize) -> Option<&[u8]>
-        ensures { option_map (λ t. t.now) result ≡ option_and_then super_name_of (class_at self.now place) }
-    {
-        match self.class_at(place) {
-            Some(class) => superclass_name(class),
-            None => None,
-        }
-    }
-
     /// Whether the first class is the second, or a subclass of it (JVMS 2.4). Takes no memory.
     pub fn is_subclass(&self, class: &[u8], superclass: &[u8]) -> bool
         ensures { result ≡ is_subclass self.now class.now superclass.now }
     {
-        if class == superclass {
-            return true;
-        }
-        let Some(first) = self.place_of(class) else {
-            return false;
-        };
-        let mut place = first;
+        let mut class = class;
         for _step in 0..self.count() {
-            let Some(name) = self.superclass_name_at(place) else {
-                return false;
-            };
-            if name == superclass {
+            if class == superclass {
                 return true;
             }
-            let Some(next) = self.superclass_place(place) else {
+            let Some(next) = self.superclass_of(class) else {
                 return false;
             };
-            place = next;
+            class = next;
         }
-        false
+        class == superclass
     }
 
     /// Whether the class of a name is there and is an interface (JVMS 4.1, ACC_INTERFACE).

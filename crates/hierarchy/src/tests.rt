@@ -1,7 +1,7 @@
 //! Sets of the built-in classes alone, and of a class with a name again.
 
 use crate::{ClassSet, MemberPlace, SetRefusal};
-use classfile::{ClassFile, Constant, Field, Pool, Reference};
+use classfile::{ClassFile, Constant, Pool, Reference};
 use std::alloc::{AllocError, Global};
 use std::test::Fail;
 
@@ -33,10 +33,6 @@ fn superclasses_are_found(rt: HostRuntime) -> Result<(), Fail> {
     let set = ClassSet::new(alloc, files).ok().ok_or("refused")?;
     assert_eq!(rt; set.count(), 32);
     assert_eq!(rt; set.place_of(b"A"), Some(31));
-    assert_eq!(rt; set.superclass_place(30), Some(31));
-    assert_eq!(rt; set.superclass_place(31), Some(2));
-    assert_eq!(rt; set.superclass_place(0), None);
-    assert_eq!(rt; set.superclass_place(32), None);
     assert!(rt; set.is_subclass(b"B", b"java/lang/Thread"));
     assert!(rt; set.is_subclass(b"B", b"java/lang/Object"));
     assert!(rt; !set.is_subclass(b"java/lang/Thread", b"B"));
@@ -44,48 +40,6 @@ fn superclasses_are_found(rt: HostRuntime) -> Result<(), Fail> {
     assert!(rt; set.is_interface(b"java/lang/Runnable"));
     assert!(rt; !set.is_interface(b"B"));
     assert!(rt; !set.is_interface(b"none"));
-    Ok(())
-}
-
-#[test]
-fn a_superclass_that_is_not_there_is_named(rt: HostRuntime) -> Result<(), Fail> {
-    let alloc = rt.alloc();
-    let mut files = Vec::new(alloc);
-    files.push(class_below(alloc, b"A", b"none")?)?;
-    let set = ClassSet::new(alloc, files).ok().ok_or("refused")?;
-    assert_eq!(rt; set.superclass_place(30), None);
-    assert!(rt; set.is_subclass(b"A", b"none"));
-    assert!(rt; set.is_subclass(b"none", b"none"));
-    assert!(rt; !set.is_subclass(b"none", b"A"));
-    Ok(())
-}
-
-#[test]
-fn the_first_of_two_fields_is_found(rt: HostRuntime) -> Result<(), Fail> {
-    let alloc = rt.alloc();
-    let mut file = class_below(alloc, b"f", b"java/lang/Object")?;
-    for name in [3, 1, 1] {
-        file.fields.push(Field {
-            flags: 0,
-            name,
-            descriptor: 1,
-            attributes: Vec::new(alloc),
-        })?;
-    }
-    let mut files = Vec::new(alloc);
-    files.push(file)?;
-    let set = ClassSet::new(alloc, files).ok().ok_or("refused")?;
-    let field = Reference {
-        class: b"f",
-        name: b"f",
-        descriptor: b"f",
-    };
-    let first = MemberPlace {
-        class: 30,
-        member: 1,
-    };
-    assert_eq!(rt; set.declared_field(field), Some(first));
-    assert_eq!(rt; set.declared_method(field), None);
     Ok(())
 }
 

@@ -2,8 +2,7 @@ use Rattle.std.proofs.Common.{◌≡◌, ◌∙◌, List, map, sym, ap, subst}
 use Rattle.model.specs.Classes.{Program, classes_of, name_of}
 use Rattle.model.specs.Linkable.{two_of_one_name}
 use Rattle.class_tree.specs.declared.tree.ClassFile.{ClassFile}
-use Rattle.hierarchy.specs.Set.{trees_of, files_of, superclass_places, IsRefused}
-use Rattle.hierarchy.specs.Members.{AreFields, AreMethods}
+use Rattle.hierarchy.specs.Set.{trees_of, files_of, IsRefused}
 use Rattle.hierarchy.proofs.Adding.{new_trees, its_files, is_whole, all_differ}
 use Rattle.hierarchy.proofs.set.ClassSet.new.Goals as goal
 
@@ -12,18 +11,12 @@ names_of-requires-clause-whole c =
     let all = new_trees c.in_ok-classes.classes.items c.args.files.items c.append.new.self.items c.in_ok-append.ensures.items c.in_ok-classes.ensures in
     subst (λ (l : List ClassFile). classes_of (files_of (trees_of l)) ≡ trees_of l) (sym c.deref.ensures.value) (is_whole c.append.new.self.items (trees_of c.args.files.items) all)
 
-pub superclasses_of-requires : goal.superclasses_of-requires
-superclasses_of-requires c = record { named = c.in-Ok.ensures.named ∙ ap (λ (l : List ClassFile). map name_of (trees_of l)) (c.deref.ensures.value ∙ sym c.deref-in-Ok.ensures.value) }
-
 pub invariant_of-result : goal.invariant_of-result
 invariant_of-result c =
     let all = new_trees c.in_ok-classes.classes.items c.args.files.items c.append.new.self.items c.in_ok-append.ensures.items c.in_ok-classes.ensures in
     record {
       whole = is_whole c.append.new.self.items (trees_of c.args.files.items) all;
       named = c.in-Ok.ensures.named ∙ ap (λ (l : List ClassFile). map name_of (trees_of l)) c.deref.ensures.value;
-      of_superclasses = c.in_ok-superclasses-in-Ok.ensures ∙ ap (λ (l : List ClassFile). superclass_places (trees_of l)) c.deref-in-Ok.ensures.value;
-      of_fields = subst (λ (l : List ClassFile). AreFields (trees_of l) c.in_ok-fields-in-Ok.fields) c.deref-in-Ok-2.ensures.value c.in_ok-fields-in-Ok.ensures;
-      of_methods = subst (λ (l : List ClassFile). AreMethods (trees_of l) c.in_ok-methods-in-Ok.methods) c.deref-in-Ok-3.ensures.value c.in_ok-methods-in-Ok.ensures;
     }
 
 pub returns-in-Ok-clause-set : goal.returns-in-Ok-clause-set
