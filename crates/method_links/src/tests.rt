@@ -457,22 +457,26 @@ fn the_nearest_method_is_selected(rt: HostRuntime) -> Result<(), Fail> {
     let linked = linked_cases(alloc)?;
     let numbers = MethodNumbers::new(alloc, linked.set())?;
     let selected = SelectedMethods::new(alloc, linked.set(), &numbers)?;
-    // P.m is overridden in Q, from which A and R have it
-    assert_eq!(rt; selected.selected(33, 46), Some(46));
-    assert_eq!(rt; selected.selected(32, 46), Some(42));
-    assert_eq!(rt; selected.selected(31, 46), Some(42));
-    assert_eq!(rt; selected.selected(30, 46), Some(42));
-    // a class above the one that declares the method has one of its own, too
-    assert_eq!(rt; selected.selected(33, 42), Some(46));
-    // the m with a parameter is another one
-    assert_eq!(rt; selected.selected(30, 45), Some(45));
-    assert_eq!(rt; selected.selected(33, 45), None);
-    // P.n is inherited by Q, and so is Object's notify
-    assert_eq!(rt; selected.selected(32, 47), Some(47));
-    assert_eq!(rt; selected.selected(30, 47), Some(47));
-    assert_eq!(rt; selected.selected(32, 2), Some(2));
-    // Thread declares Runnable's run
-    assert_eq!(rt; selected.selected(2, 4), Some(5));
+    for (class, method, found) in [
+        // P.m is overridden in Q, from which A and R have it
+        (33, 46, Some(46)),
+        (32, 46, Some(42)),
+        (31, 46, Some(42)),
+        (30, 46, Some(42)),
+        // a class above the one that declares the method has one of its own, too
+        (33, 42, Some(46)),
+        // the m with a parameter is another one
+        (30, 45, Some(45)),
+        (33, 45, None),
+        // P.n is inherited by Q, and so is Object's notify
+        (32, 47, Some(47)),
+        (30, 47, Some(47)),
+        (32, 2, Some(2)),
+        // Thread declares Runnable's run
+        (2, 4, Some(5)),
+    ] {
+        assert_eq!(rt; selected.selected(class, method), found);
+    }
     Ok(())
 }
 
