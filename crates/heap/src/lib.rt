@@ -8,8 +8,6 @@ mod heap;
 mod kind;
 mod layout;
 mod refusal;
-#[cfg(test)]
-mod tests;
 
 pub use heap::{Heap, MOST_OPENING};
 pub use kind::{NarrowKind, ObjectKind};

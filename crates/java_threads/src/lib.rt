@@ -3,8 +3,6 @@
 
 mod refusal;
 mod status;
-#[cfg(test)]
-mod tests;
 mod thread;
 mod threads;
 

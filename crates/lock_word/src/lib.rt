@@ -3,8 +3,6 @@
 #![tactic(auto)]
 
 mod lock;
-#[cfg(test)]
-mod tests;
 mod word;
 
 pub use lock::{Lock, TryEnter, TryExit};

@@ -4,14 +4,10 @@
 
 mod call;
 mod monitors;
-#[cfg(test)]
-mod plain;
 mod records;
 mod refusal;
 mod run;
 mod table;
-#[cfg(test)]
-mod tests;
 mod waiter;
 
 pub use call::{Call, MonitorCalls};

@@ -1,5 +1,5 @@
 use Rattle.monitor.proofs.Waiting.{IsPassed}
-use Rattle.monitor.proofs.plain.position.Given as goal
+use Rattle.machine_tests.proofs.plain.position.Given as goal
 
 abbrev pub invariant-loop-at : goal.invariant-loop-at
 invariant-loop-at l = IsPassed l.thread l.waiters l.at

@@ -1,14 +1,12 @@
-//! A second body of the calls, for tests: owner, count and wait set of each object, with no lock words.
+//! A second body of the calls: owner, count and wait set of each object, with no lock words.
 
 ghost use Rattle.std.specs.Prelude.{◌≡◌, ◌<◌, [], ◌∷◌, ◌++◌, length, true, false, Some, IfOk, OnOk, OnErr, IfSome, MatchOption, count_by};
 ghost use Rattle.std.specs.List.{remove};
 ghost use Rattle.model.specs.Monitors.{owns, without, unlocked};
 ghost use Rattle.monitor.specs.Locks.{inflates, is_count_full_by, answered_by, joins_by};
 
-use crate::call::{Call, MonitorCalls};
-use crate::refusal::Refusal;
-use crate::waiter::Waiter;
 use model::MonitorAnswer;
+use monitor::{Call, MonitorCalls, Refusal, Waiter};
 use std::alloc::{AllocError, Global};
 use std::marker::Model;
 
