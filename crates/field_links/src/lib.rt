@@ -14,8 +14,6 @@ mod sizes;
 mod slots;
 mod statics;
 mod string_numbers;
-#[cfg(test)]
-mod tests;
 mod texts;
 
 pub use class_numbers::ClassNumbers;

@@ -9,8 +9,6 @@ mod named;
 mod numbers;
 mod selected;
 mod selectors;
-#[cfg(test)]
-mod tests;
 
 pub use call::{FrameCode, MethodCall};
 pub use call_table::MethodCalls;
