@@ -16,24 +16,25 @@ use Rattle.model.specs.Typing.{AreTyped}
 use Rattle.model.specs.Accepted.{IsAccepted}
 use Rattle.model.specs.WellTyped.{is_object_in, IsRunning, IsStackTyped, IsWellTyped}
 use Rattle.model.specs.WrongKind.{has_wrong_kind}
-use Rattle.soundness.specs.Steps.{is_wrong, IsNoEventWrong}
-use Rattle.soundness.proofs.Progress.{well_typed_right}
-use Rattle.soundness.proofs.Answered.{never_wrong}
-use Rattle.soundness.proofs.Opened.{opening_typed}
-use Rattle.soundness.proofs.Changes.{Fits}
-use Rattle.soundness.proofs.Linked.{Linked}
-use Rattle.soundness.proofs.Threads.{index_at}
-use Rattle.soundness.proofs.Flows.{InstructionsTyped}
-use Rattle.soundness.proofs.Instructed.{meaning_typed}
-use Rattle.soundness.proofs.BuiltIns.{built_in_typed}
-use Rattle.soundness.proofs.LinkedOf.{linked_of}
-use Rattle.soundness.proofs.Begun.{begun_keeps}
-use Rattle.soundness.proofs.StepParts.{At, OnPart, self_at, idle_running, idle_relock}
-use Rattle.soundness.proofs.Entering.{unpicked_typed}
-use Rattle.soundness.proofs.Stepped.{bytecode_typed}
-use Rattle.soundness.proofs.Events.{pending_event_typed, relock_typed, initialisation_typed}
-use Rattle.soundness.proofs.Begins.{begin_typed}
-use Rattle.soundness.proofs.Settled.{settled_typed, thread_there, put_typed}
+use Rattle.laws.specs.Steps.{is_wrong}
+use Rattle.soundness.specs.Runs.{IsNoEventWrong}
+use Rattle.laws.proofs.Progress.{well_typed_right}
+use Rattle.laws.proofs.Answered.{never_wrong}
+use Rattle.typed_runs.proofs.Opened.{opening_typed}
+use Rattle.typed_runs.proofs.Changes.{Fits}
+use Rattle.laws.proofs.Linked.{Linked}
+use Rattle.typed_runs.proofs.Threads.{index_at}
+use Rattle.typed_runs.proofs.Flows.{InstructionsTyped}
+use Rattle.typed_runs.proofs.Instructed.{meaning_typed}
+use Rattle.typed_runs.proofs.BuiltIns.{built_in_typed}
+use Rattle.laws.proofs.LinkedOf.{linked_of}
+use Rattle.typed_runs.proofs.Begun.{begun_keeps}
+use Rattle.typed_runs.proofs.StepParts.{At, OnPart, self_at, idle_running, idle_relock}
+use Rattle.typed_runs.proofs.Entering.{unpicked_typed}
+use Rattle.typed_runs.proofs.Stepped.{bytecode_typed}
+use Rattle.typed_runs.proofs.Events.{pending_event_typed, relock_typed, initialisation_typed}
+use Rattle.typed_runs.proofs.Begins.{begin_typed}
+use Rattle.typed_runs.proofs.Settled.{settled_typed, thread_there, put_typed}
 
 -- what is left of the world of a well-typed state
 pub fits_of : (files : Program) (state : State) → IsWellTyped files state → Fits files state.world

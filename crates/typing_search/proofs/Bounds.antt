@@ -23,7 +23,7 @@ use Rattle.model.specs.Calls.{parameter_count, constructed_leads}
 use Rattle.model.specs.Meanings.{local_meaning, meaning_of}
 use Rattle.model.specs.Step.{covers}
 use Rattle.model.specs.Typing.{may_stand, marked, successors, caught_type, handlers_from, entry_type, flow_by, flow_at, flow}
-use Rattle.soundness.proofs.Lists.{every_append, every_set, every_map}
+use Rattle.laws.proofs.Lists.{every_append, every_set, every_map}
 use Rattle.typing_search.specs.Weights.{rank, IsLow, IsLowFrame}
 use Rattle.typing_search.specs.Decided.{IsBounded}
 use Rattle.typing_search.proofs.Forms.{Leading, OfMeaning, meaning_each}

@@ -19,7 +19,7 @@ use Rattle.model.specs.Sites.{MeaningOf, Site, site_at}
 use Rattle.model.specs.Meanings.{meaning_of}
 use Rattle.model.specs.Step.{covers}
 use Rattle.model.specs.Typing.{is_constructor, may_stand, is_any_this, constructs_this, marked, successors, caught_type, handler_type, handlers_from, flow_by, flow_at, flow}
-use Rattle.soundness.proofs.Lists.{Pairwise}
+use Rattle.laws.proofs.Lists.{Pairwise}
 use Rattle.typing_search.specs.Orders.{IsOrdered, AreBelow, FlowsBelow}
 use Rattle.typing_search.proofs.Orders.{Below, below_parts, from_parts, stack_self}
 use Rattle.typing_search.proofs.Rows.{SlotsBelow, ready_down, operands_down}

@@ -14,9 +14,9 @@ use Rattle.model.specs.BuiltIn.{built_in_classes}
 use Rattle.model.specs.Classes.{Program, name_of, super_name_of, classes_of, is_named, class_of, superclass_of, superinterfaces_of, lineage_of, is_interface}
 use Rattle.model.specs.Hierarchy.{direct_supertypes, is_above, in_cycle, extends_interface, extends_final, implements_class, interface_below_other, has_bad_hierarchy}
 use Rattle.model.specs.Linkable.{NoMain, TooManyFields, Unresolved, BadHierarchy, stands, some_stands}
-use Rattle.soundness.specs.Steps.{ends, Rooted}
-use Rattle.soundness.proofs.Classes.{names_same, name_self}
-use Rattle.soundness.proofs.Lists.{all_weaken}
+use Rattle.laws.specs.Steps.{ends, Rooted}
+use Rattle.laws.proofs.Classes.{names_same, name_self}
+use Rattle.laws.proofs.Lists.{all_weaken}
 use Rattle.typing_search.specs.Orders.{IsOrdered}
 
 -- ---- tests of lists

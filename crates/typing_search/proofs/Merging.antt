@@ -12,8 +12,8 @@ use Rattle.model.specs.Sites.{site_with}
 use Rattle.model.specs.TypeOrder.{FrameType, is_stack_below, is_local_below, is_frame_below}
 use Rattle.model.specs.TypeJoin.{IsJoin, frame_join}
 use Rattle.model.specs.Typing.{Typing, Reaches, IsSized, flow_at, flow}
-use Rattle.soundness.specs.Steps.{Rooted}
-use Rattle.soundness.proofs.Lists.{pair_length}
+use Rattle.laws.specs.Steps.{Rooted}
+use Rattle.laws.proofs.Lists.{pair_length}
 use Rattle.typing_search.specs.Search.{Raised, Merged, Clashes, IsTakenOff}
 use Rattle.typing_search.specs.Tables.{entry_of, typing_of, waits, found_at, waiting_at, taken_off, AreTables}
 use Rattle.typing_search.proofs.Orders.{below_parts, frame_self}

@@ -4,8 +4,8 @@ use Rattle.model.specs.Names.{Member}
 use Rattle.model.specs.Classes.{Program, Body}
 use Rattle.model.specs.TypeOrder.{FrameType, is_frame_below}
 use Rattle.model.specs.Typing.{Typing, Reaches, Rule, IsTyping, entry_type, flow}
-use Rattle.soundness.specs.Steps.{Rooted}
-use Rattle.soundness.proofs.Lists.{every_append, every_weaken}
+use Rattle.laws.specs.Steps.{Rooted}
+use Rattle.laws.proofs.Lists.{every_append, every_weaken}
 use Rattle.typing_search.specs.Orders.{IsOrdered, AreBelow}
 use Rattle.typing_search.specs.Search.{AreReached, Raised, Search, Merged, Clashes, HasNoTyping, IsUntyped, IsTakenOff}
 use Rattle.typing_search.proofs.Orders.{frame_self, frame_trans}

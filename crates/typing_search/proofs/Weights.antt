@@ -14,9 +14,9 @@ use Rattle.model.specs.Types.{VerificationType, Unusable, IntType, NullType, OfT
 use Rattle.model.specs.TypeOrder.{FrameType, is_mark_below, is_stack_below, is_local_below, is_frame_below}
 use Rattle.model.specs.TypeJoin.{IsJoin, stack_join, local_join, in_front, join_pairwise, frame_of_slots, frame_join}
 use Rattle.model.specs.Typing.{IsSized}
-use Rattle.soundness.specs.Steps.{ends, Rooted}
-use Rattle.soundness.proofs.Lists.{Pairwise, pair_weaken}
-use Rattle.soundness.proofs.Classes.{names_same}
+use Rattle.laws.specs.Steps.{ends, Rooted}
+use Rattle.laws.proofs.Lists.{Pairwise, pair_weaken}
+use Rattle.laws.proofs.Classes.{names_same}
 use Rattle.typing_search.specs.Tables.{waits, found_at, waiting_at}
 use Rattle.typing_search.specs.Weights.{classes_above, rank, dimensions, height, IsLow, IsLowFrame, heights, mark_weight, frame_weight, entry_weight, table_weight, marks_weight, work, places}
 use Rattle.typing_search.proofs.Orders.{int_same, null_same, new_same, this_same, stack_local, below_parts}

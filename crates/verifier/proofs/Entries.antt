@@ -7,8 +7,8 @@ use Rattle.std.proofs.lemmas.Option.{slice_get_read}
 use Rattle.std.proofs.lemmas.List.{length-map, append_assoc, take-append-drop, take_all}
 use Rattle.std.specs.Global.{Vec}
 use Rattle.std.proofs.Math.Seq.{take-suc}
-use Rattle.soundness.proofs.Lists.{get_map, map_append}
-use Rattle.soundness.proofs.WordLists.{map_set, map_copies}
+use Rattle.laws.proofs.Lists.{get_map, map_append}
+use Rattle.laws.proofs.WordLists.{map_set, map_copies}
 use Rattle.model.specs.Names.{Member}
 use Rattle.model.specs.Classes.{Program, Body}
 use Rattle.model.specs.InstructionStarts.{starts}
