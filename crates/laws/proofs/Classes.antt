@@ -1,9 +1,9 @@
 -- Superclasses, where no class is above itself: what is above a class is above its subclasses.
 use Rattle.std.proofs.Common.{◌≡◌, ℕ, zero, suc, ◌+◌, ◌≤◌, length, Option, Some, None, Bool, true, false, refl, sym, ◌∙◌, subst, ⊎_elim, arith}
 use Rattle.std.specs.Option.{option_map_or}
-use Rattle.std.proofs.lemmas.Bool.{false≢true, or_cases, or_left, or_right}
+use Rattle.std.proofs.lemmas.Bool.{false≢true, and_parts, or_cases, or_left, or_right}
 use Rattle.std.proofs.lemmas.Slice.Eq.{bytes_eq-Decides}
-use Rattle.model.specs.Names.{Name, name_eq, java_lang_object}
+use Rattle.model.specs.Names.{Name, name_eq, Member, member_eq, java_lang_object}
 use Rattle.model.specs.BuiltIn.{built_in_classes}
 use Rattle.model.specs.Classes.{Program, classes_of, superclass_of, is_within, is_subclass}
 use Rattle.laws.specs.Steps.{ends, Rooted}
@@ -13,6 +13,15 @@ names_same a b h = (bytes_eq-Decides a b).0 h
 
 pub name_self : (a : Name) → name_eq a a ≡ true
 name_self a = (bytes_eq-Decides a a).1 refl
+
+pub members_same : (a b : Member) → member_eq a b ≡ true → a ≡ b
+members_same a b h =
+    let p = and_parts (name_eq a.class b.class) _ h in
+    let q = and_parts (name_eq a.name b.name) _ p.1 in
+    let c = names_same a.class b.class p.0 in
+    let n = names_same a.name b.name q.0 in
+    let d = names_same a.descriptor b.descriptor q.1 in
+    λ i. record { class = c i; name = n i; descriptor = d i }
 
 on_super : (f g : Name → Bool) (o : Option Name) → ((s : Name) → f s ≡ true → g s ≡ true) → option_map_or f o false ≡ true → option_map_or g o false ≡ true
 on_super f g None h q = q
@@ -68,7 +77,7 @@ module _ (files : Program) where
   within_subclass rooted n c d w = enough (length (classes_of files)) n c d (rooted c) w
 
 -- Object has no superclass
-object_is_top : (files : Program) → superclass_of files java_lang_object ≡ None
+pub object_is_top : (files : Program) → superclass_of files java_lang_object ≡ None
 unfolding built_in_classes
 object_is_top files = refl
 

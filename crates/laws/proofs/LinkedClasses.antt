@@ -72,6 +72,12 @@ has_super file whole =
 
 -- ---- what is asked of what stands above each class
 
+-- what is so wherever b is
+must_hold : (b e : Bool) → b ≡ true → (b && not e) ≡ false → e ≡ true
+must_hold true true t q = refl
+must_hold true false t q = absurd (true≢false q)
+must_hold false e t q = absurd (false≢true t)
+
 pub record Ordered (files : Program) (file : FileTree) : Type 0 where
   pub top : (name_eq (name_of file) java_lang_object || is_some (super_name_of file)) ≡ true
   pub implemented : implements_class files file ≡ false
@@ -174,12 +180,7 @@ module _ (files : Program) where
       where
         object_above : (b : Bool) (o : Option Name) → b ≡ true → (b && not (option_map_or (λ s. name_eq s java_lang_object) o false)) ≡ false → o ≡ Some java_lang_object
         object_above b None t q = absurd (true≢false (sym (ap (λ x. x && true) t) ∙ q))
-        object_above b (Some s) t q = ap (λ x. Some x) (names_same s java_lang_object (is_so b (name_eq s java_lang_object) t q))
-          where
-            is_so : (b e : Bool) → b ≡ true → (b && not e) ≡ false → e ≡ true
-            is_so true true t q = refl
-            is_so true false t q = absurd (true≢false q)
-            is_so false e t q = absurd (false≢true t)
+        object_above b (Some s) t q = ap (λ x. Some x) (names_same s java_lang_object (must_hold b (name_eq s java_lang_object) t q))
 
     -- ---- superinterfaces are interfaces
 
@@ -187,12 +188,7 @@ module _ (files : Program) where
     AreInterfaces names = AllByRecursion (λ d. is_interface files d ≡ true) names
 
     found_interface : (d : Name) → is_found_class files d ≡ false → is_missing files d ≡ false → is_interface files d ≡ true
-    found_interface d f m = let c = is_found d m in is_so (is_some (class_of files d)) (is_interface files d) (ap is_some c.1) f
-      where
-        is_so : (b e : Bool) → b ≡ true → (b && not e) ≡ false → e ≡ true
-        is_so true true t q = refl
-        is_so true false t q = absurd (true≢false q)
-        is_so false e t q = absurd (false≢true t)
+    found_interface d f m = let c = is_found d m in must_hold (is_some (class_of files d)) (is_interface files d) (ap is_some c.1) f
 
     own_interfaces : (c : Name) → AreInterfaces (superinterfaces_of files c)
     own_interfaces c = own (class_of files c) refl

@@ -1,8 +1,8 @@
 -- main of the initial class of linked files.
-use Rattle.std.proofs.Common.{◌≡◌, List, [], ◌∷◌, Bool, true, false, not, Option, Some, None, refl, sym, ◌∙◌}
+use Rattle.std.proofs.Common.{◌≡◌, List, [], ◌∷◌, true, false, not, Option, Some, None, refl, sym, ◌∙◌}
 use Rattle.std.specs.Option.{option_map_or}
 use Rattle.std.specs.List.{AllByRecursion, list_any}
-use Rattle.std.proofs.lemmas.Bool.{false≢true, true≢false, not-true, and_left, and_right, or_from}
+use Rattle.std.proofs.lemmas.Bool.{false≢true, true≢false, not-true, and_left, and_right, or_from, not-false}
 use Rattle.model.specs.Names.{Name, name_eq, Member, main_of}
 use Rattle.model.specs.Tree.{MethodTree, FileTree}
 use Rattle.model.specs.AccessFlags.{is_static_method}
@@ -34,13 +34,9 @@ has_body files ok class m e s None q =
 has_main : (file : FileTree) (files : Program) (ok : Unrefused (file ∷ files)) → (o : Option MethodTree) → method_of (file ∷ files) (main_of (name_of file)) ≡ o → not (option_map_or is_static_method o false) ≡ false → Main (file ∷ files)
 has_main file files ok None e h = absurd (true≢false h)
 has_main file files ok (Some m) e h =
-    let static : is_static_method m ≡ true = not_false (is_static_method m) h in
+    let static : is_static_method m ≡ true = not-false (is_static_method m) h in
     let body = has_body (file ∷ files) ok (name_of file) m e static (body_of (file ∷ files) (main_of (name_of file))) refl in
     record { method = m; is_method = e; is_static = static; body = body.0; is_body = body.1 }
-  where
-    not_false : (b : Bool) → not b ≡ false → b ≡ true
-    not_false true h = refl
-    not_false false h = sym h
 
 pub main : (files : Program) → Unrefused files → Main files
 main [] ok = absurd (true≢false ok.some_file)

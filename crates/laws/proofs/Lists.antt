@@ -129,10 +129,6 @@ get_set_same f (x ∷ xs) zero old new e q =
     ap (λ b. b ∷ map f xs) (q ∙ ap f (sym same))
 get_set_same f (x ∷ xs) (suc k) old new e q = ap (λ bs. f x ∷ bs) (get_set_same f xs k old new e q)
 
-pub map_append : {A B : Type 0} (f : A → B) (xs ys : List A) → map f (xs ++ ys) ≡ map f xs ++ map f ys
-map_append f [] ys = refl
-map_append f (x ∷ xs) ys = ap (λ l. f x ∷ l) (map_append f xs ys)
-
 pub get_front : {A : Type 0} (xs ys : List A) (k : ℕ) (x : A) → slice_get xs k ≡ Some x → slice_get (xs ++ ys) k ≡ Some x
 get_front [] ys k x e = absurd cc
 get_front (y ∷ xs) ys zero x e = e
@@ -178,3 +174,7 @@ pairwise_weaken R S xs ys w h = of_pairs S xs ys (pair_weaken R S xs ys w (pairs
 pub all_weaken : {A : Type 0} (p q : A → Bool) (xs : List A) → ((x : A) → p x ≡ true → q x ≡ true) → list_all p xs ≡ true → list_all q xs ≡ true
 all_weaken p q [] w h = refl
 all_weaken p q (x ∷ xs) w h = let g = and_parts _ _ h in and_from _ _ (w x g.0) (all_weaken p q xs w g.1)
+
+pub all_append : {A : Type 0} (p : A → Bool) (xs ys : List A) → list_all p xs ≡ true → list_all p ys ≡ true → list_all p (xs ++ ys) ≡ true
+all_append p [] ys h g = g
+all_append p (x ∷ xs) ys h g = let q = and_parts _ _ h in and_from _ _ q.0 (all_append p xs ys q.1 g)

@@ -5,6 +5,7 @@ use Rattle.std.specs.List.{AllByRecursion, list_any, list_all, IsDistinct}
 use Rattle.std.specs.Cmp.{IsEquivalence}
 use Rattle.std.proofs.lemmas.Bool.{false≢true, true≢false, or_cases, or_left, or_right, cases_Bool, false_from_ne_true, true_from_ne_false}
 use Rattle.std.proofs.lemmas.Map.Made.{length-le_from_is_member}
+use Rattle.std.proofs.lemmas.List.{length-map}
 use Rattle.model.specs.Names.{Name, name_eq}
 use Rattle.model.specs.Tree.{FileTree}
 use Rattle.model.specs.BuiltIn.{built_in_classes}
@@ -20,13 +21,13 @@ use Rattle.laws.proofs.Found.{found_passes, found_has, none_any, every_all, some
 pub name_turned : (a b : Name) → name_eq a b ≡ true → name_eq b a ≡ true
 name_turned a b h = subst (λ c. name_eq c a ≡ true) (names_same a b h) (name_self a)
 
-name_sides : (a b : Name) → name_eq a b ≡ name_eq b a
+pub name_sides : (a b : Name) → name_eq a b ≡ name_eq b a
 name_sides a b = ⊎_elim
     (λ t. t ∙ sym (name_turned a b t))
     (λ f. f ∙ sym (false_from_ne_true (name_eq b a) (λ t. false≢true (sym f ∙ name_turned b a t))))
     (cases_Bool (name_eq a b))
 
-name_laws : IsEquivalence name_eq
+pub name_laws : IsEquivalence name_eq
 name_laws = record {
   refl = name_self;
   symm = name_sides;
@@ -161,10 +162,6 @@ module _ (files : Program) where
   among P (x ∷ xs) q a h =
       ⊎_elim (λ t. subst P (sym (names_same q x t)) a.0) (λ t. among P xs q a.1 t) (or_cases (name_eq q x) _ h)
 
-  same_length : (fs : List FileTree) → length (map name_of fs) ≡ length fs
-  same_length [] = refl
-  same_length (f ∷ fs) = ap suc (same_length fs)
-
   -- where no class leads back to itself, superclasses end
   pub rooted_from : ((d : Name) → NoWayBack d) → Rooted files
   rooted_from h c =
@@ -174,7 +171,7 @@ module _ (files : Program) where
       length-le_from_is_member name_laws (lineage_of files (suc n) c) names (lineage_distinct h (suc n) c (omega arith))
       (λ q m. among (λ y. list_any (name_eq y) names ≡ true) (lineage_of files (suc n) c) q (lineage_named (suc n) c e) m) in
       let long : length (lineage_of files (suc n) c) ≡ suc n = lineage_long (suc n) c e in
-      let all : length names ≡ n = same_length (classes_of files) in
+      let all : length names ≡ n = length-map (classes_of files) name_of in
       omega (arith, short, long, all))
 
   -- ---- the classes of a program

@@ -1,8 +1,9 @@
 -- Lists and values by their words.
-use Rattle.std.proofs.Common.{◌≡◌, ℕ, zero, suc, List, [], ◌∷◌, ◌++◌, map, length, take, drop, replicate, reverse, Bool, true, false, option_map, refl, sym, ap, ◌∙◌}
+use Rattle.std.proofs.Common.{◌≡◌, ℕ, zero, suc, List, [], ◌∷◌, ◌++◌, map, length, take, drop, replicate, reverse, Bool, true, false, refl, sym, ap, ◌∙◌}
 use mathlib.Core.List.{reverse_aux}
-use Rattle.std.specs.Prelude.{slice_get, slice_index_or, slice_set}
+use Rattle.std.specs.Prelude.{slice_index_or, slice_set}
 use Rattle.std.proofs.lemmas.Bool.{false≢true}
+use Rattle.std.proofs.lemmas.List.{take-map, drop-map, map-append}
 use Rattle.model.specs.declared.value.Value.{Value}
 use Rattle.model.specs.declared.value.Value.TheVariants as value
 use Rattle.model.specs.Classes.{Program}
@@ -11,7 +12,6 @@ use Rattle.model.specs.Types.{Want, AnyWord, AnInt, AnyReference, AReference, AR
 use Rattle.model.specs.Operands.{Slots, Wants, over_values, over_words, operands, under, word_of, reference_of, word_reference}
 use Rattle.model.specs.Rows.{Out, Copy, Number, Null, Row, out, written, row_wants, after_row}
 use Rattle.model.specs.Words.{map_slots}
-use Rattle.laws.proofs.Lists.{map_append}
 
 module _ {A B : Type 0} (f : A → B) where
   pub map_index : (xs : List A) (k : ℕ) (d : A) → slice_index_or (map f xs) k (f d) ≡ f (slice_index_or xs k d)
@@ -19,29 +19,10 @@ module _ {A B : Type 0} (f : A → B) where
   map_index (x ∷ xs) zero d = refl
   map_index (x ∷ xs) (suc k) d = map_index xs k d
 
-  pub map_take : (n : ℕ) (xs : List A) → take n (map f xs) ≡ map f (take n xs)
-  map_take zero xs = refl
-  map_take (suc n) [] = refl
-  map_take (suc n) (x ∷ xs) = ap (λ l. f x ∷ l) (map_take n xs)
-
-  pub map_drop : (n : ℕ) (xs : List A) → drop n (map f xs) ≡ map f (drop n xs)
-  map_drop zero xs = refl
-  map_drop (suc n) [] = refl
-  map_drop (suc n) (x ∷ xs) = map_drop n xs
-
   pub map_set : (xs : List A) (k : ℕ) (x : A) → slice_set (map f xs) k (f x) ≡ map f (slice_set xs k x)
   map_set [] k x = refl
   map_set (y ∷ xs) zero x = refl
   map_set (y ∷ xs) (suc k) x = ap (λ l. f y ∷ l) (map_set xs k x)
-
-  pub map_get : (xs : List A) (k : ℕ) → slice_get (map f xs) k ≡ option_map f (slice_get xs k)
-  map_get [] k = refl
-  map_get (x ∷ xs) zero = refl
-  map_get (x ∷ xs) (suc k) = map_get xs k
-
-  pub map_count : (xs : List A) → length (map f xs) ≡ length xs
-  map_count [] = refl
-  map_count (x ∷ xs) = ap suc (map_count xs)
 
   pub map_copies : (n : ℕ) (x : A) → replicate n (f x) ≡ map f (replicate n x)
   map_copies zero x = refl
@@ -97,11 +78,11 @@ wanted_referent files os AByteArray v w e = with_referent os _ v e
 pub operands_words : (w : Wants) (s : Slots Value) → operands over_words w (map_slots word_of s) ≡ map word_of (operands over_values w s)
 operands_words w s =
     ap (λ l. l ++ take (length w.pops) (map word_of s.stack)) (map_same word_of _ (λ r. slice_index_or s.locals r.0 value.Unset) w.reads (λ r. map_index word_of s.locals r.0 value.Unset))
-    ∙ (ap (λ l. map word_of (map (λ r. slice_index_or s.locals r.0 value.Unset) w.reads) ++ l) (map_take word_of (length w.pops) s.stack)
-    ∙ sym (map_append word_of (map (λ r. slice_index_or s.locals r.0 value.Unset) w.reads) (take (length w.pops) s.stack)))
+    ∙ (ap (λ l. map word_of (map (λ r. slice_index_or s.locals r.0 value.Unset) w.reads) ++ l) (take-map word_of (length w.pops) s.stack)
+    ∙ sym (map-append word_of (map (λ r. slice_index_or s.locals r.0 value.Unset) w.reads) (take (length w.pops) s.stack)))
 
 pub under_words : (w : Wants) (s : Slots Value) → under w (map_slots word_of s) ≡ map word_of (under w s)
-under_words w s = map_drop word_of (length w.pops) s.stack
+under_words w s = drop-map word_of (length w.pops) s.stack
 
 out_words : (ops : List Value) (o : Out) → out over_words (map word_of ops) o ≡ word_of (out over_values ops o)
 out_words ops (Copy k) = map_index word_of ops k value.Unset
@@ -124,6 +105,6 @@ row_words r s =
     let st =
     ap (λ o. map (out over_words o) r.pushes ++ drop (length r.pops) (map word_of s.stack)) e
     ∙ (ap (λ l. l ++ drop (length r.pops) (map word_of s.stack)) (map_same word_of _ (out over_values ops) r.pushes (out_words ops))
-    ∙ (ap (λ l. map word_of (map (out over_values ops) r.pushes) ++ l) (map_drop word_of (length r.pops) s.stack)
-    ∙ sym (map_append word_of (map (out over_values ops) r.pushes) (drop (length r.pops) s.stack)))) in
+    ∙ (ap (λ l. map word_of (map (out over_values ops) r.pushes) ++ l) (drop-map word_of (length r.pops) s.stack)
+    ∙ sym (map-append word_of (map (out over_values ops) r.pushes) (drop (length r.pops) s.stack)))) in
     λ i. record { locals = ls i; stack = st i }

@@ -3,7 +3,8 @@ use Rattle.std.proofs.Common.{◌≡◌, ℕ, ◌+◌, ◌≤◌, List, [], ◌�
 use Rattle.std.specs.Prelude.{is_none}
 use Rattle.std.specs.Option.{option_and_then}
 use Rattle.std.proofs.lemmas.Bool.{and_parts, ltb-false, leb-false, false≢true}
-use Rattle.std.proofs.lemmas.List.{length-append}
+use Rattle.std.proofs.lemmas.List.{length-append, length-map}
+use Rattle.std.proofs.lemmas.Option.{same_Some}
 use Rattle.model.specs.declared.event.Event.{Event}
 use Rattle.model.specs.declared.end.RunCause.{RunCause}
 use Rattle.model.specs.Names.{java_lang_class, java_lang_string}
@@ -18,7 +19,6 @@ use Rattle.model.specs.Step.{SteppedOf, NotEnabled, WrongKind, Next, stepped, ne
 use Rattle.model.specs.Run.{run_from}
 use Rattle.model.specs.LimitStands.{Bounds, opening_count, objects_made, is_crowded, inflated_by, if_next, limit_of, within_limits_from}
 use Rattle.object_counts.specs.Bounds.{made, IsOpeningInRange, AreOpeningsInRange, AreObjectsInRange}
-use Rattle.laws.proofs.WordLists.{map_count}
 use Rattle.laws.proofs.Unrefused.{unrefused_of}
 use Rattle.object_counts.proofs.CountedSteps.{StateCounted, stepped_counted}
 
@@ -34,8 +34,8 @@ opened_count {A} C files =
     let classes : List (ObjectOf A) = map (λ file. Instance java_lang_class []) (classes_of files) in
     let strings : List (ObjectOf A) = map (λ text. Instance java_lang_string []) (string_texts files) in
     let all : length (classes ++ strings) ≡ length classes + length strings = length-append classes strings in
-    let of_classes : length classes ≡ length (classes_of files) = map_count (λ file. Instance java_lang_class []) (classes_of files) in
-    let of_strings : length strings ≡ length (string_texts files) = map_count (λ text. Instance java_lang_string []) (string_texts files) in
+    let of_classes : length classes ≡ length (classes_of files) = length-map (classes_of files) (λ file. Instance java_lang_class []) in
+    let of_strings : length strings ≡ length (string_texts files) = length-map (string_texts files) (λ text. Instance java_lang_string []) in
     let both : length (classes_of files) ≡ length built_in_classes + length files = length-append built_in_classes files in
     omega (arith, all, of_classes, of_strings, both, built_in_count)
 
@@ -69,11 +69,8 @@ module _ (files : Program) (bounds : Bounds) where
   bounded : (events : List Event) (state : State) (inflated : List ℕ) (last : State) → length state.world.heap ≤ opening_count files + bounds.objects
       → within_limits_from files bounds state events inflated ≡ true → run_from files bounds.frames state events ≡ Some last → length last.world.heap ≤ opening_count files + bounds.objects
   bounded [] state inflated last b w e =
-      let is : state ≡ last = same state last e in
+      let is : state ≡ last = same_Some state last e in
       subst (λ (s : State). length s.world.heap ≤ opening_count files + bounds.objects) is b
-    where
-      same : (x y : State) → Some x ≡ Some y → x ≡ y
-      same x y q = cc
   bounded (event ∷ events) state inflated last b w e = by (λ next inflated c. bounded events next inflated last c) (stepped values files bounds.frames state event) (stepped_counted values files bounds.frames state event) w e
     where
       by : ((next : State) (inflated : List ℕ) → length next.world.heap ≤ opening_count files + bounds.objects → within_limits_from files bounds next events inflated ≡ true → run_from files bounds.frames next events ≡ Some last → length last.world.heap ≤ opening_count files + bounds.objects)

@@ -1,6 +1,7 @@
 -- How many objects there are after what an instruction does: outcomes, the changes of the world, and the methods of the machine.
-use Rattle.std.proofs.Common.{◌≡◌, ℕ, zero, suc, ◌+◌, List, [], ◌∷◌, ◌++◌, length, Bool, true, false, Option, Some, None, refl, ap, arith}
-use Rattle.std.specs.Prelude.{if◌then◌else◌, slice_get, slice_set, is_some}
+use Rattle.std.proofs.Common.{◌≡◌, ℕ, ◌+◌, List, [], ◌∷◌, length, Bool, true, false, Option, Some, None, refl, arith}
+use Rattle.std.specs.Prelude.{if◌then◌else◌, slice_get, is_some}
+use Rattle.std.proofs.lemmas.List.{length-set}
 use Rattle.model.specs.declared.event.Event.{Event}
 use Rattle.model.specs.Names.{thread_target}
 use Rattle.model.specs.Operands.{Slots, Carrier}
@@ -19,15 +20,6 @@ same_count m n e = omega (arith, e)
 
 pub unchanged : (n : ℕ) → n ≡ n + 0
 unchanged n = same_count n n refl
-
-pub set_count : {A : Type 0} (xs : List A) (k : ℕ) (x : A) → length (slice_set xs k x) ≡ length xs
-set_count [] k x = refl
-set_count (y ∷ xs) zero x = refl
-set_count (y ∷ xs) (suc k) x = ap suc (set_count xs k x)
-
-pub new_count : {A : Type 0} (xs : List A) (x : A) → length (xs ++ x ∷ []) ≡ length xs + 1
-new_count [] x = refl
-new_count (y ∷ xs) x = let e = new_count xs x in omega (arith, e)
 
 -- ---- outcomes
 
@@ -53,7 +45,7 @@ module _ {A : Type 0} where
   -- ---- worlds
 
   pub object_count : (world : WorldOf A) (r : ℕ) (o : ObjectOf A) → length (with_object world r o).heap ≡ length world.heap
-  object_count world r o = set_count world.heap r o
+  object_count world r o = length-set world.heap r o
 
   pub woken_count : (object : ℕ) (cause : WakeCause) (world : WorldOf A) (ws : List Waiter) → length (all_woken object cause world ws).heap ≡ length world.heap
   woken_count object cause world [] = refl

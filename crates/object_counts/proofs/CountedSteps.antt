@@ -2,6 +2,7 @@
 use Rattle.std.proofs.Common.{◌≡◌, ℕ, zero, suc, ◌+◌, List, [], ◌∷◌, length, nat_lt, Bool, true, false, ◌==◌, Option, Some, None, refl, ◌∙◌, subst}
 use Rattle.std.specs.Prelude.{slice_get, if◌then◌else◌}
 use Rattle.std.specs.Option.{option_map_or, option_and_then}
+use Rattle.std.proofs.lemmas.List.{length_push}
 use Rattle.model.specs.declared.event.Event.{Event}
 use Rattle.model.specs.declared.class_file.ExceptionEntry.{ExceptionEntry}
 use Rattle.model.specs.Names.{Name, Member, main_of, thread_run, initialiser_of, java_lang_error}
@@ -22,7 +23,7 @@ use Rattle.model.specs.Sites.{MeaningOf, Site, site_at}
 use Rattle.model.specs.Meanings.{meaning_of}
 use Rattle.model.specs.Step.{SteppedOf, NotEnabled, WrongKind, Next, PartOf, part, on_to, enabled_if, unpicked, is_over, ended, with_end, end_of, settled, raised, needing, needing_class, entering, pushed, leaving, returned, become, ops_of, done, bytecode_by, bytecode_in, initialiser_event, before, initialisation_event, initial_class, main_frame, run_frame, run_of, begin_event, handler_in, unwound, failed, pending_event, after_wait, relock_event, running_event, going_event, thread_event, put_back, event_of, stepped}
 use Rattle.object_counts.specs.Bounds.{made, IsCounted, AreObjectsCounted}
-use Rattle.object_counts.proofs.Counted.{same_count, new_count, OutcomeCounted, woken_count}
+use Rattle.object_counts.proofs.Counted.{same_count, OutcomeCounted, woken_count}
 use Rattle.object_counts.proofs.CountedTable.{DoesCount, meaning_counts}
 
 module _ {A : Type 0} where
@@ -43,7 +44,7 @@ module _ {A : Type 0} where
   -- ---- exceptions, calls and returns
 
   raised_counted : (t : ℕ) (fault : Fault) (world : WorldOf A) (stack : StackOf A) → Counted (length world.heap) (raised t fault world stack)
-  raised_counted t fault world stack = new_count world.heap (Instance (fault_class fault) [])
+  raised_counted t fault world stack = length_push world.heap (Instance (fault_class fault) [])
 
   on_counted : (n : ℕ) (world : WorldOf A) (stack : StackOf A) → length world.heap ≡ n → Counted n (on_to world stack)
   on_counted n world stack e = same_count (length world.heap) n e

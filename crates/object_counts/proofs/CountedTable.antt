@@ -2,6 +2,7 @@
 use Rattle.std.proofs.Common.{◌≡◌, ℕ, ◌+◌, List, [], ◌∷◌, length, Bool, true, false, Option, Some, None, refl}
 use Rattle.std.specs.Prelude.{if◌then◌else◌, unwrap_or}
 use Rattle.std.specs.Option.{option_map, option_and_then}
+use Rattle.std.proofs.lemmas.List.{length_push}
 use Rattle.model.specs.declared.event.Event.{Event}
 use Rattle.model.specs.declared.instr.ArrayKind.{ArrayKind}
 use Rattle.model.specs.declared.instr.ArrayKind.TheVariants as array_kind
@@ -33,7 +34,7 @@ use Rattle.model.specs.Objects.{cast, new_meaning, new_named, check_cast_meaning
 use Rattle.model.specs.Arrays.{is_negative, made_array, primitive_array_meaning, primitive_coded, reference_array_meaning, in_range, at_index, element_at, load_of, stored, kept_by, may_stand_in, if_storable, store_reference_meaning, store_of}
 use Rattle.model.specs.MonitorMeanings.{left, monitor_exit_meaning}
 use Rattle.model.specs.Meanings.{local_meaning, get_static_of, put_static_of, get_field_of, put_field_of, if_field, field_meaning, println_meaning, system_out_meaning, invoke_virtual_meaning, invoke_meaning, other_meaning, local_or, meaning_of}
-use Rattle.object_counts.proofs.Counted.{unchanged, same_count, new_count, object_count, OutcomeCounted, not_null_counted, either_counted, built_in_counted}
+use Rattle.object_counts.proofs.Counted.{unchanged, same_count, object_count, OutcomeCounted, not_null_counted, either_counted, built_in_counted}
 
 module _ {A : Type 0} where
   -- what it does is counted, whatever it finds
@@ -86,7 +87,7 @@ module _ {A : Type 0} where
   module _ (C : Carrier A) (files : Program) where
     array_counted : (negative : Bool) (next count : ℕ) (array : List A → ObjectOf A) (first : A) (world : WorldOf A) (slots : Slots A) (rest : List A) → OutcomeCounted (length world.heap) (made_array C negative next count array first world slots rest)
     array_counted true next count array first world slots rest = tt
-    array_counted false next count array first world slots rest = new_count world.heap _
+    array_counted false next count array first world slots rest = length_push world.heap _
 
     -- ---- local instructions, fields, and println
 
@@ -223,7 +224,7 @@ module _ {A : Type 0} where
     other_counts site (instr.LoadConstant index) = constant_counts site (entry_at site.body.pool index)
     other_counts site (instr.New index) =
         chained (new_named C files site) (class_name_at site.body.pool index)
-        (λ class. mapped (λ (file : FileTree). new_meaning C files site class) (class_of files class) (λ file event world slots ops rest. new_count world.heap (new_instance C files class)))
+        (λ class. mapped (λ (file : FileTree). new_meaning C files site class) (class_of files class) (λ file event world slots ops rest. length_push world.heap (new_instance C files class)))
     other_counts site (instr.NewArray code) =
         mapped (primitive_array_meaning C files site) (primitive_coded code) (λ of event world slots ops rest. array_counted (is_negative (int_operand C ops 0)) site.next (int_operand C ops 0) _ _ world slots rest)
     other_counts site (instr.NewReferenceArray index) =

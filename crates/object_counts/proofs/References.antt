@@ -2,6 +2,7 @@
 use Rattle.std.proofs.Common.{◌≡◌, ℕ, zero, suc, ◌≤◌, ◌<◌, List, [], ◌∷◌, length, true, subst, arith, refl}
 use Rattle.std.specs.Prelude.{slice_get}
 use Rattle.std.proofs.lemmas.Bool.{false≢true, lt-ltb, ltb-true}
+use Rattle.std.proofs.lemmas.List.{length-map}
 use Rattle.model.specs.declared.value.Value.{Value}
 use Rattle.model.specs.declared.value.Value.TheVariants as value
 use Rattle.model.specs.Classes.{Program}
@@ -11,7 +12,6 @@ use Rattle.model.specs.Operands.{word_of}
 use Rattle.model.specs.State.{ObjectOf, type_of, types_of}
 use Rattle.model.specs.WellTyped.{is_null_value}
 use Rattle.object_counts.specs.Bounds.{is_reference_in, AreReferencesThere, AreReferencesInRange}
-use Rattle.laws.proofs.WordLists.{map_count}
 use Rattle.object_counts.proofs.Bounded.{objects_fit}
 
 there_is : (files : Program) (type : ReferenceType) (objects : List ReferenceType) (r : ℕ) → is_object_below files type (slice_get objects r) ≡ true → r < length objects
@@ -23,7 +23,7 @@ below_in : (files : Program) (heap : List (ObjectOf Value)) (type : ReferenceTyp
 below_in files heap type value.Unset h = h
 below_in files heap type (value.Int bits) h = h
 below_in files heap type value.Null h = refl
-below_in files heap type (value.Reference r) h = lt-ltb r (length heap) (subst (λ n. r < n) (map_count type_of heap) (there_is files type (types_of heap) r h))
+below_in files heap type (value.Reference r) h = lt-ltb r (length heap) (subst (λ n. r < n) (length-map heap type_of) (there_is files type (types_of heap) r h))
 
 null_in : (n : ℕ) (v : Value) → is_null_value v ≡ true → is_reference_in n v ≡ true
 null_in n value.Unset h = h

@@ -4,6 +4,7 @@ use Rattle.std.specs.Prelude.{slice_get, slice_index_or, replicate}
 use Rattle.std.specs.Option.{option_map_or}
 use Rattle.std.specs.List.{list_all}
 use Rattle.std.proofs.lemmas.Bool.{false≢true, and_from}
+use Rattle.std.proofs.lemmas.Option.{get_or_from_slice_get}
 use Rattle.model.specs.declared.event.Event.{Event}
 use Rattle.model.specs.declared.value.Value.{Value}
 use Rattle.model.specs.declared.value.Value.TheVariants as value
@@ -27,7 +28,6 @@ use Rattle.laws.proofs.Order.{stack_above}
 use Rattle.laws.proofs.Rows.{ready_popped, operands_both}
 use Rattle.typed_runs.proofs.Objects.{all_index, all_replicate, all_set, nulls_typed, object_found, added_below}
 use Rattle.typed_runs.proofs.Changes.{OutcomeTyped}
-use Rattle.typed_runs.proofs.Threads.{index_at}
 use Rattle.typed_runs.proofs.WorldChanges.{Keeps, self_keeps, allocated_keeps, object_keeps}
 use Rattle.typed_runs.proofs.Subtypes.{made_above, made_monotone, instance_below}
 use Rattle.typed_runs.proofs.Going.{Here, Allows, slots_here, not_null_any, met, pushes}
@@ -143,7 +143,7 @@ module _ (files : Program) (event : Event) (w : World) (f : Frame) (site : Site)
   byte_ints r e = found_ints is_byte_array_type byte_holds w.heap r e
 
   ints_at : (r : ℕ) → HoldsInts w.heap r → holds_ints (type_of (object_at w r)) ≡ true
-  ints_at r k = subst (λ o. holds_ints (type_of o) ≡ true) (sym (index_at w.heap r k.object no_object k.there)) k.ints
+  ints_at r k = subst (λ o. holds_ints (type_of o) ≡ true) (sym (get_or_from_slice_get w.heap r k.object no_object k.there)) k.ints
 
   object_here : (r : ℕ) → is_object_typed files (types_of w.heap) (object_at w r) ≡ true
   object_here r = at_typed files (types_of w.heap) w.heap r h.fits.heap
@@ -178,7 +178,7 @@ module _ (files : Program) (event : Event) (w : World) (f : Frame) (site : Site)
   component_typed (OfType (PrimitiveArray of)) r i e q = absurd (false≢true e)
   component_typed (OfType (ReferenceArray b)) r i e q =
       let o = object_found files w.heap r (ReferenceArray b) q in
-      loaded_typed b (object_at w r) i (subst (λ x. is_assignable files (type_of x) (ReferenceArray b) ≡ true) (sym (index_at w.heap r o.0 no_object o.1)) o.2) (object_here r)
+      loaded_typed b (object_at w r) i (subst (λ x. is_assignable files (type_of x) (ReferenceArray b) ≡ true) (sym (get_or_from_slice_get w.heap r o.0 no_object o.1)) o.2) (object_here r)
   component_typed (Uninitialised at c) r i e q = absurd (false≢true e)
   component_typed (UninitialisedThis c) r i e q = absurd (false≢true e)
 

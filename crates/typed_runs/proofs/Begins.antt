@@ -3,6 +3,7 @@ use Rattle.std.proofs.Common.{◌≡◌, ℕ, zero, suc, [], ◌∷◌, true, fa
 use Rattle.std.specs.Prelude.{slice_get}
 use Rattle.std.specs.Option.{option_map_or}
 use Rattle.std.proofs.lemmas.Bool.{false≢true}
+use Rattle.std.proofs.lemmas.Option.{get_or_from_slice_get}
 use Rattle.model.specs.declared.value.Value.{Value}
 use Rattle.model.specs.declared.value.Value.TheVariants as value
 use Rattle.model.specs.Names.{Name, Member, main_of, thread_run, java_lang_string, java_lang_thread}
@@ -24,7 +25,6 @@ use Rattle.laws.proofs.Lists.{get_map}
 use Rattle.typed_runs.proofs.Objects.{object_found}
 use Rattle.typed_runs.proofs.Changes.{Fits}
 use Rattle.laws.proofs.Linked.{Linked}
-use Rattle.typed_runs.proofs.Threads.{index_at}
 use Rattle.typed_runs.proofs.OpeningObjects.{arguments_there}
 use Rattle.typed_runs.proofs.NewFrames.{opened_ready, selected, run_arguments, main_arguments}
 use Rattle.typed_runs.proofs.StepParts.{At, OnPart, own_at, raised_typed, idle_running}
@@ -36,7 +36,7 @@ module _ (files : Program) (linked : Linked files) (accepted : AreTyped files) (
   main_frame_typed thread there start runs none None e = tt
   main_frame_typed thread there start runs none (Some body) e =
       let main = main_of (initial_class files) in
-      let is = index_at world.threads 0 thread no_thread there in
+      let is = get_or_from_slice_get world.threads 0 thread no_thread there in
       let new = record (thread_at world 0) { begun = true } in
       let status = ap (λ (th : Thread). th.status) is ∙ runs in
       let pending = ap (λ (th : Thread). th.pending) is ∙ none in
@@ -60,7 +60,7 @@ module _ (files : Program) (linked : Linked files) (accepted : AreTyped files) (
           raised_typed files t world thread there linked.rooted AbstractMethod world thread [] start runs tt
       run_frame_typed object class selectable below (Some body) e =
           let method = in_class class thread_run in
-          let is = index_at world.threads t thread no_thread there in
+          let is = get_or_from_slice_get world.threads t thread no_thread there in
           let new = record (thread_at world t) { begun = true } in
           let status = ap (λ (th : Thread). th.status) is ∙ runs in
           let pending = ap (λ (th : Thread). th.pending) is ∙ none in
@@ -81,7 +81,7 @@ module _ (files : Program) (linked : Linked files) (accepted : AreTyped files) (
       run_of_typed object typed (Some method) e =
           let found = selected files (class_of_object (object_at world object)) thread_run method e in
           let o = object_found files world.heap object (ClassType java_lang_thread) typed in
-          let is = index_at world.heap object o.0 no_object o.1 in
+          let is = get_or_from_slice_get world.heap object o.0 no_object o.1 in
           let above = subst (λ (x : ObjectOf Value). is_subclass files (class_of_object x) method.class ≡ true) is found.above in
           let below = below_thread object method.class o.0 o.1 o.2 above in
           let selectable = subst (λ m. option_map_or is_selectable (method_of files m) false ≡ true) found.is found.selectable in
@@ -92,5 +92,5 @@ module _ (files : Program) (linked : Linked files) (accepted : AreTyped files) (
     begin_typed zero thread there start runs none typed = main_typed thread there start runs none
     begin_typed (suc t) thread there start runs none typed =
         let object = (thread_at world (suc t)).object in
-        let is = ap (λ (th : Thread). th.object) (index_at world.threads (suc t) thread no_thread there) in
+        let is = ap (λ (th : Thread). th.object) (get_or_from_slice_get world.threads (suc t) thread no_thread there) in
         run_of_typed (suc t) thread there start runs none object (subst (λ r. is_object_in files (types_of world.heap) java_lang_thread r ≡ true) (sym is) typed) (select files (class_of_object (object_at world object)) thread_run) refl

@@ -5,6 +5,7 @@ use Rattle.std.specs.Option.{option_map, option_map_or, option_and_then}
 use Rattle.std.specs.List.{AllByRecursion}
 use Rattle.std.specs.Str.{bytes_eq}
 use Rattle.std.proofs.lemmas.Bool.{or_cases}
+use Rattle.std.proofs.lemmas.Option.{same_Some}
 use Rattle.model.specs.declared.value.Value.{Value}
 use Rattle.model.specs.declared.value.Value.TheVariants as value
 use Rattle.model.specs.Names.{Name, java_lang_string}
@@ -54,22 +55,16 @@ module _ (files : Program) where
     text_typed : (world : World) → Fits files world → (index text : ℕ) (descriptor : Name) (o : Option (List ℕ)) (v : Value) → entry_at file.pool index ≡ String text → utf8_at file.pool text ≡ o → is_constant_of descriptor (String text) ≡ true → option_map (λ (bytes : List ℕ). value.Reference (string_reference files bytes)) o ≡ Some v → has_type files (types_of world.heap) (verification_type files (field_declared descriptor)) v ≡ true
     text_typed world fits index text descriptor None v e u h q = absurd cc
     text_typed world fits index text descriptor (Some bytes) v e u h q =
-        let is : value.Reference (string_reference files bytes) ≡ v = some_same (value.Reference (string_reference files bytes)) v q in
+        let is : value.Reference (string_reference files bytes) ≡ v = same_Some (value.Reference (string_reference files bytes)) v q in
         let known = linked.string_known class file is_class index text bytes e u in
         let there = fits.opened.keeps (string_reference files bytes) (ClassType java_lang_string) (string_there files bytes known) in
         subst (λ x. has_type files (types_of world.heap) (verification_type files (field_declared descriptor)) x ≡ true) is (string_typed (types_of world.heap) descriptor text (string_reference files bytes) h there)
-      where
-        some_same : (x y : Value) → Some x ≡ Some y → x ≡ y
-        some_same x y e = cc
 
     entry_typed : (world : World) → Fits files world → (index : ℕ) (descriptor : Name) (entry : Entry) (v : Value) → entry_at file.pool index ≡ entry → is_constant_of descriptor entry ≡ true → constant_of values files file.pool entry ≡ Some v → has_type files (types_of world.heap) (verification_type files (field_declared descriptor)) v ≡ true
     entry_typed world fits index descriptor (Utf8 text) v e h q = absurd cc
     entry_typed world fits index descriptor (Integer bits) v e h q =
-        let is : value.Int bits ≡ v = some_same (value.Int bits) v q in
+        let is : value.Int bits ≡ v = same_Some (value.Int bits) v q in
         subst (λ x. has_type files (types_of world.heap) (verification_type files (field_declared descriptor)) x ≡ true) is (int_typed (types_of world.heap) descriptor bits h)
-      where
-        some_same : (x y : Value) → Some x ≡ Some y → x ≡ y
-        some_same x y e = cc
     entry_typed world fits index descriptor (Float bits) v e h q = absurd cc
     entry_typed world fits index descriptor (Long bits) v e h q = absurd cc
     entry_typed world fits index descriptor (Double bits) v e h q = absurd cc

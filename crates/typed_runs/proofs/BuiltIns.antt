@@ -8,7 +8,7 @@ use Rattle.std.proofs.lemmas.List.{reverse-reverse}
 use Rattle.model.specs.declared.event.Event.{Event}
 use Rattle.model.specs.declared.value.Value.{Value}
 use Rattle.model.specs.declared.value.Value.TheVariants as value
-use Rattle.model.specs.Names.{Name, Member, member_eq, java_lang_object, java_lang_runnable, java_lang_thread, constructor_name, thread_target, println_int}
+use Rattle.model.specs.Names.{Name, Member, java_lang_object, java_lang_runnable, java_lang_thread, constructor_name, thread_target, println_int}
 use Rattle.model.specs.DescriptorScan.{method_type, field_type, parameters_at, field_at, element_at}
 use Rattle.model.specs.BuiltIn.{built_in_classes}
 use Rattle.model.specs.Classes.{Program}
@@ -27,7 +27,7 @@ use Rattle.model.specs.BuiltInMethods.{BuiltInMethod, Construct, ConstructWithTa
 use Rattle.model.specs.Typing.{has_no_receiver, argument_types}
 use Rattle.model.specs.WellTyped.{has_type, is_object_in, are_typed, Ready, Awaits}
 use Rattle.laws.proofs.Lists.{Pairwise, pairs_of, pair_get, get_front}
-use Rattle.laws.proofs.Classes.{names_same}
+use Rattle.laws.proofs.Classes.{names_same, members_same}
 use Rattle.laws.proofs.Order.{Extends, extends_self}
 use Rattle.typed_runs.proofs.Invariant.{awaits_more}
 use Rattle.typed_runs.proofs.Objects.{object_found}
@@ -42,13 +42,6 @@ use Rattle.typed_runs.proofs.Instructions.{at_typed, at_there, with_field_typed,
 use Rattle.typed_runs.proofs.Callees.{pair_reverse}
 
 -- ---- names
-
-members_same : (a b : Member) → member_eq a b ≡ true → a ≡ b
-members_same a b e =
-    let p = and_parts _ _ e in
-    let q = and_parts _ _ p.1 in
-    ap (λ n. record { class = n; name = a.name; descriptor = a.descriptor }) (names_same a.class b.class p.0)
-    ∙ (ap (λ n. record { class = b.class; name = n; descriptor = a.descriptor }) (names_same a.name b.name q.0) ∙ ap (λ n. record { class = b.class; name = b.name; descriptor = n }) (names_same a.descriptor b.descriptor q.1))
 
 -- ---- what the methods take and give
 

@@ -1,9 +1,10 @@
 -- What a call gives to a method: its operands as arguments, and a receiver below the class that declares the method.
-use Rattle.std.proofs.Common.{◌≡◌, ℕ, List, [], ◌∷◌, ◌++◌, length, map, reverse, Bool, true, false, not, ◌||◌, ◌&&◌, Option, Some, None, refl, sym, ap, ◌∙◌, subst}
+use Rattle.std.proofs.Common.{◌≡◌, ℕ, List, [], ◌∷◌, ◌++◌, length, map, reverse, Bool, true, false, not, ◌&&◌, Option, Some, None, refl, sym, ap, ◌∙◌, subst}
 use Rattle.std.specs.Prelude.{slice_index_or, unwrap_or, if◌then◌else◌}
 use Rattle.std.specs.Option.{option_map_or, option_or}
-use Rattle.std.proofs.lemmas.Bool.{false≢true, and_from, or_right, cond_both}
+use Rattle.std.proofs.lemmas.Bool.{and_from, or_right, cond_both, or_from}
 use Rattle.std.proofs.lemmas.List.{reverse-append, reverse-reverse, length-reverse, length-map}
+use Rattle.std.proofs.lemmas.Option.{get_or_from_slice_get, same_Some}
 use Rattle.model.specs.declared.value.Value.{Value}
 use Rattle.model.specs.declared.value.Value.TheVariants as value
 use Rattle.model.specs.Names.{Name, name_eq, Member, initialiser_name, java_lang_object}
@@ -23,7 +24,6 @@ use Rattle.model.specs.Typing.{is_constructor, is_static_of, parameter_types, re
 use Rattle.model.specs.WellTyped.{has_type, are_typed}
 use Rattle.laws.proofs.Lists.{Pairwise, pair_append, pair_length, get_last}
 use Rattle.laws.proofs.Classes.{name_self, subclass_trans, above_object, within_subclass}
-use Rattle.typed_runs.proofs.Threads.{index_at}
 use Rattle.typed_runs.proofs.Subtypes.{made_monotone}
 use Rattle.laws.proofs.Linked.{Linked}
 use Rattle.typed_runs.proofs.Instructions.{declared_met}
@@ -95,7 +95,7 @@ module _ (files : Program) (os : List ReferenceType) where
       let count : length s.front ≡ length ps = sym (pair_length (value_meets files os) (reverse ws) s.front s.fits) ∙ length-reverse ws ∙ length-map ps (declared_want files) in
       let at : operand values ops (parameter_count method) ≡ s.last =
       subst (λ n. slice_index_or ops n value.Unset ≡ s.last) count
-      (subst (λ l. slice_index_or l (length s.front) value.Unset ≡ s.last) (sym s.is) (index_at (s.front ++ s.last ∷ []) (length s.front) s.last value.Unset (get_last s.front s.last))) in (
+      (subst (λ l. slice_index_or l (length s.front) value.Unset ≡ s.last) (sym s.is) (get_or_from_slice_get (s.front ++ s.last ∷ []) (length s.front) s.last value.Unset (get_last s.front s.last))) in (
         record {
           arguments = reverse s.front;
           are = ap reverse s.is ∙ reverse-append s.front (s.last ∷ []) ∙ ap (λ v. v ∷ reverse s.front) (sym at);
@@ -113,15 +113,11 @@ pub record Runnable (files : Program) (os : List ReferenceType) (method : Member
   pub arguments : are_typed files os (argument_types files method) (reverse ops) ≡ true
   pub receiver : has_no_receiver files method ≡ false → (r : ℕ) × (operand values ops (parameter_count method) ≡ value.Reference r)
 
-neither : (a b : Bool) → a ≡ false → b ≡ false → (a || b) ≡ false
-neither false b p q = q
-neither true b p q = absurd (false≢true (sym p))
-
 module _ (files : Program) (os : List ReferenceType) where
   -- a method with a receiver that is below the class that declares it
   pub instance_runnable : (method callee : Member) (ops : List Value) (tree : MethodTree) (r : ℕ) → callee.descriptor ≡ method.descriptor → method_of files callee ≡ Some tree → is_abstract_method tree ≡ false → is_static_of files callee ≡ false → name_eq callee.name initialiser_name ≡ false → Given files os method ops → operand values ops (parameter_count method) ≡ value.Reference r → is_value_below files os (ClassType callee.class) (value.Reference r) ≡ true → Runnable files os callee ops
   instance_runnable method callee ops tree r same is_method concrete static name g at below =
-      let no = neither (is_static_of files callee) (name_eq callee.name initialiser_name) static name in
+      let no = or_from (is_static_of files callee) (name_eq callee.name initialiser_name) static name in
       let receiver = cond_both (is_constructor callee) (UninitialisedThis callee.class) (OfType (ClassType callee.class)) (λ t. has_type files os t (value.Reference r) ≡ true) (λ q. below) (λ q. below) in
       let parameters = subst (λ d. are_typed files os (map (verification_type files) (parameters_declared d)) g.arguments ≡ true) (sym same) g.typed in
       let all = subst (λ v. are_typed files os (receiver_type callee ∷ parameter_types files callee) (v ∷ g.arguments) ≡ true) (sym at) (and_from _ _ receiver parameters) in
@@ -157,11 +153,8 @@ module _ (files : Program) (linked : Linked files) where
       (λ i. subst (λ n. is_subclass files n above ≡ true) (same_super i) more)
       (λ i. subclass_trans files linked.rooted current s above (within_subclass files linked.rooted 1 current s (or_right (name_eq current s) _ (subst (λ o. option_map_or (λ c. is_within files 0 c s) o false ≡ true) (sym e) (name_self s)))) more)
     where
-      some_same : (a b : Name) → Some a ≡ Some b → a ≡ b
-      some_same a b q = cc
-
       same_super : is_interface files current ≡ true → s ≡ java_lang_object
-      same_super i = some_same s java_lang_object (sym e ∙ linked.interface_super current i)
+      same_super i = same_Some s java_lang_object (sym e ∙ linked.interface_super current i)
 
   -- the receiver of invokespecial is below what its selection finds
   pub special_below : (current named above : Name) → is_subclass files current named ≡ true → is_interface files named ≡ false → is_subclass files (special_class files current named) above ≡ true → is_assignable files (made_type files (ClassType current)) (ClassType above) ≡ true

@@ -1,8 +1,8 @@
 -- The invoking instructions: the method that is run takes what the call gives, and the invoker awaits its results.
-use Rattle.std.proofs.Common.{◌≡◌, ℕ, List, ◌++◌, reverse, Bool, true, false, not, Option, Some, None, refl, sym, ap, subst}
+use Rattle.std.proofs.Common.{◌≡◌, ℕ, List, ◌++◌, reverse, Bool, true, false, Option, Some, None, refl, sym, ap, subst}
 use Rattle.std.specs.Prelude.{unwrap_or}
 use Rattle.std.specs.Option.{option_map_or}
-use Rattle.std.proofs.lemmas.Bool.{false≢true, and_parts, cond_both}
+use Rattle.std.proofs.lemmas.Bool.{false≢true, and_parts, cond_both, not-true}
 use Rattle.model.specs.declared.event.Event.{Event}
 use Rattle.model.specs.declared.instr.Instr.{Instr}
 use Rattle.model.specs.declared.value.Value.{Value}
@@ -47,13 +47,9 @@ pub one_of : (test : MethodTree → Bool) (o : Option MethodTree) → option_map
 one_of test None e = absurd (false≢true e)
 one_of test (Some m) e = record { tree = m; is = refl; passes = e }
 
-not_true : (b : Bool) → not b ≡ true → b ≡ false
-not_true false e = refl
-not_true true e = absurd (false≢true e)
-
 module _ (files : Program) (method : Member) (tree : MethodTree) (is_method : method_of files method ≡ Some tree) where
   pub not_static : is_instance_method tree ≡ true → is_static_of files method ≡ false
-  not_static e = subst (λ o. option_map_or is_static_method o false ≡ false) (sym is_method) (not_true (is_static_method tree) e)
+  not_static e = subst (λ o. option_map_or is_static_method o false ≡ false) (sym is_method) (not-true (is_static_method tree) e)
 
 module _ (files : Program) (built_ins : BuiltInTyped files) (event : Event) (w : World) (f : Frame) (site : Site) (h : Here files event.thread w f site) where
   -- ---- what is run

@@ -3,6 +3,7 @@
 use Rattle.std.proofs.Common.{◌≡◌, ℕ, [], ◌∷◌, Bool, true, false, Option, Some, None, refl, sym, ap, ◌∙◌, subst}
 use Rattle.std.specs.Prelude.{slice_get}
 use Rattle.std.specs.Option.{option_and_then}
+use Rattle.std.proofs.lemmas.Option.{get_or_from_slice_get}
 use Rattle.model.specs.declared.class_file.ExceptionEntry.{ExceptionEntry}
 use Rattle.model.specs.declared.value.Value.{Value}
 use Rattle.model.specs.declared.value.Value.TheVariants as value
@@ -24,7 +25,6 @@ use Rattle.model.specs.WellTyped.{is_object_in, Results, Instruction, Beneath, F
 use Rattle.typed_runs.proofs.Invariant.{failing_from}
 use Rattle.typed_runs.proofs.Frames.{returned_typed}
 use Rattle.laws.proofs.Linked.{Linked}
-use Rattle.typed_runs.proofs.Threads.{index_at}
 use Rattle.typed_runs.proofs.WorldChanges.{class_status_keeps, relock_keeps}
 use Rattle.typed_runs.proofs.NewFrames.{opened_ready, initialiser_arguments}
 use Rattle.typed_runs.proofs.Handlers.{handled_ready}
@@ -33,7 +33,7 @@ use Rattle.typed_runs.proofs.Entering.{BegunKeeps, enabled_typed, going_typed, p
 
 module _ (files : Program) (linked : Linked files) (t : ℕ) (world : World) (thread : Thread) (there : slice_get world.threads t ≡ Some thread) (start : At files t world world thread) where
   is_at : thread_at world t ≡ thread
-  is_at = index_at world.threads t thread no_thread there
+  is_at = get_or_from_slice_get world.threads t thread no_thread there
 
   runs_at : thread.status ≡ Running → (thread_at world t).status ≡ Running
   runs_at runs = ap (λ (th : Thread). th.status) is_at ∙ runs

@@ -4,6 +4,7 @@ use Rattle.std.specs.Prelude.{if◌then◌else◌, unwrap_or}
 use Rattle.std.specs.Option.{option_map, option_and_then}
 use Rattle.std.specs.List.{AllByRecursion}
 use Rattle.std.proofs.lemmas.Bool.{and_parts}
+use Rattle.std.proofs.lemmas.Option.{same_Some}
 use Rattle.model.specs.declared.event.Event.{Event}
 use Rattle.model.specs.declared.value.Value.{Value}
 use Rattle.model.specs.Classes.{Program, Body}
@@ -44,10 +45,7 @@ pub record Flow (files : Program) (frame : Frame) (stands : Stands files frame) 
 
 -- a branch that was taken
 taken : (b : Bool) (xs leads : List (ℕ × FrameType)) → (if b then Some xs else None) ≡ Some leads → (b ≡ true) × (xs ≡ leads)
-taken true xs leads h = (refl, some_same xs leads h)
-  where
-    some_same : (x y : List (ℕ × FrameType)) → Some x ≡ Some y → x ≡ y
-    some_same x y e = cc
+taken true xs leads h = (refl, same_Some xs leads h)
 taken false xs leads h = absurd cc
 
 every_parts : {A : Type 0} (P : A → Type 0) (xs ys : List A) → AllByRecursion P (xs ++ ys) → AllByRecursion P xs × AllByRecursion P ys

@@ -4,6 +4,7 @@ use Rattle.std.specs.Prelude.{slice_get, find, if◌then◌else◌, unwrap_or}
 use Rattle.std.specs.Option.{option_and_then}
 use Rattle.std.specs.List.{AllByRecursion}
 use Rattle.std.proofs.lemmas.Bool.{false≢true, and_parts, and_from, or_cases, cond_both}
+use Rattle.std.proofs.lemmas.Option.{same_Some}
 use Rattle.model.specs.declared.class_file.ExceptionEntry.{ExceptionEntry}
 use Rattle.model.specs.declared.value.Value.TheVariants as value
 use Rattle.model.specs.Names.{Name, java_lang_throwable}
@@ -48,13 +49,10 @@ module _ (files : Program) (pool : List Entry) (offset : ℕ) (t : FrameType) (F
 
   at_entry : (e entry : ExceptionEntry) (later : Option ExceptionEntry) (b : Bool) → test e ≡ b → (if b then Some e else later) ≡ Some entry → AllByRecursion R (handlers_from files pool offset t (e ∷ [])) → NamesClass pool e → (later ≡ Some entry → Caught files pool t F thrown entry) → Caught files pool t F thrown entry
   at_entry e entry later true q f all named go =
-      let same : e ≡ entry = some_same e entry f in
+      let same : e ≡ entry = same_Some e entry f in
       let both = and_parts (covers offset e) (takes files pool thrown e) q in
       let first = subst (λ b. AllByRecursion R (if b then handler_type files pool t e ∷ [] else [])) both.0 all in
       subst (Caught files pool t F thrown) same (record { reaches = first.0; taken = both.1; named = named })
-    where
-      some_same : (x y : ExceptionEntry) → Some x ≡ Some y → x ≡ y
-      some_same x y e = cc
   at_entry e entry later false q f all named go = go f
 
   first_only : (b : Bool) (x : ℕ × FrameType) (xs : List (ℕ × FrameType)) → AllByRecursion R (if b then x ∷ xs else xs) → AllByRecursion R (if b then x ∷ [] else [])

@@ -3,6 +3,7 @@ use Rattle.std.proofs.Common.{◌≡◌, ℕ, List, Bool, true, false, Option, S
 use Rattle.std.specs.Prelude.{if◌then◌else◌}
 use Rattle.std.specs.Option.{option_map, option_and_then}
 use Rattle.std.specs.List.{list_any}
+use Rattle.std.proofs.lemmas.Option.{same_Some}
 use Rattle.model.specs.declared.event.Event.{Event}
 use Rattle.model.specs.declared.instr.FieldAccess.{FieldAccess}
 use Rattle.model.specs.declared.instr.FieldAccess.TheVariants as access
@@ -48,10 +49,7 @@ record FileOf (files : Program) (method : Member) (body : Body) : Type 0 where
 
 coded_pool : (pool : List Entry) (o : Option CodeTree) (body : Body) → option_map (with_pool pool) o ≡ Some body → body.pool ≡ pool
 coded_pool pool None body e = absurd cc
-coded_pool pool (Some code) body e = sym (ap (λ (b : Body). b.pool) (some_same (with_pool pool code) body e))
-  where
-    some_same : (a b : Body) → Some a ≡ Some b → a ≡ b
-    some_same a b q = cc
+coded_pool pool (Some code) body e = sym (ap (λ (b : Body). b.pool) (same_Some (with_pool pool code) body e))
 
 file_of : (files : Program) (method : Member) (body : Body) (o : Option FileTree) → class_of files method.class ≡ o → option_and_then (body_in method.name method.descriptor) o ≡ Some body → FileOf files method body
 file_of files method body None q e = absurd cc
@@ -71,10 +69,7 @@ module _ (files : Program) (built_ins : BuiltInTyped files) (event : Event) (w :
   none m e = absurd cc
 
   one : (x : MeaningOf Value) → Done x → IsDone (Some x)
-  one x d m e = subst Done (same x m e) d
-    where
-      same : (a b : MeaningOf Value) → Some a ≡ Some b → a ≡ b
-      same a b q = cc
+  one x d m e = subst Done (same_Some x m e) d
 
   mapped : {A : Type 0} (meaning : A → MeaningOf Value) (o : Option A) → ((x : A) → o ≡ Some x → Done (meaning x)) → IsDone (option_map meaning o)
   mapped meaning None k = none

@@ -3,6 +3,7 @@ use Rattle.std.proofs.Common.{◌≡◌, ℕ, List, [], ◌∷◌, map, Bool, tr
 use Rattle.std.specs.Prelude.{slice_get, slice_index_or, if◌then◌else◌}
 use Rattle.std.specs.List.{AllByRecursion, list_all}
 use Rattle.std.proofs.lemmas.Bool.{and_from}
+use Rattle.std.proofs.lemmas.Option.{get_or_from_slice_get}
 use Rattle.model.specs.declared.event.Event.{Event}
 use Rattle.model.specs.declared.value.Value.{Value}
 use Rattle.model.specs.Names.{Name, Member, name_eq, java_lang_throwable, java_io_print_stream}
@@ -32,7 +33,6 @@ use Rattle.laws.proofs.Rows.{of_slots, after_row_both}
 use Rattle.typed_runs.proofs.Objects.{value_in_typed, with_value_typed, put_value_typed, all_index}
 use Rattle.typed_runs.proofs.Frames.{arrive}
 use Rattle.typed_runs.proofs.Changes.{OutcomeTyped}
-use Rattle.typed_runs.proofs.Threads.{index_at}
 use Rattle.typed_runs.proofs.WorldChanges.{Keeps, self_keeps, object_keeps, static_keeps, printed_keeps, entry_keeps, exit_keeps, goes_on}
 use Rattle.typed_runs.proofs.Going.{Here, Allows, slots_here, not_null_typed, met, pushes}
 
@@ -65,7 +65,7 @@ pub at_typed : (files : Program) (os : List ReferenceType) (heap : List (ObjectO
 at_typed files os heap r h = all_index (is_object_typed files os) heap r no_object h refl
 
 pub at_there : (heap : List (ObjectOf Value)) (r : ℕ) (o : ObjectOf Value) → slice_get heap r ≡ Some o → slice_get heap r ≡ Some (slice_index_or heap r no_object)
-at_there heap r o e = e ∙ ap (λ x. Some x) (sym (index_at heap r o no_object e))
+at_there heap r o e = e ∙ ap (λ x. Some x) (sym (get_or_from_slice_get heap r o no_object e))
 
 owned_below : (files : Program) (os : List ReferenceType) (b : Bool) (named : Name) (v : Value) → value_meets files os (if b then AnOwner named else of_class files named) v ≡ true → (type : ReferenceType) × (is_value_below files os type v ≡ true)
 owned_below files os true named v h = (ClassType named, h)

@@ -4,6 +4,7 @@ use Rattle.std.specs.Prelude.{slice_get, slice_set, slice_index_or, replicate, i
 use Rattle.std.specs.List.{list_all}
 use Rattle.std.specs.Option.{option_map_or}
 use Rattle.std.proofs.lemmas.Bool.{false≢true, and_parts, and_from, cond_both, eqb-true}
+use Rattle.std.proofs.lemmas.List.{map-append}
 use Rattle.model.specs.declared.value.Value.{Value}
 use Rattle.model.specs.declared.value.Value.TheVariants as value
 use Rattle.model.specs.Names.{Name, Member, member_eq}
@@ -20,7 +21,7 @@ use Rattle.model.specs.Opening.{first_value, first_of, with_first, new_instance}
 use Rattle.model.specs.Lookup.{instance_fields}
 use Rattle.model.specs.Worlds.{value_in, with_value, type_kept, element_kept, put_value}
 use Rattle.model.specs.WellTyped.{has_type, is_field_typed, is_object_typed}
-use Rattle.laws.proofs.Lists.{all_weaken, map_append, get_set_same}
+use Rattle.laws.proofs.Lists.{all_weaken, get_set_same, all_append}
 use Rattle.laws.proofs.Classes.{names_same}
 use Rattle.laws.proofs.Order.{Extends, extends_more, extends_same, assignable_self}
 use Rattle.typed_runs.proofs.Invariant.{object_typed_more}
@@ -29,10 +30,6 @@ abbrev ObjectV : Type 0
 ObjectV = ObjectOf Value
 
 -- ---- tests of all elements of a list
-
-pub all_append : {A : Type 0} (p : A → Bool) (xs ys : List A) → list_all p xs ≡ true → list_all p ys ≡ true → list_all p (xs ++ ys) ≡ true
-all_append p [] ys h g = g
-all_append p (x ∷ xs) ys h g = let q = and_parts _ _ h in and_from _ _ q.0 (all_append p xs ys q.1 g)
 
 pub all_set : {A : Type 0} (p : A → Bool) (xs : List A) (k : ℕ) (x : A) → list_all p xs ≡ true → p x ≡ true → list_all p (slice_set xs k x) ≡ true
 all_set p [] k x h q = refl
@@ -135,7 +132,7 @@ HeapTyped files heap = list_all (is_object_typed files (types_of heap)) heap ≡
 
 module _ (files : Program) (heap : List ObjectV) (typed : HeapTyped files heap) where
   pub added_extends : (o : ObjectV) → Extends (types_of heap) (types_of (heap ++ o ∷ []))
-  added_extends o = subst (Extends (types_of heap)) (sym (map_append type_of heap (o ∷ []))) (extends_more (types_of heap) (type_of o ∷ []))
+  added_extends o = subst (Extends (types_of heap)) (sym (map-append type_of heap (o ∷ []))) (extends_more (types_of heap) (type_of o ∷ []))
 
   pub added_typed : (o : ObjectV) → is_object_typed files (types_of (heap ++ o ∷ [])) o ≡ true → HeapTyped files (heap ++ o ∷ [])
   added_typed o h =

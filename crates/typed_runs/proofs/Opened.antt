@@ -1,7 +1,8 @@
 -- The opening state is well typed.
-use Rattle.std.proofs.Common.{◌≡◌, ℕ, suc, List, [], ◌∷◌, map, length, true, refl, ap}
+use Rattle.std.proofs.Common.{◌≡◌, ℕ, suc, List, [], ◌∷◌, map, true, refl}
 use Rattle.std.specs.List.{list_all}
 use Rattle.std.proofs.lemmas.Bool.{and_from}
+use Rattle.std.proofs.lemmas.List.{length-map}
 use Rattle.model.specs.declared.value.Value.{Value}
 use Rattle.model.specs.Names.{java_lang_class, java_lang_string, java_lang_thread}
 use Rattle.model.specs.Classes.{Program, classes_of}
@@ -13,7 +14,8 @@ use Rattle.model.specs.Monitors.{unlocked}
 use Rattle.model.specs.Opening.{with_first, static_fields, main_thread_reference, opening_heap, opening}
 use Rattle.model.specs.WellTyped.{is_object_typed, is_field_typed, are_wait_sets, IsWellTyped}
 use Rattle.laws.proofs.Order.{extends_self, assignable_self}
-use Rattle.typed_runs.proofs.Objects.{all_map, all_append, first_of_typed, new_instance_typed}
+use Rattle.typed_runs.proofs.Objects.{all_map, first_of_typed, new_instance_typed}
+use Rattle.laws.proofs.Lists.{all_append}
 
 heap_typed : (files : Program) → list_all (is_object_typed files (types_of (opening_heap values files))) (opening_heap values files) ≡ true
 unfolding opening_heap
@@ -23,10 +25,6 @@ heap_typed files =
     (all_append (is_object_typed files os) (map (λ file. Instance java_lang_class []) (classes_of files)) (map (λ text. Instance java_lang_string []) (string_texts files))
     (all_map (is_object_typed files os) (λ file. Instance java_lang_class []) (classes_of files) (λ file. refl))
     (all_map (is_object_typed files os) (λ text. Instance java_lang_string []) (string_texts files) (λ text. refl)))))
-
-same_length : {A B : Type 0} (f : A → B) (xs : List A) → length (map f xs) ≡ length xs
-same_length f [] = refl
-same_length f (x ∷ xs) = ap suc (same_length f xs)
 
 none_wait : (threads : List Thread) (k : ℕ) (objects : List (ObjectOf Value)) → are_wait_sets threads k (map (λ object. unlocked) objects) ≡ true
 none_wait threads k [] = refl
@@ -39,7 +37,7 @@ opening_typed files =
       opened = extends_self (types_of (opening_heap values files));
       heap = heap_typed files;
       statics = all_map (is_field_typed files (types_of (opening_heap values files))) (with_first values) (static_fields files) (first_of_typed files (types_of (opening_heap values files)));
-      monitors = same_length (λ object. unlocked) (opening_heap values files);
+      monitors = length-map (opening_heap values files) (λ object. unlocked);
       wait_sets = none_wait (new_thread main_thread_reference ∷ []) 0 (opening_heap values files);
       threads = (record { object = assignable_self files (ClassType java_lang_thread); stack_typed = tt }, tt);
     }

@@ -1,8 +1,9 @@
 -- The objects of the opening state, by their references: they are there in each world.
-use Rattle.std.proofs.Common.{◌≡◌, ℕ, suc, ◌+◌, List, [], ◌∷◌, ◌++◌, map, length, Bool, true, not, Some, refl, sym, ap, ◌∙◌, subst, ⊎_elim, arith}
+use Rattle.std.proofs.Common.{◌≡◌, ℕ, suc, ◌+◌, List, [], ◌∷◌, ◌++◌, map, length, Bool, true, not, Some, refl, sym, ◌∙◌, subst, ⊎_elim, arith}
 use Rattle.std.specs.Prelude.{slice_get}
 use Rattle.std.specs.List.{list_any, position_or_len}
 use Rattle.std.proofs.lemmas.Bool.{false≢true, or_cases, not_from_true, cond_both}
+use Rattle.std.proofs.lemmas.List.{length-map}
 use Rattle.model.specs.declared.value.Value.{Value}
 use Rattle.model.specs.Names.{Name, name_eq, java_lang_class, java_lang_string, java_io_print_stream}
 use Rattle.model.specs.Tree.{FileTree}
@@ -31,10 +32,6 @@ get_behind (x ∷ xs) ys k =
     let e : suc (length xs + k) ≡ suc (length xs) + k = omega arith in
     subst (λ n. slice_get (x ∷ (xs ++ ys)) n ≡ slice_get ys k) e (get_behind xs ys k)
 
-map_length : {A B : Type 0} (f : A → B) (xs : List A) → length (map f xs) ≡ length xs
-map_length f [] = refl
-map_length f (x ∷ xs) = ap suc (map_length f xs)
-
 -- behind the three objects that stand first, an object of a list, and of the list behind it
 in_first : {A B : Type 0} (f : A → ObjectOf Value) (g : B → ObjectOf Value) (xs : List A) (ys : List B) (k : ℕ) (x : A) → slice_get xs k ≡ Some x → slice_get (types_of (map f xs ++ map g ys)) k ≡ Some (type_of (f x))
 in_first f g xs ys k x e =
@@ -42,7 +39,7 @@ in_first f g xs ys k x e =
 
 in_second : {A B : Type 0} (f : A → ObjectOf Value) (g : B → ObjectOf Value) (xs : List A) (ys : List B) (k : ℕ) (y : B) → slice_get ys k ≡ Some y → slice_get (types_of (map f xs ++ map g ys)) (length xs + k) ≡ Some (type_of (g y))
 in_second f g xs ys k y e =
-    let there = subst (λ n. slice_get (map f xs ++ map g ys) (n + k) ≡ Some (g y)) (map_length f xs) (get_behind (map f xs) (map g ys) k ∙ get_map g ys k y e) in
+    let there = subst (λ n. slice_get (map f xs ++ map g ys) (n + k) ≡ Some (g y)) (length-map xs f) (get_behind (map f xs) (map g ys) k ∙ get_map g ys k y e) in
     get_map type_of (map f xs ++ map g ys) (length xs + k) (g y) there
 
 module _ (files : Program) where

@@ -2,6 +2,8 @@
 use Rattle.std.proofs.Common.{◌≡◌, ℕ, zero, suc, ◌-◌, List, [], ◌∷◌, ◌++◌, length, Bool, true, false, ◌==◌, Some, None, refl, sym, ap, ◌∙◌, subst, arith}
 use Rattle.std.specs.Prelude.{slice_get, slice_set, replicate}
 use Rattle.std.proofs.lemmas.Bool.{false≢true, eqb-true, eq-eqb}
+use Rattle.std.proofs.lemmas.List.{length-set}
+use Rattle.std.proofs.lemmas.Option.{same_Some}
 use Rattle.model.specs.declared.value.Value.{Value}
 use Rattle.model.specs.Names.{java_lang_thread}
 use Rattle.model.specs.Classes.{Program}
@@ -12,7 +14,7 @@ use Rattle.model.specs.Step.{SteppedOf, NotEnabled, WrongKind, Next, PartOf, par
 use Rattle.model.specs.WellTyped.{is_object_in, IsStackTyped, IsThreadTyped, AreThreadsTyped, IsWellTyped}
 use Rattle.typed_runs.proofs.Invariant.{object_in_more, thread_more}
 use Rattle.typed_runs.proofs.Changes.{Moved, Same, Wakes, Kept}
-use Rattle.typed_runs.proofs.Threads.{set_length, get_set_at, get_set_other}
+use Rattle.typed_runs.proofs.Threads.{get_set_at, get_set_other}
 use Rattle.typed_runs.proofs.WaitChanges.{waiters_woken_keeps}
 use Rattle.typed_runs.proofs.StepParts.{At, PartTyped, OnPart, at_keeps, own_at}
 
@@ -97,14 +99,11 @@ module _ (files : Program) (ps : List ReferenceType) where
   placed (x ∷ xs) [] (s ∷ ss) e old new = let h = old zero x s refl refl in let no : slice_get [] zero ≡ Some h.0 = h.1.0 in absurd cc
   placed (x ∷ xs) (y ∷ ys) (s ∷ ss) e old new =
       let h = old zero x s refl refl in
-      let is : y ≡ h.0 = some_same y h.0 h.1.0 in
+      let is : y ≡ h.0 = same_Some y h.0 h.1.0 in
       let m : length ys - length ss ≡ suc (length ys) - suc (length ss) = omega arith in
       let q : length xs ≡ length ss = cc in
       subst (λ k. AreThreadsTyped files ps (y ∷ ys) ((s ∷ ss) ++ replicate k [])) m
       (subst (λ z. IsThreadTyped files ps z s) (sym is) h.1.1, placed xs ys ss q (λ u thread stack a b. old (suc u) thread stack a b) (λ u thread a b. new (suc u) thread a b))
-    where
-      some_same : (p q : Thread) → Some p ≡ Some q → p ≡ q
-      some_same p q e = cc
 
 module _ (files : Program) (state : State) (h : IsWellTyped files state) (t : ℕ) (first : StackOf Value) (first_there : slice_get state.stacks t ≡ Some first) (p : PartOf Value) (x : PartTyped files t state.world p) where
   abbrev os : List ReferenceType
@@ -120,7 +119,7 @@ module _ (files : Program) (state : State) (h : IsWellTyped files state) (t : �
   own_after : (thread : Thread) (stack : StackOf Value) → slice_get state.world.threads t ≡ Some thread → p.stack ≡ stack → After t stack
   own_after thread stack e g =
       let s = x.changes.go.still t thread e in
-      let is : s.thread ≡ x.thread = some_same s.thread x.thread (sym s.there ∙ x.there) in
+      let is : s.thread ≡ x.thread = same_Some s.thread x.thread (sym s.there ∙ x.there) in
       let typed = typed_at files os state.world.threads state.stacks t thread first h.threads e first_there in
       let object = object_in_more files os ps x.changes.extends java_lang_thread thread.object typed.object in
       let same = sym (ap (λ (th : Thread). th.object) is) ∙ s.object in (
@@ -133,9 +132,6 @@ module _ (files : Program) (state : State) (h : IsWellTyped files state) (t : �
           },
         ),
       )
-    where
-      some_same : (a b : Thread) → Some a ≡ Some b → a ≡ b
-      some_same a b e = cc
 
   -- the others keep theirs
   other_after : (u : ℕ) (thread : Thread) (stack : StackOf Value) → (u == t) ≡ false → slice_get state.world.threads u ≡ Some thread → slice_get state.stacks u ≡ Some stack → After u stack
@@ -148,11 +144,8 @@ module _ (files : Program) (state : State) (h : IsWellTyped files state) (t : �
   each_after u thread stack e g true q =
       let same : u ≡ t = eqb-true u t q in
       let here = subst (λ k. slice_get (slice_set state.stacks t p.stack) k ≡ Some stack) same g in
-      let is = stack_same p.stack stack (sym (get_set_at state.stacks t first p.stack first_there) ∙ here) in
+      let is = same_Some p.stack stack (sym (get_set_at state.stacks t first p.stack first_there) ∙ here) in
       subst (λ k. After k stack) (sym same) (own_after thread stack (subst (λ k. slice_get state.world.threads k ≡ Some thread) same e) is)
-    where
-      stack_same : (a b : StackOf Value) → Some a ≡ Some b → a ≡ b
-      stack_same a b e = cc
   each_after u thread stack e g false q =
       other_after u thread stack q e (sym (get_set_other state.stacks t u p.stack (λ s. false≢true (sym q ∙ eq-eqb u t (sym s)))) ∙ g)
 
@@ -169,7 +162,7 @@ module _ (files : Program) (state : State) (h : IsWellTyped files state) (t : �
   pub put_typed : IsWellTyped files (record { world = p.world; stacks = slice_set state.stacks t p.stack ++ replicate (length p.world.threads - length state.stacks) [] })
   put_typed =
       let ss = slice_set state.stacks t p.stack in
-      let n = set_length state.stacks t p.stack in
+      let n = length-set state.stacks t p.stack in
       record {
         heap = x.changes.fits.heap;
         statics = x.changes.fits.statics;

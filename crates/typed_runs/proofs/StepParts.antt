@@ -2,6 +2,7 @@
 use Rattle.std.proofs.Common.{◌≡◌, ℕ, [], ◌∷◌, ◌++◌, length, true, false, Some, refl, sym, ap, ◌∙◌, subst}
 use Rattle.std.specs.Prelude.{slice_get}
 use Rattle.std.proofs.lemmas.Bool.{false≢true, eq-eqb}
+use Rattle.std.proofs.lemmas.Option.{get_or_from_slice_get}
 use Rattle.model.specs.declared.value.Value.{Value}
 use Rattle.model.specs.declared.value.Value.TheVariants as value
 use Rattle.model.specs.Names.{java_lang_throwable}
@@ -20,7 +21,7 @@ use Rattle.laws.proofs.Order.{stack_above}
 use Rattle.typed_runs.proofs.Invariant.{failing_more}
 use Rattle.typed_runs.proofs.Objects.{added_below}
 use Rattle.typed_runs.proofs.Changes.{Moved, Same, Wakes, Fits, Changes, Live}
-use Rattle.typed_runs.proofs.Threads.{index_at, get_set_at}
+use Rattle.typed_runs.proofs.Threads.{get_set_at}
 use Rattle.typed_runs.proofs.WorldChanges.{Keeps, changes_of, changes_trans, self_keeps, allocated_keeps, own_changes}
 
 -- it waits for nothing
@@ -114,7 +115,7 @@ module _ (files : Program) (t : ℕ) (before : World) (first : Thread) (was : sl
   -- the thread itself is changed
   pub own_at : (a : World) (thread new : Thread) → At files t before a thread → new.object ≡ (thread_at a t).object → IsIdle new → At files t before (with_thread a t new) new
   own_at a thread new at o idle =
-      let is = index_at a.threads t thread no_thread at.there in
+      let is = get_or_from_slice_get a.threads t thread no_thread at.there in
       record {
         changes = changes_trans files t before a (with_thread a t new) first was at.changes (own_changes files a at.changes.fits t thread new at.there (o ∙ ap (λ (th : Thread). th.object) is) (λ object q. absurd (false≢true (sym (at.idle object) ∙ q))));
         there = get_set_at a.threads t thread new at.there;
@@ -138,7 +139,7 @@ module _ (files : Program) (t : ℕ) (before : World) (first : Thread) (was : sl
     pub pending_typed : (world : World) (thread : Thread) (exception : ℕ) (stack : StackOf Value) → At files t before world thread → thread.status ≡ Running → is_object_in files (types_of world.heap) java_lang_throwable exception ≡ true → Failing files (types_of world.heap) stack → PartTyped files t before (part (with_pending world t exception) stack)
     pending_typed world thread exception stack at runs h failing =
         let new = record (thread_at world t) { pending = Some exception } in
-        let status = ap (λ (th : Thread). th.status) (index_at world.threads t thread no_thread at.there) ∙ runs in
+        let status = ap (λ (th : Thread). th.status) (get_or_from_slice_get world.threads t thread no_thread at.there) ∙ runs in
         on_typed (with_thread world t new) new stack (own_at world thread new at refl (idle_running new status)) status (h, failing)
 
     fault_typed : (fault : Fault) (world : World) (fits : Fits files world) → is_object_in files (types_of (world.heap ++ Instance (fault_class fault) [] ∷ [])) java_lang_throwable (length world.heap) ≡ true
@@ -155,7 +156,7 @@ module _ (files : Program) (t : ℕ) (before : World) (first : Thread) (was : sl
     pub interrupted_typed : (world : World) (thread : Thread) (stack : StackOf Value) → At files t before world thread → thread.status ≡ Running → Failing files (types_of world.heap) stack → OnPart files t before (interrupted t world stack)
     interrupted_typed world thread stack at runs failing =
         let new = record (thread_at world t) { interrupted = false } in
-        let status = ap (λ (th : Thread). th.status) (index_at world.threads t thread no_thread at.there) ∙ runs in
+        let status = ap (λ (th : Thread). th.status) (get_or_from_slice_get world.threads t thread no_thread at.there) ∙ runs in
         raised_typed InterruptedWait (with_interrupted world t false) new stack (own_at world thread new at refl (idle_running new status)) status failing
 
 pub self_at : (files : Program) (t : ℕ) (world : World) (thread : Thread) → Fits files world → slice_get world.threads t ≡ Some thread → IsIdle thread → At files t world world thread

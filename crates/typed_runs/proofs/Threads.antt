@@ -1,9 +1,10 @@
 -- Threads before and after an event: those that stay as they are but for waking, and one that is changed.
-use Rattle.std.proofs.Common.{◌≡◌, ℕ, zero, suc, List, [], ◌∷◌, Bool, true, false, ◌==◌, ◌&&◌, ◌++◌, Some, None, length, refl, sym, ap, ◌∙◌, subst}
+use Rattle.std.proofs.Common.{◌≡◌, ℕ, zero, suc, List, [], ◌∷◌, Bool, true, false, ◌==◌, ◌&&◌, ◌++◌, Some, None, refl, sym, ap, ◌∙◌, subst}
 use Rattle.std.specs.Prelude.{slice_get, slice_set, slice_index_or}
 use Rattle.std.specs.Option.{option_map_or}
 use Rattle.std.specs.List.{list_all}
 use Rattle.std.proofs.lemmas.Bool.{false≢true, and_parts, and_from, eqb-true, eq-eqb}
+use Rattle.std.proofs.lemmas.Option.{same_Some}
 use Rattle.model.specs.Classes.{Program}
 use Rattle.model.specs.ReferenceTypes.{ReferenceType}
 use Rattle.model.specs.State.{Monitor, ThreadStatus, Running, Thread}
@@ -14,16 +15,6 @@ use Rattle.laws.proofs.Lists.{all_weaken}
 use Rattle.typed_runs.proofs.Changes.{Moved, Same, Wakes, Kept, Still, Started, Go}
 
 -- ---- lists
-
-pub index_at : {A : Type 0} (xs : List A) (k : ℕ) (x d : A) → slice_get xs k ≡ Some x → slice_index_or xs k d ≡ x
-index_at [] k x d e = absurd cc
-index_at (y ∷ ys) zero x d e = cc
-index_at (y ∷ ys) (suc k) x d e = index_at ys k x d e
-
-pub set_length : {A : Type 0} (xs : List A) (k : ℕ) (x : A) → length (slice_set xs k x) ≡ length xs
-set_length [] k x = refl
-set_length (y ∷ ys) zero x = refl
-set_length (y ∷ ys) (suc k) x = ap suc (set_length ys k x)
 
 pub get_set_at : {A : Type 0} (xs : List A) (k : ℕ) (old new : A) → slice_get xs k ≡ Some old → slice_get (slice_set xs k new) k ≡ Some new
 get_set_at [] k old new e = absurd cc
@@ -120,16 +111,13 @@ own_go files objects t threads old new there o = record { still = λ u thread e.
     still : (u : ℕ) (thread : Thread) → slice_get threads u ≡ Some thread → (b : Bool) → (u == t) ≡ b → Still t (slice_set threads t new) u thread
     still u thread e true q =
         let same : u ≡ t = eqb-true u t q in
-        let old_is : thread ≡ old = some_same thread old (sym e ∙ (ap (slice_get threads) same ∙ there)) in
+        let old_is : thread ≡ old = same_Some thread old (sym e ∙ (ap (slice_get threads) same ∙ there)) in
         record {
           thread = new;
           there = ap (slice_get (slice_set threads t new)) same ∙ get_set_at threads t old new there;
           object = o ∙ ap (λ (th : Thread). th.object) (sym old_is);
           kept = λ n. absurd (false≢true (sym n ∙ q));
         }
-      where
-        some_same : (x y : Thread) → Some x ≡ Some y → x ≡ y
-        some_same x y e = cc
     still u thread e false q =
         record {
           thread = thread;

@@ -3,7 +3,9 @@ use Rattle.std.proofs.Common.{◌≡◌, ℕ, zero, suc, List, [], ◌∷◌, �
 use Rattle.std.specs.Prelude.{slice_get, slice_set, slice_index_or}
 use Rattle.std.specs.Option.{option_map_or}
 use Rattle.std.specs.List.{list_any, remove}
-use Rattle.std.proofs.lemmas.Bool.{false≢true, and_parts, and_from, eq-eqb, cond_both}
+use Rattle.std.proofs.lemmas.Bool.{false≢true, and_parts, and_from, eq-eqb, cond_both, not-true}
+use Rattle.std.proofs.lemmas.List.{length-set}
+use Rattle.std.proofs.lemmas.Option.{get_or_from_slice_get}
 use Rattle.model.specs.Names.{java_lang_object}
 use Rattle.model.specs.Classes.{Program}
 use Rattle.model.specs.State.{types_of, Monitor, Waiter, ThreadStatus, Running, Waiting, Relock, Ended, WakeCause, Notified, Interrupted, Thread, World}
@@ -13,11 +15,12 @@ use Rattle.model.specs.BuiltInMethods.{waiting, notified_one, notified, notified
 use Rattle.model.specs.Step.{with_waiters_woken}
 use Rattle.model.specs.WellTyped.{is_object_in, is_waiting_for, is_waiter}
 use Rattle.laws.proofs.Order.{extends_self}
-use Rattle.typed_runs.proofs.Objects.{all_append, all_at}
+use Rattle.typed_runs.proofs.Objects.{all_at}
 use Rattle.typed_runs.proofs.Changes.{Fits, Wakes, Changes, Live, WaitsOn}
-use Rattle.typed_runs.proofs.Threads.{waits, index_at, set_length, get_set_at, set_stays, set_waits}
-use Rattle.typed_runs.proofs.WaitSets.{is_of, not_true, Members, all_remove, distinct_remove, removed_out, all_without, distinct_without, without_out, distinct_new, none_waits, members_at, wait_sets_put, waits_there, all_wait_other, wait_sets_left}
+use Rattle.typed_runs.proofs.Threads.{waits, get_set_at, set_stays, set_waits}
+use Rattle.typed_runs.proofs.WaitSets.{is_of, Members, all_remove, distinct_remove, removed_out, all_without, distinct_without, without_out, distinct_new, none_waits, members_at, wait_sets_put, waits_there, all_wait_other, wait_sets_left}
 use Rattle.typed_runs.proofs.WorldChanges.{Keeps, keeps_trans, changes_of, changes_trans, self_keeps, own_changes, interrupted_keeps}
+use Rattle.laws.proofs.Lists.{all_append}
 
 -- what stands at a place after it was written, or was not there
 index_set : {A : Type 0} (P : A → Type 0) (xs : List A) (k : ℕ) (x d : A) → P x → P d → P (slice_index_or (slice_set xs k x) k d)
@@ -44,7 +47,7 @@ module _ (files : Program) where
         fits = record {
           heap = fits.heap;
           statics = fits.statics;
-          monitors = set_length world.monitors r m ∙ fits.monitors;
+          monitors = length-set world.monitors r m ∙ fits.monitors;
           wait_sets = wait_sets_put world.threads world.monitors r m w fits.wait_sets;
           opened = fits.opened;
         };
@@ -55,7 +58,7 @@ module _ (files : Program) where
   pub left_keeps : (world : World) → Fits files world → (r u again : ℕ) (cause : WakeCause) → waits world.threads r u ≡ true → list_any (is_of u) (monitor_at world.monitors r).waiters ≡ false → Keeps files world (with_status world u (Relock r again cause))
   left_keeps world fits r u again cause h out =
       let w = waits_there world.threads r u h in
-      let is = index_at world.threads u w.thread no_thread w.there in
+      let is = get_or_from_slice_get world.threads u w.thread no_thread w.there in
       let new = record (thread_at world u) { status = Relock r again cause } in
       record {
         extends = extends_self _;
@@ -80,7 +83,7 @@ module _ (files : Program) where
       let x = woken_keeps world fits r cause w q.0 (ap (list_any (is_of w.thread)) none) in
       let new = record (thread_at world w.thread) { status = Relock r w.count cause } in
       keeps_trans files world (woken r cause world w) (all_woken r cause (woken r cause world w) ws) x
-      (all_woken_keeps ws (woken r cause world w) x.fits r cause none (record { wait = all_wait_other world.threads w.thread new r ws (not_true _ d.0) q.1; distinct = d.1 }))
+      (all_woken_keeps ws (woken r cause world w) x.fits r cause none (record { wait = all_wait_other world.threads w.thread new r ws (not-true _ d.0) q.1; distinct = d.1 }))
 
   module _ (world : World) (fits : Fits files world) where
     at_monitor : (r : ℕ) → Members world.threads r (monitor_at world.monitors r).waiters
@@ -157,7 +160,7 @@ module _ (files : Program) where
     joined : (t r : ℕ) (live : Live world t) (new : Thread) → new ≡ record (thread_at world t) { status = Waiting r (monitor_at world.monitors r).count } → Changes files t world (record (with_thread world t new) { monitors = slice_set world.monitors r (joining t (monitor_at world.monitors r)) })
     joined t r live new is =
         let m = monitor_at world.monitors r in
-        let at = index_at world.threads t live.thread no_thread live.there in
+        let at = get_or_from_slice_get world.threads t live.thread no_thread live.there in
         let w : Waiter = record { thread = t; count = m.count } in
         let after = with_thread world t new in
         let here = joining t m in
@@ -187,6 +190,6 @@ module _ (files : Program) where
           object_of = r;
           count = (monitor_at world.monitors r).count;
           status = refl;
-          pending = ap (λ (th : Thread). th.pending) (index_at world.threads t live.thread no_thread live.there) ∙ live.pending;
+          pending = ap (λ (th : Thread). th.pending) (get_or_from_slice_get world.threads t live.thread no_thread live.there) ∙ live.pending;
           object = object;
         }

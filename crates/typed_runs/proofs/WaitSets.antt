@@ -1,9 +1,9 @@
 -- Wait sets (JLS 17.2): members that leave and join, and threads that are woken.
-use Rattle.std.proofs.Common.{◌≡◌, ℕ, zero, suc, ◌+◌, List, [], ◌∷◌, ◌++◌, Bool, true, false, not, ◌==◌, Option, Some, None, refl, sym, ap, ◌∙◌, subst, arith}
+use Rattle.std.proofs.Common.{◌≡◌, ℕ, zero, suc, ◌+◌, List, [], ◌∷◌, ◌++◌, Bool, true, false, ◌==◌, Option, Some, None, refl, sym, ap, ◌∙◌, subst, arith}
 use Rattle.std.specs.Prelude.{slice_get, slice_set, slice_index_or}
 use Rattle.std.specs.Option.{option_map_or}
 use Rattle.std.specs.List.{list_all, list_any, remove}
-use Rattle.std.proofs.lemmas.Bool.{false≢true, and_parts, and_from, or_parts, or_from, cond_both, eqb-true, eq-eqb, not_from_false, not_from_true, false_from_ne_true}
+use Rattle.std.proofs.lemmas.Bool.{false≢true, and_parts, and_from, or_parts, or_from, cond_both, eqb-true, eq-eqb, not_from_false, false_from_ne_true, not-true}
 use Rattle.model.specs.State.{Monitor, Waiter, ThreadStatus, Running, Waiting, Relock, Ended, Thread}
 use Rattle.model.specs.Monitors.{unlocked, without}
 use Rattle.model.specs.WellTyped.{is_waiting_for, is_waiter, are_distinct, are_wait_sets}
@@ -16,9 +16,6 @@ is_of thread waiter = waiter.thread == thread
 
 eq_sym_false : (a b : ℕ) → (a == b) ≡ false → (b == a) ≡ false
 eq_sym_false a b h = false_from_ne_true (b == a) (λ q. false≢true (sym h ∙ eq-eqb a b (sym (eqb-true b a q))))
-
-pub not_true : (b : Bool) → not b ≡ true → b ≡ false
-not_true b h = false_from_ne_true b (λ q. false≢true (sym (not_from_true b q) ∙ h))
 
 none_at : {A : Type 0} (p : A → Bool) (xs : List A) (k : ℕ) (x : A) → list_any p xs ≡ false → slice_get xs k ≡ Some x → p x ≡ false
 none_at p [] k x h e = absurd cc
@@ -57,16 +54,16 @@ distinct_remove [] (suc k) h = refl
 distinct_remove (w ∷ ws) zero h = (and_parts _ _ h).1
 distinct_remove (w ∷ ws) (suc k) h =
     let q = and_parts _ _ h in
-    and_from _ _ (not_from_false _ (none_remove (is_of w.thread) ws k (not_true _ q.0))) (distinct_remove ws k q.1)
+    and_from _ _ (not_from_false _ (none_remove (is_of w.thread) ws k (not-true _ q.0))) (distinct_remove ws k q.1)
 
 pub removed_out : (ws : List Waiter) (k : ℕ) (w : Waiter) → slice_get ws k ≡ Some w → are_distinct ws ≡ true → list_any (is_of w.thread) (remove ws k) ≡ false
 removed_out [] k w e h = absurd cc
 removed_out (x ∷ ws) zero w e h =
     let same : x ≡ w = cc in
-    subst (λ (v : Waiter). list_any (is_of v.thread) ws ≡ false) same (not_true _ (and_parts _ _ h).0)
+    subst (λ (v : Waiter). list_any (is_of v.thread) ws ≡ false) same (not-true _ (and_parts _ _ h).0)
 removed_out (x ∷ ws) (suc k) w e h =
     let q = and_parts _ _ h in
-    or_from _ _ (eq_sym_false w.thread x.thread (none_at (is_of x.thread) ws k w (not_true _ q.0) e)) (removed_out ws k w e q.1)
+    or_from _ _ (eq_sym_false w.thread x.thread (none_at (is_of x.thread) ws k w (not-true _ q.0) e)) (removed_out ws k w e q.1)
 
 none_without : (p : Waiter → Bool) (u : ℕ) (ws : List Waiter) → list_any p ws ≡ false → list_any p (without u ws) ≡ false
 none_without p u [] h = refl
@@ -85,14 +82,14 @@ distinct_without u [] h = refl
 distinct_without u (w ∷ ws) h =
     let q = and_parts _ _ h in
     cond_both (w.thread == u) _ _ (λ vs. are_distinct vs ≡ true) (λ e. q.1)
-    (λ e. and_from _ _ (not_from_false _ (none_without (is_of w.thread) u ws (not_true _ q.0))) (distinct_without u ws q.1))
+    (λ e. and_from _ _ (not_from_false _ (none_without (is_of w.thread) u ws (not-true _ q.0))) (distinct_without u ws q.1))
 
 pub without_out : (u : ℕ) (ws : List Waiter) → are_distinct ws ≡ true → list_any (is_of u) (without u ws) ≡ false
 without_out u [] h = refl
 without_out u (w ∷ ws) h =
     let q = and_parts _ _ h in
     cond_both (w.thread == u) _ _ (λ vs. list_any (is_of u) vs ≡ false)
-    (λ e. subst (λ v. list_any (is_of v) ws ≡ false) (eqb-true w.thread u e) (not_true _ q.0))
+    (λ e. subst (λ v. list_any (is_of v) ws ≡ false) (eqb-true w.thread u e) (not-true _ q.0))
     (λ e. or_from _ _ e (without_out u ws q.1))
 
 -- ---- members that join
@@ -102,7 +99,7 @@ distinct_new [] w h n = refl
 distinct_new (x ∷ ws) w h n =
     let q = and_parts _ _ h in
     let m = or_parts _ _ n in
-    and_from _ _ (not_from_false _ (none_append (is_of x.thread) ws w (not_true _ q.0) (eq_sym_false x.thread w.thread m.0))) (distinct_new ws w q.1 m.1)
+    and_from _ _ (not_from_false _ (none_append (is_of x.thread) ws w (not-true _ q.0) (eq_sym_false x.thread w.thread m.0))) (distinct_new ws w q.1 m.1)
 
 pub none_waits : (threads : List Thread) (r u : ℕ) (ws : List Waiter) → waits threads r u ≡ false → list_all (is_waiter threads r) ws ≡ true → list_any (is_of u) ws ≡ false
 none_waits threads r u [] n h = refl

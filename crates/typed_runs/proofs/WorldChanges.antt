@@ -2,6 +2,8 @@
 use Rattle.std.proofs.Common.{◌≡◌, ℕ, suc, ◌+◌, List, [], ◌∷◌, ◌++◌, length, Bool, true, false, ◌==◌, ◌-◌, Option, Some, None, refl, sym, ap, ◌∙◌, subst}
 use Rattle.std.specs.Prelude.{slice_get, slice_set}
 use Rattle.std.proofs.lemmas.Bool.{cond_both, eqb-true}
+use Rattle.std.proofs.lemmas.List.{length-set}
+use Rattle.std.proofs.lemmas.Option.{get_or_from_slice_get, same_Some}
 use Rattle.model.specs.declared.value.Value.{Value}
 use Rattle.model.specs.Names.{Name, Member, java_lang_thread}
 use Rattle.model.specs.Classes.{Program}
@@ -21,7 +23,7 @@ use Rattle.laws.proofs.Order.{Extends, extends_self}
 use Rattle.typed_runs.proofs.Invariant.{fields_more, object_in_more}
 use Rattle.typed_runs.proofs.Objects.{added_extends, added_typed, changed_extends, changed_typed, with_value_typed}
 use Rattle.typed_runs.proofs.Changes.{Fits, Same, Still, Started, Changes, Live, OutcomeTyped}
-use Rattle.typed_runs.proofs.Threads.{index_at, set_length, moved_running, kept_trans, AllStay, stay_self, stay_trans, go_of, set_stays, own_go, wait_sets_weaken, set_waits, wait_sets_set, wait_sets_new}
+use Rattle.typed_runs.proofs.Threads.{moved_running, kept_trans, AllStay, stay_self, stay_trans, go_of, set_stays, own_go, wait_sets_weaken, set_waits, wait_sets_set, wait_sets_new}
 
 pub extends_trans : (os ps qs : List ReferenceType) → Extends os ps → Extends ps qs → Extends os qs
 extends_trans os ps qs x y = record { keeps = λ r t e. y.keeps r t (x.keeps r t e) }
@@ -65,7 +67,7 @@ changes_trans files t a b c thread there x y =
     new_before u th m n r w false q =
         let s = x.go.started u m n r in
         let z = y.go.still u m r in
-        let is : z.thread ≡ th = some_same z.thread th (sym z.there ∙ w) in
+        let is : z.thread ≡ th = same_Some z.thread th (sym z.there ∙ w) in
         let k = z.kept q in
         let object = object_in_more files (types_of b.heap) (types_of c.heap) y.extends java_lang_thread m.object s.object in
         subst (Started files (types_of c.heap)) is
@@ -74,9 +76,6 @@ changes_trans files t a b c thread there x y =
           status = moved_running m.status z.thread.status k.status s.status;
           object = subst (λ o. is_object_in files (types_of c.heap) java_lang_thread o ≡ true) (sym z.object) object;
         })
-      where
-        some_same : (p q : Thread) → Some p ≡ Some q → p ≡ q
-        some_same p q e = cc
 
     new_by : (u : ℕ) (th : Thread) → slice_get a.threads u ≡ None → slice_get c.threads u ≡ Some th → (o : Option Thread) → slice_get b.threads u ≡ o → Started files (types_of c.heap) th
     new_by u th n w None r = y.go.started u th r w
@@ -138,7 +137,7 @@ module _ (files : Program) (world : World) (fits : Fits files world) where
         fits = record {
           heap = changed_typed files world.heap fits.heap r old new e same h;
           statics = fields_more files _ _ x world.statics fits.statics;
-          monitors = fits.monitors ∙ sym (set_length world.heap r new);
+          monitors = fits.monitors ∙ sym (length-set world.heap r new);
           wait_sets = fits.wait_sets;
           opened = extends_trans _ _ _ fits.opened x;
         };
@@ -183,7 +182,7 @@ module _ (files : Program) (world : World) (fits : Fits files world) where
         fits = record {
           heap = fits.heap;
           statics = fits.statics;
-          monitors = set_length world.monitors r m ∙ fits.monitors;
+          monitors = length-set world.monitors r m ∙ fits.monitors;
           wait_sets = wait_sets_set world.threads 0 world.monitors r m e fits.wait_sets;
           opened = fits.opened;
         };
@@ -229,7 +228,7 @@ module _ (files : Program) (world : World) (fits : Fits files world) where
   -- the thread that moves, which waits for nothing that it didn't wait for before
   pub own_changes : (t : ℕ) (old new : Thread) → slice_get world.threads t ≡ Some old → new.object ≡ old.object → ((object : ℕ) → is_waiting_for object old.status ≡ true → is_waiting_for object new.status ≡ true) → Changes files t world (with_thread world t new)
   own_changes t old new there o w =
-      let is : thread_at world t ≡ old = index_at world.threads t old no_thread there in
+      let is : thread_at world t ≡ old = get_or_from_slice_get world.threads t old no_thread there in
       record {
         extends = extends_self _;
         fits = record {

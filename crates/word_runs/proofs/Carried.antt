@@ -2,6 +2,8 @@
 use Rattle.std.proofs.Common.{◌≡◌, ℕ, zero, suc, ◌-◌, List, [], ◌∷◌, ◌++◌, map, length, take, drop, replicate, Bool, true, false, ◌==◌, if◌then◌else◌, Option, Some, None, option_map, refl, sym, ap, ◌∙◌, subst}
 use Rattle.std.specs.Prelude.{slice_get, slice_index_or, slice_set}
 use Rattle.std.specs.Option.{option_and_then}
+use Rattle.std.proofs.lemmas.List.{map-append, length-map}
+use Rattle.std.proofs.lemmas.Option.{slice_get-map}
 use Rattle.model.specs.declared.event.Event.{Event}
 use Rattle.model.specs.declared.value.Value.{Value}
 use Rattle.model.specs.declared.value.Value.TheVariants as value
@@ -26,11 +28,11 @@ use Rattle.model.specs.WellTyped.{IsRunning, IsStackTyped}
 use Rattle.model.specs.Words.{map_frame, map_slots, words_of}
 use Rattle.laws.specs.Steps.{Rooted}
 use Rattle.word_runs.specs.Words.{map_part, map_stepped, IsCarried}
-use Rattle.laws.proofs.Lists.{Pairwise, map_append}
+use Rattle.laws.proofs.Lists.{Pairwise}
 use Rattle.laws.proofs.Rows.{ready_popped}
 use Rattle.laws.proofs.Progress.{ready_finds}
 use Rattle.laws.proofs.Answered.{thread_of_stack}
-use Rattle.laws.proofs.WordLists.{map_set, map_get, map_count, map_copies, operands_words, under_words}
+use Rattle.laws.proofs.WordLists.{map_set, map_copies, operands_words, under_words}
 use Rattle.word_runs.proofs.WordWorlds.{world_words, types_words, object_at_words, class_words, all_words}
 use Rattle.word_runs.proofs.WordMeanings.{Kinded, Same}
 use Rattle.word_runs.proofs.WordTable.{SameIf, meaning_same}
@@ -195,14 +197,14 @@ back_words state t WrongKind = refl
 back_words state t (Next cost p) =
     let n = length p.world.threads - length state.stacks in
     ap (λ l. Next cost (record { world = world_words p.world; stacks = l }))
-    (ap (λ k. slice_set (map stack_words state.stacks) t (stack_words p.stack) ++ replicate (length p.world.threads - k) []) (map_count stack_words state.stacks)
+    (ap (λ k. slice_set (map stack_words state.stacks) t (stack_words p.stack) ++ replicate (length p.world.threads - k) []) (length-map state.stacks stack_words)
     ∙ (ap (λ l. l ++ replicate n []) (map_set stack_words state.stacks t p.stack)
     ∙ (ap (λ l. map stack_words (slice_set state.stacks t p.stack) ++ l) (map_copies stack_words n [])
-    ∙ sym (map_append stack_words (slice_set state.stacks t p.stack) (replicate n [])))))
+    ∙ sym (map-append stack_words (slice_set state.stacks t p.stack) (replicate n [])))))
 
 pub carried : (files : Program) → Rooted files → IsCarried files
 carried files rooted frames state event h =
-    ap (λ o. event_of words files frames (words_of state) event o) (map_get stack_words state.stacks event.thread)
+    ap (λ o. event_of words files frames (words_of state) event o) (slice_get-map stack_words state.stacks event.thread)
     ∙ by (slice_get state.stacks event.thread) refl
   where
     by : (o : Option (StackOf Value)) → slice_get state.stacks event.thread ≡ o → event_of words files frames (words_of state) event (option_map stack_words o) ≡ map_stepped words_of (event_of values files frames state event o)

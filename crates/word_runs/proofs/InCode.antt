@@ -2,6 +2,8 @@
 use Rattle.std.proofs.Common.{◌≡◌, ℕ, zero, suc, List, [], ◌∷◌, false, option_map, Option, Some, None, refl, sym, ◌∙◌, subst}
 use Rattle.std.specs.Prelude.{slice_get, slice_index_or}
 use Rattle.std.proofs.lemmas.Bool.{true≢false}
+use Rattle.std.proofs.lemmas.Option.{slice_get-map}
+use Rattle.std.proofs.lemmas.List.{length-map}
 use Rattle.model.specs.declared.value.Value.{Value}
 use Rattle.model.specs.Classes.{Program}
 use Rattle.model.proofs.StartLaws.{start_within}
@@ -14,7 +16,6 @@ use Rattle.model.specs.WellTyped.{has_type, Stopped, Above, Results, Instruction
 use Rattle.model.specs.Words.{map_frame, words_of}
 use Rattle.word_runs.specs.Words.{StandsInCode, AreInCode, IsInCode}
 use Rattle.laws.proofs.Lists.{pairs_of, pair_length}
-use Rattle.laws.proofs.WordLists.{map_get, map_count}
 use Rattle.word_runs.proofs.WordEvents.{stack_words}
 use Rattle.laws.proofs.Answered.{thread_of_stack}
 
@@ -30,7 +31,7 @@ module _ (files : Program) (os : List ReferenceType) where
         starts = starts;
         inside = start_within stands.body.code.code frame.place.offset starts;
         locals =
-            map_count word_of frame.place.slots.locals
+            length-map frame.place.slots.locals word_of
             ∙ (sym (pair_length (has_type files os) types frame.place.slots.locals (pairs_of (has_type files os) types frame.place.slots.locals h.locals))
             ∙ (stands.holds.sized frame.place.offset stands.type stands.typed).locals);
       }
@@ -85,7 +86,7 @@ found_by files state h t thread stack e (Some found) q s =
     record { found = found; is = cc; typed = typed.stack_typed }
 
 pub found_words : (files : Program) (state : State) → IsWellTyped files state → (t : ℕ) (thread : Thread) (stack : StackOf ℕ) → slice_get state.world.threads t ≡ Some thread → slice_get (words_of state).stacks t ≡ Some stack → Found files state thread stack
-found_words files state h t thread stack e s = found_by files state h t thread stack e (slice_get state.stacks t) refl (sym (map_get stack_words state.stacks t) ∙ s)
+found_words files state h t thread stack e s = found_by files state h t thread stack e (slice_get state.stacks t) refl (sym (slice_get-map stack_words state.stacks t) ∙ s)
 
 pub in_code : IsInCode
 in_code files words h t thread stack e s w =

@@ -1,5 +1,6 @@
 -- The words of the opening state are the opening state of words.
 use Rattle.std.proofs.Common.{◌≡◌, ℕ, List, [], ◌∷◌, ◌++◌, map, refl, sym, ap, ◌∙◌}
+use Rattle.std.proofs.lemmas.List.{map-append}
 use Rattle.model.specs.declared.value.Value.{Value}
 use Rattle.model.specs.Names.{java_lang_class, java_lang_string, java_lang_thread, java_io_print_stream}
 use Rattle.model.specs.Classes.{Program, name_of, classes_of}
@@ -11,7 +12,6 @@ use Rattle.model.specs.Monitors.{unlocked}
 use Rattle.model.specs.Opening.{with_first, static_fields, main_thread_reference, opening_heap}
 use Rattle.model.specs.Words.{map_field}
 use Rattle.word_runs.specs.Words.{IsOpenedAsWords}
-use Rattle.laws.proofs.Lists.{map_append}
 use Rattle.laws.proofs.WordLists.{map_same}
 use Rattle.word_runs.proofs.WordWorlds.{object_words, new_words, with_first_words}
 
@@ -23,7 +23,7 @@ heap_words files =
     let others =
     ap (λ l. l ++ map (λ text. Instance java_lang_string []) (string_texts files)) (map_same object_words (λ file. Instance java_lang_class []) (λ file. Instance java_lang_class []) (classes_of files) (λ file. refl))
     ∙ (ap (λ l. map object_words classes ++ l) (map_same object_words (λ text. Instance java_lang_string []) (λ text. Instance java_lang_string []) (string_texts files) (λ text. refl))
-    ∙ sym (map_append object_words classes strings)) in
+    ∙ sym (map-append object_words classes strings)) in
     λ i. Instance java_io_print_stream [] ∷ References (ClassType java_lang_string) [] ∷ new_words files java_lang_thread i ∷ others i
 
 monitors_same : (objects : List (ObjectOf Value)) → map (λ (o : ObjectOf ℕ). unlocked) (map object_words objects) ≡ map (λ (o : ObjectOf Value). unlocked) objects

@@ -2,7 +2,7 @@
 use Rattle.std.proofs.Common.{◌≡◌, ℕ, ◌+◌, List, [], ◌∷◌, length, ◌&&◌, true, false, Option, Some, None, ap, ◌∙◌, subst, arith}
 use Rattle.std.specs.Prelude.{slice_get}
 use Rattle.std.proofs.lemmas.Bool.{and_parts, true≢false}
-use Rattle.std.proofs.lemmas.List.{length-append}
+use Rattle.std.proofs.lemmas.List.{length-append, length-map}
 use Rattle.model.specs.declared.value.Value.{Value}
 use Rattle.model.specs.Classes.{Program}
 use Rattle.model.specs.ReferenceTypes.{ReferenceType}
@@ -17,7 +17,6 @@ use Rattle.model.specs.Step.{next_of}
 use Rattle.model.specs.Words.{map_frame}
 use Rattle.word_runs.specs.Words.{IsInRoom, AreInRoom, in_use, AreStacksInRoom}
 use Rattle.laws.proofs.Lists.{pairs_of, pair_length}
-use Rattle.laws.proofs.WordLists.{map_count}
 use Rattle.word_runs.proofs.WordEvents.{stack_words}
 use Rattle.word_runs.proofs.InCode.{found_words}
 
@@ -29,7 +28,7 @@ module _ (files : Program) (os : List ReferenceType) where
   ready_room frame h =
       let stands = h.stopped.stands in
       let same = typed_count stands.type.slots.stack frame.place.slots.stack h.stack in
-      let words = map_count word_of frame.place.slots.stack in
+      let words = length-map frame.place.slots.stack word_of in
       let most = (stands.holds.sized frame.place.offset stands.type stands.typed).stack in
       record { body = stands.body; is_body = stands.is_body; depth = omega (arith, words, same, most) }
 
@@ -43,7 +42,7 @@ module _ (files : Program) (os : List ReferenceType) where
       let there = pair_length (is_stack_below files) h.after.slots.stack r.there.slots.stack (pairs_of (is_stack_below files) h.after.slots.stack r.there.slots.stack below.0) in
       let after : length h.after.slots.stack ≡ length results + length h.rest = ap length h.stack_is ∙ length-append results h.rest in
       let same = typed_count h.rest frame.place.slots.stack h.stack in
-      let words = map_count word_of frame.place.slots.stack in
+      let words = length-map frame.place.slots.stack word_of in
       let most = (stands.holds.sized (next_of files frame) r.there r.typed).stack in
       record { body = stands.body; is_body = stands.is_body; depth = omega (arith, words, same, after, there, most) }
 

@@ -1,6 +1,7 @@
 -- Instructions on arrays by their words.
 use Rattle.std.proofs.Common.{◌≡◌, ℕ, suc, List, ◌∷◌, map, length, replicate, Bool, true, false, nat_lt, Some, refl, ap, ◌∙◌}
 use Rattle.std.specs.Prelude.{slice_get, slice_index_or}
+use Rattle.std.proofs.lemmas.List.{length-map}
 use Rattle.model.specs.declared.value.Value.{Value}
 use Rattle.model.specs.declared.value.Value.TheVariants as value
 use Rattle.model.specs.declared.instr.ArrayKind.{ArrayKind}
@@ -19,7 +20,7 @@ use Rattle.model.specs.Step.{ops_of}
 use Rattle.model.specs.Words.{map_slots}
 use Rattle.word_runs.specs.Words.{map_outcome}
 use Rattle.laws.proofs.Lists.{Pairwise}
-use Rattle.laws.proofs.WordLists.{map_index, map_count, map_copies, is_object_want}
+use Rattle.laws.proofs.WordLists.{map_index, map_copies, is_object_want}
 use Rattle.word_runs.proofs.WordWorlds.{world_words, object_words, object_at_words, elements_words, with_element_words, with_object_words, allocated_words}
 use Rattle.word_runs.proofs.WordMeanings.{operand_words, int_words, referent_words, not_null_words, goes_words, pushes_words, becomes_words, Same, instance_operand}
 
@@ -33,7 +34,7 @@ module _ (files : Program) where
       let new = av (replicate count first) in
       goes_words (Makes count) (Makes count) _ (allocated world new) _ (value.Reference (length world.heap) ∷ rest) slots.locals next refl
       (ap (λ l. allocated (world_words world) (aw l)) (map_copies word_of count first) ∙ (ap (λ o. allocated (world_words world) o) (e (replicate count first)) ∙ allocated_words world new))
-      (ap (λ n. suc n ∷ map word_of rest) (map_count object_words world.heap))
+      (ap (λ n. suc n ∷ map word_of rest) (length-map world.heap object_words))
 
   array_same : (site : Site) (type : ReferenceType) (av : List Value → ObjectOf Value) (aw : List ℕ → ObjectOf ℕ) (first : Value) → ((xs : List Value) → aw (map word_of xs) ≡ object_words (av xs)) → Same files (array_meaning values files site type av first) (array_meaning words files site type aw (word_of first))
   array_same site type av aw first e =
@@ -59,7 +60,7 @@ module _ (files : Program) where
   its_elements world r = ap elements_of (object_at_words world r) ∙ elements_words (object_at world r)
 
   its_length : (world : World) (r : ℕ) → length (elements_of (object_at (world_words world) r)) ≡ length (elements_of (object_at world r))
-  its_length world r = ap length (its_elements world r) ∙ map_count word_of (elements_of (object_at world r))
+  its_length world r = ap length (its_elements world r) ∙ length-map (elements_of (object_at world r)) word_of
 
   pub length_same : (site : Site) → Same files (array_length_meaning values site) (array_length_meaning words site)
   length_same site =

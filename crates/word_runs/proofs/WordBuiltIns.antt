@@ -7,7 +7,7 @@ use Rattle.std.proofs.lemmas.Bool.{and_parts, not-true, eqb-true}
 use Rattle.model.specs.declared.event.Event.{Event}
 use Rattle.model.specs.declared.value.Value.{Value}
 use Rattle.model.specs.declared.value.Value.TheVariants as value
-use Rattle.model.specs.Names.{name_eq, Member, member_eq, thread_target}
+use Rattle.model.specs.Names.{Member, thread_target}
 use Rattle.model.specs.AccessFlags.{is_static_method}
 use Rattle.model.specs.BuiltIn.{built_in_classes}
 use Rattle.model.specs.DescriptorScan.{element_at, field_at, field_type, parameters_at, method_type}
@@ -23,7 +23,7 @@ use Rattle.model.specs.BuiltInMethods.{BuiltInMethod, Construct, ConstructWithTa
 use Rattle.model.specs.Words.{map_slots}
 use Rattle.word_runs.specs.Words.{map_outcome}
 use Rattle.laws.proofs.Found.{found_passes, found_has, every_all}
-use Rattle.laws.proofs.Classes.{names_same}
+use Rattle.laws.proofs.Classes.{members_same}
 use Rattle.word_runs.proofs.WordWorlds.{all_words, world_words, object_at_words, with_field_words, with_object_words}
 use Rattle.word_runs.proofs.WordMeanings.{operand_words, int_words, pushes_words, becomes_words}
 
@@ -52,15 +52,6 @@ is_placed files row = option_map_or (λ k. (parameter_count row.0 == k) && not (
 all_placed : (files : Program) → list_all (is_placed files) built_in_methods ≡ true
 unfolding built_in_classes method_type parameters_at field_at field_type element_at
 all_placed files = refl
-
-members_same : (a b : Member) → member_eq a b ≡ true → a ≡ b
-members_same a b h =
-    let p = and_parts (name_eq a.class b.class) _ h in
-    let q = and_parts (name_eq a.name b.name) _ p.1 in
-    let c = names_same a.class b.class p.0 in
-    let n = names_same a.name b.name q.0 in
-    let d = names_same a.descriptor b.descriptor q.1 in
-    λ i. record { class = c i; name = n i; descriptor = d i }
 
 pub record Placed (files : Program) (method : Member) (k : ℕ) : Type 0 where
   pub place : parameter_count method ≡ k

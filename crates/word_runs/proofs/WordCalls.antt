@@ -3,7 +3,7 @@ use Rattle.std.proofs.Common.{◌≡◌, ℕ, ◌-◌, List, [], ◌∷◌, ◌+
 use Rattle.std.specs.Prelude.{slice_get, unwrap_or}
 use Rattle.std.specs.Option.{option_or, option_map_or}
 use Rattle.std.proofs.lemmas.Bool.{false≢true}
-use Rattle.std.proofs.lemmas.List.{length-reverse}
+use Rattle.std.proofs.lemmas.List.{length-reverse, map-append, length-map}
 use Rattle.model.specs.declared.event.Event.{Event}
 use Rattle.model.specs.declared.value.Value.{Value}
 use Rattle.model.specs.declared.value.Value.TheVariants as value
@@ -29,8 +29,8 @@ use Rattle.model.specs.Calls.{parameter_count, argument_wants, Chosen, Fails, Ru
 use Rattle.model.specs.Step.{ops_of}
 use Rattle.model.specs.Words.{map_slots, map_frame}
 use Rattle.word_runs.specs.Words.{map_outcome}
-use Rattle.laws.proofs.Lists.{Pairwise, map_append, get_last}
-use Rattle.laws.proofs.WordLists.{map_count, map_copies, map_reversed, is_object_want}
+use Rattle.laws.proofs.Lists.{Pairwise, get_last}
+use Rattle.laws.proofs.WordLists.{map_copies, map_reversed, is_object_want}
 use Rattle.word_runs.proofs.WordWorlds.{world_words, object_at_words, class_words, type_words}
 use Rattle.word_runs.proofs.WordMeanings.{operand_words, referent_words, Same}
 use Rattle.word_runs.proofs.WordBuiltIns.{placed, Agrees, may_words, does_words}
@@ -39,8 +39,8 @@ use Rattle.word_runs.proofs.WordBuiltIns.{placed, Agrees, may_words, does_words}
 
 locals_words : (max : ℕ) (arguments : List Value) → locals_with 0 max (map word_of arguments) ≡ map word_of (locals_with value.Unset max arguments)
 locals_words max arguments =
-    ap (λ n. map word_of arguments ++ replicate (max - n) 0) (map_count word_of arguments)
-    ∙ (ap (λ l. map word_of arguments ++ l) (map_copies word_of (max - length arguments) value.Unset) ∙ sym (map_append word_of arguments (replicate (max - length arguments) value.Unset)))
+    ap (λ n. map word_of arguments ++ replicate (max - n) 0) (length-map arguments word_of)
+    ∙ (ap (λ l. map word_of arguments ++ l) (map_copies word_of (max - length arguments) value.Unset) ∙ sym (map-append word_of arguments (replicate (max - length arguments) value.Unset)))
 
 pub frame_words : (method : Member) (arguments : List Value) (entered : Option ℕ) (body : Body) → frame_with words method (map word_of arguments) entered body ≡ map_frame word_of (frame_with values method arguments entered body)
 frame_words method arguments entered body =
@@ -101,7 +101,7 @@ module _ (files : Program) where
     place_of : slice_get (argument_wants files method (receiver ∷ [])) (parameter_count method) ≡ Some receiver
     place_of =
         let wants = reverse (map (declared_want files) (parameters_declared method.descriptor)) in
-        subst (λ n. slice_get (wants ++ receiver ∷ []) n ≡ Some receiver) (length-reverse (map (declared_want files) (parameters_declared method.descriptor)) ∙ map_count (declared_want files) (parameters_declared method.descriptor))
+        subst (λ n. slice_get (wants ++ receiver ∷ []) n ≡ Some receiver) (length-reverse (map (declared_want files) (parameters_declared method.descriptor)) ∙ length-map (parameters_declared method.descriptor) (declared_want files))
         (get_last wants receiver)
 
     receiver_words : (os : List ReferenceType) (ops : List Value) → Pairwise (value_meets files os) (argument_wants files method (receiver ∷ [])) ops → referent words (map word_of ops) (parameter_count method) ≡ referent values ops (parameter_count method)

@@ -1,5 +1,6 @@
 -- What becomes of a part of a state, by its words: exceptions, classes, calls and returns.
 use Rattle.std.proofs.Common.{◌≡◌, ℕ, suc, List, [], ◌∷◌, map, Bool, true, false, nat_lt, if◌then◌else◌, Option, Some, None, refl, sym, ap, ◌∙◌}
+use Rattle.std.proofs.lemmas.List.{map-append, length-map}
 use Rattle.model.specs.declared.value.Value.{Value}
 use Rattle.model.specs.declared.class_file.ExceptionEntry.{ExceptionEntry}
 use Rattle.model.specs.Names.{Name, Member}
@@ -13,8 +14,6 @@ use Rattle.model.specs.Frames.{frame_with, frame_count, at_call}
 use Rattle.model.specs.Step.{SteppedOf, Next, PartOf, part, on_to, enabled_if, raised, interrupted, needing, needing_class, entering, pushed, leaving, next_of, returned, become, initialiser_event, unwound, failed, after_wait}
 use Rattle.model.specs.Words.{map_frame, map_stack}
 use Rattle.word_runs.specs.Words.{map_outcome, map_part, map_stepped}
-use Rattle.laws.proofs.Lists.{map_append}
-use Rattle.laws.proofs.WordLists.{map_count}
 use Rattle.word_runs.proofs.WordWorlds.{world_words, object_words, allocated_words, begun_words}
 use Rattle.word_runs.proofs.WordCalls.{frame_words}
 
@@ -38,7 +37,7 @@ either_words false x u y v e f = f
 pub raised_words : (t : ℕ) (fault : Fault) (world : World) (stack : StackOf Value) → Carries (raised t fault (world_words world) (stack_words stack)) (raised t fault world stack)
 raised_words t fault world stack =
     let e = allocated_words world (Instance (fault_class fault) []) in
-    let n = map_count object_words world.heap in
+    let n = length-map world.heap object_words in
     λ i. Next (Makes 0) (part (with_pending (e i) t (n i)) (stack_words stack))
 
 pub interrupted_words : (t : ℕ) (world : World) (stack : StackOf Value) → Carries (interrupted t (world_words world) (stack_words stack)) (interrupted t world stack)
@@ -92,7 +91,7 @@ returned_words files results (Invocation frame ∷ stack) =
       method = frame.method;
       place = record { offset = next_of files frame; slots = record { locals = map word_of frame.place.slots.locals; stack = l } };
       entered = frame.entered;
-    }) ∷ stack_words stack) (sym (map_append word_of results frame.place.slots.stack))
+    }) ∷ stack_words stack) (sym (map-append word_of results frame.place.slots.stack))
 returned_words files results (Initialisation class phase ∷ stack) = refl
 
 -- what an instruction makes of the stack

@@ -2,6 +2,7 @@
 use Rattle.std.proofs.Common.{◌≡◌, ℕ, zero, suc, List, [], ◌∷◌, map, length, drop, Bool, true, false, ◌&&◌, ◌==◌, if◌then◌else◌, Option, Some, None, refl, ap, ◌∙◌, subst}
 use Rattle.std.specs.Prelude.{slice_get, slice_index_or}
 use Rattle.std.proofs.lemmas.Bool.{false≢true, cond_both}
+use Rattle.std.proofs.lemmas.List.{length-map}
 use Rattle.model.specs.declared.event.Event.{Event}
 use Rattle.model.specs.declared.value.Value.{Value}
 use Rattle.model.specs.declared.value.Value.TheVariants as value
@@ -26,7 +27,7 @@ use Rattle.model.specs.Step.{ops_of}
 use Rattle.model.specs.Words.{map_field, map_slots}
 use Rattle.word_runs.specs.Words.{map_outcome}
 use Rattle.laws.proofs.Lists.{Pairwise}
-use Rattle.laws.proofs.WordLists.{map_index, map_count, wanted_referent, is_object_want, row_words}
+use Rattle.laws.proofs.WordLists.{map_index, wanted_referent, is_object_want, row_words}
 use Rattle.word_runs.proofs.WordWorlds.{world_words, object_words, types_words, object_at_words, field_words, fields_words, with_field_words, put_words, with_object_words, allocated_words, with_static_words, new_words}
 
 -- ---- operands
@@ -194,9 +195,9 @@ module _ (files : Program) where
         does = λ event world slots rest q.
             let new = new_instance values files class in
             goes_words _ (Makes (length (fields_of new))) _ (allocated world new) _ (value.Reference (length world.heap) ∷ rest) slots.locals site.next
-            (ap (λ o. Makes (length (fields_of o))) (new_words files class) ∙ ap Makes (ap length (fields_words new) ∙ map_count (map_field word_of) (fields_of new)))
+            (ap (λ o. Makes (length (fields_of o))) (new_words files class) ∙ ap Makes (ap length (fields_words new) ∙ length-map (fields_of new) (map_field word_of)))
             (ap (λ o. allocated (world_words world) o) (new_words files class) ∙ allocated_words world new)
-            (ap (λ n. suc n ∷ map word_of rest) (map_count object_words world.heap));
+            (ap (λ n. suc n ∷ map word_of rest) (length-map world.heap object_words));
       }
 
   pub instance_words : (world : World) (os : List ReferenceType) (below type : ReferenceType) (v : Value) → is_value_below files os below v ≡ true → is_word_of files (types_of (world_words world).heap) type (word_of v) ≡ is_value_of files (types_of world.heap) type v

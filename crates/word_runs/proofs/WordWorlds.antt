@@ -1,6 +1,7 @@
 -- Worlds by their words: what is read of them, and how they change.
 use Rattle.std.proofs.Common.{◌≡◌, ℕ, List, [], ◌∷◌, map, Bool, true, false, ◌==◌, if◌then◌else◌, Option, Some, None, option_map, refl, sym, ap, ◌∙◌}
 use Rattle.std.specs.Option.{option_map_or, option_and_then}
+use Rattle.std.proofs.lemmas.List.{map-append}
 use Rattle.model.specs.declared.value.Value.{Value}
 use Rattle.model.specs.Names.{Name, Member, member_eq}
 use Rattle.model.specs.Tree.{Entry, Utf8, Integer, Float, Long, Double, Class, String, Field, Method, InterfaceMethod, NameAndType, Unusable, FieldTree, FileTree}
@@ -18,7 +19,6 @@ use Rattle.model.specs.Opening.{first_value, first_of, with_first, new_instance,
 use Rattle.model.specs.Worlds.{woken, all_woken, allocated, no_object, object_at, with_object, value_in, with_value, fields_of, with_field, with_static, elements_of, with_element, element_kept, type_kept, put_value, class_of_object}
 use Rattle.model.specs.ClassInitialisation.{constant_in, constant_of, constant_value, with_constant, with_constants, with_class_status, with_class_begun}
 use Rattle.model.specs.Words.{map_field, map_object, map_world}
-use Rattle.laws.proofs.Lists.{map_append}
 use Rattle.laws.proofs.WordLists.{map_index, map_set, map_same}
 
 abbrev pub world_words : World → WorldOf ℕ
@@ -134,7 +134,7 @@ pub with_object_words : (world : World) (r : ℕ) (o : ObjectOf Value) → with_
 with_object_words world r o = ap (λ h. record (world_words world) { heap = h }) (map_set object_words world.heap r o)
 
 pub allocated_words : (world : World) (o : ObjectOf Value) → allocated (world_words world) (object_words o) ≡ world_words (allocated world o)
-allocated_words world o = ap (λ h. record (world_words (allocated world o)) { heap = h }) (sym (map_append object_words world.heap (o ∷ [])))
+allocated_words world o = ap (λ h. record (world_words (allocated world o)) { heap = h }) (sym (map-append object_words world.heap (o ∷ [])))
 
 pub with_static_words : (world : World) (field : Member) (v : Value) → with_static (world_words world) field (word_of v) ≡ world_words (with_static world field v)
 with_static_words world field v = ap (λ s. record (world_words world) { statics = s }) (with_value_words field v world.statics)

@@ -7,7 +7,7 @@ use Rattle.model.specs.Linkable.{IsLinkable}
 use Rattle.model.specs.Operands.{words, values}
 use Rattle.model.specs.State.{FrameOf, Invocation, Initialisation, StackOf, Thread, StateOf, State}
 use Rattle.model.specs.Worlds.{has_ended}
-use Rattle.model.specs.Outcomes.{Cost, OutcomeOf, Goes, Raises, Throws, Interrupts, Calls, Returns, Waits}
+use Rattle.model.specs.Outcomes.{OutcomeOf, Goes, Raises, Throws, Interrupts, Calls, Returns, Waits}
 use Rattle.model.specs.Opening.{opening}
 use Rattle.model.specs.Step.{SteppedOf, NotEnabled, WrongKind, Next, PartOf, stepped}
 use Rattle.model.specs.WellTyped.{IsWellTyped}
