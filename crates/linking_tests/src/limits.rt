@@ -51,7 +51,11 @@ fn wide_class(
     let mut fields = Vec::new(alloc);
     for number in 0..count {
         fields.push(Field {
-            flags: if number < static_count { 0x0009 } else { 0x0001 },
+            flags: if number < static_count {
+                0x0009
+            } else {
+                0x0001
+            },
             name: 5 + (number / 256 % 256) as u16,
             descriptor: 261 + (number % 256) as u16,
             attributes: Vec::new(alloc),
@@ -128,7 +132,11 @@ fn too_many_files_are_refused(rt: HostRuntime) -> Result<(), Fail> {
     let other = ClassBuilder::new(alloc, 0x0021, b"B", b"B")?.bytes()?;
     for (is_class, count, wanted) in COUNTS {
         let mut files = Vec::new(alloc);
-        files.push(if is_class { main_class(alloc)? } else { Vec::new(alloc) })?;
+        files.push(if is_class {
+            main_class(alloc)?
+        } else {
+            Vec::new(alloc)
+        })?;
         for _ in 0..count {
             files.push(other.clone()?)?;
         }
