@@ -17,3 +17,4 @@ pub mod LinkedFound
 pub mod LinkedConstants
 pub mod LinkedOf
 pub mod WordLists
+pub mod Operations

@@ -24,7 +24,8 @@ use Rattle.model.specs.Meanings.{meaning_of}
 use Rattle.model.specs.Step.{SteppedOf, NotEnabled, WrongKind, Next, PartOf, part, on_to, enabled_if, unpicked, is_over, ended, with_end, end_of, settled, raised, needing, needing_class, entering, pushed, leaving, returned, become, ops_of, done, bytecode_by, bytecode_in, initialiser_event, before, initialisation_event, initial_class, main_frame, run_frame, run_of, begin_event, handler_in, unwound, failed, pending_event, after_wait, relock_event, running_event, going_event, thread_event, put_back, event_of, stepped}
 use Rattle.object_counts.specs.Bounds.{made, IsCounted, AreObjectsCounted}
 use Rattle.object_counts.proofs.Counted.{same_count, OutcomeCounted, woken_count}
-use Rattle.object_counts.proofs.CountedTable.{DoesCount, meaning_counts}
+use Rattle.laws.proofs.Operations.{OfMeaning}
+use Rattle.object_counts.proofs.CountedTable.{Counts, meaning_counts}
 
 module _ {A : Type 0} where
   -- what becomes of so many objects
@@ -128,7 +129,7 @@ module _ {A : Type 0} where
         leaving_counted (length world.heap) t frame.entered after (returned files results stack) (Invocation frame ∷ stack) h
     become_counted frames t world frame stack (Waits cost after rest) h = h
 
-    bytecode_by_counted : (frames : ℕ) (event : Event) (world : WorldOf A) (frame : FrameOf A) (stack : StackOf A) (max_stack : ℕ) (o : Option (MeaningOf A)) → DoesCount o → Counted (length world.heap) (bytecode_by C files frames event world frame stack max_stack o)
+    bytecode_by_counted : (frames : ℕ) (event : Event) (world : WorldOf A) (frame : FrameOf A) (stack : StackOf A) (max_stack : ℕ) (o : Option (MeaningOf A)) → OfMeaning Counts o → Counted (length world.heap) (bytecode_by C files frames event world frame stack max_stack o)
     bytecode_by_counted frames event world frame stack max_stack None h = enabled_counted (length world.heap) (event.pick == 0) WrongKind tt
     bytecode_by_counted frames event world frame stack max_stack (Some m) h =
         let slots = frame.place.slots in
@@ -138,7 +139,7 @@ module _ {A : Type 0} where
         (become_counted frames event.thread world frame stack (m.does event world slots (ops_of C m slots) (under m.wants slots)) (h event world slots (ops_of C m slots) (under m.wants slots)))))
         (enabled_counted (length world.heap) (event.pick == 0) WrongKind tt)
 
-    meant_counts : (o : Option Site) → DoesCount (option_and_then (meaning_of C files) o)
+    meant_counts : (o : Option Site) → OfMeaning Counts (option_and_then (meaning_of C files) o)
     meant_counts None = tt
     meant_counts (Some site) = meaning_counts C files site
 

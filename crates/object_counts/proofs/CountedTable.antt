@@ -1,64 +1,34 @@
 -- How many objects there are after each instruction: the table of meanings.
 use Rattle.std.proofs.Common.{◌≡◌, ℕ, ◌+◌, List, [], ◌∷◌, length, Bool, true, false, Option, Some, None, refl}
-use Rattle.std.specs.Prelude.{if◌then◌else◌, unwrap_or}
-use Rattle.std.specs.Option.{option_map, option_and_then}
+use Rattle.std.specs.Prelude.{unwrap_or}
 use Rattle.std.proofs.lemmas.List.{length_push}
 use Rattle.model.specs.declared.event.Event.{Event}
 use Rattle.model.specs.declared.instr.ArrayKind.{ArrayKind}
 use Rattle.model.specs.declared.instr.ArrayKind.TheVariants as array_kind
-use Rattle.model.specs.declared.instr.FieldAccess.{FieldAccess}
-use Rattle.model.specs.declared.instr.FieldAccess.TheVariants as access
-use Rattle.model.specs.declared.instr.Instr.{Instr}
-use Rattle.model.specs.declared.instr.Instr.TheVariants as instr
-use Rattle.model.specs.declared.instr.Invocation.{Invocation}
-use Rattle.model.specs.declared.instr.Invocation.TheVariants as invocation
 use Rattle.model.specs.declared.instr.Returned.{Returned}
 use Rattle.model.specs.declared.instr.Returned.TheVariants as returned
-use Rattle.model.specs.Names.{Name, name_eq, Member, member_eq, constructor_name, java_lang_class, java_lang_string, println_int, system_out}
-use Rattle.model.specs.Tree.{Entry, Utf8, Integer, Float, Long, Double, Class, String, Field, Method, InterfaceMethod, NameAndType, Unusable, FileTree}
-use Rattle.model.specs.Spelling.{entry_at}
-use Rattle.model.specs.Pool.{integers_of, utf8_at, class_name_at, field_at, method_at, interface_method_at}
-use Rattle.model.specs.Classes.{Program, Body, body_of, class_of}
-use Rattle.model.specs.Lookup.{find_field, find_method, find_interface_method, is_static_field, is_instance_field, is_static_method}
-use Rattle.model.specs.DescribedTypes.{type_named}
+use Rattle.model.specs.Names.{Name, Member}
+use Rattle.model.specs.Classes.{Program, Body, body_of}
 use Rattle.model.specs.Operands.{Slots, Carrier}
-use Rattle.model.specs.Rows.{Row, local_row, after_row, row_target}
+use Rattle.model.specs.Rows.{Row, after_row, row_target}
 use Rattle.model.specs.State.{ObjectOf, WorldOf}
-use Rattle.model.specs.Opening.{new_instance, class_reference, string_reference}
+use Rattle.model.specs.Opening.{new_instance, class_reference}
 use Rattle.model.specs.Outcomes.{OutcomeOf, Goes, Raises, Throws, Free, Arithmetic, not_null}
 use Rattle.model.specs.Worlds.{object_at, with_object, with_element, with_field, put_value, is_owner}
 use Rattle.model.specs.Sites.{MeaningOf, Site, operand, referent, int_operand, pushing}
-use Rattle.model.specs.Calls.{Chosen, Fails, Runs, is_one, is_instance_one, if_method, runs, invoked, of_receiver, parameter_count, static_call, virtual_call, virtual_of, interface_call, special_call, special_of, constructor_call, return_of}
+use Rattle.model.specs.Calls.{Chosen, Fails, Runs, runs, invoked, of_receiver, parameter_count, return_of}
 use Rattle.model.specs.BuiltInMethods.{built_in_method}
-use Rattle.model.specs.Objects.{cast, new_meaning, new_named, check_cast_meaning, instance_of_meaning, object_meaning, class_constant, constant_meaning}
-use Rattle.model.specs.Arrays.{is_negative, made_array, primitive_array_meaning, primitive_coded, reference_array_meaning, in_range, at_index, element_at, load_of, stored, kept_by, may_stand_in, if_storable, store_reference_meaning, store_of}
+use Rattle.model.specs.Objects.{cast}
+use Rattle.model.specs.Arrays.{is_negative, made_array, in_range, at_index, element_at, load_of, stored, kept_by, may_stand_in, if_storable, store_reference_meaning, store_of}
 use Rattle.model.specs.MonitorMeanings.{left, monitor_exit_meaning}
-use Rattle.model.specs.Meanings.{local_meaning, get_static_of, put_static_of, get_field_of, put_field_of, if_field, field_meaning, println_meaning, system_out_meaning, invoke_virtual_meaning, invoke_meaning, other_meaning, local_or, meaning_of}
+use Rattle.model.specs.Meanings.{local_meaning, get_field_of, put_field_of, println_meaning, meaning_of}
+use Rattle.laws.proofs.Operations.{Operation, OfRow, GetSystemOut, GetStatic, PutStatic, GetField, PutField, Println, CallVirtual, CallConstructor, CallSpecial, CallStatic, CallInterface, Return, LoadClass, LoadString, New, NewArray, NewReferenceArray, ArrayLength, LoadElement, StoreElement, CheckCast, InstanceOf, Throw, MonitorEnter, MonitorExit, operation, OfMeaning, each_meaning}
 use Rattle.object_counts.proofs.Counted.{unchanged, same_count, object_count, OutcomeCounted, not_null_counted, either_counted, built_in_counted}
 
 module _ {A : Type 0} where
   -- what it does is counted, whatever it finds
   abbrev pub Counts : MeaningOf A → Type 0
   Counts m = (event : Event) (world : WorldOf A) (slots : Slots A) (ops rest : List A) → OutcomeCounted (length world.heap) (m.does event world slots ops rest)
-
-  abbrev pub DoesCount : Option (MeaningOf A) → Type 0
-  DoesCount None = Unit {0}
-  DoesCount (Some m) = Counts m
-
-  mapped : {B : Type 0} (meaning : B → MeaningOf A) (o : Option B) → ((x : B) → Counts (meaning x)) → DoesCount (option_map meaning o)
-  mapped meaning None h = tt
-  mapped meaning (Some x) h = h x
-
-  chained : {B : Type 0} (meaning : B → Option (MeaningOf A)) (o : Option B) → ((x : B) → DoesCount (meaning x)) → DoesCount (option_and_then meaning o)
-  chained meaning None h = tt
-  chained meaning (Some x) h = h x
-
-  either : (b : Bool) (x y : Option (MeaningOf A)) → DoesCount x → DoesCount y → DoesCount (if b then x else y)
-  either true x y h g = h
-  either false x y h g = g
-
-  where_so : (b : Bool) (m : MeaningOf A) → Counts m → DoesCount (if b then Some m else None)
-  where_so b m h = either b (Some m) None h tt
 
   -- ---- what is done by a test
 
@@ -105,18 +75,6 @@ module _ {A : Type 0} where
     println_counts : (next : ℕ) → Counts (println_meaning C next)
     println_counts next event world slots ops rest = not_null_counted (length world.heap) (referent C ops 1) _ (λ r. unchanged (length world.heap))
 
-    field_counts : (next : ℕ) (access : FieldAccess) (named : Member) → DoesCount (field_meaning C files next access named)
-    field_counts next access.GetStatic named =
-        either (member_eq named system_out) (Some (system_out_meaning C next)) (option_and_then (if_field is_static_field files (get_static_of C files next)) (find_field files named))
-        (λ event world slots ops rest. unchanged (length world.heap))
-        (chained (if_field is_static_field files (get_static_of C files next)) (find_field files named) (λ field. where_so _ (get_static_of C files next field) (λ event world slots ops rest. unchanged (length world.heap))))
-    field_counts next access.PutStatic named =
-        chained (if_field is_static_field files (put_static_of C files next)) (find_field files named) (λ field. where_so _ (put_static_of C files next field) (λ event world slots ops rest. unchanged (length world.heap)))
-    field_counts next access.GetField named =
-        chained (if_field is_instance_field files (get_field_of C files next named.class)) (find_field files named) (λ field. where_so _ (get_field_of C files next named.class field) (get_field_counts next named.class field))
-    field_counts next access.PutField named =
-        chained (if_field is_instance_field files (put_field_of C files next named.class)) (find_field files named) (λ field. where_so _ (put_field_of C files next named.class field) (put_field_counts next named.class field))
-
     -- ---- objects, arrays and monitors
 
     loaded_counted : (next : ℕ) (first : A) (world : WorldOf A) (slots : Slots A) (ops rest : List A)
@@ -156,23 +114,6 @@ module _ {A : Type 0} where
     monitor_exit_counts site event world slots ops rest =
         not_null_counted (length world.heap) (referent C ops 0) _ (λ r. left_counted (is_owner world event.thread r) site.next event.thread r world slots rest)
 
-    constant_counts : (site : Site) (entry : Entry) → DoesCount (constant_meaning C files site entry)
-    constant_counts site (Utf8 text) = tt
-    constant_counts site (Integer bits) = tt
-    constant_counts site (Float bits) = tt
-    constant_counts site (Long bits) = tt
-    constant_counts site (Double bits) = tt
-    constant_counts site (Class name) =
-        chained (class_constant C files site) (utf8_at site.body.pool name)
-        (λ class. mapped (λ (file : FileTree). object_meaning C site java_lang_class (class_reference files class)) (class_of files class) (λ file event world slots ops rest. unchanged (length world.heap)))
-    constant_counts site (String text) =
-        mapped (λ (bytes : List ℕ). object_meaning C site java_lang_string (string_reference files bytes)) (utf8_at site.body.pool text) (λ bytes event world slots ops rest. unchanged (length world.heap))
-    constant_counts site (Field class name_and_type) = tt
-    constant_counts site (Method class name_and_type) = tt
-    constant_counts site (InterfaceMethod class name_and_type) = tt
-    constant_counts site (NameAndType name descriptor) = tt
-    constant_counts site Unusable = tt
-
     -- ---- calls and returns
 
     runs_counted : (site : Site) (event : Event) (world : WorldOf A) (slots : Slots A) (ops rest : List A) (object : ℕ) (method : Member) (o : Option Body) → OutcomeCounted (length world.heap) (runs C files site event world slots ops rest object method o)
@@ -189,23 +130,6 @@ module _ {A : Type 0} where
         let r = C.referent (operand C ops (parameter_count method)) in
         invoked_counted site event world slots ops rest (unwrap_or r 0) (of_receiver r (choose world))
 
-    invoke_counts : (site : Site) (how : Invocation) (index : ℕ) → DoesCount (invoke_meaning C files site how index)
-    invoke_counts site invocation.Virtual index =
-        chained (invoke_virtual_meaning C files site) (method_at site.body.pool index)
-        (λ named. either (member_eq named println_int) (Some (println_meaning C site.next)) (virtual_of C files site named) (println_counts site.next)
-        (chained (if_method is_instance_one files (virtual_call C files site named.class)) (find_method files named)
-        (λ method. where_so (is_one is_instance_one files method) (virtual_call C files site named.class method) (called_counted site method _))))
-    invoke_counts site invocation.Special index =
-        chained (special_of C files site) (method_at site.body.pool index)
-        (λ named. either (name_eq named.name constructor_name) (if_method is_instance_one files (constructor_call C files site) named) (option_and_then (if_method is_instance_one files (special_call C files site named.class)) (find_method files named))
-        (where_so (is_one is_instance_one files named) (constructor_call C files site named) (called_counted site named _))
-        (chained (if_method is_instance_one files (special_call C files site named.class)) (find_method files named)
-        (λ method. where_so (is_one is_instance_one files method) (special_call C files site named.class method) (called_counted site method _))))
-    invoke_counts site invocation.Static index =
-        chained (if_method is_static_method files (static_call C files site)) (option_and_then (find_method files) (method_at site.body.pool index))
-        (λ method. where_so (is_one is_static_method files method) (static_call C files site method)
-        (λ event world slots ops rest. invoked_counted site event world slots ops rest (class_reference files method.class) (Runs method)))
-
     return_counts : (descriptor : Name) (kind : Returned) → Counts (return_of C files descriptor kind)
     return_counts descriptor returned.Nothing event world slots ops rest = refl
     return_counts descriptor returned.Int event world slots ops rest = refl
@@ -213,40 +137,34 @@ module _ {A : Type 0} where
 
     -- ---- the table
 
-    other_counts : (site : Site) (i : Instr) → DoesCount (other_meaning C files site i)
-    other_counts site (instr.Field access index) = chained (field_meaning C files site.next access) (field_at site.body.pool index) (field_counts site.next access)
-    other_counts site (instr.Invoke how index) = invoke_counts site how index
-    other_counts site (instr.InvokeInterface index count last) =
-        chained (λ named. option_and_then (if_method is_instance_one files (interface_call C files site named.class)) (find_interface_method files named)) (interface_method_at site.body.pool index)
-        (λ named. chained (if_method is_instance_one files (interface_call C files site named.class)) (find_interface_method files named)
-        (λ method. where_so (is_one is_instance_one files method) (interface_call C files site named.class method) (called_counted site method _)))
-    other_counts site (instr.Return kind) = return_counts site.method.descriptor kind
-    other_counts site (instr.LoadConstant index) = constant_counts site (entry_at site.body.pool index)
-    other_counts site (instr.New index) =
-        chained (new_named C files site) (class_name_at site.body.pool index)
-        (λ class. mapped (λ (file : FileTree). new_meaning C files site class) (class_of files class) (λ file event world slots ops rest. length_push world.heap (new_instance C files class)))
-    other_counts site (instr.NewArray code) =
-        mapped (primitive_array_meaning C files site) (primitive_coded code) (λ of event world slots ops rest. array_counted (is_negative (int_operand C ops 0)) site.next (int_operand C ops 0) _ _ world slots rest)
-    other_counts site (instr.NewReferenceArray index) =
-        mapped (λ (name : Name). reference_array_meaning C files site (type_named name)) (class_name_at site.body.pool index)
-        (λ name event world slots ops rest. array_counted (is_negative (int_operand C ops 0)) site.next (int_operand C ops 0) _ _ world slots rest)
-    other_counts site instr.ArrayLength = λ event world slots ops rest. not_null_counted (length world.heap) (referent C ops 0) _ (λ r. unchanged (length world.heap))
-    other_counts site (instr.LoadElement kind) = load_counts site kind
-    other_counts site (instr.StoreElement kind) = store_counts site kind
-    other_counts site (instr.CheckCast index) =
-        mapped (λ (name : Name). check_cast_meaning C files site (type_named name)) (class_name_at site.body.pool index)
-        (λ name event world slots ops rest. cast_counted _ site.next (operand C ops 0) world slots rest)
-    other_counts site (instr.InstanceOf index) =
-        mapped (λ (name : Name). instance_of_meaning C files site (type_named name)) (class_name_at site.body.pool index) (λ name event world slots ops rest. unchanged (length world.heap))
-    other_counts site instr.Throw = λ event world slots ops rest. not_null_counted (length world.heap) (referent C ops 0) (λ r. Throws r) (λ r. tt)
-    other_counts site instr.MonitorEnter = λ event world slots ops rest. not_null_counted (length world.heap) (referent C ops 0) _ (λ r. unchanged (length world.heap))
-    other_counts site instr.MonitorExit = monitor_exit_counts site
-    other_counts site other = tt
-
-    local_or_counts : (site : Site) (o : Option Row) → DoesCount (local_or C files site o)
-    local_or_counts site (Some row) = local_counts row
-    local_or_counts site None = other_counts site site.instr
+    operation_counts : (site : Site) (o : Operation files site) → Counts (operation C files site o)
+    operation_counts site (OfRow row e) = local_counts row
+    operation_counts site (GetSystemOut index i) = λ event world slots ops rest. unchanged (length world.heap)
+    operation_counts site (GetStatic f) = λ event world slots ops rest. unchanged (length world.heap)
+    operation_counts site (PutStatic f) = λ event world slots ops rest. unchanged (length world.heap)
+    operation_counts site (GetField f) = get_field_counts site.next f.named.class f.field
+    operation_counts site (PutField f) = put_field_counts site.next f.named.class f.field
+    operation_counts site (Println call e) = println_counts site.next
+    operation_counts site (CallVirtual call e m) = called_counted site m.method _
+    operation_counts site (CallConstructor call e passes) = called_counted site call.named _
+    operation_counts site (CallSpecial call e m) = called_counted site m.method _
+    operation_counts site (CallStatic index i m) = λ event world slots ops rest. invoked_counted site event world slots ops rest (class_reference files m.method.class) (Runs m.method)
+    operation_counts site (CallInterface call m) = called_counted site m.method _
+    operation_counts site (Return kind i) = return_counts site.method.descriptor kind
+    operation_counts site (LoadClass constant file e) = λ event world slots ops rest. unchanged (length world.heap)
+    operation_counts site (LoadString constant) = λ event world slots ops rest. unchanged (length world.heap)
+    operation_counts site (New class file e) = λ event world slots ops rest. length_push world.heap (new_instance C files class.name)
+    operation_counts site (NewArray code of i e) = λ event world slots ops rest. array_counted (is_negative (int_operand C ops 0)) site.next (int_operand C ops 0) _ _ world slots rest
+    operation_counts site (NewReferenceArray class) = λ event world slots ops rest. array_counted (is_negative (int_operand C ops 0)) site.next (int_operand C ops 0) _ _ world slots rest
+    operation_counts site (ArrayLength i) = λ event world slots ops rest. not_null_counted (length world.heap) (referent C ops 0) _ (λ r. unchanged (length world.heap))
+    operation_counts site (LoadElement kind i) = load_counts site kind
+    operation_counts site (StoreElement kind i) = store_counts site kind
+    operation_counts site (CheckCast class) = λ event world slots ops rest. cast_counted _ site.next (operand C ops 0) world slots rest
+    operation_counts site (InstanceOf class) = λ event world slots ops rest. unchanged (length world.heap)
+    operation_counts site (Throw i) = λ event world slots ops rest. not_null_counted (length world.heap) (referent C ops 0) (λ r. Throws r) (λ r. tt)
+    operation_counts site (MonitorEnter i) = λ event world slots ops rest. not_null_counted (length world.heap) (referent C ops 0) _ (λ r. unchanged (length world.heap))
+    operation_counts site (MonitorExit i) = monitor_exit_counts site
 
     -- what an instruction does is counted
-    pub meaning_counts : (site : Site) → DoesCount (meaning_of C files site)
-    meaning_counts site = local_or_counts site (local_row (integers_of site.body.pool) site.body.code.code site.offset site.next site.instr)
+    pub meaning_counts : (site : Site) → OfMeaning Counts (meaning_of C files site)
+    meaning_counts site = each_meaning C files site Counts (operation_counts site)

@@ -27,7 +27,7 @@ use Rattle.model.specs.Typing.{may_stand, marked, successors, caught_type, handl
 use Rattle.laws.proofs.Lists.{every_append, every_set, every_map}
 use Rattle.typing_search.specs.Weights.{rank, IsLow, IsLowFrame}
 use Rattle.typing_search.specs.Decided.{IsBounded}
-use Rattle.typing_search.proofs.Forms.{Leading, OfMeaning, meaning_each}
+use Rattle.typing_search.proofs.Forms.{Leading, OfLeads, meaning_each}
 use Rattle.typing_search.proofs.Merging.{no_flow, nothing_past}
 use Rattle.typing_search.proofs.Weights.{none_above, above_bounded}
 
@@ -193,7 +193,7 @@ module _ (files : Program) where
         ),
   )
 
-  meaning_low : (site : Site) → OfMeaning StaysLow (meaning_of values files site)
+  meaning_low : (site : Site) → OfLeads StaysLow (meaning_of values files site)
   meaning_low site = meaning_each files StaysLow next_low nowhere_low rows_low new_low constructed_low element_low site
 
   -- ---- flow
@@ -230,7 +230,7 @@ module _ (files : Program) where
       none_some : (x : List (ℕ × FrameType)) → None ≡ Some x → ⊥
       none_some x q = absurd cc
 
-  by_low : (site : Site) (o : Option (MeaningOf Value)) → OfMeaning StaysLow o → (least : ℕ) × Limits (λ t. flow_by files site t o) least
+  by_low : (site : Site) (o : Option (MeaningOf Value)) → OfLeads StaysLow o → (least : ℕ) × Limits (λ t. flow_by files site t o) least
   by_low site None h = (0, none_gives)
   by_low site (Some meaning) h =
       (h.0 + caught_needs site.body.pool site.body.code.exceptions, λ limit m t leads e l. found limit m t leads l (may_stand site t site.instr && is_ready (type_meets files) over_types meaning.wants site.body.code.max_stack t.slots) e)

@@ -24,7 +24,7 @@ use Rattle.laws.proofs.Rows.{ready_popped}
 use Rattle.laws.proofs.Classes.{subclass_trans}
 use Rattle.laws.proofs.Classes as classes
 use Rattle.typing_search.specs.Orders.{IsOrdered}
-use Rattle.typing_search.proofs.Forms.{Leading, OfMeaning, meaning_each}
+use Rattle.typing_search.proofs.Forms.{Leading, OfLeads, meaning_each}
 use Rattle.typing_search.proofs.Orders.{null_same, stack_self, pair_self}
 use Rattle.typing_search.proofs.Joins.{sub_self, super_above, up_one}
 use Rattle.typing_search.proofs.Rows.{SlotsBelow, operands_down, under_down, after_row_down}
@@ -48,7 +48,7 @@ IsDown files meaning = LeadsDown files meaning.wants meaning.leads
 
 -- the same of what an instruction means, if it means anything
 abbrev pub IsEachDown : Program → Option (MeaningOf Value) → Type 0
-IsEachDown files o = OfMeaning (LeadsDown files) o
+IsEachDown files o = OfLeads (LeadsDown files) o
 
 module _ (files : Program) (ordered : IsOrdered files) where
   -- ---- the forms of where instructions lead
