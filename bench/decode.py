@@ -20,8 +20,11 @@ import time
 
 sys.dont_write_bytecode = True
 
-from class_file import pair, u2, utf8
-from disasm import NAMES, ROOT, class_file, head, long_code, long_pool, many_methods, u4
+ROOT = os.path.dirname(os.path.dirname(os.path.abspath(__file__)))
+sys.path.insert(0, os.path.join(ROOT, "tools"))
+
+from class_files import pair, u2, u4, utf8
+from disasm import NAMES, class_file, head, long_code, long_pool, many_methods
 from replay import peak_kilobytes
 
 LONG = 65_535

@@ -10,7 +10,6 @@ listed nowhere, and one of 65,535 methods without code. They are made anew in a 
 """
 
 import os
-import struct
 import subprocess
 import sys
 import tempfile
@@ -18,10 +17,11 @@ import time
 
 sys.dont_write_bytecode = True
 
-from class_file import entries_with, u2, utf8
-from replay import peak_kilobytes
-
 ROOT = os.path.dirname(os.path.dirname(os.path.abspath(__file__)))
+sys.path.insert(0, os.path.join(ROOT, "tools"))
+
+from class_files import MAGIC_AND_VERSION, entries_with, integer, u2, u4, utf8
+from replay import peak_kilobytes
 
 # getstatic, iload_1, sipush 1000, iadd, istore_2, iload_2, bipush 7, if_icmpne 3, invokevirtual, iinc 1 1, ldc, pop
 LOOP = bytes.fromhex("b2000d 1b 1103e8 60 3d 1c 1007 a00003 b60013 840101 1214 57")
@@ -29,19 +29,15 @@ LOOP = bytes.fromhex("b2000d 1b 1103e8 60 3d 1c 1007 a00003 b60013 840101 1214 5
 NAMES = 20
 
 
-def u4(number):
-    return struct.pack(">I", number)
-
-
 def head():
-    """The entries 1 to 20 of a constant pool: those of `class_file`, and an int."""
-    return [*entries_with("f", "()V"), b"\x03" + u4(1_000_000)]
+    """The entries 1 to 20 of a constant pool: those of `entries_with`, and an int."""
+    return [*entries_with("f", "()V"), integer(1_000_000)]
 
 
 def class_file(entries, fields, methods):
     members = u2(len(fields)) + b"".join(fields) + u2(len(methods)) + b"".join(methods)
     pool = u2(len(entries) + 1) + b"".join(entries)
-    return b"\xca\xfe\xba\xbe" + u4(49) + pool + u2(0x0421) + u2(2) + u2(4) + u2(0) + members + u2(0)
+    return MAGIC_AND_VERSION + pool + u2(0x0421) + u2(2) + u2(4) + u2(0) + members + u2(0)
 
 
 def names(count, width):

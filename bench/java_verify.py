@@ -20,9 +20,10 @@ import tempfile
 
 sys.dont_write_bytecode = True
 
-from class_file import u2
-
 ROOT = os.path.dirname(os.path.dirname(os.path.abspath(__file__)))
+sys.path.insert(0, os.path.join(ROOT, "tools"))
+
+from class_files import u2
 
 HELPERS = """
 interface I { int run(int n); }

@@ -25,8 +25,10 @@ import time
 
 sys.dont_write_bytecode = True
 
-from class_file import pair, u2, utf8
-from disasm import ROOT, u4
+ROOT = os.path.dirname(os.path.dirname(os.path.abspath(__file__)))
+sys.path.insert(0, os.path.join(ROOT, "tools"))
+
+from class_files import MAGIC_AND_VERSION, pair, u2, u4, utf8
 from replay import peak_kilobytes
 
 PUBLIC, STATIC, INTERFACE, ABSTRACT = 0x0001, 0x0008, 0x0200, 0x0400
@@ -88,7 +90,7 @@ class Maker:
         self.method(PUBLIC | STATIC, "main", "([Ljava/lang/String;)V", code + RETURN)
 
     def data(self):
-        head = b"\xca\xfe\xba\xbe" + u4(49) + u2(len(self.entries) + 1) + b"".join(self.entries)
+        head = MAGIC_AND_VERSION + u2(len(self.entries) + 1) + b"".join(self.entries)
         head += u2(self.flags) + u2(self.this) + u2(self.superclass)
         for members in ([u2(index) for index in self.interfaces], self.fields, self.methods):
             head += u2(len(members)) + b"".join(members)

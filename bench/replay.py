@@ -14,15 +14,10 @@ import sys
 import tempfile
 import time
 
-sys.dont_write_bytecode = True
-
-from class_file import class_file
-from schedule_file import schedule_file
-
 ROOT = os.path.dirname(os.path.dirname(os.path.abspath(__file__)))
 
 # 0 iconst_0, 1 istore_1, 2 iinc 1 1, 5 iload_1, 6 pop, 7 goto 2
-LOOP = bytes.fromhex("03 3c 840101 1b 57 a7fffb")
+LOOP = "03 3c 840101 1b 57 a7fffb"
 
 # The schedule is used up while main can go on.
 USED_UP = 5
@@ -40,12 +35,16 @@ def peak_kilobytes(process):
     return 0
 
 
+def made(path, tool, *words):
+    """Writes what a tool of this repository makes to a file."""
+    with open(path, "wb") as file:
+        subprocess.run([os.path.join(ROOT, "tools", tool), *words], stdout=file, check=True)
+
+
 def measured(program, folder, events):
     """Seconds and peak kilobytes of one run."""
-    with open(os.path.join(folder, "A.class"), "wb") as file:
-        file.write(class_file(LOOP, stack=1, local_count=2))
-    with open(os.path.join(folder, "schedule"), "wb") as file:
-        file.write(schedule_file([(0, 0, events)]))
+    made(os.path.join(folder, "A.class"), "class-file", "--stack", "1", "--locals", "2", LOOP)
+    made(os.path.join(folder, "schedule"), "schedule-file", f"0*{events}")
     peak = 0
     begin = time.monotonic()
     command = [program, "replay", "--schedule", "schedule", "A.class"]

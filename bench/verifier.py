@@ -22,18 +22,15 @@ import tempfile
 
 sys.dont_write_bytecode = True
 
-from class_file import class_entry, pair, u2, utf8
-
 ROOT = os.path.dirname(os.path.dirname(os.path.abspath(__file__)))
+sys.path.insert(0, os.path.join(ROOT, "tools"))
+
+from class_files import MAGIC_AND_VERSION, class_entry, pair, u2, u4, utf8
 
 CLASSES = 20
 METHODS = 500
 CHAIN = 5_000
 LONGEST = 65_535
-
-
-def u4(number):
-    return struct.pack(">I", number)
 
 
 # ---- what javac compiles
@@ -118,7 +115,7 @@ def write_class(path, entries, this_class, super_class, fields, methods):
     pool = u2(len(entries) + 1) + b"".join(entries)
     members = u2(len(fields)) + b"".join(fields) + u2(len(methods)) + b"".join(methods)
     with open(path, "wb") as file:
-        header = b"\xca\xfe\xba\xbe" + u4(49) + pool + u2(0x0021) + u2(this_class) + u2(super_class)
+        header = MAGIC_AND_VERSION + pool + u2(0x0021) + u2(this_class) + u2(super_class)
         file.write(header + u2(0) + members + u2(0))
     return path
 

@@ -4,7 +4,5 @@
 mod classes;
 mod outline;
 mod tables;
-#[cfg(test)]
-mod tests;
 
 pub use classes::built_in_classes;

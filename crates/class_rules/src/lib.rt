@@ -8,8 +8,6 @@ mod method;
 mod name;
 mod place;
 mod rule;
-#[cfg(test)]
-mod tests;
 
 pub use place::RulePlace;
 pub use rule::first_broken_rule;

@@ -4,8 +4,6 @@
 mod file;
 mod member;
 mod part;
-#[cfg(test)]
-mod tests;
 
 pub use class_tree::{
     Attribute, ClassFile, Code, Constant, Field, FieldAttribute, Method, MethodAttribute,

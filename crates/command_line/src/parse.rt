@@ -340,6 +340,3 @@ fn with_limits<'a>(
         .arg(THREADS.argument(alloc))?
         .arg(FRAMES.argument(alloc))
 }
-
-#[cfg(test)]
-mod tests;

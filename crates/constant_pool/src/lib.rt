@@ -11,8 +11,6 @@ mod lookup;
 mod name;
 mod pool;
 mod read;
-#[cfg(test)]
-mod tests;
 mod texts;
 
 pub use constant::Constant;

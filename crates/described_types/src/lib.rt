@@ -5,8 +5,6 @@
 
 mod described;
 mod made;
-#[cfg(test)]
-mod tests;
 
 pub use described::{MethodTypes, field_type, method_types, named_type};
 pub use made::{array_of, component_type, made_type};

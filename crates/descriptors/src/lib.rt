@@ -4,8 +4,6 @@
 mod field;
 mod method;
 mod name;
-#[cfg(test)]
-mod tests;
 
 pub use field::{Element, Field, parse_field};
 pub use method::{Method, method_slots, parse_method};

@@ -8,7 +8,5 @@ mod names;
 mod numbers;
 mod operands;
 mod switches;
-#[cfg(test)]
-mod tests;
 
 pub use listing::list;

@@ -11,8 +11,8 @@ use Rattle.model.specs.Classes.{Program, name_of, classes_of}
 use Rattle.model.specs.Lookup.{instance_fields, field_member}
 use Rattle.model.specs.Opening.{static_fields_in, static_fields}
 use Rattle.model.specs.Linkable.{AreSpelled, too_many_fields}
-use Rattle.soundness.proofs.Lists.{every_append, every_weaken, every_at}
-use Rattle.soundness.proofs.Found.{none_any, every_all}
+use Rattle.laws.proofs.Lists.{every_append, every_weaken, every_at}
+use Rattle.laws.proofs.Found.{none_any, every_all}
 use Rattle.linker.specs.Linking.{IsLinked}
 use Rattle.field_links.proofs.OwnNames.{unrefused, few_fields}
 

@@ -13,7 +13,7 @@ use Rattle.model.specs.BuiltIn.{built_in_classes}
 use Rattle.model.specs.Classes.{Program, name_of, super_name_of, is_named, class_of, classes_of, superclass_of}
 use Rattle.model.specs.Lookup.{is_field, in_class, field_of, field_member, own_instance_fields, instance_fields}
 use Rattle.model.specs.Opening.{static_fields_in, static_fields}
-use Rattle.soundness.proofs.Lists.{every_at}
+use Rattle.laws.proofs.Lists.{every_at}
 use Rattle.hierarchy.specs.declared.place.MemberPlace.{MemberPlace}
 use Rattle.hierarchy.specs.Places.{class_at, place_of, name_at, member_in, IsFieldAt}
 use Rattle.hierarchy.proofs.Finding.{passes_at, position_within}

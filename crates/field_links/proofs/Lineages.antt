@@ -12,12 +12,12 @@ use Rattle.model.specs.BuiltIn.{built_in_classes}
 use Rattle.model.specs.Classes.{Program, name_of, super_name_of, class_of, classes_of, superclass_of, is_within, is_subclass, lineage_of, lineage}
 use Rattle.model.specs.AccessFlags.{is_instance_field}
 use Rattle.model.specs.Lookup.{own_instance_fields, instance_fields, field_member}
-use Rattle.soundness.specs.Steps.{ends, Rooted}
-use Rattle.soundness.proofs.Classes.{names_same}
-use Rattle.soundness.proofs.RootedOf.{ends_above, lineage_within}
-use Rattle.soundness.proofs.Homes.{class_named}
-use Rattle.soundness.proofs.LinkedClasses as linked_classes
-use Rattle.soundness.proofs.Unrefused.{Unrefused}
+use Rattle.laws.specs.Steps.{ends, Rooted}
+use Rattle.laws.proofs.Classes.{names_same}
+use Rattle.laws.proofs.RootedOf.{ends_above, lineage_within}
+use Rattle.laws.proofs.Homes.{class_named}
+use Rattle.laws.proofs.LinkedClasses as linked_classes
+use Rattle.laws.proofs.Unrefused.{Unrefused}
 use Rattle.field_links.proofs.Positions.{position_before, position_behind}
 
 -- ---- lists

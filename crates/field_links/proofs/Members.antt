@@ -14,11 +14,11 @@ use Rattle.model.specs.BuiltIn.{built_in_classes}
 use Rattle.model.specs.AccessFlags.{is_instance_field}
 use Rattle.model.specs.Classes.{Program, class_of, name_of, classes_of}
 use Rattle.model.specs.Lookup.{is_field, own_instance_fields, field_member}
-use Rattle.soundness.proofs.Classes.{name_self}
-use Rattle.soundness.proofs.Lists.{every_append, every_weaken}
-use Rattle.soundness.proofs.Found.{every_all}
-use Rattle.soundness.proofs.Homes.{class_has}
-use Rattle.soundness.proofs.Unrefused.{Unrefused}
+use Rattle.laws.proofs.Classes.{name_self}
+use Rattle.laws.proofs.Lists.{every_append, every_weaken}
+use Rattle.laws.proofs.Found.{every_all}
+use Rattle.laws.proofs.Homes.{class_has}
+use Rattle.laws.proofs.Unrefused.{Unrefused}
 use Rattle.field_links.proofs.Positions.{IsKept, position_kept, position_matches}
 
 -- a text that is a Utf8

@@ -9,8 +9,8 @@ use Rattle.model.specs.Tree.{FileTree}
 use Rattle.model.specs.BuiltIn.{built_in_classes}
 use Rattle.model.specs.Classes.{Program, name_of, is_named, class_of, classes_of}
 use Rattle.model.specs.Linkable.{too_many_fields, stands, TooLarge, DuplicateClass, OutsideProfile, MalformedCode, BadHierarchy, Unresolved, TooManyFields, NoMain, two_of_one_name, has_built_in_name, all_conditions, some_stands}
-use Rattle.soundness.proofs.Classes.{name_self}
-use Rattle.soundness.proofs.Unrefused.{Unrefused, unrefused_of}
+use Rattle.laws.proofs.Classes.{name_self}
+use Rattle.laws.proofs.Unrefused.{Unrefused, unrefused_of}
 use Rattle.hierarchy.proofs.Names.{name_eq_sym, built_in_differ, found_any}
 use Rattle.hierarchy.proofs.SetLaws.{class_at_place}
 use Rattle.linker.specs.Linking.{IsLinked}

@@ -11,9 +11,9 @@ use Rattle.model.specs.Classes.{Program, name_of, is_named, is_built_in}
 use Rattle.model.specs.Lookup.{is_static_field, field_member}
 use Rattle.model.specs.Linkable.{two_of_one_name, has_built_in_name}
 use Rattle.model.specs.Opening.{static_fields_in, static_fields}
-use Rattle.soundness.proofs.Lists.{every_append, every_weaken}
-use Rattle.soundness.proofs.Found.{none_any}
-use Rattle.soundness.proofs.RootedOf.{name_turned}
+use Rattle.laws.proofs.Lists.{every_append, every_weaken}
+use Rattle.laws.proofs.Found.{none_any}
+use Rattle.laws.proofs.RootedOf.{name_turned}
 use Rattle.field_links.specs.Slots.{static_ends}
 use Rattle.field_links.proofs.Positions.{position_before, position_behind, position_nowhere}
 use Rattle.field_links.proofs.Lineages.{every_flat, every_map}

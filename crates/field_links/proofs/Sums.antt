@@ -9,7 +9,7 @@ use Rattle.model.specs.Tree.{FileTree, FieldTree}
 use Rattle.model.specs.AccessFlags.{is_instance_field}
 use Rattle.model.specs.Classes.{Program, name_of, super_name_of, is_named, class_of, classes_of, superclass_of, lineage_of}
 use Rattle.model.specs.Lookup.{own_instance_fields, instance_fields, field_member}
-use Rattle.soundness.proofs.Homes.{class_named}
+use Rattle.laws.proofs.Homes.{class_named}
 use Rattle.field_links.specs.declared.chain.Shape.{Shape}
 use Rattle.field_links.specs.Chains.{shape_of, shapes, chain_sum}
 use Rattle.field_links.proofs.Lineages.{fields_to, next_fields, top_fields}

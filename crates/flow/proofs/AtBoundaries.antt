@@ -21,12 +21,12 @@ use Rattle.model.specs.CodeParts.{marked_from, any_code, any_instruction, class_
 use Rattle.model.specs.CodeConditions.{jump_off_boundary, unsorted_matches, local_above_max, operand_of_wrong_kind, wrong_interface_count, wrong_interface_end, constructor_not_by_special, calls_initialiser, special_of_class_aside, new_of_array, too_many_dimensions, too_few_locals, malformed_offset, malformed_instruction, malformed_code, has_malformed_code}
 use Rattle.model.specs.CodeParts.{boundaries}
 use Rattle.model.specs.Resolution.{is_missing, operand_classes}
-use Rattle.soundness.proofs.Lists.{every_weaken}
-use Rattle.soundness.proofs.Found.{found_has, none_any, every_all, map_or_at}
-use Rattle.soundness.proofs.Homes.{class_has}
-use Rattle.soundness.proofs.Unrefused.{Unrefused}
-use Rattle.soundness.proofs.LinkedCode.{resolved}
-use Rattle.soundness.proofs.LinkedClasses.{entry_right}
+use Rattle.laws.proofs.Lists.{every_weaken}
+use Rattle.laws.proofs.Found.{found_has, none_any, every_all, map_or_at}
+use Rattle.laws.proofs.Homes.{class_has}
+use Rattle.laws.proofs.Unrefused.{Unrefused}
+use Rattle.laws.proofs.LinkedCode.{resolved}
+use Rattle.laws.proofs.LinkedClasses.{entry_right}
 use Rattle.classfile.specs.View as view
 use Rattle.method_code.specs.declared.declaration.MethodCode.{MethodCode}
 use Rattle.method_code.specs.Linked.{IsLinked}

@@ -23,11 +23,11 @@ use Rattle.model.specs.Resolution.{is_missing, superclass_missing, interface_mis
 use Rattle.model.specs.CodeParts.{any_code}
 use Rattle.model.specs.Typing.{caught_class}
 use Rattle.described_types.specs.Described.{type_missing}
-use Rattle.soundness.proofs.Lists.{every_weaken}
-use Rattle.soundness.proofs.Found.{found_has, none_any, every_all, every_both, map_or_at}
-use Rattle.soundness.proofs.Homes.{class_has}
-use Rattle.soundness.proofs.Unrefused.{Unrefused, unrefused_of}
-use Rattle.soundness.proofs.LinkedClasses.{entry_right}
+use Rattle.laws.proofs.Lists.{every_weaken}
+use Rattle.laws.proofs.Found.{found_has, none_any, every_all, every_both, map_or_at}
+use Rattle.laws.proofs.Homes.{class_has}
+use Rattle.laws.proofs.Unrefused.{Unrefused, unrefused_of}
+use Rattle.laws.proofs.LinkedClasses.{entry_right}
 use Rattle.method_code.specs.declared.declaration.MethodCode.{MethodCode}
 use Rattle.method_code.specs.Linked.{IsLinked}
 use Rattle.method_code.specs.View.{files_of, member_of, body_of}

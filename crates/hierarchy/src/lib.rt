@@ -6,8 +6,6 @@ mod cycles;
 mod declared;
 mod fields;
 mod hierarchy;
-#[cfg(test)]
-mod hierarchy_tests;
 mod lookup;
 mod name_set;
 mod order;
@@ -18,8 +16,6 @@ mod reference_type;
 mod refusal;
 mod rows;
 mod set;
-#[cfg(test)]
-mod tests;
 
 pub use cycles::first_in_cycle;
 pub use hierarchy::Hierarchy;

@@ -12,8 +12,6 @@ mod objects;
 mod places;
 mod returns;
 mod table;
-#[cfg(test)]
-mod tests;
 mod want;
 
 pub use lead::lead_on;

@@ -5,8 +5,6 @@ mod climb;
 mod fields;
 mod main_method;
 mod size;
-#[cfg(test)]
-mod tests;
 mod text_set;
 
 pub use fields::first_with_too_many_fields;

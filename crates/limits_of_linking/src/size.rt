@@ -63,7 +63,7 @@ fn add_texts(alloc: Global, texts: &mut TextSet, file: &ClassFile) -> Result<(),
 }
 
 /// How many texts the string constants of files have, each counted once.
-pub(crate) fn text_count(alloc: Global, files: &[ClassFile]) -> Result<usize, AllocError>
+fn text_count(alloc: Global, files: &[ClassFile]) -> Result<usize, AllocError>
     ensures { IfOk result (λ n. n ≡ length (string_texts (map file_of files.now))) }
 {
     let mut texts = TextSet::new(alloc);

@@ -10,8 +10,6 @@ mod names;
 mod place;
 mod profile_walk;
 mod set;
-#[cfg(test)]
-mod tests;
 
 pub use linked::Linked;
 pub use linking::link;

@@ -10,7 +10,7 @@ use Rattle.model.specs.Classes as classes
 use Rattle.model.specs.Lookup.{method_of}
 use Rattle.model.specs.Linkable.{TooLarge, DuplicateClass, OutsideProfile, MalformedCode, BadHierarchy, Unresolved, TooManyFields, NoMain, stands, some_stands, two_of_one_name, has_built_in_name}
 use Rattle.std.specs.List.{list_any, list_all}
-use Rattle.soundness.proofs.Found.{every_all, map_or_at}
+use Rattle.laws.proofs.Found.{every_all, map_or_at}
 use Rattle.hierarchy.specs.Places.{name_at, class_at}
 use Rattle.method_code.specs.declared.declaration.MethodCode.{MethodCode}
 use Rattle.method_code.specs.Declaration.{IsDeclared}

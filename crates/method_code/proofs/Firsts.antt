@@ -13,7 +13,7 @@ use Rattle.model.specs.Classes.{Program, name_of, is_named, class_of, is_method}
 use Rattle.model.specs.Linkable.{two_of_one_name, has_built_in_name}
 use Rattle.hierarchy.specs.Places.{class_at}
 use Rattle.hierarchy.proofs.Names.{name_eq_sym, built_in_differ}
-use Rattle.soundness.proofs.Classes.{name_self}
+use Rattle.laws.proofs.Classes.{name_self}
 
 module _ {A : Type 0} where
   pub none_at : (q : A → Bool) (xs : List A) (k : ℕ) (x : A) → list_any q xs ≡ false → slice_get xs k ≡ Some x → q x ≡ false

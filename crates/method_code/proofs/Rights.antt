@@ -11,8 +11,8 @@ use Rattle.model.specs.Spells.{Spells}
 use Rattle.model.specs.BuiltIn.{built_in_classes}
 use Rattle.model.specs.Classes.{Program, classes_of, code_in}
 use Rattle.model.specs.Linkable.{AreSpelled}
-use Rattle.soundness.proofs.Lists.{every_append}
-use Rattle.soundness.proofs.Found.{every_all}
+use Rattle.laws.proofs.Lists.{every_append}
+use Rattle.laws.proofs.Found.{every_all}
 
 abbrev pub is_short : List MethodPart → Bool
 is_short parts = option_map_or (λ (c : CodeTree). nat_lt (length c.code) 65536) (code_in parts) true

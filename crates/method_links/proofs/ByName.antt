@@ -4,7 +4,7 @@ use Rattle.std.specs.Prelude.{slice_get, Bool}
 use Rattle.std.specs.Option.{option_and_then, option_map, option_map_or}
 use Rattle.std.specs.List.{list_any, list_all}
 use Rattle.std.proofs.lemmas.Bool.{and_parts, or_parts}
-use Rattle.soundness.proofs.Found.{every_all, map_or_at}
+use Rattle.laws.proofs.Found.{every_all, map_or_at}
 use Rattle.model.specs.Tree.{FileTree, MethodTree, CodeTree}
 use Rattle.model.specs.Conditions.{names_utf8, text_at}
 use Rattle.model.specs.Classes.{Program, name_of, classes_of, class_of, declared_in, code_in, with_pool, body_in, body_of}

@@ -7,8 +7,6 @@ mod decoding;
 mod families;
 mod mnemonics;
 mod switches;
-#[cfg(test)]
-mod tests;
 
 pub use boundaries::starts;
 pub use decoding::{decode_at, length_at, sized_at};

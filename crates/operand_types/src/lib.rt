@@ -8,8 +8,6 @@ mod ready;
 mod row;
 mod table;
 mod targets;
-#[cfg(test)]
-mod tests;
 mod wants;
 
 pub use local::{InstructionSite, LocalFlow, local_flow};

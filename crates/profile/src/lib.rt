@@ -11,8 +11,6 @@ mod jump;
 mod method;
 mod operand;
 mod place;
-#[cfg(test)]
-mod tests;
 mod walk;
 
 pub use fault::{ExceptionField, Fault, Flaw, Place, Spot};

@@ -1,8 +1,6 @@
 //! Why class files are refused: the words in which linking, verification and what runs class files say no.
 #![tactic(auto)]
 
-#[cfg(test)]
-mod tests;
 mod why;
 
 pub use reading::Cause;

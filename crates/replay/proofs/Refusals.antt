@@ -6,7 +6,7 @@ use Rattle.model.specs.Tree.{FileTree, MethodTree, CodeTree}
 use Rattle.model.specs.Classes.{Program, Body, with_pool, name_of, class_of, code_in, body_in, body_of}
 use Rattle.model.specs.Typing.{HasTyping, AreTyped}
 use Rattle.std.specs.Prelude.{slice_get, length}
-use Rattle.soundness.proofs.Found.{some_from, map_or_at}
+use Rattle.laws.proofs.Found.{some_from, map_or_at}
 use Rattle.hierarchy.specs.Places.{class_at, name_at}
 use Rattle.method_code.specs.Linked.{IsLinked}
 use Rattle.method_code.specs.View.{member_named, shown_in}

@@ -19,7 +19,7 @@ use Rattle.model.specs.Opening.{opening}
 use Rattle.model.specs.Outcomes.{Free, Makes, Starts, Enters, Joins}
 use Rattle.model.specs.Step.{SteppedOf, NotEnabled, WrongKind, Next, stepped, step, next_by}
 use Rattle.model.specs.Run.{run, run_from, is_quiet}
-use Rattle.soundness.specs.Steps.{is_wrong}
+use Rattle.laws.specs.Steps.{is_wrong}
 use Rattle.soundness.proofs.Sound.{no_event_wrong}
 use Rattle.std.proofs.lemmas.Bool.{true≢false}
 use Rattle.replay.specs.declared.machine.Stepped.{Stepped}

@@ -16,11 +16,11 @@ use Rattle.model.specs.Classes.{Program, with_pool, is_named, name_of, body_of, 
 use Rattle.hierarchy.specs.Places.{class_at}
 use Rattle.model.specs.Linkable.{TooLarge, DuplicateClass, OutsideProfile, MalformedCode, BadHierarchy, Unresolved, TooManyFields, NoMain, stands, some_stands, two_of_one_name, has_built_in_name, AreSpelled, IsLinkable}
 use Rattle.model.specs.Profile.{is_initialiser, method_outside_profile, is_outside_profile, method_of_left_out_type, native_method, initialiser_of_other_descriptor, abstract_initialiser, constructor_with_result, contradictory_abstract_method, contradictory_constructor, field_outside_profile}
-use Rattle.soundness.proofs.Found.{found_passes}
-use Rattle.soundness.proofs.Linked.{Main}
-use Rattle.soundness.proofs.LinkedMain.{main}
-use Rattle.soundness.proofs.LinkedMethods.{static_is_concrete}
-use Rattle.soundness.proofs.Unrefused.{Unrefused, unrefused_of}
+use Rattle.laws.proofs.Found.{found_passes}
+use Rattle.laws.proofs.Linked.{Main}
+use Rattle.laws.proofs.LinkedMain.{main}
+use Rattle.laws.proofs.LinkedMethods.{static_is_concrete}
+use Rattle.laws.proofs.Unrefused.{Unrefused, unrefused_of}
 use Rattle.replay.specs.Profile.{is_outside, is_main}
 use Rattle.model.specs.Typing.{AreTyped}
 use Rattle.frames.specs.Places.{LocalCode}

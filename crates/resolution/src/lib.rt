@@ -11,8 +11,6 @@ mod member;
 mod operand;
 mod place;
 mod table;
-#[cfg(test)]
-mod tests;
 mod walk;
 
 pub use found::{found_field, found_method};

@@ -6,8 +6,6 @@ mod read;
 mod reader;
 mod runs;
 mod spelling;
-#[cfg(test)]
-mod tests;
 mod write;
 
 pub use fault::ScheduleFault;

@@ -2,6 +2,7 @@
 use Rattle.std.proofs.Common.{◌≡◌, ℕ, List, [], ◌∷◌, true, false, Option, Some, None, refl, sym, ap, subst}
 use Rattle.std.specs.Prelude.{slice_get}
 use Rattle.std.specs.Option.{option_and_then}
+use Rattle.std.proofs.lemmas.Option.{get_or_from_slice_get, same_Some}
 use Rattle.model.specs.declared.event.Event.{Event}
 use Rattle.model.specs.declared.value.Value.{Value}
 use Rattle.model.specs.Names.{java_lang_thread}
@@ -16,24 +17,24 @@ use Rattle.model.specs.Typing.{AreTyped}
 use Rattle.model.specs.Accepted.{IsAccepted}
 use Rattle.model.specs.WellTyped.{is_object_in, IsRunning, IsStackTyped, IsWellTyped}
 use Rattle.model.specs.WrongKind.{has_wrong_kind}
-use Rattle.soundness.specs.Steps.{is_wrong, IsNoEventWrong}
-use Rattle.soundness.proofs.Progress.{well_typed_right}
-use Rattle.soundness.proofs.Answered.{never_wrong}
-use Rattle.soundness.proofs.Opened.{opening_typed}
-use Rattle.soundness.proofs.Changes.{Fits}
-use Rattle.soundness.proofs.Linked.{Linked}
-use Rattle.soundness.proofs.Threads.{index_at}
-use Rattle.soundness.proofs.Flows.{InstructionsTyped}
-use Rattle.soundness.proofs.Instructed.{meaning_typed}
-use Rattle.soundness.proofs.BuiltIns.{built_in_typed}
-use Rattle.soundness.proofs.LinkedOf.{linked_of}
-use Rattle.soundness.proofs.Begun.{begun_keeps}
-use Rattle.soundness.proofs.StepParts.{At, OnPart, self_at, idle_running, idle_relock}
-use Rattle.soundness.proofs.Entering.{unpicked_typed}
-use Rattle.soundness.proofs.Stepped.{bytecode_typed}
-use Rattle.soundness.proofs.Events.{pending_event_typed, relock_typed, initialisation_typed}
-use Rattle.soundness.proofs.Begins.{begin_typed}
-use Rattle.soundness.proofs.Settled.{settled_typed, thread_there, put_typed}
+use Rattle.laws.specs.Steps.{is_wrong}
+use Rattle.soundness.specs.Runs.{IsNoEventWrong}
+use Rattle.laws.proofs.Progress.{well_typed_right}
+use Rattle.laws.proofs.Answered.{never_wrong}
+use Rattle.typed_runs.proofs.Opened.{opening_typed}
+use Rattle.typed_runs.proofs.Changes.{Fits}
+use Rattle.laws.proofs.Linked.{Linked}
+use Rattle.typed_runs.proofs.Flows.{InstructionsTyped}
+use Rattle.typed_runs.proofs.Instructed.{meaning_typed}
+use Rattle.typed_runs.proofs.BuiltIns.{built_in_typed}
+use Rattle.laws.proofs.LinkedOf.{linked_of}
+use Rattle.typed_runs.proofs.Begun.{begun_keeps}
+use Rattle.typed_runs.proofs.StepParts.{At, OnPart, self_at, idle_running, idle_relock}
+use Rattle.typed_runs.proofs.Entering.{unpicked_typed}
+use Rattle.typed_runs.proofs.Stepped.{bytecode_typed}
+use Rattle.typed_runs.proofs.Events.{pending_event_typed, relock_typed, initialisation_typed}
+use Rattle.typed_runs.proofs.Begins.{begin_typed}
+use Rattle.typed_runs.proofs.Settled.{settled_typed, thread_there, put_typed}
 
 -- what is left of the world of a well-typed state
 pub fits_of : (files : Program) (state : State) → IsWellTyped files state → Fits files state.world
@@ -43,7 +44,7 @@ module _ (files : Program) (linked : Linked files) (accepted : AreTyped files) (
   module _ (event : Event) (world : World) (fits : Fits files world) (thread : Thread) (there : slice_get world.threads event.thread ≡ Some thread) (object : is_object_in files (types_of world.heap) java_lang_thread thread.object ≡ true) where
     self : is_object_in files (types_of world.heap) java_lang_thread (thread_at world event.thread).object ≡ true
     self =
-        subst (λ (th : Thread). is_object_in files (types_of world.heap) java_lang_thread th.object ≡ true) (sym (index_at world.threads event.thread thread no_thread there)) object
+        subst (λ (th : Thread). is_object_in files (types_of world.heap) java_lang_thread th.object ≡ true) (sym (get_or_from_slice_get world.threads event.thread thread no_thread there)) object
 
     module _ (runs : thread.status ≡ Running) where
       start : At files event.thread world world thread
@@ -67,7 +68,7 @@ module _ (files : Program) (linked : Linked files) (accepted : AreTyped files) (
 
     by_status : (stack : StackOf Value) (status : ThreadStatus) → thread.status ≡ status → IsStackTyped files (types_of world.heap) thread.pending stack status → OnPart files event.thread world (thread_event values files frames event world stack status)
     by_status stack Running e h =
-        let is = ap (λ (th : Thread). th.pending) (index_at world.threads event.thread thread no_thread there) in
+        let is = ap (λ (th : Thread). th.pending) (get_or_from_slice_get world.threads event.thread thread no_thread there) in
         subst (λ p. OnPart files event.thread world (going_event values files frames event world stack p)) (sym is) (going_on_typed e stack thread.pending refl h)
     by_status stack (Waiting object count) e h = tt
     by_status stack (Relock object count cause) e h =
@@ -90,7 +91,7 @@ module _ (files : Program) (linked : Linked files) (accepted : AreTyped files) (
     event_typed None e = tt
     event_typed (Some stack) e =
         let at = thread_there files (types_of state.world.heap) state.world.threads state.stacks event.thread stack h.threads e in
-        let is = ap (λ (th : Thread). th.status) (index_at state.world.threads event.thread at.0 no_thread at.1.0) in
+        let is = ap (λ (th : Thread). th.status) (get_or_from_slice_get state.world.threads event.thread at.0 no_thread at.1.0) in
         let x = thread_event values files frames event state.world stack (thread_at state.world event.thread).status in
         let typed = by_status event state.world (fits_of files state h) at.0 at.1.0 at.1.1.object stack (thread_at state.world event.thread).status (sym is) (subst (IsStackTyped files (types_of state.world.heap) at.0.pending stack) (sym is) at.1.1.stack_typed) in
         put_back_typed stack e (settled event.thread x) (settled_typed files event.thread state.world at.0 at.1.0 x typed)
@@ -102,10 +103,7 @@ module _ (files : Program) (linked : Linked files) (accepted : AreTyped files) (
     step_by : (x : SteppedOf State) → OnState x → (next : State) → next_by x ≡ Some next → IsWellTyped files next
     step_by NotEnabled g next e = absurd cc
     step_by WrongKind g next e = absurd cc
-    step_by (Next cost s) g next e = let is : s ≡ next = some_same s next e in subst (IsWellTyped files) is g
-      where
-        some_same : (a b : State) → Some a ≡ Some b → a ≡ b
-        some_same a b e = cc
+    step_by (Next cost s) g next e = let is : s ≡ next = same_Some s next e in subst (IsWellTyped files) is g
 
     pub step_typed : (next : State) → step files frames state event ≡ Some next → IsWellTyped files next
     step_typed next e = step_by (stepped values files frames state event) stepped_typed next e
@@ -113,10 +111,7 @@ module _ (files : Program) (linked : Linked files) (accepted : AreTyped files) (
   -- ---- runs
 
   run_typed : (events : List Event) (state : State) → IsWellTyped files state → (last : State) → run_from files frames state events ≡ Some last → IsWellTyped files last
-  run_typed [] state h last e = let is : state ≡ last = some_same state last e in subst (IsWellTyped files) is h
-    where
-      some_same : (a b : State) → Some a ≡ Some b → a ≡ b
-      some_same a b e = cc
+  run_typed [] state h last e = let is : state ≡ last = same_Some state last e in subst (IsWellTyped files) is h
   run_typed (event ∷ events) state h last e = by (λ next g. run_typed events next g last) (step files frames state event) refl e
     where
       by : ((next : State) → IsWellTyped files next → run_from files frames next events ≡ Some last → IsWellTyped files last) → (o : Option State) → step files frames state event ≡ o → option_and_then (λ next. run_from files frames next events) o ≡ Some last → IsWellTyped files last

@@ -7,13 +7,9 @@ mod class;
 mod frame_type;
 mod frames;
 mod join;
-#[cfg(test)]
-mod ladder_tests;
 mod order;
 mod reference_type;
 mod superclasses;
-#[cfg(test)]
-mod tests;
 mod verification_type;
 
 pub use frame_type::FrameType;

@@ -3,6 +3,7 @@ use Rattle.std.proofs.Common.{◌≡◌, ℕ, zero, suc, ◌+◌, ◌<◌, ◌�
 use Rattle.std.specs.Prelude.{slice_index_or}
 use Rattle.std.specs.List.{AllByRecursion}
 use Rattle.std.proofs.lemmas.Bool.{cond_both, cases_lt}
+use Rattle.std.proofs.lemmas.Option.{same_Some}
 use Rattle.model.specs.declared.class_file.ExceptionEntry.{ExceptionEntry}
 use Rattle.model.specs.declared.instr.ArrayKind.TheVariants as array_kind
 use Rattle.model.specs.declared.value.Value.{Value}
@@ -23,10 +24,10 @@ use Rattle.model.specs.Calls.{parameter_count, constructed_leads}
 use Rattle.model.specs.Meanings.{local_meaning, meaning_of}
 use Rattle.model.specs.Step.{covers}
 use Rattle.model.specs.Typing.{may_stand, marked, successors, caught_type, handlers_from, entry_type, flow_by, flow_at, flow}
-use Rattle.soundness.proofs.Lists.{every_append, every_set, every_map}
+use Rattle.laws.proofs.Lists.{every_append, every_set, every_map}
 use Rattle.typing_search.specs.Weights.{rank, IsLow, IsLowFrame}
 use Rattle.typing_search.specs.Decided.{IsBounded}
-use Rattle.typing_search.proofs.Forms.{Leading, OfMeaning, meaning_each}
+use Rattle.typing_search.proofs.Forms.{Leading, OfLeads, meaning_each}
 use Rattle.typing_search.proofs.Merging.{no_flow, nothing_past}
 use Rattle.typing_search.proofs.Weights.{none_above, above_bounded}
 
@@ -51,9 +52,6 @@ module _ {A : Type 0} (P : A → Type 0) where
   every_changed : (f : A → A) → ((x : A) → P x → P (f x)) → (xs : List A) → AllByRecursion P xs → AllByRecursion P (map f xs)
   every_changed f w [] h = tt
   every_changed f w (x ∷ xs) h = (w x h.0, every_changed f w xs h.1)
-
-some_same : {A : Type 0} (x y : A) → Some x ≡ Some y → x ≡ y
-some_same x y e = cc
 
 module _ (files : Program) where
   -- ---- the limit that some types need
@@ -195,7 +193,7 @@ module _ (files : Program) where
         ),
   )
 
-  meaning_low : (site : Site) → OfMeaning StaysLow (meaning_of values files site)
+  meaning_low : (site : Site) → OfLeads StaysLow (meaning_of values files site)
   meaning_low site = meaning_each files StaysLow next_low nowhere_low rows_low new_low constructed_low element_low site
 
   -- ---- flow
@@ -232,14 +230,14 @@ module _ (files : Program) where
       none_some : (x : List (ℕ × FrameType)) → None ≡ Some x → ⊥
       none_some x q = absurd cc
 
-  by_low : (site : Site) (o : Option (MeaningOf Value)) → OfMeaning StaysLow o → (least : ℕ) × Limits (λ t. flow_by files site t o) least
+  by_low : (site : Site) (o : Option (MeaningOf Value)) → OfLeads StaysLow o → (least : ℕ) × Limits (λ t. flow_by files site t o) least
   by_low site None h = (0, none_gives)
   by_low site (Some meaning) h =
       (h.0 + caught_needs site.body.pool site.body.code.exceptions, λ limit m t leads e l. found limit m t leads l (may_stand site t site.instr && is_ready (type_meets files) over_types meaning.wants site.body.code.max_stack t.slots) e)
     where
       found : (limit : ℕ) → h.0 + caught_needs site.body.pool site.body.code.exceptions ≤ limit → (t : FrameType) (leads : List (ℕ × FrameType)) → IsLowFrame files limit t → (c : Bool) → cond c (Some (successors site meaning t ++ handlers_from files site.body.pool site.offset t site.body.code.exceptions)) None ≡ Some leads → FramesLow limit leads
       found limit m t leads l true e =
-          subst (FramesLow limit) (some_same _ leads e) (every_append (λ lead. IsLowFrame files limit lead.1) _ _ (marked_low limit _ _ (h.1 limit (omega (arith, m)) t.slots (slots_low limit t l))) (handlers_low limit site.body.pool site.offset t l site.body.code.exceptions (omega (arith, m))))
+          subst (FramesLow limit) (same_Some _ leads e) (every_append (λ lead. IsLowFrame files limit lead.1) _ _ (marked_low limit _ _ (h.1 limit (omega (arith, m)) t.slots (slots_low limit t l))) (handlers_low limit site.body.pool site.offset t l site.body.code.exceptions (omega (arith, m))))
       found limit m t leads l false e = absurd cc
 
   at_low : (o : Option Site) → (least : ℕ) × Limits (λ t. flow_at files t o) least

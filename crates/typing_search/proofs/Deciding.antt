@@ -1,11 +1,12 @@
 -- A search over tables ends, whichever offset that waits is taken next: each turn lessens its work.
 use Rattle.std.proofs.Common.{◌≡◌, ◌⊎◌, ℕ, zero, suc, ◌<◌, ◌≤◌, List, [], ◌∷◌, length, Bool, true, false, Option, Some, None, refl, sym, ap, ◌∙◌, subst, inl, inr, ⊎_elim, arith}
-use Rattle.std.specs.Prelude.{◌-◌, replicate, slice_get, slice_index_or}
+use Rattle.std.specs.Prelude.{replicate, slice_get, slice_index_or}
 use Rattle.std.specs.List.{AllByRecursion}
 use Rattle.std.proofs.lemmas.Bool.{false≢true, cases_eq, cases_lt}
-use Rattle.std.proofs.lemmas.List.{length-replicate}
+use Rattle.std.proofs.lemmas.List.{length-replicate, length-set}
+use Rattle.std.proofs.lemmas.Option.{same_Some}
 use Rattle.model.specs.Names.{Member}
-use Rattle.model.specs.InstructionStarts.{step_at, starts_from, starts, is_start}
+use Rattle.model.specs.InstructionStarts.{starts, is_start}
 use Rattle.model.specs.Classes.{Program, Body}
 use Rattle.model.specs.TypeOrder.{FrameType, is_frame_below}
 use Rattle.model.specs.TypeJoin.{frame_join}
@@ -16,16 +17,14 @@ use Rattle.typing_search.specs.Tables.{entry_of, typing_of, waits, found_at, wai
 use Rattle.typing_search.specs.Weights.{IsLowFrame, work, places}
 use Rattle.typing_search.specs.Decided.{IsBounded, IsDecided}
 use Rattle.typing_search.proofs.Searching.{merged_nothing, merged_then, search_begins, beginning_refused, search_ends, search_turn, refused_rule, refused_merge}
-use Rattle.typing_search.proofs.Merging.{get_set_here, get_set_other, set_length, blank, off_here, merged_same, merged_first, merged_joined, clash_apart, clash_oversized, clash_astray}
+use Rattle.typing_search.proofs.Merging.{get_set_here, get_set_other, blank, off_here, merged_same, merged_first, merged_joined, clash_apart, clash_oversized, clash_astray}
 use Rattle.typing_search.proofs.Weights.{raised_lighter, first_lighter, work_merged, work_taken_off}
+use Rattle.model.proofs.StartLaws.{length-starts_from}
 
 none_within : {A : Type 0} (xs : List A) (k : ℕ) → slice_get xs k ≡ None → length xs ≤ k
 none_within [] k e = omega arith
 none_within (x ∷ xs) zero e = absurd cc
 none_within (x ∷ xs) (suc k) e = let r = none_within xs k e in omega (arith, r)
-
-some_same : {A : Type 0} (x y : A) → Some x ≡ Some y → x ≡ y
-some_same x y e = cc
 
 -- past the end of a list of marks none is set
 past_marks : (marks : List Bool) (k : ℕ) → length marks ≤ k → slice_index_or marks k false ≡ false
@@ -33,15 +32,9 @@ past_marks [] k l = refl
 past_marks (m ∷ ms) zero l = absurd (omega (arith, l))
 past_marks (m ∷ ms) (suc k) l = past_marks ms k (omega (arith, l))
 
-marks_length : (code : List ℕ) (n pc inside : ℕ) → length (starts_from code n pc inside) ≡ n
-unfolding starts_from
-marks_length code zero pc inside = refl
-marks_length code (suc n) pc zero = ap suc (marks_length code n (suc pc) (step_at code pc - 1))
-marks_length code (suc n) pc (suc inside) = ap suc (marks_length code n (suc pc) inside)
-
 -- past the end of the code no instruction begins
 none_starts : (code : List ℕ) (to : ℕ) → length code ≤ to → is_start code to ≡ false
-none_starts code to l = past_marks (starts code) to (subst (λ n. n ≤ to) (sym (marks_length code (length code) 0 0)) l)
+none_starts code to l = past_marks (starts code) to (subst (λ n. n ≤ to) (sym (length-starts_from code (length code) 0 0)) l)
 
 -- an offset that waits, if one does
 next_waiting : (marks : List Bool) → ((k : ℕ) → waits marks k ≡ false) ⊎ ((k : ℕ) × (waits marks k ≡ true))
@@ -85,9 +78,9 @@ module _ (files : Program) (ordered : IsOrdered files) (method : Member) (body :
   kept_set : (table : List (Option FrameType)) (waiting : List Bool) (to : ℕ) (entry : Option FrameType) (t : FrameType) → Kept table waiting → slice_get table to ≡ Some entry → IsLowFrame files limit t → Kept (found_at table to t) (waiting_at waiting to)
   kept_set table waiting to entry t k at l =
       record {
-        long = set_length table to (Some t) ∙ k.long;
-        both = set_length waiting to true ∙ (k.both ∙ sym (set_length table to (Some t)));
-        low = λ i u e. ⊎_elim (λ q. subst (IsLowFrame files limit) (some_same t u (sym (ap entry_of (get_set_here table to (Some t) entry at)) ∙ subst (λ j. typing_of (found_at table to t) j ≡ Some u) q e)) l) (λ n. k.low i u (sym (ap entry_of (get_set_other table to i (Some t) n)) ∙ e)) (cases_eq i to);
+        long = length-set table to (Some t) ∙ k.long;
+        both = length-set waiting to true ∙ (k.both ∙ sym (length-set table to (Some t)));
+        low = λ i u e. ⊎_elim (λ q. subst (IsLowFrame files limit) (same_Some t u (sym (ap entry_of (get_set_here table to (Some t) entry at)) ∙ subst (λ j. typing_of (found_at table to t) j ≡ Some u) q e)) l) (λ n. k.low i u (sym (ap entry_of (get_set_other table to i (Some t) n)) ∙ e)) (cases_eq i to);
       }
 
   -- ---- one frame type
@@ -191,7 +184,7 @@ module _ (files : Program) (ordered : IsOrdered files) (method : Member) (body :
       none_some x q = absurd cc
 
   kept_off : (table : List (Option FrameType)) (waiting : List Bool) (offset : ℕ) → Kept table waiting → Kept table (taken_off waiting offset)
-  kept_off table waiting offset k = record { long = k.long; both = set_length waiting offset false ∙ k.both; low = k.low }
+  kept_off table waiting offset k = record { long = k.long; both = length-set waiting offset false ∙ k.both; low = k.low }
 
   abbrev Searches : ℕ → Type 0
   Searches n =

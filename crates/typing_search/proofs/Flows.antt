@@ -3,6 +3,7 @@ use Rattle.std.proofs.Common.{◌≡◌, ℕ, List, [], ◌∷◌, ◌++◌, map
 use Rattle.std.specs.List.{list_any}
 use Rattle.std.specs.Option.{option_map_or}
 use Rattle.std.proofs.lemmas.Bool.{false≢true, and_parts, and_from, cond-true}
+use Rattle.std.proofs.lemmas.Option.{same_Some}
 use Rattle.model.specs.declared.class_file.ExceptionEntry.{ExceptionEntry}
 use Rattle.model.specs.declared.instr.Instr.{Instr}
 use Rattle.model.specs.declared.instr.Instr.TheVariants as instr
@@ -19,7 +20,7 @@ use Rattle.model.specs.Sites.{MeaningOf, Site, site_at}
 use Rattle.model.specs.Meanings.{meaning_of}
 use Rattle.model.specs.Step.{covers}
 use Rattle.model.specs.Typing.{is_constructor, may_stand, is_any_this, constructs_this, marked, successors, caught_type, handler_type, handlers_from, flow_by, flow_at, flow}
-use Rattle.soundness.proofs.Lists.{Pairwise}
+use Rattle.laws.proofs.Lists.{Pairwise}
 use Rattle.typing_search.specs.Orders.{IsOrdered, AreBelow, FlowsBelow}
 use Rattle.typing_search.proofs.Orders.{Below, below_parts, from_parts, stack_self}
 use Rattle.typing_search.proofs.Rows.{SlotsBelow, ready_down, operands_down}
@@ -113,12 +114,9 @@ module _ (files : Program) (ordered : IsOrdered files) (a b : FrameType) (f : Be
 
   meant_down : (site : Site) (meaning : MeaningOf Value) → IsDown files meaning → (leads : List (ℕ × FrameType)) (c : Bool) → may_find files site meaning b ≡ c → cond c (Some (leads_of files site meaning b)) None ≡ Some leads → Lower files (flow_by files site a (Some meaning)) leads
   meant_down site meaning down leads true e q =
-      let same : leads_of files site meaning b ≡ leads = some_same _ _ q in
+      let same : leads_of files site meaning b ≡ leads = same_Some _ _ q in
       let d = found_down site meaning down e in
       (leads_of files site meaning a, cond-true (may_find files site meaning a) _ _ d.0, subst (AreBelow files (leads_of files site meaning a)) same d.1)
-    where
-      some_same : (x y : List (ℕ × FrameType)) → Some x ≡ Some y → x ≡ y
-      some_same x y e = cc
   meant_down site meaning down leads false e q = absurd cc
 
   by_down : (site : Site) (o : Option (MeaningOf Value)) → IsEachDown files o → (leads : List (ℕ × FrameType)) → flow_by files site b o ≡ Some leads → Lower files (flow_by files site a o) leads

@@ -10,8 +10,8 @@ use Rattle.model.specs.Types.{VerificationType, Unusable, IntType, NullType, OfT
 use Rattle.model.specs.InitialisedTypes.{is_uninitialised, is_uninitialised_this}
 use Rattle.model.specs.TypeOrder.{FrameType, is_stack_below, is_local_below, pairwise, is_mark_below, is_frame_below}
 use Rattle.model.specs.TypeJoin.{IsJoin, common_within, class_join, object_above, reference_join, stack_join, local_join, in_front, join_pairwise, frame_of_slots, frame_join}
-use Rattle.soundness.specs.Steps.{ends, Rooted}
-use Rattle.soundness.proofs.Classes.{names_same, name_self, subclass_self, subclass_trans, within_subclass}
+use Rattle.laws.specs.Steps.{ends, Rooted}
+use Rattle.laws.proofs.Classes.{names_same, name_self, subclass_self, subclass_trans, within_subclass}
 use Rattle.typing_search.proofs.Orders.{new_same, this_same, stack_self, stack_local}
 
 -- ---- joins by any order

@@ -19,12 +19,12 @@ use Rattle.model.specs.Objects.{any_object, new_leads}
 use Rattle.model.specs.Arrays.{its_component, load_of}
 use Rattle.model.specs.Calls.{parameter_count, constructed_leads}
 use Rattle.model.specs.Meanings.{local_meaning, meaning_of}
-use Rattle.soundness.proofs.Lists.{Pairwise, pair_get, pair_append}
-use Rattle.soundness.proofs.Rows.{ready_popped}
-use Rattle.soundness.proofs.Classes.{subclass_trans}
-use Rattle.soundness.proofs.Classes as classes
+use Rattle.laws.proofs.Lists.{Pairwise, pair_get, pair_append}
+use Rattle.laws.proofs.Rows.{ready_popped}
+use Rattle.laws.proofs.Classes.{subclass_trans}
+use Rattle.laws.proofs.Classes as classes
 use Rattle.typing_search.specs.Orders.{IsOrdered}
-use Rattle.typing_search.proofs.Forms.{Leading, OfMeaning, meaning_each}
+use Rattle.typing_search.proofs.Forms.{Leading, OfLeads, meaning_each}
 use Rattle.typing_search.proofs.Orders.{null_same, stack_self, pair_self}
 use Rattle.typing_search.proofs.Joins.{sub_self, super_above, up_one}
 use Rattle.typing_search.proofs.Rows.{SlotsBelow, operands_down, under_down, after_row_down}
@@ -48,7 +48,7 @@ IsDown files meaning = LeadsDown files meaning.wants meaning.leads
 
 -- the same of what an instruction means, if it means anything
 abbrev pub IsEachDown : Program → Option (MeaningOf Value) → Type 0
-IsEachDown files o = OfMeaning (LeadsDown files) o
+IsEachDown files o = OfLeads (LeadsDown files) o
 
 module _ (files : Program) (ordered : IsOrdered files) where
   -- ---- the forms of where instructions lead

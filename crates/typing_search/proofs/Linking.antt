@@ -3,10 +3,10 @@ use Rattle.std.proofs.Common.{◌≡◌, ℕ, zero, suc, ◌≤◌, List, [], �
 use Rattle.std.specs.Prelude.{find}
 use Rattle.std.specs.Option.{option_and_then, option_map_or, option_to_list}
 use Rattle.std.specs.List.{list_any, list_all, AllByRecursion, IsDistinct}
-use Rattle.std.specs.Cmp.{IsEquivalence}
-use Rattle.std.proofs.lemmas.Bool.{false≢true, and_parts, and_from, or_cases, or_left, or_right}
+use Rattle.std.proofs.lemmas.Bool.{false≢true, and_parts, and_from, or_cases, or_left, or_right, or_parts, false_from_ne_true, not-true}
 use Rattle.std.proofs.lemmas.List.{length-map}
 use Rattle.std.proofs.lemmas.Map.Made.{length-le_from_is_member}
+use Rattle.std.proofs.lemmas.Option.{same_Some}
 use Rattle.model.specs.Names.{Name, name_eq, java_lang_object}
 use Rattle.model.specs.Tree.{FileTree}
 use Rattle.model.specs.AccessFlags.{is_interface_class}
@@ -14,24 +14,13 @@ use Rattle.model.specs.BuiltIn.{built_in_classes}
 use Rattle.model.specs.Classes.{Program, name_of, super_name_of, classes_of, is_named, class_of, superclass_of, superinterfaces_of, lineage_of, is_interface}
 use Rattle.model.specs.Hierarchy.{direct_supertypes, is_above, in_cycle, extends_interface, extends_final, implements_class, interface_below_other, has_bad_hierarchy}
 use Rattle.model.specs.Linkable.{NoMain, TooManyFields, Unresolved, BadHierarchy, stands, some_stands}
-use Rattle.soundness.specs.Steps.{ends, Rooted}
-use Rattle.soundness.proofs.Classes.{names_same, name_self}
-use Rattle.soundness.proofs.Lists.{all_weaken}
+use Rattle.laws.specs.Steps.{ends, Rooted}
+use Rattle.laws.proofs.Classes.{names_same}
+use Rattle.laws.proofs.Lists.{all_weaken, all_append}
 use Rattle.typing_search.specs.Orders.{IsOrdered}
+use Rattle.laws.proofs.RootedOf.{name_sides, name_laws}
 
 -- ---- tests of lists
-
-or_parts : (a b : Bool) → (a || b) ≡ false → (a ≡ false) × (b ≡ false)
-or_parts true b e = absurd (false≢true (sym e))
-or_parts false b e = (refl, e)
-
-never_both : (b : Bool) → (b ≡ true → ⊥) → b ≡ false
-never_both true h = absurd (h refl)
-never_both false h = refl
-
-not_true : (b : Bool) → not b ≡ true → b ≡ false
-not_true true e = absurd (false≢true e)
-not_true false e = refl
 
 module _ {A : Type 0} where
   any_weaken : (p q : A → Bool) (xs : List A) → ((x : A) → p x ≡ true → q x ≡ true) → list_any p xs ≡ true → list_any q xs ≡ true
@@ -42,20 +31,13 @@ module _ {A : Type 0} where
   none_all p q [] w h = refl
   none_all p q (x ∷ xs) w h = let e = or_parts (p x) _ h in and_from _ _ (w x e.0) (none_all p q xs w e.1)
 
-  all_append : (p : A → Bool) (xs ys : List A) → list_all p xs ≡ true → list_all p ys ≡ true → list_all p (xs ++ ys) ≡ true
-  all_append p [] ys h g = g
-  all_append p (x ∷ xs) ys h g = let e = and_parts _ _ h in and_from _ _ e.0 (all_append p xs ys e.1 g)
-
-  some_same : (x y : A) → Some x ≡ Some y → x ≡ y
-  some_same x y e = cc
-
   -- what is found passes the test, and whatever all pass
   found : (p q : A → Bool) (xs : List A) (x : A) → list_all q xs ≡ true → find p xs ≡ Some x → (p x ≡ true) × (q x ≡ true)
   found p q [] x h e = absurd cc
   found p q (y ∷ ys) x h e = by (p y) refl e (λ g. found p q ys x (and_parts _ _ h).1 g)
     where
       by : (c : Bool) → p y ≡ c → cond c (Some y) (find p ys) ≡ Some x → (find p ys ≡ Some x → (p x ≡ true) × (q x ≡ true)) → (p x ≡ true) × (q x ≡ true)
-      by true t e rest = let same = some_same y x e in (ap p (sym same) ∙ t, ap q (sym same) ∙ (and_parts _ _ h).0)
+      by true t e rest = let same = same_Some y x e in (ap p (sym same) ∙ t, ap q (sym same) ∙ (and_parts _ _ h).0)
       by false t e rest = rest e
 
   all_pass : (xs : List A) → list_all (λ x. true) xs ≡ true
@@ -63,16 +45,6 @@ module _ {A : Type 0} where
   all_pass (x ∷ xs) = all_pass xs
 
 -- ---- names
-
-name_symmetric : (a b : Name) → name_eq a b ≡ name_eq b a
-name_symmetric a b = by (name_eq a b) refl
-  where
-    by : (c : Bool) → name_eq a b ≡ c → c ≡ name_eq b a
-    by true e = sym (subst (λ x. name_eq x a ≡ true) (names_same a b e) (name_self a))
-    by false e = sym (never_both (name_eq b a) (λ q. false≢true (sym e ∙ subst (λ x. name_eq x b ≡ true) (names_same b a q) (name_self b))))
-
-names_alike : IsEquivalence name_eq
-names_alike = record { refl = name_self; symm = name_symmetric; congr = λ a b c e. ap (λ x. name_eq x c) (names_same a b e) }
 
 module _ (files : Program) where
   -- the class of a name that has a superclass
@@ -91,7 +63,7 @@ module _ (files : Program) where
   find_member c (k ∷ ks) file e = by (is_named c k) refl e (λ g. find_member c ks file g)
     where
       by : (b : Bool) → is_named c k ≡ b → cond b (Some k) (find (is_named c) ks) ≡ Some file → (find (is_named c) ks ≡ Some file → list_any (name_eq c) (map name_of ks) ≡ true) → list_any (name_eq c) (map name_of (k ∷ ks)) ≡ true
-      by true t e rest = or_left (name_eq c (name_of k)) _ (name_symmetric c (name_of k) ∙ t)
+      by true t e rest = or_left (name_eq c (name_of k)) _ (name_sides c (name_of k) ∙ t)
       by false t e rest = or_right (name_eq c (name_of k)) _ (rest e)
 
   -- ---- superclasses that do not end
@@ -129,7 +101,7 @@ module _ (files : Program) where
       any_weaken _ _ (direct_supertypes files c) (λ s q. ⊎_elim (λ w. or_left (name_eq s d) _ w) (λ w. or_right (name_eq s d) _ (above_within a b s d (omega (arith, l)) w)) (or_cases (name_eq s d) _ q)) e
 
   never_above : (a b : ℕ) (c d : Name) → a ≤ b → is_above files b c d ≡ false → is_above files a c d ≡ false
-  never_above a b c d l e = never_both (is_above files a c d) (λ q. false≢true (sym e ∙ above_within a b c d l q))
+  never_above a b c d l e = false_from_ne_true (is_above files a c d) (λ q. false≢true (sym e ∙ above_within a b c d l q))
 
   -- where d is not above c, neither the superclass of c is d nor is d above that
   first_off : (n : ℕ) (c s d : Name) → superclass_of files c ≡ Some s → is_above files (suc n) c d ≡ false → (name_eq s d || is_above files n s d) ≡ false
@@ -148,7 +120,7 @@ module _ (files : Program) where
   apart zero s d h = tt
   apart (suc n) s d h =
       let e = or_parts (name_eq s d) _ h in
-      (name_symmetric d s ∙ e.0, by (λ u q. apart n u d (off_by n s u d q e.1)) (superclass_of files s) refl)
+      (name_sides d s ∙ e.0, by (λ u q. apart n u d (off_by n s u d q e.1)) (superclass_of files s) refl)
     where
       by : ((u : Name) → superclass_of files s ≡ Some u → AllByRecursion (λ y. name_eq d y ≡ false) (lineage_of files n u)) → (o : Option Name) → superclass_of files s ≡ o → AllByRecursion (λ y. name_eq d y ≡ false) (option_map_or (λ x. lineage_of files n x) o [])
       by rec None q = tt
@@ -185,14 +157,14 @@ module _ (files : Program) where
     acyclic : list_all (is_acyclic count) (classes_of files) ≡ true
     acyclic =
         all_append (is_acyclic count) built_in_classes files
-        (all_weaken (is_acyclic (suc (suc (suc (suc (suc (suc (suc (suc count))))))))) (is_acyclic count) built_in_classes (λ k e. ap not (never_above count (suc (suc (suc (suc (suc (suc (suc (suc count)))))))) (name_of k) (name_of k) (omega arith) (not_true _ e))) (built_in_acyclic count))
+        (all_weaken (is_acyclic (suc (suc (suc (suc (suc (suc (suc (suc count))))))))) (is_acyclic count) built_in_classes (λ k e. ap not (never_above count (suc (suc (suc (suc (suc (suc (suc (suc count)))))))) (name_of k) (name_of k) (omega arith) (not-true _ e))) (built_in_acyclic count))
         (none_all (has_bad_hierarchy files) (is_acyclic count) files (λ k e. ap not (or_parts (in_cycle files k) _ e).0) linked)
 
     no_cycle : (c s : Name) → superclass_of files c ≡ Some s → is_above files count c c ≡ false
     no_cycle c s e =
         let k = its_class c s e in
         let f = found (is_named c) (is_acyclic count) (classes_of files) k.0 acyclic k.1 in
-        subst (λ x. is_above files count x x ≡ false) (names_same (name_of k.0) c f.0) (not_true _ f.1)
+        subst (λ x. is_above files count x x ≡ false) (names_same (name_of k.0) c f.0) (not-true _ f.1)
 
     distinct : (n : ℕ) (c : Name) → n ≤ suc count → Goes n c → IsDistinct name_eq (lineage_of files n c)
     unfolding IsDistinct
@@ -208,7 +180,7 @@ module _ (files : Program) where
         by true e = e
         by false e =
             let l = as_long (suc count) c e in
-            let m = length-le_from_is_member names_alike (lineage_of files (suc count) c) names (distinct (suc count) c (omega arith) e) (are_named (suc count) c e) in
+            let m = length-le_from_is_member name_laws (lineage_of files (suc count) c) names (distinct (suc count) c (omega arith) e) (are_named (suc count) c e) in
             let n : length names ≡ count = simp length-map in
             absurd (omega (arith, l, m, n))
 
@@ -228,7 +200,7 @@ module _ (files : Program) where
         not_not false e = absurd (false≢true (sym e))
 
         under : (a b : Bool) → a ≡ true → not (a && not b) ≡ true → b ≡ true
-        under true b p e = not_not b (not_true (not b) e)
+        under true b p e = not_not b (not-true (not b) e)
         under false b p e = absurd (false≢true p)
 
         by : (o : Option FileTree) → class_of files c ≡ o → option_map_or is_interface_class o false ≡ true → option_and_then super_name_of o ≡ Some java_lang_object

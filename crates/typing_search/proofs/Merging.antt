@@ -3,6 +3,8 @@ use Rattle.std.proofs.Common.{◌≡◌, ℕ, zero, suc, ◌≤◌, ◌<◌, Lis
 use Rattle.std.specs.Prelude.{replicate, slice_get, slice_set}
 use Rattle.std.specs.Option.{option_map}
 use Rattle.std.proofs.lemmas.Bool.{false≢true, cases_eq}
+use Rattle.std.proofs.lemmas.Option.{same_Some, slice_get_within}
+use Rattle.std.proofs.lemmas.List.{length-set}
 use Rattle.model.specs.Names.{Member}
 use Rattle.model.specs.Instruction.{Sized, sized_at}
 use Rattle.model.proofs.InstructionLaws.{AreWithin, sized_fits}
@@ -12,8 +14,8 @@ use Rattle.model.specs.Sites.{site_with}
 use Rattle.model.specs.TypeOrder.{FrameType, is_stack_below, is_local_below, is_frame_below}
 use Rattle.model.specs.TypeJoin.{IsJoin, frame_join}
 use Rattle.model.specs.Typing.{Typing, Reaches, IsSized, flow_at, flow}
-use Rattle.soundness.specs.Steps.{Rooted}
-use Rattle.soundness.proofs.Lists.{pair_length}
+use Rattle.laws.specs.Steps.{Rooted}
+use Rattle.laws.proofs.Lists.{pair_length}
 use Rattle.typing_search.specs.Search.{Raised, Merged, Clashes, IsTakenOff}
 use Rattle.typing_search.specs.Tables.{entry_of, typing_of, waits, found_at, waiting_at, taken_off, AreTables}
 use Rattle.typing_search.proofs.Orders.{below_parts, frame_self}
@@ -34,11 +36,6 @@ get_set_other (z ∷ zs) zero (suc j) x n = refl
 get_set_other (z ∷ zs) (suc k) zero x n = refl
 get_set_other (z ∷ zs) (suc k) (suc j) x n = get_set_other zs k j x (λ e. n (ap suc e))
 
-get_within : {A : Type 0} (xs : List A) (k : ℕ) (x : A) → slice_get xs k ≡ Some x → k < length xs
-get_within [] k x e = absurd cc
-get_within (z ∷ zs) zero x e = omega arith
-get_within (z ∷ zs) (suc k) x e = let r = get_within zs k x e in omega (arith, r)
-
 waits_here : (marks : List Bool) (k : ℕ) → k < length marks → waits (slice_set marks k true) k ≡ true
 waits_here [] k l = absurd (omega arith)
 waits_here (m ∷ ms) zero l = refl
@@ -50,11 +47,6 @@ waits_other (m ∷ ms) zero zero mark n = absurd (n refl)
 waits_other (m ∷ ms) zero (suc j) mark n = refl
 waits_other (m ∷ ms) (suc k) zero mark n = refl
 waits_other (m ∷ ms) (suc k) (suc j) mark n = waits_other ms k j mark (λ e. n (ap suc e))
-
-pub set_length : {A : Type 0} (xs : List A) (k : ℕ) (x : A) → length (slice_set xs k x) ≡ length xs
-set_length [] k x = refl
-set_length (z ∷ zs) zero x = refl
-set_length (z ∷ zs) (suc k) x = ap suc (set_length zs k x)
 
 pub blank : (n k : ℕ) → typing_of (replicate n None) k ≡ None
 blank zero k = refl
@@ -75,13 +67,10 @@ are_tables =
       untyped = blank;
       none_waits = unmarked;
       off = off_here;
-      found_length = λ table offset t. set_length table offset (Some t);
-      waiting_length = λ waiting offset. set_length waiting offset true;
-      off_length = λ waiting offset. set_length waiting offset false;
+      found_length = λ table offset t. length-set table offset (Some t);
+      waiting_length = λ waiting offset. length-set waiting offset true;
+      off_length = λ waiting offset. length-set waiting offset false;
     }
-
-some_same : {A : Type 0} (x y : A) → Some x ≡ Some y → x ≡ y
-some_same x y e = cc
 
 -- ---- merging
 
@@ -99,7 +88,7 @@ module _ (files : Program) (body : Body) where
       }
     where
       there : (k : ℕ) (u : FrameType) → k ≡ to → G k ≡ Some u → r ≡ u
-      there k u q e = some_same r u (sym here ∙ (ap G (sym q) ∙ e))
+      there k u q e = same_Some r u (sym here ∙ (ap G (sym q) ∙ e))
 
   -- it fits already
   pub merged_same : (F : Typing) (P : ℕ → Bool) (to : ℕ) (t there : FrameType) → F to ≡ Some there → is_frame_below files t there ≡ true → Merged files body F P ((to, t) ∷ []) F P
@@ -138,7 +127,7 @@ module _ (files : Program) (body : Body) where
     others k n = (ap entry_of (get_set_other table to k (Some next) n), waits_other waiting to k true n)
 
     marked : waits (waiting_at waiting to) to ≡ true
-    marked = waits_here waiting to (let l = get_within table to entry at in omega (arith, l))
+    marked = waits_here waiting to (let l = slice_get_within table to entry at in omega (arith, l))
 
   pub merged_first : (table : List (Option FrameType)) (waiting : List Bool) (to : ℕ) (t : FrameType) → length waiting ≡ length table → slice_get table to ≡ Some None → is_start body.code.code to ≡ true → IsSized body t → Merged files body (typing_of table) (waits waiting) ((to, t) ∷ []) (typing_of (found_at table to t)) (waits (waiting_at waiting to))
   merged_first table waiting to t both at start size =
@@ -154,7 +143,7 @@ module _ (files : Program) (body : Body) where
 
     pub merged_joined : (table : List (Option FrameType)) (waiting : List Bool) (to : ℕ) (t there join : FrameType) → length waiting ≡ length table → slice_get table to ≡ Some (Some there) → frame_join files there t ≡ Some join → Merged files body (typing_of table) (waits waiting) ((to, t) ∷ []) (typing_of (found_at table to join)) (waits (waiting_at waiting to))
     merged_joined table waiting to t there join both at e =
-        merged_at _ _ _ _ to t join (others table waiting to (Some there) both at join) (there_now table waiting to (Some there) both at join) (marked table waiting to (Some there) both at join) (λ z. z there (ap entry_of at)) (λ z. same_size there join j.0 (z there (ap entry_of at))) (λ u q. subst (λ x. is_frame_below files x join ≡ true) (some_same there u (ap entry_of (sym at) ∙ q)) j.0) j.1 under
+        merged_at _ _ _ _ to t join (others table waiting to (Some there) both at join) (there_now table waiting to (Some there) both at join) (marked table waiting to (Some there) both at join) (λ z. z there (ap entry_of at)) (λ z. same_size there join j.0 (z there (ap entry_of at))) (λ u q. subst (λ x. is_frame_below files x join ≡ true) (same_Some there u (ap entry_of (sym at) ∙ q)) j.0) j.1 under
       where
         j : IsJoin (is_frame_below files) there t (Some join)
         j = joined_parts there t join e
@@ -162,7 +151,7 @@ module _ (files : Program) (body : Body) where
         under : (H : Typing) → Raised files (typing_of table) H → Reaches files H to t → Reaches files H to join
         under H h w =
             let q = h to there (ap entry_of at) in
-            let same = some_same q.there w.there (sym q.typed ∙ w.typed) in
+            let same = same_Some q.there w.there (sym q.typed ∙ w.typed) in
             record { there = w.there; typed = w.typed; above = j.2 w.there (subst (λ x. is_frame_below files there x ≡ true) same q.above) w.above }
 
     -- ---- clashes
@@ -171,7 +160,7 @@ module _ (files : Program) (body : Body) where
       pub clash_apart : (F : Typing) (to : ℕ) (t there : FrameType) → F to ≡ Some there → frame_join files there t ≡ None → Clashes files method body F ((to, t) ∷ [])
       clash_apart F to t there e n H h up w =
           let q = up to there e in
-          let same = some_same q.there w.0.there (sym q.typed ∙ w.0.typed) in
+          let same = same_Some q.there w.0.there (sym q.typed ∙ w.0.typed) in
           let j = subst (IsJoin (is_frame_below files) there t) n (frame_is files rooted there t) in
           j w.0.there (subst (λ x. is_frame_below files there x ≡ true) same q.above) w.0.above
 

@@ -7,10 +7,10 @@ use Rattle.model.specs.ReferenceTypes.{ReferenceType, is_assignable}
 use Rattle.model.specs.Types.{VerificationType, Unusable, IntType, NullType, OfType, Uninitialised, UninitialisedThis, is_int, is_of}
 use Rattle.model.specs.InitialisedTypes.{is_uninitialised, is_uninitialised_this}
 use Rattle.model.specs.TypeOrder.{FrameType, is_null, is_unusable, is_stack_below, is_local_below, is_mark_below, is_frame_below}
-use Rattle.soundness.specs.Steps.{Rooted}
-use Rattle.soundness.proofs.Classes.{names_same, name_self}
-use Rattle.soundness.proofs.Order.{assignable_self, assignable_trans}
-use Rattle.soundness.proofs.Lists.{Pairwise, pairs_of, of_pairs}
+use Rattle.laws.specs.Steps.{Rooted}
+use Rattle.laws.proofs.Classes.{names_same, name_self}
+use Rattle.laws.proofs.Order.{assignable_self, assignable_trans}
+use Rattle.laws.proofs.Lists.{Pairwise, pairs_of, of_pairs}
 
 -- ---- what is below a type that is no class and no array is that type
 

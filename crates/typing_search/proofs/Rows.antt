@@ -9,9 +9,9 @@ use Rattle.model.specs.Types.{VerificationType, Unusable, IntType, NullType, OfT
 use Rattle.model.specs.Operands.{Slots, over_types, Wants, reads_meet, pops_meet, is_ready, operands, under}
 use Rattle.model.specs.Rows.{Out, Copy, Number, Null, Row, out, written, row_wants, after_row}
 use Rattle.model.specs.TypeOrder.{is_stack_below, is_local_below}
-use Rattle.soundness.specs.Steps.{Rooted}
-use Rattle.soundness.proofs.Order.{assignable_trans, array_down, byte_array_down}
-use Rattle.soundness.proofs.Lists.{Pairwise, pair_get, pair_set, pair_append, pair_take, pair_drop, pair_length}
+use Rattle.laws.specs.Steps.{Rooted}
+use Rattle.laws.proofs.Order.{assignable_trans, array_down, byte_array_down}
+use Rattle.laws.proofs.Lists.{Pairwise, pair_get, pair_set, pair_append, pair_take, pair_drop, pair_length}
 use Rattle.typing_search.proofs.Orders.{int_same, null_same, new_same, this_same, stack_local, unusable_below, of_trans}
 
 -- the parts of a frame type's order but for the mark

@@ -1,11 +1,12 @@
 -- The search keeps its invariant; at its end there is a typing, and where it fails there is none.
 use Rattle.std.proofs.Common.{◌≡◌, ℕ, List, [], ◌∷◌, ◌++◌, Bool, true, false, Some, None, sym, ap, ◌∙◌, subst, inl, inr, ◌⊎◌}
+use Rattle.std.proofs.lemmas.Option.{same_Some}
 use Rattle.model.specs.Names.{Member}
 use Rattle.model.specs.Classes.{Program, Body}
 use Rattle.model.specs.TypeOrder.{FrameType, is_frame_below}
 use Rattle.model.specs.Typing.{Typing, Reaches, Rule, IsTyping, entry_type, flow}
-use Rattle.soundness.specs.Steps.{Rooted}
-use Rattle.soundness.proofs.Lists.{every_append, every_weaken}
+use Rattle.laws.specs.Steps.{Rooted}
+use Rattle.laws.proofs.Lists.{every_append, every_weaken}
 use Rattle.typing_search.specs.Orders.{IsOrdered, AreBelow}
 use Rattle.typing_search.specs.Search.{AreReached, Raised, Search, Merged, Clashes, HasNoTyping, IsUntyped, IsTakenOff}
 use Rattle.typing_search.proofs.Orders.{frame_self, frame_trans}
@@ -120,10 +121,7 @@ module _ (files : Program) (ordered : IsOrdered files) (method : Member) (body :
       rule_down G offset t q.there q.above (g.agrees offset q.there q.typed)
 
   reached_of : (G : Typing) (offset : ℕ) (t : FrameType) (leads : List (ℕ × FrameType)) → flow files method body offset t ≡ Some leads → Rule files method body G offset t → AreReached files G leads
-  reached_of G offset t leads n r = subst (AreReached files G) (some_same r.leads leads (sym r.flows ∙ n)) r.reached
-    where
-      some_same : (x y : List (ℕ × FrameType)) → Some x ≡ Some y → x ≡ y
-      some_same x y e = cc
+  reached_of G offset t leads n r = subst (AreReached files G) (same_Some r.leads leads (sym r.flows ∙ n)) r.reached
 
   pub refused_rule : (F : Typing) (P : ℕ → Bool) (offset : ℕ) (t : FrameType) → Search files method body F P → F offset ≡ Some t → flow files method body offset t ≡ None → HasNoTyping files method body
   refused_rule F P offset t s e n G g = both_ways _ (typed_rule F P s G g offset t e).flows n
@@ -148,14 +146,11 @@ module _ (files : Program) (ordered : IsOrdered files) (method : Member) (body :
         least = λ H h. w.least H (s.least H h) (reached_of H offset t leads n (typed_rule F P s H h offset t e));
       }
     where
-      some_same : (x y : FrameType) → Some x ≡ Some y → x ≡ y
-      some_same x y e = cc
-
       up : (k : ℕ) (u : FrameType) → Rule files method body F k u → Rule files method body G k u
       up k u r = record { leads = r.leads; flows = r.flows; reached = all_up files ordered.rooted F G w.raised r.leads r.reached }
 
       after : (k : ℕ) (u : FrameType) → (F k ≡ Some u) × (P' k ≡ false) → (k ≡ offset) ⊎ (P' k ≡ P k) → Rule files method body G k u
       after k u x (inl q) =
-          let there : t ≡ u = some_same t u (sym e ∙ (ap F (sym q) ∙ x.0)) in
+          let there : t ≡ u = same_Some t u (sym e ∙ (ap F (sym q) ∙ x.0)) in
           record { leads = leads; flows = subst (λ i. flow files method body i u ≡ Some leads) (sym q) (subst (λ y. flow files method body offset y ≡ Some leads) there n); reached = w.reached }
       after k u x (inr q) = up k u (s.agrees k u x.0 (sym q ∙ x.1))

@@ -8,7 +8,7 @@ use Rattle.model.specs.Types.{VerificationType, Unusable, IntType, NullType, OfT
 use Rattle.model.specs.InitialisedTypes.{is_made_at, forgotten, initialised}
 use Rattle.model.specs.Typing.{is_any_this}
 use Rattle.model.specs.TypeOrder.{is_stack_below, is_local_below}
-use Rattle.soundness.proofs.Lists.{Pairwise}
+use Rattle.laws.proofs.Lists.{Pairwise}
 use Rattle.typing_search.proofs.Orders.{unusable_same, int_same, null_same, new_same, this_same, stack_self, stack_local}
 
 -- two lists of types, changed place by place

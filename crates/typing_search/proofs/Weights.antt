@@ -6,17 +6,17 @@ use Rattle.std.specs.List.{AllByRecursion}
 use Rattle.std.proofs.lemmas.Bool.{false≢true, or_cases}
 use Rattle.std.proofs.Math.Nat.{suc-mul, add-mul}
 use Rattle.std.proofs.lemmas.Nat.{mul-le}
+use Rattle.std.proofs.lemmas.Option.{same_Some}
 use Rattle.model.specs.Names.{Name, name_eq, java_lang_object}
-use Rattle.model.specs.BuiltIn.{built_in_classes}
 use Rattle.model.specs.Classes.{Program, Body, classes_of, superclass_of, is_within}
 use Rattle.model.specs.ReferenceTypes.{Primitive, Boolean, Char, Byte, Short, Int, primitive_number, ReferenceType, ClassType, PrimitiveArray, ReferenceArray, is_assignable}
 use Rattle.model.specs.Types.{VerificationType, Unusable, IntType, NullType, OfType, Uninitialised, UninitialisedThis, is_of}
 use Rattle.model.specs.TypeOrder.{FrameType, is_mark_below, is_stack_below, is_local_below, is_frame_below}
 use Rattle.model.specs.TypeJoin.{IsJoin, stack_join, local_join, in_front, join_pairwise, frame_of_slots, frame_join}
 use Rattle.model.specs.Typing.{IsSized}
-use Rattle.soundness.specs.Steps.{ends, Rooted}
-use Rattle.soundness.proofs.Lists.{Pairwise, pair_weaken}
-use Rattle.soundness.proofs.Classes.{names_same}
+use Rattle.laws.specs.Steps.{ends, Rooted}
+use Rattle.laws.proofs.Lists.{Pairwise, pair_weaken}
+use Rattle.laws.proofs.Classes.{names_same, object_is_top}
 use Rattle.typing_search.specs.Tables.{waits, found_at, waiting_at}
 use Rattle.typing_search.specs.Weights.{classes_above, rank, dimensions, height, IsLow, IsLowFrame, heights, mark_weight, frame_weight, entry_weight, table_weight, marks_weight, work, places}
 use Rattle.typing_search.proofs.Orders.{int_same, null_same, new_same, this_same, stack_local, below_parts}
@@ -24,19 +24,12 @@ use Rattle.typing_search.proofs.Joins.{stack_is, local_is, frame_is}
 
 -- ---- classes
 
-object_is_top : (files : Program) → superclass_of files java_lang_object ≡ None
-unfolding built_in_classes
-object_is_top files = refl
-
 pub none_above : (files : Program) (n : ℕ) → classes_above files n java_lang_object ≡ 0
 none_above files zero = refl
 none_above files (suc n) = ap (λ o. option_map_or (λ s. suc (classes_above files n s)) o 0) (object_is_top files)
 
 on_some : {A B : Type 0} (f : A → B) (d : B) (o : Option A) (x : A) → o ≡ Some x → option_map_or f o d ≡ f x
 on_some f d o x e = ap (λ p. option_map_or f p d) e
-
-some_same : {A : Type 0} (x y : A) → Some x ≡ Some y → x ≡ y
-some_same x y e = cc
 
 -- ---- marks
 
@@ -229,10 +222,10 @@ module _ (files : Program) where
         front_low : (o : Option VerificationType) (os : Option (List VerificationType)) (us : List VerificationType) → in_front o os ≡ Some us → ((u : VerificationType) → o ≡ Some u → IsLow files limit u) → ((vs : List VerificationType) → os ≡ Some vs → AllByRecursion (IsLow files limit) vs) → AllByRecursion (IsLow files limit) us
         front_low None os us e f g = absurd cc
         front_low (Some u) None us e f g = absurd cc
-        front_low (Some u) (Some vs) us e f g = subst (AllByRecursion (IsLow files limit)) (some_same (u ∷ vs) us e) (f u refl, g vs refl)
+        front_low (Some u) (Some vs) us e f g = subst (AllByRecursion (IsLow files limit)) (same_Some (u ∷ vs) us e) (f u refl, g vs refl)
 
         all_low : (xs ys us : List VerificationType) → join_pairwise join xs ys ≡ Some us → AllByRecursion (IsLow files limit) xs → AllByRecursion (IsLow files limit) ys → AllByRecursion (IsLow files limit) us
-        all_low [] [] us e x y = subst (AllByRecursion (IsLow files limit)) (some_same [] us e) tt
+        all_low [] [] us e x y = subst (AllByRecursion (IsLow files limit)) (same_Some [] us e) tt
         all_low [] (t ∷ ts) us e x y = absurd cc
         all_low (s ∷ ss) [] us e x y = absurd cc
         all_low (s ∷ ss) (t ∷ ts) us e x y =
@@ -242,7 +235,7 @@ module _ (files : Program) where
       slots_joined mark None ss join e = absurd cc
       slots_joined mark (Some ls) None join e = absurd cc
       slots_joined mark (Some ls) (Some ss) join e =
-          let q = some_same _ join e in
+          let q = same_Some _ join e in
           (ap (λ (x : FrameType). Some x.slots.locals) q, ap (λ (x : FrameType). Some x.slots.stack) q)
 
       pub low_join : (a b join : FrameType) → frame_join files a b ≡ Some join → IsLowFrame files limit a → IsLowFrame files limit b → IsLowFrame files limit join
@@ -296,7 +289,7 @@ module _ (files : Program) where
 
         table_set : (table : List (Option FrameType)) (to : ℕ) (there : Option FrameType) (t : FrameType) → slice_get table to ≡ Some there → frame_weight files limit t < entry_weight files limit (places body) there → table_weight files limit (places body) (found_at table to t) < table_weight files limit (places body) table
         table_set [] to there t e l = absurd cc
-        table_set (o ∷ os) zero there t e l = let z = ap (entry_weight files limit (places body)) (some_same o there e) in omega (arith, z, l)
+        table_set (o ∷ os) zero there t e l = let z = ap (entry_weight files limit (places body)) (same_Some o there e) in omega (arith, z, l)
         table_set (o ∷ os) (suc to) there t e l = let r = table_set os to there t e l in omega (arith, r)
 
         pub work_merged : (table : List (Option FrameType)) (waiting : List Bool) (to : ℕ) (there : Option FrameType) (t : FrameType) → slice_get table to ≡ Some there → frame_weight files limit t < entry_weight files limit (places body) there → work files limit (places body) (found_at table to t) (waiting_at waiting to) < work files limit (places body) table waiting

@@ -7,7 +7,7 @@ use Rattle.model.specs.Types.{VerificationType}
 use Rattle.model.specs.TypeOrder.{FrameType, is_stack_below, is_local_below, is_frame_below}
 use Rattle.model.specs.TypeJoin.{IsJoin, reference_join, stack_join, local_join, frame_join}
 use Rattle.model.specs.Typing.{flow}
-use Rattle.soundness.specs.Steps.{Rooted}
+use Rattle.laws.specs.Steps.{Rooted}
 
 -- No class is above itself, and directly above an interface is Object (JVMS 4.1, super_class). Linking refuses other files.
 pub record IsOrdered (files : Program) : Type 0 where

@@ -10,7 +10,7 @@ ghost use Rattle.std.specs.Prelude.{ℕ, IsFalse};
 ghost use Rattle.model.specs.Names.{Member};
 ghost use Rattle.model.specs.Classes.{Program, Body};
 ghost use Rattle.model.specs.Linkable.{some_stands};
-ghost use Rattle.soundness.specs.Steps.{Rooted};
+ghost use Rattle.laws.specs.Steps.{Rooted};
 ghost use Rattle.typing_search.specs.Orders.{IsOrdered, AreJoins, IsFrameOrder, GoesDown};
 ghost use Rattle.typing_search.specs.Search.{Begins, Turns, Ends, Follows};
 ghost use Rattle.typing_search.specs.Tables.{AreTables, MergesOne, ClashesOne};

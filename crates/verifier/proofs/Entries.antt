@@ -4,11 +4,11 @@ use Rattle.std.proofs.Common.{◌≡◌, ℕ, zero, suc, ◌<◌, ◌≤◌, ◌
 use Rattle.std.specs.Prelude.{replicate, slice_get, slice_set, option_map}
 use Rattle.std.proofs.lemmas.Bool.{false≢true}
 use Rattle.std.proofs.lemmas.Option.{slice_get_read}
-use Rattle.std.proofs.lemmas.List.{length-map, append_assoc, take-append-drop, take_all}
+use Rattle.std.proofs.lemmas.List.{length-map, append_assoc, take-append-drop, take_all, map-append}
 use Rattle.std.specs.Global.{Vec}
 use Rattle.std.proofs.Math.Seq.{take-suc}
-use Rattle.soundness.proofs.Lists.{get_map, map_append}
-use Rattle.soundness.proofs.WordLists.{map_set, map_copies}
+use Rattle.laws.proofs.Lists.{get_map}
+use Rattle.laws.proofs.WordLists.{map_set, map_copies}
 use Rattle.model.specs.Names.{Member}
 use Rattle.model.specs.Classes.{Program, Body}
 use Rattle.model.specs.InstructionStarts.{starts}
@@ -111,14 +111,14 @@ lead_of files before after lead = (lead.offset, led_to files before after lead.c
 pub leads_more : (files : Program) (origin : Origin) (leads : List Lead) (i : ℕ) (d : Lead) → i < length leads → leads_in files origin (take i leads) ++ leads_in files origin (get_or leads i d ∷ []) ≡ leads_in files origin (take (i + 1) leads)
 leads_more files origin leads i d l =
     let n : suc i ≡ i + 1 = omega arith in
-    sym (map_append (lead_of files origin.before origin.after) (take i leads) (get_or leads i d ∷ [])) ∙ (ap (leads_in files origin) (sym (take-suc leads i d l)) ∙ ap (λ m. leads_in files origin (take m leads)) n)
+    sym (map-append (lead_of files origin.before origin.after) (take i leads) (get_or leads i d ∷ [])) ∙ (ap (leads_in files origin) (sym (take-suc leads i d l)) ∙ ap (λ m. leads_in files origin (take m leads)) n)
 
 pub leads_split : (files : Program) (origin : Origin) (leads : List Lead) (i : ℕ) (d : Lead) → i < length leads → leads_in files origin (take i leads) ++ (leads_in files origin (get_or leads i d ∷ []) ++ leads_in files origin (drop (i + 1) leads)) ≡ leads_in files origin leads
 leads_split files origin leads i d l =
     let lead = lead_of files origin.before origin.after in
     sym (append_assoc (map lead (take i leads)) (map lead (get_or leads i d ∷ [])) (map lead (drop (i + 1) leads)))
     ∙ (ap (λ xs. xs ++ map lead (drop (i + 1) leads)) (leads_more files origin leads i d l)
-    ∙ (sym (map_append lead (take (i + 1) leads) (drop (i + 1) leads)) ∙ ap (map lead) (take-append-drop (i + 1) leads)))
+    ∙ (sym (map-append lead (take (i + 1) leads) (drop (i + 1) leads)) ∙ ap (map lead) (take-append-drop (i + 1) leads)))
 
 pub all_leads : (files : Program) (origin : Origin) (leads : List Lead) (i : ℕ) → length leads ≤ i → leads_in files origin (take i leads) ≡ leads_in files origin leads
 all_leads files origin leads i l = ap (leads_in files origin) (take_all i leads l)

@@ -11,7 +11,7 @@ use Rattle.model.specs.Pool.{utf8_of}
 use Rattle.model.specs.Conditions.{text_at}
 use Rattle.model.specs.Classes.{Program, Body, with_pool, name_of, classes_of, is_named, class_of, is_method, declared_in, code_in, body_in, body_of}
 use Rattle.model.specs.Typing.{HasTyping, AreTyped}
-use Rattle.soundness.proofs.Classes.{names_same}
+use Rattle.laws.proofs.Classes.{names_same}
 use Rattle.hierarchy.specs.Places.{class_at}
 use Rattle.method_code.specs.View.{member_named, shown_in, shown_at}
 use Rattle.verifier.specs.Places.{IsTypedAt, AreTypedIn}

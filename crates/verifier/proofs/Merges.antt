@@ -3,6 +3,7 @@ use Rattle.std.proofs.Common.{◌≡◌, ℕ, List, [], ◌∷◌, ◌++◌, len
 use Rattle.std.specs.Prelude.{slice_get}
 use Rattle.std.specs.List.{AllByRecursion}
 use Rattle.std.proofs.lemmas.Bool.{cases_eq}
+use Rattle.std.proofs.lemmas.List.{length-set}
 use Rattle.model.specs.Names.{Member}
 use Rattle.model.specs.InstructionStarts.{is_start}
 use Rattle.model.specs.Classes.{Program, Body}
@@ -14,7 +15,7 @@ use Rattle.typing_search.specs.Search.{Clashes}
 use Rattle.typing_search.specs.Tables.{entry_of, typing_of, waits, found_at, waiting_at}
 use Rattle.typing_search.specs.Weights.{IsLowFrame}
 use Rattle.typing_search.proofs.Searching.{merged_nothing, merged_then, clash_then}
-use Rattle.typing_search.proofs.Merging.{get_set_here, get_set_other, set_length, merged_same, merged_first, merged_joined}
+use Rattle.typing_search.proofs.Merging.{get_set_here, get_set_other, merged_same, merged_first, merged_joined}
 use Rattle.typing_search.proofs.Weights.{raised_lighter, first_lighter, work_merged}
 use Rattle.verifier.specs.Found.{Tables, AreOver, AreLow, HasMerged}
 use Rattle.verifier.proofs.Entries.{tables_same}
@@ -38,7 +39,7 @@ module _ (files : Program) (ordered : IsOrdered files) (body : Body) where
     put_at next = record { types = found_at before.types to next; waiting = waiting_at before.waiting to }
 
     over_put : (next : FrameType) → AreOver body (put_at next)
-    over_put next = record { types = set_length before.types to (Some next) ∙ over.types; waiting = set_length before.waiting to true ∙ over.waiting }
+    over_put next = record { types = length-set before.types to (Some next) ∙ over.types; waiting = length-set before.waiting to true ∙ over.waiting }
 
     low_put : (limit : ℕ) (entry : Option FrameType) (next : FrameType) → slice_get before.types to ≡ Some entry → AreLow files limit before → IsLowFrame files limit next → AreLow files limit (put_at next)
     low_put limit entry next at low l k u e =

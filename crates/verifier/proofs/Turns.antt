@@ -2,6 +2,7 @@
 use Rattle.std.proofs.Common.{◌≡◌, ℕ, ◌≤◌, ◌<◌, List, [], ◌∷◌, length, Bool, true, false, Some, None, refl, sym, ap, ◌∙◌, subst, inl, inr, ⊎_elim, arith}
 use Rattle.std.specs.Prelude.{replicate}
 use Rattle.std.proofs.lemmas.Bool.{cases_eq}
+use Rattle.std.proofs.lemmas.List.{length-set}
 use Rattle.model.specs.Names.{Member}
 use Rattle.model.specs.Classes.{Program, Body}
 use Rattle.model.specs.TypeOrder.{FrameType}
@@ -10,7 +11,7 @@ use Rattle.typing_search.specs.Orders.{IsOrdered}
 use Rattle.typing_search.specs.Search.{Clashes, HasNoTyping, IsTakenOff}
 use Rattle.typing_search.specs.Tables.{typing_of, waits, waiting_at, taken_off}
 use Rattle.typing_search.proofs.Searching.{search_begins, beginning_refused, search_ends, search_turn, refused_rule, refused_merge}
-use Rattle.typing_search.proofs.Merging.{waits_other, set_length, blank}
+use Rattle.typing_search.proofs.Merging.{waits_other, blank}
 use Rattle.typing_search.proofs.Weights.{work_taken_off}
 use Rattle.verifier.proofs.Entries.{tables_same, marked_again}
 use Rattle.verifier.specs.Found.{Tables, AreOver, work_left, HasMerged, IsSearch, waiting_again, HasTurned}
@@ -43,7 +44,7 @@ module _ (files : Program) (ordered : IsOrdered files) (method : Member) (body :
     off k = ⊎_elim (λ q. inl q) (λ n. inr (sym (waits_other before.waiting offset k true n))) (cases_eq k offset)
 
     over_off : AreOver body before
-    over_off = record { types = s.over.types; waiting = sym (set_length before.waiting offset true) ∙ s.over.waiting }
+    over_off = record { types = s.over.types; waiting = sym (length-set before.waiting offset true) ∙ s.over.waiting }
 
     pub turns : (t : FrameType) (leads : List (ℕ × FrameType)) (after : Tables) → typing_of before.types offset ≡ Some t → flow files method body offset t ≡ Some leads → HasMerged files body before leads after → HasTurned files method body before after
     turns t leads after e q w =

@@ -9,8 +9,6 @@ mod method;
 mod packed;
 mod raised;
 mod run;
-#[cfg(test)]
-mod tests;
 mod verified;
 mod waiting;
 

@@ -1,7 +1,7 @@
-use Rattle.soundness.proofs.LinkedOf.{linked_of}
+use Rattle.laws.proofs.LinkedOf.{linked_of}
 use Rattle.soundness.proofs.Sound.{kept}
-use Rattle.soundness.proofs.Carried.{carried}
-use Rattle.soundness.proofs.KeptWords.{kept_words}
+use Rattle.word_runs.proofs.Carried.{carried}
+use Rattle.word_runs.proofs.KeptWords.{kept_words}
 use Rattle.soundness.proofs.a_step_keeps_words.Goals as goal
 
 pub returns : goal.returns

@@ -7,7 +7,7 @@ use Rattle.types.specs.View.{type_in}
 use Rattle.described_types.specs.Described.{type_missing}
 use Rattle.method_code.specs.View.{files_of, body_of}
 use Rattle.flow.specs.declared.handler.Handler.{Handler}
-use Rattle.soundness.proofs.Lists.{every_append}
+use Rattle.laws.proofs.Lists.{every_append}
 use Rattle.flow.proofs.Anywhere.{every_index, mapped_more}
 use Rattle.flow.proofs.LinkedTypes.{handlers_found}
 use Rattle.flow.proofs.handler.handlers.Goals as goal

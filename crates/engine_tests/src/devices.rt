@@ -1,0 +1,104 @@
+//! Devices in memory that fail at a call that is chosen: files of a folder, and a sink.
+
+ghost use Rattle.std.specs.Prelude.{◌≡◌, Some, ◌++◌, ◌+◌, take};
+
+use engines::Folder;
+use std::alloc::Global;
+use std::io;
+use std::io::{ErrorKind, Read, Write};
+
+/// How many bytes a call moves at most.
+const MOST: usize = 5;
+
+/// More calls than a device of these tests gets.
+pub const MANY: u32 = 1000;
+
+/// A file's path and its bytes.
+pub type File = (&'static str, &'static [u8]);
+
+/// Files of which one fails after some calls, the call that opens it among them.
+#[derive(Drop)]
+pub struct FailingFolder<'a> {
+    pub files: &'a [File],
+    /// The path of the file that fails.
+    pub failing: &'a str,
+    pub calls: u32,
+}
+
+impl<'a> Folder for FailingFolder<'a> {
+    type File = FailingReader<'a>;
+
+    fn open(&self, path: &str) -> io::Result<FailingReader<'a>> {
+        let calls = if path == self.failing {
+            self.calls
+        } else {
+            MANY
+        };
+        for (name, bytes) in self.files {
+            if *name == path && calls > 0 {
+                return Ok(FailingReader::new(bytes, calls - 1));
+            }
+        }
+        Err(io::Error::from(ErrorKind::NotFound))
+    }
+}
+
+/// Hands over bytes of memory for some reads. Each read after them fails.
+#[derive(Drop)]
+pub struct FailingReader<'a> {
+    left: &'a [u8],
+    reads: u32,
+}
+
+impl<'a> FailingReader<'a> {
+    pub fn new(bytes: &'a [u8], reads: u32) -> FailingReader<'a> {
+        FailingReader { left: bytes, reads }
+    }
+}
+
+impl Read for FailingReader<'_> {
+    ghost remaining = { λ reader. Some reader.left.now };
+
+    fn read(&mut self, buf: &mut [u8]) -> io::Result<usize> {
+        if self.reads == 0 {
+            return Err(io::Error::from(ErrorKind::Other));
+        }
+        self.reads -= 1;
+        let most = buf.len().min(MOST);
+        self.left.read(&mut buf[..most])
+    }
+}
+
+/// Keeps what some writes write. Each write after them fails.
+#[derive(Drop)]
+pub struct FailingWriter {
+    pub written: Vec<u8>,
+    writes: u32,
+}
+
+impl FailingWriter {
+    pub fn new(alloc: Global, writes: u32) -> FailingWriter {
+        FailingWriter {
+            written: Vec::new(alloc),
+            writes,
+        }
+    }
+}
+
+impl Write for FailingWriter {
+    ghost contents = { λ writer. Some writer.written.items };
+
+    fn write(&mut self, buf: &[u8]) -> io::Result<usize> {
+        if self.writes == 0 {
+            return Err(io::Error::from(ErrorKind::Other));
+        }
+        self.writes -= 1;
+        let most = buf.len().min(MOST);
+        self.written.extend_from_slice(&buf[..most])?;
+        Ok(most)
+    }
+
+    fn flush(&mut self) -> io::Result<()> {
+        Ok(())
+    }
+}

@@ -1,0 +1,132 @@
+-- Sources that are read one after another.
+use Rattle.std.proofs.Common.{arith, ◌≡◌, ℕ, ◌+◌, ◌<◌, List, [], ◌∷◌, ◌++◌, length, take, drop, map, sum_by, get_or, set, Option, None, false, ◌⊎◌, inl, inr, refl, sym, subst, ◌∙◌}
+use Rattle.std.proofs.lemmas.List.{drop_more, take_more, map-append}
+use Rattle.std.proofs.lemmas.List.Sums.{sum_by-set}
+use Rattle.model.specs.declared.device.DeviceFault.{DeviceFault}
+use Rattle.model.specs.declared.device.DeviceFault.TheVariants as devices
+use Rattle.model.specs.Devices.{CountsFault}
+use Rattle.model.specs.declared.event.Event.{Event}
+use Rattle.model.specs.Schedule.{ScheduleFile}
+use Rattle.schedule.specs.declared.fault.ScheduleFault.{ScheduleFault}
+use Rattle.schedule.specs.declared.fault.ScheduleFault.TheVariants as schedules
+use Rattle.model.specs.Tree.{FileTree}
+use Rattle.refusal.specs.declared.why.Refusal.{Refusal}
+use Rattle.refusal.specs.declared.why.RefusalKind.{RefusalKind}
+use Rattle.refusal.specs.declared.why.RefusalKind.TheVariants as kinds
+use Rattle.model.specs.Classes.{Program}
+use Rattle.model.specs.Linkable.{IsLinkable}
+use Rattle.model.specs.Typing.{AreTyped}
+use Rattle.verifier.specs.Places.{Refuses}
+use Rattle.replay.specs.Profile.{is_outside}
+use Rattle.replay.specs.Taking.{IsTaken, MayLeave, program_of}
+use Rattle.replay.proofs.Refusals.{typed_is_verified, taken_is_kept}
+use Rattle.engines.specs.Devices.{fault_of}
+use Rattle.engines.specs.Engines.{Reads, ReadsEach, MayRefuse, WritesPart, IsFaulty, CountsWith}
+use Rattle.command_line.specs.declared.options.LimitOptions.{LimitOptions}
+use Rattle.engines.specs.declared.fault.Fault.{Fault}
+use Rattle.engines.specs.declared.fault.Fault.TheVariants as faults
+
+-- where the sources from the ith on are the same, the ith is, and those behind it are
+pub next_same : {S : Type 0} (xs zs : List S) (i : ℕ) (d : S) → i < length xs → i < length zs → drop i xs ≡ drop i zs → (get_or xs i d ≡ get_or zs i d) × (drop (i + 1) xs ≡ drop (i + 1) zs)
+next_same xs zs i d in_xs in_zs same =
+    let both : get_or xs i d ∷ drop (i + 1) xs ≡ get_or zs i d ∷ drop (i + 1) zs = sym (drop_more xs i d in_xs) ∙ same ∙ drop_more zs i d in_zs in
+    (cc, cc)
+
+-- one more source is read
+pub reads_on : (lefts : List (Option (List ℕ))) (files : List (List ℕ)) (left : Option (List ℕ)) (bytes : List ℕ) → ReadsEach lefts files → Reads left bytes → ReadsEach (lefts ++ left ∷ []) (files ++ bytes ∷ [])
+reads_on [] [] left bytes each next = (next, tt)
+reads_on (l ∷ lefts) (f ∷ files) left bytes each next = (each.0, reads_on lefts files left bytes each.1 next)
+reads_on [] (f ∷ files) left bytes each next = absurd each
+reads_on (l ∷ lefts) [] left bytes each next = absurd each
+
+pub reads_next : {S F : Type 0} (remaining : S → Option (List ℕ)) (items : F → List ℕ) (sources : List S) (i : ℕ) (d : S) (files : List F) (file : F) → i < length sources → ReadsEach (map remaining (take i sources)) (map items files) → Reads (remaining (get_or sources i d)) (items file) → ReadsEach (map remaining (take (i + 1) sources)) (map items (files ++ file ∷ []))
+reads_next remaining items sources i d files file within each next =
+    rw (take_more sources i d within, map-append remaining (take i sources) (get_or sources i d ∷ []), map-append items files (file ∷ []))
+    (reads_on (map remaining (take i sources)) (map items files) (remaining (get_or sources i d)) (items file) each next)
+
+-- a source among others failed, or didn't
+pub counts_among : {S : Type 0} (failures : S → ℕ) (fault : Fault) (total : ℕ) (sources : List S) (i : ℕ) (y d : S) → i < length sources → sum_by failures sources ≡ total → CountsWith fault (failures (get_or sources i d)) (failures y) → CountsWith fault total (sum_by failures (set sources i y))
+counts_among failures faults.Device total sources i y d within so_far counted = omega (arith, sum_by-set failures sources i y d within, so_far, counted)
+counts_among failures faults.Memory total sources i y d within so_far counted = omega (arith, sum_by-set failures sources i y d within, so_far, counted)
+counts_among failures (faults.Schedule fault) total sources i y d within so_far counted = omega (arith, sum_by-set failures sources i y d within, so_far, counted)
+counts_among failures (faults.Refusal refusal) total sources i y d within so_far counted = omega (arith, sum_by-set failures sources i y d within, so_far, counted)
+
+pub none_failed : {S : Type 0} (failures : S → ℕ) (total : ℕ) (sources : List S) (i : ℕ) (y d : S) → i < length sources → sum_by failures sources ≡ total → failures y ≡ failures (get_or sources i d) → sum_by failures (set sources i y) ≡ total
+none_failed failures total sources i y d within so_far counted = omega (arith, sum_by-set failures sources i y d within, so_far, counted)
+
+-- where a device fails, or there is no memory for what it does, a part may be written
+pub part_is_faulty : (fault : DeviceFault) (left : Option (List ℕ)) (lefts : List (Option (List ℕ))) (options : LimitOptions) (old new : Option (List ℕ)) → WritesPart left lefts options old new → IsFaulty left lefts options old new (fault_of fault)
+part_is_faulty devices.Device left lefts options old new part = part
+part_is_faulty devices.Memory left lefts options old new part = part
+
+-- where nothing counts a failure, the sum of the counts stays
+pub counts_sum : (fault : Fault) (a b c d sum : ℕ) → a ≡ c → b ≡ d → CountsWith fault sum sum → CountsWith fault (c + d + sum) (a + b + sum)
+counts_sum faults.Device a b c d sum first second counted = absurd (omega (arith, counted))
+counts_sum faults.Memory a b c d sum first second counted = omega (arith, first, second)
+counts_sum (faults.Schedule fault) a b c d sum first second counted = omega (arith, first, second)
+counts_sum (faults.Refusal refusal) a b c d sum first second counted = omega (arith, first, second)
+
+-- where a write failed and nothing before it did, the sum of the counts is what it counted
+pub counts_write : (fault : DeviceFault) (a b c d old new : ℕ) → a ≡ c → b ≡ d → CountsFault fault old new → CountsWith (fault_of fault) (c + d + old) (a + b + new)
+counts_write devices.Device a b c d old new first second counted = omega (arith, first, second, counted)
+counts_write devices.Memory a b c d old new first second counted = omega (arith, first, second, counted)
+
+-- a fault of a schedule file whose bytes spell nothing, memory aside
+pub schedule_is_faulty : (fault : ScheduleFault) (left : Option (List ℕ)) (bytes : List ℕ) → Reads left bytes → ((events : List Event) → ScheduleFile bytes None events → fault ≡ schedules.OutOfMemory)
+    → (fault ≡ schedules.OutOfMemory) ⊎ ((schedule : List ℕ) × Reads left schedule × ((events : List Event) → ScheduleFile schedule None events → ⊥))
+schedule_is_faulty schedules.OutOfMemory left bytes read only = inl refl
+schedule_is_faulty schedules.Truncated left bytes read only = inr (bytes, read, λ events h. let e : schedules.Truncated ≡ schedules.OutOfMemory = only events h in absurd cc)
+schedule_is_faulty schedules.Magic left bytes read only = inr (bytes, read, λ events h. let e : schedules.Magic ≡ schedules.OutOfMemory = only events h in absurd cc)
+schedule_is_faulty schedules.Version left bytes read only = inr (bytes, read, λ events h. let e : schedules.Version ≡ schedules.OutOfMemory = only events h in absurd cc)
+schedule_is_faulty schedules.Repeat left bytes read only = inr (bytes, read, λ events h. let e : schedules.Repeat ≡ schedules.OutOfMemory = only events h in absurd cc)
+schedule_is_faulty schedules.Trailing left bytes read only = inr (bytes, read, λ events h. let e : schedules.Trailing ≡ schedules.OutOfMemory = only events h in absurd cc)
+
+-- whether it was for want of memory
+is_memory : (kind : RefusalKind) → (kind ≡ kinds.OutOfMemory) ⊎ (kind ≡ kinds.OutOfMemory → ⊥)
+is_memory kinds.OutOfMemory = inl refl
+is_memory kinds.Malformed = inr (λ e. cc)
+is_memory kinds.OutsideProfile = inr (λ e. cc)
+is_memory kinds.DuplicateClass = inr (λ e. cc)
+is_memory kinds.Unresolved = inr (λ e. cc)
+is_memory kinds.BadHierarchy = inr (λ e. cc)
+is_memory kinds.Unverified = inr (λ e. cc)
+is_memory kinds.NoMain = inr (λ e. cc)
+is_memory kinds.TooLarge = inr (λ e. cc)
+
+-- class files that are refused, and are taken at most where there was no memory
+pub refusal_is_faulty : (refusal : Refusal) (left : Option (List ℕ)) (lefts : List (Option (List ℕ))) (options : LimitOptions) (sink : Option (List ℕ)) (schedule : List ℕ) (files : List (List ℕ)) (events : List Event)
+    → ((file : FileTree) → IsTaken files file → refusal.kind ≡ kinds.OutOfMemory) → MayRefuse files refusal → Reads left schedule → ReadsEach lefts files → ScheduleFile schedule None events → IsFaulty left lefts options sink sink (faults.Refusal refusal)
+refusal_is_faulty refusal left lefts options sink schedule files events only may read reads spelled = (
+  refl,
+  elim (is_memory refusal.kind) [
+    | inl e ↦ inl e
+    | inr other ↦ inr (schedule, files, events, read, reads, spelled, λ file a. other (only file a), may)
+  ],
+)
+
+-- ---- the class files of a program that is taken
+
+pub is_taken : (files : List (List ℕ)) (linked verified : Program) (file : FileTree) → IsLinkable files linked → verified ≡ linked → AreTyped verified → verified ≡ program_of file → is_outside file ≡ false → IsTaken files file
+is_taken files linked verified file linkable same typed one inside = record {
+  accepted = record {
+    linkable = subst (IsLinkable files) (sym same ∙ one) linkable;
+    typed = subst AreTyped one typed;
+  };
+  inside = inside;
+}
+
+-- files of a program in which a method has no typing are not taken
+pub untyped_is_faulty : (refusal : Refusal) (left : Option (List ℕ)) (lefts : List (Option (List ℕ))) (options : LimitOptions) (sink : Option (List ℕ)) (schedule : List ℕ) (files : List (List ℕ)) (events : List Event) (linked : Program)
+    → IsLinkable files linked → ((trees : Program) → IsLinkable files trees → linked ≡ trees) → Refuses linked refusal → Reads left schedule → ReadsEach lefts files → ScheduleFile schedule None events → IsFaulty left lefts options sink sink (faults.Refusal refusal)
+untyped_is_faulty refusal left lefts options sink schedule files events linked linkable only refused =
+    refusal_is_faulty refusal left lefts options sink schedule files events
+    (λ file t. typed_is_verified linked refusal (files, linkable) (subst AreTyped (sym (only (program_of file) t.accepted.linkable)) t.accepted.typed) refused)
+    (inr (inl (linked, linkable, refused)))
+
+-- and those of an accepted one that the machine doesn't take
+pub left_is_faulty : (refusal : Refusal) (left : Option (List ℕ)) (lefts : List (Option (List ℕ))) (options : LimitOptions) (sink : Option (List ℕ)) (schedule : List ℕ) (files : List (List ℕ)) (events : List Event) (linked verified : Program)
+    → IsLinkable files linked → ((trees : Program) → IsLinkable files trees → linked ≡ trees) → verified ≡ linked → AreTyped verified → MayLeave verified refusal.kind refusal.file → Reads left schedule → ReadsEach lefts files → ScheduleFile schedule None events → IsFaulty left lefts options sink sink (faults.Refusal refusal)
+left_is_faulty refusal left lefts options sink schedule files events linked verified linkable only same typed refused =
+    refusal_is_faulty refusal left lefts options sink schedule files events
+    (λ file t. taken_is_kept verified file refusal.kind refusal.file (same ∙ only (program_of file) t.accepted.linkable) t.inside refused)
+    (inr (inr (verified, record { linkable = subst (IsLinkable files) (sym same) linkable; typed = typed }, refused)))

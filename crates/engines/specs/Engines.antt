@@ -1,0 +1,110 @@
+-- What an engine answers and writes, by the bytes that its devices hold. Where a device says nothing of its
+-- bytes, they are any that it may have handed over.
+use Rattle.std.specs.Prelude.{◌≡◌, ◌⊎◌, ℕ, ◌+◌, List, [], ◌∷◌, Option, Some, None, IfSome, Result, Ok, Err}
+use Rattle.model.specs.declared.event.Event.{Event}
+use Rattle.model.specs.declared.limits.Limits.{Limits}
+use Rattle.model.specs.declared.report.Report.{Report}
+use Rattle.model.specs.Devices.{AppendsFront}
+use Rattle.model.specs.Tree.{FileTree}
+use Rattle.model.specs.Classes.{Program}
+use Rattle.model.specs.Linkable.{IsLinkable}
+use Rattle.model.specs.Accepted.{IsAccepted}
+use Rattle.model.specs.Schedule.{ScheduleFile}
+use Rattle.linker.specs.Linking as linking
+use Rattle.verifier.specs.Places.{Refuses}
+use Rattle.replay.specs.Taking.{IsTaken, MayLeave, program_of}
+use Rattle.replay.specs.Replay.{IsReplay, text_of}
+use Rattle.command_line.specs.Choices.{AreChosen}
+use Rattle.engines.specs.Statuses.{status_of}
+use Rattle.command_line.specs.declared.options.LimitOptions.{LimitOptions}
+use Rattle.model.specs.declared.end.End.{End}
+use Rattle.refusal.specs.declared.why.Refusal.{Refusal}
+use Rattle.refusal.specs.declared.why.RefusalKind.TheVariants as kinds
+use Rattle.schedule.specs.declared.fault.ScheduleFault.TheVariants as schedules
+use Rattle.engines.specs.declared.fault.Fault.{Fault}
+use Rattle.engines.specs.declared.fault.Fault.TheVariants as faults
+use Rattle.engines.specs.declared.status.Status.{Status}
+
+-- these bytes are those of a source that has these left
+abbrev pub Reads : Option (List ℕ) → List ℕ → Type 0
+Reads left bytes = IfSome left (λ known. bytes ≡ known)
+
+-- the bytes of each of the sources, in order
+abbrev pub ReadsEach : List (Option (List ℕ)) → List (List ℕ) → Type 0
+ReadsEach [] [] = Unit {0}
+ReadsEach (left ∷ lefts) (bytes ∷ files) = Reads left bytes × ReadsEach lefts files
+ReadsEach [] (bytes ∷ files) = ⊥
+ReadsEach (left ∷ lefts) [] = ⊥
+
+-- The schedule file spells events, and the class files link, pass verification and are taken; their program has this report
+-- under the events within the limits; and this is its text and its status.
+pub record IsReplayed (schedule : List ℕ) (files : List (List ℕ)) (options : LimitOptions) (text : List ℕ) (status : Status) : Type 0 where
+  pub events : List Event
+  pub spelled : ScheduleFile schedule None events
+  pub limits : Limits
+  pub chosen : AreChosen options limits
+  pub report : Report
+  pub end : End
+  pub file : FileTree
+  pub taken : IsTaken files file
+  pub replayed : IsReplay (program_of file) events limits report end
+  pub told : text ≡ text_of report end
+  pub ended : status ≡ status_of report.threads.items end
+
+-- the same of what these sources hold
+abbrev pub Replays : Option (List ℕ) → List (Option (List ℕ)) → LimitOptions → List ℕ → Status → Type 0
+Replays left lefts options text status = (schedule : List ℕ) × (files : List (List ℕ)) × Reads left schedule × ReadsEach lefts files × IsReplayed schedule files options text status
+
+-- nothing is written, or a front of what the replay says
+abbrev pub WritesPart : Option (List ℕ) → List (Option (List ℕ)) → LimitOptions → Option (List ℕ) → Option (List ℕ) → Type 0
+WritesPart left lefts options old new = (new ≡ old)
+    ⊎ ((text : List ℕ) × (status : Status) × Replays left lefts options text status × AppendsFront old new text)
+
+-- why class files may be refused: they don't link; they link, and a method has no typing; or they are accepted, and the
+-- machine doesn't take them
+abbrev pub MayRefuse : List (List ℕ) → Refusal → Type 0
+MayRefuse files refusal = linking.MayRefuse files refusal.kind refusal.file refusal.cause
+    ⊎ (((trees : Program) × IsLinkable files trees × Refuses trees refusal)
+    ⊎ ((trees : Program) × IsAccepted files trees × MayLeave trees refusal.kind refusal.file))
+
+-- When a fault is answered, and what is written then.
+abbrev pub IsFaulty : Option (List ℕ) → List (Option (List ℕ)) → LimitOptions → Option (List ℕ) → Option (List ℕ) → Fault → Type 0
+IsFaulty left lefts options old new faults.Device = WritesPart left lefts options old new
+IsFaulty left lefts options old new faults.Memory = WritesPart left lefts options old new
+-- memory apart, the schedule file spells no events
+IsFaulty left lefts options old new (faults.Schedule fault) = (new ≡ old) × ((fault ≡ schedules.OutOfMemory)
+    ⊎ ((schedule : List ℕ) × Reads left schedule × ((events : List Event) → ScheduleFile schedule None events → ⊥)))
+-- memory apart, it spells events, and the class files are not taken and may be refused so
+IsFaulty left lefts options old new (faults.Refusal refusal) = (new ≡ old) × ((refusal.kind ≡ kinds.OutOfMemory)
+    ⊎ ((schedule : List ℕ) × (files : List (List ℕ)) × (events : List Event) × Reads left schedule × ReadsEach lefts files × ScheduleFile schedule None events
+    × ((file : FileTree) → IsTaken files file → ⊥) × MayRefuse files refusal))
+
+-- the fault is one of the schedule file's
+abbrev pub IsOfSchedule : Fault → Type 0
+IsOfSchedule faults.Device = ⊥
+IsOfSchedule faults.Memory = ⊥
+IsOfSchedule (faults.Schedule fault) = Unit {0}
+IsOfSchedule (faults.Refusal refusal) = ⊥
+
+-- there is no memory for the class file with this number
+abbrev pub no_memory : ℕ → Refusal
+no_memory number = record { kind = kinds.OutOfMemory; file = Some number; method = None; offset = None; cause = None }
+
+-- the class file with this number can't be read: its device failed, or there is no memory for it
+abbrev pub IsOfFile : ℕ → Fault → Type 0
+IsOfFile number faults.Device = Unit {0}
+IsOfFile number faults.Memory = ⊥
+IsOfFile number (faults.Schedule fault) = ⊥
+IsOfFile number (faults.Refusal refusal) = refusal ≡ no_memory number
+
+-- a failure is counted with the fault Device, and with no other
+abbrev pub CountsWith : Fault → ℕ → ℕ → Type 0
+CountsWith faults.Device old new = new ≡ old + 1
+CountsWith faults.Memory old new = new ≡ old
+CountsWith (faults.Schedule fault) old new = new ≡ old
+CountsWith (faults.Refusal refusal) old new = new ≡ old
+
+-- and with no status
+abbrev pub CountsFailure : {A : Type 0} → Result A Fault → ℕ → ℕ → Type 0
+CountsFailure (Ok value) old new = new ≡ old
+CountsFailure (Err fault) old new = CountsWith fault old new

@@ -1,0 +1,23 @@
+//! What the words of a command line ask for, done over any files and any output: replays, verifications, listings.
+#![tactic(auto)]
+
+mod complaint;
+mod device;
+mod engine;
+mod fault;
+mod folder;
+mod listing;
+mod program;
+mod status;
+mod verification;
+
+pub use command_line::{LimitOptions, Usage};
+pub use complaint::Complaint;
+pub use device::Counted;
+pub use engine::replay_engine;
+pub use fault::Fault;
+pub use folder::{Folder, SystemFolder};
+pub use listing::disasm_engine;
+pub use program::run;
+pub use status::Status;
+pub use verification::verify_engine;

@@ -1,0 +1,93 @@
+//! What the words of a command line ask for.
+
+use crate::complaint::Complaint;
+use crate::device::Counted;
+use crate::engine::replay_engine;
+use crate::fault::Fault;
+use crate::folder::{Folder, NamedFile};
+use crate::listing::disasm_engine;
+use crate::status::Status;
+use crate::verification::verify_engine;
+use command_line::{Command, Disasm, Replay, Verify, command};
+use model::Sink;
+use std::alloc::Global;
+
+/// Does what the words say, the program's name first, and answers the status or why there is none.
+///
+/// The files that they name are those of the folder. A report, a listing or the line of a verification is written to
+/// the output, and nothing else. The complaint is for the caller to tell.
+pub fn run<F: Folder, W: Sink>(
+    alloc: Global,
+    folder: &F,
+    words: &[String],
+    output: &mut W,
+) -> Result<Status, Complaint> {
+    let status = match command(alloc, words)? {
+        Command::Replay(options) => replay(alloc, folder, &options, output)?,
+        Command::Verify(options) => verify(alloc, folder, &options, output)?,
+        Command::Disasm(options) => disasm(alloc, folder, &options, output)?,
+    };
+    Ok(status)
+}
+
+/// `replay`.
+fn replay<F: Folder, W: Sink>(
+    alloc: Global,
+    folder: &F,
+    options: &Replay,
+    output: &mut W,
+) -> Result<Status, Fault> {
+    let mut schedule = source(alloc, folder, &options.schedule);
+    let mut files = sources(alloc, folder, &options.files)?;
+    replay_engine(
+        alloc,
+        &mut schedule,
+        files.as_mut_slice(),
+        &options.limits,
+        output,
+    )
+}
+
+/// `verify`.
+fn verify<F: Folder, W: Sink>(
+    alloc: Global,
+    folder: &F,
+    options: &Verify,
+    output: &mut W,
+) -> Result<Status, Fault> {
+    let mut files = sources(alloc, folder, &options.files)?;
+    verify_engine(alloc, files.as_mut_slice(), output)
+}
+
+/// `disasm`.
+fn disasm<F: Folder, W: Sink>(
+    alloc: Global,
+    folder: &F,
+    options: &Disasm,
+    output: &mut W,
+) -> Result<Status, Fault> {
+    let mut file = source(alloc, folder, &options.file);
+    disasm_engine(alloc, &mut file, output)
+}
+
+/// The files at these paths, as sources.
+fn sources<'a, F: Folder>(
+    alloc: Global,
+    folder: &'a F,
+    paths: &'a [String],
+) -> Result<Vec<Counted<NamedFile<'a, F>>>, Fault> {
+    let mut files = Vec::new(alloc);
+    for path in paths {
+        files.push(source(alloc, folder, path))?;
+    }
+    Ok(files)
+}
+
+/// The file at a path, as a source.
+fn source<'a, F: Folder>(
+    alloc: Global,
+    folder: &'a F,
+    path: &'a String,
+) -> Counted<NamedFile<'a, F>> {
+    Counted::new(alloc, NamedFile::new(folder, path.as_str()))
+}

@@ -1,0 +1,146 @@
+//! Which classes, interfaces and arrays stand below which, and which methods classes have.
+
+use crate::program::{Class, Method, Row, linked};
+use class_builder::CodeParts;
+use class_tree::Reference;
+use hierarchy::{Innermost, MemberPlace, Primitive, ReferenceType};
+use std::test::Fail;
+
+const OBJECT: &[u8] = b"java/lang/Object";
+
+const RUNNABLE: &[u8] = b"java/lang/Runnable";
+
+/// The main, which returns, in a class below B.
+const A: Class = Class {
+    flags: 0x0021,
+    name: b"A",
+    superclass: b"B",
+    interfaces: &[],
+    fields: &[],
+    methods: &[Method {
+        flags: 0x0009,
+        name: b"main",
+        descriptor: b"([Ljava/lang/String;)V",
+        code: Some(CodeParts {
+            max_stack: 0,
+            max_locals: 1,
+            bytes: &[0xb1],
+            exceptions: &[],
+        }),
+    }],
+};
+
+const B: Class = Class {
+    name: b"B",
+    superclass: OBJECT,
+    interfaces: &[b"J"],
+    methods: &[],
+    ..A
+};
+
+const J: Class = Class {
+    flags: 0x0601,
+    name: b"J",
+    interfaces: &[b"I"],
+    ..B
+};
+
+const I: Class = Class {
+    name: b"I",
+    interfaces: &[],
+    ..J
+};
+
+/// A stands below B, B below the interface J, and J below the interface I.
+const CLASSES: [Class; 4] = [A, B, J, I];
+
+const NO_ROWS: [Row<()>; 0] = [];
+
+/// A class, an interface, and whether the class is it or has it above itself.
+const INTERFACES: [(&[u8], &[u8], bool); 7] = [
+    (b"A", b"I", true),
+    (b"B", b"J", true),
+    (b"J", b"I", true),
+    (b"I", b"I", true),
+    (b"I", b"J", false),
+    (b"A", RUNNABLE, false),
+    (b"java/lang/Thread", RUNNABLE, true),
+];
+
+/// A class, another class or interface, and whether the first is it or has it above itself.
+const CLASSES_ABOVE: [(&[u8], &[u8], bool); 6] = [
+    (b"A", b"B", true),
+    (b"A", b"J", true),
+    (b"A", OBJECT, true),
+    (b"I", OBJECT, true),
+    (b"B", b"A", false),
+    (b"A", RUNNABLE, false),
+];
+
+/// So many arrays of references around a class, or around an array of int.
+type Named = (usize, Option<&'static [u8]>);
+
+fn reference_type((arrays, class): Named) -> ReferenceType<'static> {
+    let innermost = match class {
+        Some(name) => Innermost::Class(name),
+        None => Innermost::PrimitiveArray(Primitive::Int),
+    };
+    ReferenceType { arrays, innermost }
+}
+
+/// Two types, and whether the first is a subtype of the second (JVMS 4.10).
+const TYPES: [(Named, Named, bool); 8] = [
+    ((1, Some(b"A")), (1, Some(b"I")), true),
+    ((2, Some(b"A")), (1, Some(OBJECT)), true),
+    ((0, None), (0, Some(OBJECT)), true),
+    ((1, None), (1, Some(OBJECT)), true),
+    ((0, None), (1, Some(OBJECT)), false),
+    ((1, Some(b"A")), (0, Some(b"I")), false),
+    ((0, Some(b"A")), (1, Some(b"A")), false),
+    ((1, Some(b"I")), (1, Some(b"A")), false),
+];
+
+#[test]
+fn classes_stand_below_others(rt: HostRuntime) -> Result<(), Fail> {
+    let (linked, _) = linked(rt.alloc(), &CLASSES, &NO_ROWS)?;
+    let hierarchy = linked.hierarchy();
+    for (class, interface, wanted) in INTERFACES {
+        let found = hierarchy.implements(class, interface);
+        assert_eq!(rt; found, wanted, "{class:?} {interface:?}");
+    }
+    for (class, other, wanted) in CLASSES_ABOVE {
+        let found = hierarchy.is_subclass_or_implements(class, other);
+        assert_eq!(rt; found, wanted, "{class:?} {other:?}");
+    }
+    for (below, above, wanted) in TYPES {
+        let found = hierarchy.is_subtype(reference_type(below), reference_type(above));
+        assert_eq!(rt; found, wanted, "{below:?} {above:?}");
+    }
+    Ok(())
+}
+
+/// A class, the name of a method with no parameters and no result, and the places of the class that declares it and of the
+/// method there, where a receiver of the class has such a method.
+const SELECTED: [(&[u8], &[u8], Option<(usize, usize)>); 4] = [
+    (b"A", b"wait", Some((0, 1))),
+    (b"java/lang/Thread", b"run", Some((2, 0))),
+    // it is static
+    (b"java/lang/Thread", b"yield", None),
+    (b"A", b"run", None),
+];
+
+#[test]
+fn classes_have_methods(rt: HostRuntime) -> Result<(), Fail> {
+    let (linked, _) = linked(rt.alloc(), &CLASSES, &NO_ROWS)?;
+    for (class, name, wanted) in SELECTED {
+        let method = Reference {
+            class: OBJECT,
+            name,
+            descriptor: b"()V",
+        };
+        let wanted = wanted.map(|(class, member)| MemberPlace { class, member });
+        let found = linked.set().select(class, method);
+        assert_eq!(rt; found, wanted, "{class:?} {name:?}");
+    }
+    Ok(())
+}
