@@ -1,10 +1,16 @@
-//! Tests of what is made of linked classes: links of fields and of methods, and numbers of classes and of texts. They go over
-//! tables.
+//! Tests of sets of classes and of what is made of linked ones: links of fields and of methods, numbers of classes and of
+//! texts, limits, and superclasses that do not end. They go over tables.
 #![tactic(auto)]
 
 #[cfg(test)]
+mod classes;
+#[cfg(test)]
 mod fields;
+#[cfg(test)]
+mod limits;
 #[cfg(test)]
 mod methods;
 #[cfg(test)]
 mod program;
+#[cfg(test)]
+mod superclasses;
