@@ -1,11 +1,11 @@
 -- What the engine of verification answers and writes, by the bytes that its devices hold. Where a device says nothing of
 -- its bytes, they are any that it may have handed over.
 use Rattle.std.specs.Prelude.{◌≡◌, ◌⊎◌, ℕ, ◌<◌, List, ◌++◌, length, codes, Option}
+use Rattle.model.specs.Accepted.{IsAccepted}
 use Rattle.model.specs.Classes.{Program}
 use Rattle.model.specs.Devices.{AppendsFront}
 use Rattle.model.specs.Linkable.{IsLinkable}
 use Rattle.model.specs.Report.{number}
-use Rattle.model.specs.Typing.{AreTyped}
 use Rattle.linker.specs.Linking.{MayRefuse}
 use Rattle.verifier.specs.Places.{Refuses}
 use Rattle.refusal.specs.declared.why.Refusal.{Refusal}
@@ -15,11 +15,6 @@ use Rattle.engines.specs.declared.fault.Fault.{Fault}
 use Rattle.engines.specs.declared.fault.Fault.TheVariants as faults
 
 -- ---- class files
-
--- The class files spell these trees, no condition of linking stands in them, and each method with code has a typing.
-pub record IsAccepted (files : List (List ℕ)) (trees : Program) : Type 0 where
-  pub linkable : IsLinkable files trees
-  pub typed : AreTyped trees
 
 -- Accepted class files are refused for want of memory alone. Others are refused as linking refuses them, or as verification
 -- refuses what is linked.

@@ -2,9 +2,10 @@
 
 ghost use Rattle.std.specs.Prelude.{◌≡◌, ◌+◌, IfOk, IfErr, length, map, string_bytes, sum_by, vec_items};
 ghost use Rattle.std.specs.Io.KnownBytes.{Appends};
+ghost use Rattle.model.specs.Accepted.{IsAccepted};
 ghost use Rattle.model.specs.Classes.{Program};
 ghost use Rattle.engines.specs.Engines.{CountsFailure};
-ghost use Rattle.engines.specs.Verifications.{IsAccepted, IsRefused, IsUnaccepted, Verifies, verified_line};
+ghost use Rattle.engines.specs.Verifications.{IsRefused, IsUnaccepted, Verifies, verified_line};
 
 use crate::engine::read_class_files;
 use crate::fault::Fault;

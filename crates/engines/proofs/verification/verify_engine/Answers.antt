@@ -3,7 +3,8 @@ use Rattle.std.proofs.lemmas.List.{length-map}
 use Rattle.std.proofs.lemmas.Result.{err_from_is_err_and}
 use Rattle.std.specs.Io.KnownBytes.{Appends}
 use Rattle.model.specs.Devices.{AppendsFront}
-use Rattle.engines.specs.Verifications.{IsAccepted, IsRefused, verified_line}
+use Rattle.model.specs.Accepted.{IsAccepted}
+use Rattle.engines.specs.Verifications.{IsRefused, verified_line}
 use Rattle.engines.proofs.VerificationLemmas.{unread_is_unaccepted, none_written, front_is_unaccepted}
 use Rattle.engines.proofs.verification.verify_engine.Goals as goal
 
