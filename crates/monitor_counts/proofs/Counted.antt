@@ -1,13 +1,12 @@
 -- What calls of monitors, and changes of the world, keep of counts.
-use Rattle.std.proofs.Common.{◌≡◌, ℕ, zero, suc, ◌+◌, ◌-◌, ◌<◌, List, [], ◌∷◌, ◌++◌, Bool, true, false, ◌==◌, ◌&&◌, ◌||◌, Option, Some, None, refl, sym, ap, ◌∙◌, subst, arith}
-use Rattle.std.specs.Prelude.{if◌then◌else◌, slice_get, slice_set, slice_index_or}
+use Rattle.std.proofs.Common.{◌≡◌, ℕ, zero, suc, ◌+◌, ◌-◌, ◌<◌, List, [], ◌∷◌, ◌++◌, Bool, true, false, ◌==◌, Option, Some, None, refl, sym, subst, arith}
+use Rattle.std.specs.Prelude.{slice_get, slice_set, slice_index_or}
 use Rattle.std.specs.List.{remove}
 use Rattle.std.proofs.lemmas.Bool.{false≢true, cond_both, eq-eqb, or_left, or_right}
-use Rattle.model.specs.State.{Monitor, Waiter, WakeCause, Notified, Interrupted, ThreadStatus, Running, Waiting, Relock, Ended, Thread, WorldOf, new_thread}
+use Rattle.model.specs.State.{Monitor, Waiter, ThreadStatus, Running, Waiting, Relock, Ended, Thread, new_thread}
 use Rattle.model.specs.Outcomes.{Cost, Free, Makes, Starts, Enters, Joins}
-use Rattle.model.specs.Monitors as monitors
-use Rattle.model.specs.Monitors.{Answered, done, unlocked, owned, released, owns, as_owner, as_entrant, monitor_enter, monitor_exit, monitor_wait, monitor_notify, monitor_notify_all, monitor_wake_all, monitor_interrupt, monitor_relock, without, relock_from, monitor_at, at_object}
-use Rattle.model.specs.Worlds.{no_thread, thread_at, with_status, woken, all_woken, waiters_of}
+use Rattle.model.specs.Monitors.{Answered, done, unlocked, owned, released, owns, as_owner, as_entrant, monitor_enter, monitor_exit, monitor_wait, monitor_notify, monitor_interrupt, monitor_relock, without, relock_from, monitor_at, at_object}
+use Rattle.model.specs.Worlds.{no_thread}
 use Rattle.monitor_counts.specs.Counts.{fat_after, Returns, IsStatusCounted, IsOwnerCounted, IsMonitorCounted, AreCounted}
 
 -- ---- lists
@@ -129,7 +128,7 @@ module _ (fat : ℕ → Bool) (object : ℕ) where
       (λ own. record {
         owner = refl;
         waiters = each_append (λ (w : Waiter). Returns fat object w.count) m.waiters (record { thread = t; count = m.count }) h.waiters
-          (record { entries = owner_entries m.owner t m.count own h.owner; lock = is });
+            (record { entries = owner_entries m.owner t m.count own h.owner; lock = is });
       }) h
 
   pub notify_counted : (t pick : ℕ) (m : Monitor) → IsMonitorCounted fat object m → IsMonitorCounted fat object (monitor_notify t pick m).after

@@ -1,5 +1,5 @@
 -- What each event keeps of counts.
-use Rattle.std.proofs.Common.{◌≡◌, ℕ, zero, suc, List, [], ◌∷◌, nat_lt, Bool, true, false, ◌==◌, Option, Some, None, refl, ap, subst}
+use Rattle.std.proofs.Common.{ℕ, zero, suc, List, [], ◌∷◌, nat_lt, Bool, true, false, ◌==◌, Option, Some, None, refl, subst}
 use Rattle.std.specs.Prelude.{slice_get, if◌then◌else◌}
 use Rattle.std.specs.Option.{option_map_or, option_and_then}
 use Rattle.model.specs.declared.event.Event.{Event}
@@ -13,16 +13,16 @@ use Rattle.model.specs.Operands.{Carrier, words, values, under}
 use Rattle.model.specs.Lookup.{select, field_member}
 use Rattle.model.specs.Opening.{arguments_reference, class_reference}
 use Rattle.model.specs.State.{Instance, types_of, InProgress, Erroneous, WakeCause, Notified, Interrupted, ThreadStatus, Running, Waiting, Relock, Ended, FrameOf, Phase, Super, End, Invocation, Initialisation, StackOf, WorldOf, StateOf}
-use Rattle.model.specs.Outcomes.{Cost, Makes, Fault, fault_class, OutcomeOf, Goes, Raises, Throws, Interrupts, Calls, Returns, Waits, NoClassDefFound, StackOverflow, IllegalMonitorState, InterruptedWait, AbstractMethod, ExceptionInInitializer}
+use Rattle.model.specs.Outcomes.{Fault, fault_class, OutcomeOf, Goes, Raises, Throws, Interrupts, Calls, Returns, Waits, NoClassDefFound, StackOverflow, IllegalMonitorState, InterruptedWait, AbstractMethod, ExceptionInInitializer}
 use Rattle.model.specs.Monitors as monitors
 use Rattle.model.specs.Worlds.{thread_at, with_thread, with_begun, with_pending, with_caught, with_status, with_interrupted, with_static, put_value, allocated, object_at, class_of_object, is_owner, may_enter, with_entry, entry_cost, with_exit, with_monitors, is_done}
-use Rattle.model.specs.ClassInitialisation.{status_of, with_class_status, constant_value, with_constant, with_constants, with_class_begun, Look, IsReady, IsNew, IsHeld, HasFailed, look_by}
+use Rattle.model.specs.ClassInitialisation.{status_of, with_class_status, constant_value, with_constant, with_constants, Look, IsReady, IsNew, IsHeld, HasFailed, look_by}
 use Rattle.model.specs.Frames.{frame_with, entered_by, frame_count, at_call}
 use Rattle.model.specs.Sites.{MeaningOf, Site, site_at}
 use Rattle.model.specs.Meanings.{meaning_of}
 use Rattle.model.specs.Step.{SteppedOf, NotEnabled, WrongKind, Next, PartOf, part, on_to, enabled_if, unpicked, is_over, ended, with_end, end_of, settled, raised, needing, needing_class, entering, pushed, leaving, returned, become, ops_of, done, bytecode_by, bytecode_in, initialiser_event, before, initialisation_event, initial_class, main_frame, run_frame, run_of, begin_event, handler_in, unwound, failed, pending_event, after_wait, relock_event, running_event, going_event, thread_event, put_back, event_of, stepped}
 use Rattle.laws.proofs.Operations.{OfMeaning}
-use Rattle.monitor_counts.specs.Counts.{fat_after, IsStatusCounted, AreMonitorsCounted, Returns as ReturnsTo, IsCountKept, AreCountsKept}
+use Rattle.monitor_counts.specs.Counts.{fat_after, IsStatusCounted, AreMonitorsCounted, IsCountKept, AreCountsKept}
 use Rattle.monitor_counts.proofs.Counted.{more_monitors, with_one, with_same}
 use Rattle.monitor_counts.proofs.CountedWorlds.{OutcomeCounted, entry_counted, exit_keeps, relock_keeps, status_keeps, interrupted_keeps, all_leave}
 use Rattle.monitor_counts.proofs.CountedTable.{Counts, meaning_counts}

@@ -1,5 +1,5 @@
 -- What each instruction keeps of counts: the table of meanings.
-use Rattle.std.proofs.Common.{◌≡◌, ℕ, List, [], ◌∷◌, Bool, true, false, Option, Some, None}
+use Rattle.std.proofs.Common.{ℕ, List, [], ◌∷◌, Bool, true, false, Option, Some, None}
 use Rattle.std.specs.Prelude.{unwrap_or, if◌then◌else◌}
 use Rattle.model.specs.declared.event.Event.{Event}
 use Rattle.model.specs.declared.instr.ArrayKind.{ArrayKind}
@@ -20,7 +20,7 @@ use Rattle.model.specs.BuiltInMethods.{built_in_method}
 use Rattle.model.specs.Objects.{cast}
 use Rattle.model.specs.Arrays.{is_negative, made_array, in_range, at_index, element_at, load_of, stored, kept_by, may_stand_in, if_storable, store_reference_meaning, store_of}
 use Rattle.model.specs.MonitorMeanings.{left, monitor_exit_meaning}
-use Rattle.model.specs.Meanings.{local_meaning, get_field_of, put_field_of, println_meaning, meaning_of}
+use Rattle.model.specs.Meanings.{local_meaning, meaning_of}
 use Rattle.laws.proofs.Operations.{Operation, OfRow, GetSystemOut, GetStatic, PutStatic, GetField, PutField, Println, CallVirtual, CallConstructor, CallSpecial, CallStatic, CallInterface, Return, LoadClass, LoadString, New, NewArray, NewReferenceArray, ArrayLength, LoadElement, StoreElement, CheckCast, InstanceOf, Throw, MonitorEnter, MonitorExit, operation, OfMeaning, each_meaning}
 use Rattle.monitor_counts.specs.Counts.{AreMonitorsCounted}
 use Rattle.monitor_counts.proofs.Counted.{more_monitors}

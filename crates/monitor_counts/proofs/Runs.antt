@@ -1,5 +1,5 @@
 -- Counts in the states of a run, with the locks fat that its events inflated.
-use Rattle.std.proofs.Common.{◌≡◌, ℕ, zero, suc, List, [], ◌∷◌, ◌++◌, map, Bool, true, false, ◌==◌, ◌&&◌, ◌||◌, Option, Some, None, refl, sym, ap, ◌∙◌, subst}
+use Rattle.std.proofs.Common.{◌≡◌, ℕ, zero, suc, List, [], ◌∷◌, ◌++◌, map, Bool, true, false, ◌==◌, ◌&&◌, ◌||◌, Some, refl, ap, ◌∙◌, subst}
 use Rattle.std.specs.Prelude.{if◌then◌else◌, slice_index_or}
 use Rattle.std.specs.Option.{option_and_then}
 use Rattle.std.proofs.lemmas.Bool.{cond_both, eqb-true}
@@ -7,7 +7,7 @@ use Rattle.std.proofs.lemmas.Option.{same_Some}
 use Rattle.model.specs.declared.event.Event.{Event}
 use Rattle.model.specs.Classes.{Program}
 use Rattle.model.specs.Operands.{Carrier, words, values}
-use Rattle.model.specs.State.{Thread, StateOf, State, new_thread}
+use Rattle.model.specs.State.{State, new_thread}
 use Rattle.model.specs.Outcomes.{Cost, Free, Makes, Starts, Enters, Joins}
 use Rattle.model.specs.Monitors.{unlocked}
 use Rattle.model.specs.Worlds.{no_thread}
@@ -15,7 +15,7 @@ use Rattle.model.specs.Opening.{opening, opening_heap, main_thread_reference}
 use Rattle.model.specs.Step.{SteppedOf, NotEnabled, WrongKind, Next, stepped, next_by}
 use Rattle.model.specs.Run.{run_from}
 use Rattle.model.specs.LimitStands.{is_inflating_entry, with_inflated, inflated_by, if_next, inflated_from}
-use Rattle.monitor_counts.specs.Counts.{is_inflated, fat_after, IsStatusCounted, IsMonitorCounted, AreCounted, AreMonitorsCounted, IsOpeningCounted, AreOpeningsCounted, IsLonger, AreRunsLonger, AreRunsCounted}
+use Rattle.monitor_counts.specs.Counts.{is_inflated, fat_after, IsStatusCounted, IsMonitorCounted, AreMonitorsCounted, IsOpeningCounted, AreOpeningsCounted, AreRunsLonger, AreRunsCounted}
 use Rattle.monitor_counts.proofs.Counted.{unlocked_counted, counted_more}
 use Rattle.monitor_counts.proofs.CountedSteps.{StateCounted, stepped_counted}
 
@@ -78,9 +78,10 @@ module _ (files : Program) (frames : ℕ) where
   Goes state events objects last after = (run_from files frames state events ≡ Some last) × (inflated_from files frames state events objects ≡ after)
 
   one_goes : (state : State) (event : Event) (cost : Cost) (next : State) (objects : List ℕ) → stepped values files frames state event ≡ Next cost next → Goes state (event ∷ []) objects next (inflated_by cost objects)
-  one_goes state event cost next objects e =
-      ( ap (λ x. option_and_then (λ next. Some next) (next_by x)) e
-      , ap (λ x. if_next x objects (λ cost next. inflated_by cost objects)) e )
+  one_goes state event cost next objects e = (
+    ap (λ x. option_and_then (λ next. Some next) (next_by x)) e,
+    ap (λ x. if_next x objects (λ cost next. inflated_by cost objects)) e,
+  )
 
   longer : (events : List Event) (state : State) (objects : List ℕ) (last : State) (event : Event) (cost : Cost) (next : State)
       → run_from files frames state events ≡ Some last → stepped values files frames last event ≡ Next cost next
