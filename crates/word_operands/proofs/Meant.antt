@@ -76,7 +76,17 @@ module _ (files : Program) where
     -- over words it means the same
     meant_by : (w : Option (MeaningOf ℕ)) → SameIf files (Some rule.meaning) w → meaning_of words files rule.site ≡ w → HasMeaning files (map_frame word_of f)
     meant_by None s e = absurd s
-    meant_by (Some w) s e = record { body = h.stopped.stands.body; is_body = h.stopped.stands.is_body; site = rule.site; is_site = rule.is_site; meaning = w; means = e }
+    meant_by (Some w) s e =
+        let stands = h.stopped.stands in
+        record {
+          body = stands.body;
+          is_body = stands.is_body;
+          starts = stands.holds.starts f.place.offset stands.type stands.typed;
+          site = rule.site;
+          is_site = rule.is_site;
+          meaning = w;
+          means = e;
+        }
 
     same : SameIf files (Some rule.meaning) (meaning_of words files rule.site)
     same = subst (λ o. SameIf files o (meaning_of words files rule.site)) rule.means (meaning_same files rule.site)

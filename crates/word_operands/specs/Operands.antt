@@ -34,6 +34,7 @@ pub record IsOnTop {A : Type 0} (state : StateOf A) (t : ℕ) (frame : FrameOf A
 pub record HasMeaning (files : Program) (frame : FrameOf ℕ) : Type 0 where
   pub body : Body
   pub is_body : body_of files frame.method ≡ Some body
+  pub starts : IsTrue (is_start body.code.code frame.place.offset)
   pub site : Site
   pub is_site : site_at frame.method body frame.place.offset ≡ Some site
   pub meaning : MeaningOf ℕ

@@ -5,6 +5,7 @@
 #![tactic(auto)]
 
 ghost use Rattle.word_operands.specs.Operands.{AreMeant, AreOperandsFound, AreRowsInFrames};
+ghost use Rattle.word_operands.specs.Receivers.{AreFieldsOfClasses, AreReceived};
 
 /// Each frame on top of a running thread stands at an instruction that means something.
 pub fn instructions_are_meant()
@@ -20,4 +21,15 @@ pub fn operands_are_there()
 /// A local instruction reads and writes local variables of its frame alone.
 pub fn local_variables_are_there()
     ensures holds { AreRowsInFrames }
+{}
+
+/// A reference that finds an instance field names a class, and what the verifier takes for an object of it is an instance of the
+/// class that declares the field or of one below it.
+pub fn fields_are_of_classes()
+    ensures holds { AreFieldsOfClasses }
+{}
+
+/// The object of an instruction is null, or it is there and of the class or kind that the instruction needs.
+pub fn receivers_fit()
+    ensures holds { AreReceived }
 {}
