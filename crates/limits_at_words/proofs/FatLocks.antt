@@ -1,20 +1,18 @@
 -- Flags of fat locks go on with what events take; calls of monitors set them so, and are refused at the limits.
-use Rattle.std.proofs.Common.{◌≡◌, ℕ, zero, suc, ◌+◌, ◌<◌, ◌≤◌, List, [], ◌∷◌, ◌++◌, length, replicate, Bool, true, false, ◌==◌, ◌&&◌, ◌||◌, not, Option, Some, None, refl, sym, ap, ◌∙◌, subst, arith}
+use Rattle.std.proofs.Common.{◌≡◌, ℕ, zero, suc, ◌+◌, ◌<◌, List, [], ◌∷◌, ◌++◌, length, replicate, Bool, true, false, ◌==◌, ◌&&◌, ◌||◌, not, Option, Some, None, refl, sym, ap, ◌∙◌, subst, arith}
 use Rattle.std.specs.Prelude.{if◌then◌else◌, nat_le, slice_index_or, slice_set, count_by}
 use Rattle.std.proofs.lemmas.Bool.{false≢true, cond_both, eqb-true, eq-eqb}
 use Rattle.std.proofs.lemmas.List.{set-get_or, get_or-set_same, get_or-set_other}
 use Rattle.std.proofs.lemmas.List.Sums.{sum_by_push, sum_by-set}
-use Rattle.model.specs.declared.end.RunCause.{RunCause}
 use Rattle.model.specs.declared.end.RunCause.TheVariants as cause
 use Rattle.model.specs.declared.monitor_answer.MonitorAnswer.TheVariants.{Done, Held}
 use Rattle.model.specs.State.{Monitor}
 use Rattle.model.specs.Outcomes.{Cost, Free, Makes, Starts, Enters, Joins}
 use Rattle.model.specs.Monitors.{Answered, done, owned, owns, as_entrant, monitor_at}
 use Rattle.model.specs.LimitStands.{is_inflating_entry, with_inflated, inflated_by, is_crowded}
-use Rattle.monitor.specs.declared.call.Call.TheVariants as calls
-use Rattle.monitor.specs.Locks.{Locks, is_fat_at, fat_count, fat_after}
+use Rattle.monitor.specs.Locks.{Locks, is_fat_at, fat_count}
 use Rattle.monitor_counts.specs.Counts.{is_inflated, IsOwnerCounted}
-use Rattle.limits_at_words.specs.FatLocks.{AreFlags, flags_after, IsOneOf, call_limit, Shows, AreEntriesAsTaken, AreWaitsAsTaken, AreRelocksAllowed, AreFlagsKept, AreCallsAsTaken}
+use Rattle.limits_at_words.specs.FatLocks.{AreFlags, flags_after, IsOneOf, AreEntriesAsTaken, AreWaitsAsTaken, AreRelocksAllowed, AreFlagsKept, AreCallsAsTaken}
 
 -- ---- lists of flags
 
@@ -57,7 +55,7 @@ module _ (flags : List Bool) (objects : List ℕ) (object : ℕ) (h : AreFlags f
       let at : slice_index_or flags object false ≡ false = h.same object ∙ e in
       let one = sum_by-set (λ (flag : Bool). if flag then 1 else 0) flags object true false there in
       let counted : count_by (λ (flag : Bool). flag) (slice_set flags object true) + 0 ≡ count_by (λ (flag : Bool). flag) flags + 1 =
-        subst (λ (b : Bool). count_by (λ (flag : Bool). flag) (slice_set flags object true) + (if b then 1 else 0) ≡ count_by (λ (flag : Bool). flag) flags + 1) at one in
+      subst (λ (b : Bool). count_by (λ (flag : Bool). flag) (slice_set flags object true) + (if b then 1 else 0) ≡ count_by (λ (flag : Bool). flag) flags + 1) at one in
       record { same = λ other. other_flag other (object == other) refl; count = omega (arith, counted, h.count) }
 
   flag_set : AreFlags (slice_set flags object true) (with_inflated object objects)
@@ -115,7 +113,7 @@ waits_as_taken locks objects object thread h own =
       refused = λ i. if own i && crowded i then Some cause.Monitors else None;
     }
 
-relocks_allowed : AreRelocksAllowed
+pub relocks_allowed : AreRelocksAllowed
 relocks_allowed locks objects object thread count flags returns there small =
     (there, small, returns.entries, λ thin. absurd (false≢true (sym thin ∙ (flags.same object ∙ returns.lock))))
 

@@ -1,3 +1,4 @@
 pub mod Limits
 pub mod FatLocks
 pub mod Room
+pub mod Relocks

@@ -1,5 +1,5 @@
 -- References of a well-typed state have words of 32 bits, where there are fewer than 2^32 objects.
-use Rattle.std.proofs.Common.{◌≡◌, ℕ, zero, suc, ◌+◌, ◌<◌, ◌^◌, List, [], ◌∷◌, map, length, Bool, true, false, Option, Some, None, refl, sym, ◌∙◌, subst, arith}
+use Rattle.std.proofs.Common.{◌≡◌, ℕ, zero, suc, ◌<◌, ◌^◌, List, [], ◌∷◌, map, length, Bool, true, false, Option, Some, None, refl, sym, ◌∙◌, subst, arith}
 use Rattle.std.specs.Prelude.{slice_get}
 use Rattle.std.specs.List.{list_all}
 use Rattle.std.proofs.lemmas.Bool.{false≢true, true≢false, and_parts, ltb-true}
@@ -9,17 +9,17 @@ use Rattle.model.specs.declared.value.Value.{Value}
 use Rattle.model.specs.declared.value.Value.TheVariants as value
 use Rattle.model.specs.Names.{Name, Member}
 use Rattle.model.specs.Classes.{Program}
-use Rattle.model.specs.ReferenceTypes.{ReferenceType, ClassType}
+use Rattle.model.specs.ReferenceTypes.{ClassType}
 use Rattle.model.specs.Types.{VerificationType, Unusable, IntType, NullType, OfType, Uninitialised, UninitialisedThis, is_usable, is_int_value}
 use Rattle.model.specs.DescribedTypes.{DeclaredType, DeclaredInt, DeclaredReference, field_declared, verification_type, made_type}
-use Rattle.model.specs.Operands.{word_of, reference_of}
-use Rattle.model.specs.State.{ObjectOf, Instance, Primitives, References, types_of, ThreadStatus, Running, Waiting, Relock, Ended, Thread, StackOf, StateOf, State}
+use Rattle.model.specs.Operands.{word_of}
+use Rattle.model.specs.State.{ObjectOf, Instance, Primitives, References, types_of, ThreadStatus, Running, Waiting, Relock, Ended, Thread, StackOf, StateOf}
 use Rattle.model.specs.Worlds.{has_ended}
-use Rattle.model.specs.WellTyped.{has_type, is_object_in, is_field_typed, is_object_typed, are_typed, IsStackTyped, IsRunning, IsThreadTyped, AreThreadsTyped, IsWellTyped}
-use Rattle.model.specs.Words.{map_object, words_of}
+use Rattle.model.specs.WellTyped.{has_type, is_object_in, is_field_typed, is_object_typed, are_typed, IsStackTyped, IsThreadTyped, AreThreadsTyped}
+use Rattle.model.specs.Words.{map_object}
 use Rattle.object_counts.specs.Bounds.{is_reference_in}
 use Rattle.object_counts.proofs.References.{are_objects}
-use Rattle.limits_at_words.specs.Room.{Fits, IsFitting, AreFitting, cell_values, AreSlotsFitting, IsStatusFitting, IsThreadFitting, HaveRoom, AreReferencesFitting, AreThreadsFitting}
+use Rattle.limits_at_words.specs.Room.{Fits, IsFitting, AreFitting, cell_values, AreSlotsFitting, IsStatusFitting, IsThreadFitting, AreReferencesFitting, AreThreadsFitting}
 
 none_some : {A : Type 0} (x : A) → None ≡ Some x → ⊥
 none_some x e = absurd cc
@@ -127,9 +127,10 @@ references_fit files state h few =
       threads = threads_fit files heap few state.world.threads state.stacks h.threads;
       stopped = λ frame k. slots_fit files heap few k.stands.type.slots.locals frame.place.slots.locals k.locals;
       ready = λ frame k. slots_fit files heap few k.stopped.stands.type.slots.stack frame.place.slots.stack k.stack;
-      awaits = λ frame results k.
-          ( slots_fit files heap few k.after.slots.locals frame.place.slots.locals k.locals
-          , slots_fit files heap few k.rest frame.place.slots.stack k.stack );
+      awaits = λ frame results k. (
+        slots_fit files heap few k.after.slots.locals frame.place.slots.locals k.locals,
+        slots_fit files heap few k.rest frame.place.slots.stack k.stack,
+      );
     }
 
 -- of so many objects, what a thread keeps beside its stack

@@ -1,15 +1,18 @@
 -- The locks that events inflate, as the calls of monitors keep them: a flag for each object; and what the calls answer and refuse.
-use Rattle.std.specs.Prelude.{◌≡◌, ℕ, ◌<◌, List, [], ◌∷◌, ◌++◌, Option, Some, None, Bool, true, false, if◌then◌else◌, length, replicate, slice_index_or, slice_set, count_by, IsTrue}
+use Rattle.std.specs.Prelude.{◌≡◌, ℕ, ◌<◌, List, [], ◌∷◌, ◌++◌, Option, Some, None, Bool, true, false, if◌then◌else◌, length, replicate, slice_get, slice_index_or, slice_set, count_by, IsTrue}
 use Rattle.model.specs.declared.end.RunCause.{RunCause}
 use Rattle.model.specs.declared.end.RunCause.TheVariants as cause
 use Rattle.model.specs.declared.monitor_answer.MonitorAnswer.TheVariants.{Done}
+use Rattle.model.specs.Classes.{Program}
+use Rattle.model.specs.State.{WakeCause, Relock, Thread, StateOf}
 use Rattle.model.specs.Outcomes.{Cost, Free, Makes, Starts, Enters, Joins}
 use Rattle.model.specs.Monitors.{owns, monitor_at, enter}
 use Rattle.model.specs.LimitStands.{is_inflating_entry, inflated_by, is_crowded, entry_limit}
+use Rattle.model.specs.Words.{AreWellTypedWords}
 use Rattle.monitor.specs.declared.call.Call.{Call}
 use Rattle.monitor.specs.declared.call.Call.TheVariants as calls
 use Rattle.monitor.specs.Locks.{Locks, IsAllowed, fat_after, is_table_full, is_count_full}
-use Rattle.monitor_counts.specs.Counts.{is_inflated, Returns, IsMonitorCounted}
+use Rattle.monitor_counts.specs.Counts.{is_inflated, Returns, IsMonitorCounted, AreMonitorsCounted}
 
 -- ---- flags
 
@@ -58,7 +61,7 @@ AreEntriesAsTaken =
     (locks : Locks) (objects : List ℕ) (object thread : ℕ) → Shows locks objects object
     → (enter object thread locks.monitors).answer ≡ Done
     → IsAsTaken (Enters object (monitor_at locks.monitors object).count)
-      (entry_limit (is_crowded locks.limit objects object) (monitor_at locks.monitors object).count) (calls.Enter object thread) locks
+    (entry_limit (is_crowded locks.limit objects object) (monitor_at locks.monitors object).count) (calls.Enter object thread) locks
 
 abbrev pub AreWaitsAsTaken : Type 0
 AreWaitsAsTaken =
@@ -71,6 +74,14 @@ abbrev pub AreRelocksAllowed : Type 0
 AreRelocksAllowed =
     (locks : Locks) (objects : List ℕ) (object thread count : ℕ) → AreFlags locks.fat objects → Returns (is_inflated objects) object count
     → object < length locks.monitors → thread < 32767 → IsAllowed (calls.Relock object thread count) locks
+
+-- At words of a well-typed state, with locks that show its monitors, so may each thread that has left a wait set (JLS 17.2.1).
+abbrev pub AreRelocksAtWordsAllowed : Type 0
+AreRelocksAtWordsAllowed =
+    (files : Program) (at : StateOf ℕ) → AreWellTypedWords files at
+    → (locks : Locks) (objects : List ℕ) → locks.monitors ≡ at.world.monitors → AreFlags locks.fat objects → AreMonitorsCounted (is_inflated objects) at.world
+    → (t : ℕ) (thread : Thread) (object count : ℕ) (cause : WakeCause) → slice_get at.world.threads t ≡ Some thread → thread.status ≡ Relock object count cause → t < 32767
+    → IsAllowed (calls.Relock object t count) locks
 
 -- ---- the statements
 

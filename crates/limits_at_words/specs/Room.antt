@@ -1,5 +1,5 @@
 -- The references of a well-typed state: each is that of an object that is there, and its word r + 1 is one of 32 bits.
-use Rattle.std.specs.Prelude.{◌≡◌, ℕ, ◌+◌, ◌<◌, ◌^◌, List, [], ◌∷◌, Option, Some, map, length, slice_get, IsTrue, IsFalse}
+use Rattle.std.specs.Prelude.{◌≡◌, ℕ, ◌+◌, ◌<◌, ◌^◌, List, Some, map, length, slice_get, IsTrue, IsFalse}
 use Rattle.model.specs.declared.value.Value.{Value}
 use Rattle.model.specs.Names.{Member}
 use Rattle.model.specs.Classes.{Program}

@@ -3,7 +3,7 @@
 //! The lemmas in `proofs/` are there for a crate above to cite.
 #![tactic(auto)]
 
-ghost use Rattle.limits_at_words.specs.FatLocks.{AreCallsAsTaken, AreFlagsKept};
+ghost use Rattle.limits_at_words.specs.FatLocks.{AreCallsAsTaken, AreFlagsKept, AreRelocksAtWordsAllowed};
 ghost use Rattle.limits_at_words.specs.Limits.{AreLimitsCarried, AreLimitsSame, AreLimitsStanding, AreRunsLongerAtWords};
 ghost use Rattle.limits_at_words.specs.Room.{AreReferencesFitting, AreThreadsFitting};
 
@@ -36,6 +36,11 @@ pub fn flags_are_kept()
 /// limits; a thread that is to enter a monitor again may.
 pub fn calls_are_as_taken()
     ensures holds { AreCallsAsTaken }
+{}
+
+/// At words of a well-typed state where counts are right, `relock` may be called for each thread that has left a wait set.
+pub fn relocks_may_be_called()
+    ensures holds { AreRelocksAtWordsAllowed }
 {}
 
 /// In a well-typed state with fewer than 2^32 objects the word of each reference is one of 32 bits.

@@ -7,7 +7,7 @@ use Rattle.model.specs.State.{Monitor, Waiter, ThreadStatus, Running, Waiting, R
 use Rattle.model.specs.Outcomes.{Cost, Free, Makes, Starts, Enters, Joins}
 use Rattle.model.specs.Monitors.{Answered, done, unlocked, owned, released, owns, as_owner, as_entrant, monitor_enter, monitor_exit, monitor_wait, monitor_notify, monitor_interrupt, monitor_relock, without, relock_from, monitor_at, at_object}
 use Rattle.model.specs.Worlds.{no_thread}
-use Rattle.monitor_counts.specs.Counts.{fat_after, Returns, IsStatusCounted, IsOwnerCounted, IsMonitorCounted, AreCounted}
+use Rattle.monitor_counts.specs.Counts.{is_fat_after, Returns, IsStatusCounted, IsOwnerCounted, IsMonitorCounted, AreCounted}
 
 -- ---- lists
 
@@ -53,14 +53,14 @@ each_without P t (w ∷ ws) h =
 
 -- ---- fat locks
 
-pub fat_still : (cost : Cost) (fat : ℕ → Bool) (object : ℕ) → fat object ≡ true → fat_after cost fat object ≡ true
+pub fat_still : (cost : Cost) (fat : ℕ → Bool) (object : ℕ) → fat object ≡ true → is_fat_after cost fat object ≡ true
 fat_still Free fat object e = e
 fat_still (Makes cells) fat object e = e
 fat_still Starts fat object e = e
 fat_still (Enters entered count) fat object e = or_left _ _ e
 fat_still (Joins joined) fat object e = or_left _ _ e
 
-pub fat_joined : (fat : ℕ → Bool) (object : ℕ) → fat_after (Joins object) fat object ≡ true
+pub fat_joined : (fat : ℕ → Bool) (object : ℕ) → is_fat_after (Joins object) fat object ≡ true
 fat_joined fat object = or_right (fat object) _ (eq-eqb object object refl)
 
 -- where all stay that are fat, counts stay right

@@ -22,7 +22,7 @@ use Rattle.model.specs.Sites.{MeaningOf, Site, site_at}
 use Rattle.model.specs.Meanings.{meaning_of}
 use Rattle.model.specs.Step.{SteppedOf, NotEnabled, WrongKind, Next, PartOf, part, on_to, enabled_if, unpicked, is_over, ended, with_end, end_of, settled, raised, needing, needing_class, entering, pushed, leaving, returned, become, ops_of, done, bytecode_by, bytecode_in, initialiser_event, before, initialisation_event, initial_class, main_frame, run_frame, run_of, begin_event, handler_in, unwound, failed, pending_event, after_wait, relock_event, running_event, going_event, thread_event, put_back, event_of, stepped}
 use Rattle.laws.proofs.Operations.{OfMeaning}
-use Rattle.monitor_counts.specs.Counts.{fat_after, IsStatusCounted, AreMonitorsCounted, IsCountKept, AreCountsKept}
+use Rattle.monitor_counts.specs.Counts.{is_fat_after, IsStatusCounted, AreMonitorsCounted, IsCountKept, AreCountsKept}
 use Rattle.monitor_counts.proofs.Counted.{more_monitors, with_one, with_same}
 use Rattle.monitor_counts.proofs.CountedWorlds.{OutcomeCounted, entry_counted, exit_keeps, relock_keeps, status_keeps, interrupted_keeps, all_leave}
 use Rattle.monitor_counts.proofs.CountedTable.{Counts, meaning_counts}
@@ -32,7 +32,7 @@ module _ {A : Type 0} where
   abbrev pub Counted : (ℕ → Bool) → SteppedOf (PartOf A) → Type 0
   Counted fat NotEnabled = Unit {0}
   Counted fat WrongKind = Unit {0}
-  Counted fat (Next cost p) = AreMonitorsCounted (fat_after cost fat) p.world
+  Counted fat (Next cost p) = AreMonitorsCounted (is_fat_after cost fat) p.world
 
   module _ (fat : ℕ → Bool) where
     enabled_counted : (b : Bool) (x : SteppedOf (PartOf A)) → Counted fat x → Counted fat (enabled_if b x)
@@ -90,7 +90,7 @@ module _ {A : Type 0} where
   settled_counted : (fat : ℕ → Bool) (t : ℕ) (x : SteppedOf (PartOf A)) → Counted fat x → Counted fat (settled t x)
   settled_counted fat t NotEnabled h = tt
   settled_counted fat t WrongKind h = tt
-  settled_counted fat t (Next cost p) h = end_keeps (fat_after cost fat) t p.world p.stack h
+  settled_counted fat t (Next cost p) h = end_keeps (is_fat_after cost fat) t p.world p.stack h
 
   module _ (C : Carrier A) (files : Program) (fat : ℕ → Bool) where
     -- ---- classes
@@ -240,7 +240,7 @@ module _ {A : Type 0} where
   abbrev pub StateCounted : (ℕ → Bool) → SteppedOf (StateOf A) → Type 0
   StateCounted fat NotEnabled = Unit {0}
   StateCounted fat WrongKind = Unit {0}
-  StateCounted fat (Next cost next) = AreMonitorsCounted (fat_after cost fat) next.world
+  StateCounted fat (Next cost next) = AreMonitorsCounted (is_fat_after cost fat) next.world
 
   put_counted : (fat : ℕ → Bool) (state : StateOf A) (t : ℕ) (x : SteppedOf (PartOf A)) → Counted fat x → StateCounted fat (put_back state t x)
   put_counted fat state t NotEnabled h = tt

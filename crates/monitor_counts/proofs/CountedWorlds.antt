@@ -10,18 +10,18 @@ use Rattle.model.specs.Monitors.{unlocked, owns, monitor_at}
 use Rattle.model.specs.Worlds.{thread_at, thread_of, is_alive, is_owner, with_monitors, with_entry, entry_cost, with_exit, with_status, with_interrupted, woken, all_woken, waiters_of}
 use Rattle.model.specs.Sites.{pushing}
 use Rattle.model.specs.BuiltInMethods.{BuiltInMethod, Construct, ConstructWithTarget, ObjectWait, ObjectNotify, ObjectNotifyAll, ThreadStart, ThreadInterrupt, ThreadIsInterrupted, ThreadInterrupted, ThreadYield, ThreadCurrentThread, ThreadJoin, ThreadIsAlive, PrintStreamPrintln, object_of, waiting, wait_by, notified_one, notified, notified_all, if_owner, start_by, interrupted_in, interrupted_on, join_by, built_in_does}
-use Rattle.monitor_counts.specs.Counts.{fat_after, IsStatusCounted, AreMonitorsCounted, Returns as ReturnsTo}
+use Rattle.monitor_counts.specs.Counts.{is_fat_after, IsStatusCounted, AreMonitorsCounted, Returns as ReturnsTo}
 use Rattle.monitor_counts.proofs.Counted.{Each, fat_still, fat_joined, counted_more, owner_entries, enter_counted, exit_counted, wait_counted, notify_counted, emptied_counted, interrupt_counted, relock_counted, as_owner_counted, with_one, with_same, more_threads, called}
 
 -- what an instruction leaves, by the locks that are fat before it
 abbrev pub OutcomeCounted : {A : Type 0} → (ℕ → Bool) → OutcomeOf A → Type 0
-OutcomeCounted fat (Goes cost after slots to) = AreMonitorsCounted (fat_after cost fat) after
+OutcomeCounted fat (Goes cost after slots to) = AreMonitorsCounted (is_fat_after cost fat) after
 OutcomeCounted fat (Raises fault) = Unit {0}
 OutcomeCounted fat (Throws exception) = Unit {0}
 OutcomeCounted fat Interrupts = Unit {0}
 OutcomeCounted fat (Calls frame rest) = Unit {0}
 OutcomeCounted fat (Returns after results) = AreMonitorsCounted fat after
-OutcomeCounted fat (Waits cost after rest) = AreMonitorsCounted (fat_after cost fat) after
+OutcomeCounted fat (Waits cost after rest) = AreMonitorsCounted (is_fat_after cost fat) after
 
 module _ {A : Type 0} where
   pub not_null_counted : (fat : ℕ → Bool) (o : Option ℕ) (go : ℕ → OutcomeOf A) → ((r : ℕ) → OutcomeCounted fat (go r)) → OutcomeCounted fat (not_null o go)
@@ -29,8 +29,8 @@ module _ {A : Type 0} where
   not_null_counted fat (Some r) go h = h r
 
   -- what an event takes inflates no lock that another one needs thin
-  pub at_cost : (cost : Cost) (fat : ℕ → Bool) (world : WorldOf A) → AreMonitorsCounted fat world → AreMonitorsCounted (fat_after cost fat) world
-  at_cost cost fat world h = counted_more fat (fat_after cost fat) (fat_still cost fat) world.monitors world.threads h
+  pub at_cost : (cost : Cost) (fat : ℕ → Bool) (world : WorldOf A) → AreMonitorsCounted fat world → AreMonitorsCounted (is_fat_after cost fat) world
+  at_cost cost fat world h = counted_more fat (is_fat_after cost fat) (fat_still cost fat) world.monitors world.threads h
 
   module _ (fat : ℕ → Bool) (world : WorldOf A) (h : AreMonitorsCounted fat world) where
     -- ---- monitors
@@ -38,7 +38,7 @@ module _ {A : Type 0} where
     entered : (t r : ℕ) → AreMonitorsCounted fat (with_entry world t r)
     entered t r = called fat world.monitors world.threads r (monitors.monitor_enter t) (enter_counted fat r t) h
 
-    pub entry_counted : (t r : ℕ) → AreMonitorsCounted (fat_after (entry_cost world r) fat) (with_entry world t r)
+    pub entry_counted : (t r : ℕ) → AreMonitorsCounted (is_fat_after (entry_cost world r) fat) (with_entry world t r)
     entry_counted t r = at_cost (entry_cost world r) fat (with_entry world t r) (entered t r)
 
     pub exit_keeps : (t r : ℕ) → AreMonitorsCounted fat (with_exit world t r)
@@ -100,9 +100,9 @@ module _ {A : Type 0} where
     interrupted_on_keeps (Some t) = interrupted_in_keeps t (thread_at world t).status (h.statuses_are t)
 
     -- the thread joins the wait set with its entries, of which there are some
-    waiting_keeps : (t object : ℕ) → is_owner world t object ≡ true → AreMonitorsCounted (fat_after (Joins object) fat) (waiting world t object)
+    waiting_keeps : (t object : ℕ) → is_owner world t object ≡ true → AreMonitorsCounted (is_fat_after (Joins object) fat) (waiting world t object)
     waiting_keeps t object own =
-        let is = fat_after (Joins object) fat in
+        let is = is_fat_after (Joins object) fat in
         let m = monitor_at world.monitors object in
         let k = at_cost (Joins object) fat world h in
         let fat_is : is object ≡ true = fat_joined fat object in

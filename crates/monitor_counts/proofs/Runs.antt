@@ -15,7 +15,7 @@ use Rattle.model.specs.Opening.{opening, opening_heap, main_thread_reference}
 use Rattle.model.specs.Step.{SteppedOf, NotEnabled, WrongKind, Next, stepped, next_by}
 use Rattle.model.specs.Run.{run_from}
 use Rattle.model.specs.LimitStands.{is_inflating_entry, with_inflated, inflated_by, if_next, inflated_from}
-use Rattle.monitor_counts.specs.Counts.{is_inflated, fat_after, IsStatusCounted, IsMonitorCounted, AreMonitorsCounted, IsOpeningCounted, AreOpeningsCounted, AreRunsLonger, AreRunsCounted}
+use Rattle.monitor_counts.specs.Counts.{is_inflated, is_fat_after, IsStatusCounted, IsMonitorCounted, AreMonitorsCounted, IsOpeningCounted, AreOpeningsCounted, AreRunsLonger, AreRunsCounted}
 use Rattle.monitor_counts.proofs.Counted.{unlocked_counted, counted_more}
 use Rattle.monitor_counts.proofs.CountedSteps.{StateCounted, stepped_counted}
 
@@ -63,7 +63,7 @@ with_entry : (b : Bool) (objects : List ℕ) (new object : ℕ) → is_inflated 
 with_entry true objects new object = with_one objects new object
 with_entry false objects new object = or_none (is_inflated objects object)
 
-pub inflated_are : (cost : Cost) (objects : List ℕ) (object : ℕ) → is_inflated (inflated_by cost objects) object ≡ fat_after cost (is_inflated objects) object
+pub inflated_are : (cost : Cost) (objects : List ℕ) (object : ℕ) → is_inflated (inflated_by cost objects) object ≡ is_fat_after cost (is_inflated objects) object
 inflated_are Free objects object = refl
 inflated_are (Makes cells) objects object = refl
 inflated_are Starts objects object = refl
@@ -115,7 +115,7 @@ module _ (files : Program) (frames : ℕ) where
       by rest WrongKind k r = absurd cc
       by rest (Next c s) k r =
           rest s (inflated_by c objects)
-          (counted_more (fat_after c (is_inflated objects)) (is_inflated (inflated_by c objects)) (λ o e. inflated_are c objects o ∙ e) s.world.monitors s.world.threads k) r
+          (counted_more (is_fat_after c (is_inflated objects)) (is_inflated (inflated_by c objects)) (λ o e. inflated_are c objects o ∙ e) s.world.monitors s.world.threads k) r
 
 pub runs_longer : AreRunsLonger
 runs_longer files frames events state event cost next r e =

@@ -21,12 +21,12 @@ is_inflated objects object = list_any (λ o. o == object) objects
 
 -- After an event there are those before it, and by what the event takes one more: the lock of which an owner with 256 entries
 -- had one more, or the one on whose object a thread joined the wait set.
-abbrev pub fat_after : Cost → (ℕ → Bool) → ℕ → Bool
-fat_after Free fat = fat
-fat_after (Makes cells) fat = fat
-fat_after Starts fat = fat
-fat_after (Enters entered count) fat = λ object. fat object || (is_inflating_entry count && (entered == object))
-fat_after (Joins joined) fat = λ object. fat object || (joined == object)
+abbrev pub is_fat_after : Cost → (ℕ → Bool) → ℕ → Bool
+is_fat_after Free fat = fat
+is_fat_after (Makes cells) fat = fat
+is_fat_after Starts fat = fat
+is_fat_after (Enters entered count) fat = λ object. fat object || (is_inflating_entry count && (entered == object))
+is_fat_after (Joins joined) fat = λ object. fat object || (joined == object)
 
 -- ---- counts
 
@@ -71,7 +71,7 @@ abbrev pub IsCountKept : {A : Type 0} → Carrier A → Type 0
 IsCountKept {A} C =
     (files : Program) (frames : ℕ) (state : StateOf A) (event : Event) (cost : Cost) (next : StateOf A)
     → stepped C files frames state event ≡ Next cost next
-    → (fat : ℕ → Bool) → AreMonitorsCounted fat state.world → AreMonitorsCounted (fat_after cost fat) next.world
+    → (fat : ℕ → Bool) → AreMonitorsCounted fat state.world → AreMonitorsCounted (is_fat_after cost fat) next.world
 
 -- over values and over words
 pub record AreOpeningsCounted : Type 0 where
@@ -86,7 +86,7 @@ pub record AreCountsKept : Type 0 where
 pub record IsLonger (files : Program) (frames : ℕ) (events : List Event) (event : Event) (cost : Cost) (next : State) : Type 0 where
   pub reached : run files frames (events ++ event ∷ []) ≡ Some next
   pub inflated_are : inflated files frames (events ++ event ∷ []) ≡ inflated_by cost (inflated files frames events)
-  pub fat_are : (object : ℕ) → is_inflated (inflated files frames (events ++ event ∷ [])) object ≡ fat_after cost (is_inflated (inflated files frames events)) object
+  pub fat_are : (object : ℕ) → is_inflated (inflated files frames (events ++ event ∷ [])) object ≡ is_fat_after cost (is_inflated (inflated files frames events)) object
 
 abbrev pub AreRunsLonger : Type 0
 AreRunsLonger =
