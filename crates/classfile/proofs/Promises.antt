@@ -1,5 +1,5 @@
 -- What decoding promises, from what reading gives.
-use Rattle.std.proofs.Common.{◌≡◌, ℕ, List, take, drop, Result, Ok, Err, IsTrue, true, false, refl, sym, ◌∙◌, inl, inr}
+use Rattle.std.proofs.Common.{◌≡◌, ℕ, List, Result, Ok, Err, IsTrue, true, false, refl, sym, ap, subst, ◌∙◌, inl, inr}
 use Rattle.std.specs.Prelude.{IfOk, IfErr}
 use Rattle.reading.specs.declared.fault.Malformed.{Malformed}
 use Rattle.reading.specs.declared.fault.Cause.{Cause}
@@ -10,13 +10,13 @@ use Rattle.reading.specs.Reading.{is_field_cause, malformed_of}
 use Rattle.reading.proofs.Laws.{IsBytes, done, failed, ok_is, at_place}
 use Rattle.model.specs.Tree.{FileTree}
 use Rattle.model.specs.Spells.{IsWhole}
-use Rattle.model.specs.Spelling.{magic, version, Layout}
+use Rattle.model.specs.Spelling.{Layout}
 use Rattle.class_tree.specs.declared.tree.ClassFile.{ClassFile}
 use Rattle.class_tree.specs.View.{file_of}
 use Rattle.classfile.specs.FileReading.{file_at}
 use Rattle.class_tree.specs.Conditions.{Stands, StandsOrStops}
-use Rattle.classfile.specs.Decoding.{Answers, Decodes, BeginsWith, is_reading_cause}
-use Rattle.classfile.proofs.Whole.{Fault, OfField, OfMagic, OfVersion, OfEnd, field_is, file_takes, file_again, fault_of}
+use Rattle.classfile.specs.Decoding.{Answers, Decodes, StopsAt, StandsAt, IsFaultOf}
+use Rattle.classfile.proofs.Whole.{Fault, OfField, OfMagic, OfVersion, OfEnd, file_takes, file_again, fault_of}
 
 pub found_of : (bytes : List ℕ) (r : Result ClassFile Malformed) → IsBytes bytes → Decodes r (file_at (at_place 0 bytes)) → IfOk r (λ c. Layout bytes (file_of c))
 found_of bytes (Ok c) small h = file_takes bytes (file_of c) small h
@@ -24,63 +24,55 @@ found_of bytes (Err e) small h = tt
 
 pub only_of : (bytes : List ℕ) (r : Result ClassFile Malformed) → Decodes r (file_at (at_place 0 bytes)) → (c : FileTree) → Layout bytes c → Answers r c
 only_of bytes (Ok x) h c l = let e : done (file_of x) ≡ done c = sym h ∙ file_again bytes c l in ok_is (file_of x) c e
-only_of bytes (Err e) h c l = elim h [ inl k ↦ k | inr k ↦ (let clash : failed e ≡ done c = sym k ∙ file_again bytes c l in absurd cc) ]
+only_of bytes (Err e) h c l = elim h [ inl k ↦ ap (λ (f : Malformed). f.cause) k | inr k ↦ (let clash : failed e ≡ done c = sym k ∙ file_again bytes c l in absurd cc) ]
 
-magic_fault : (bytes : List ℕ) (e : Malformed) → Fault bytes e → e.cause ≡ causes.Magic → (e.offset ≡ 0) × (BeginsWith magic bytes → ⊥)
-magic_fault bytes e (OfField h) is = absurd (field_is e.cause causes.Magic h refl is)
-magic_fault bytes e (OfMagic c at others) is = (at, others)
-magic_fault bytes e (OfVersion c at others) is = absurd cc
-magic_fault bytes e (OfEnd c tree) is = absurd cc
+-- ---- refusals
 
-version_fault : (bytes : List ℕ) (e : Malformed) → Fault bytes e → e.cause ≡ causes.Version → (e.offset ≡ 4) × (BeginsWith version (drop 4 bytes) → ⊥)
-version_fault bytes e (OfField h) is = absurd (field_is e.cause causes.Version h refl is)
-version_fault bytes e (OfMagic c at others) is = absurd cc
-version_fault bytes e (OfVersion c at others) is = (at, others)
-version_fault bytes e (OfEnd c tree) is = absurd cc
+-- a fault of a field is the one with which reading ends
+field_stands : (bytes : List ℕ) (cause : Cause) (offset : ℕ) → StopsAt bytes cause offset → IsTrue (is_field_cause cause) → StandsAt bytes cause offset
+field_stands bytes causes.Truncated offset e h = e
+field_stands bytes causes.Tag offset e h = e
+field_stands bytes causes.Utf8 offset e h = e
+field_stands bytes causes.Attribute offset e h = inl e
+field_stands bytes causes.Magic offset e h = absurd cc
+field_stands bytes causes.Version offset e h = absurd cc
+field_stands bytes causes.Trailing offset e h = absurd cc
+field_stands bytes causes.OutOfMemory offset e h = absurd cc
+field_stands bytes causes.Index offset e h = absurd cc
+field_stands bytes causes.Name offset e h = absurd cc
+field_stands bytes causes.Descriptor offset e h = absurd cc
+field_stands bytes causes.Duplicate offset e h = absurd cc
+field_stands bytes causes.Code offset e h = absurd cc
 
-trailing_fault : (bytes : List ℕ) (e : Malformed) → Fault bytes e → e.cause ≡ causes.Trailing → (c : FileTree) × Layout (take e.offset bytes) c
-trailing_fault bytes e (OfField h) is = absurd (field_is e.cause causes.Trailing h refl is)
-trailing_fault bytes e (OfMagic c at others) is = absurd cc
-trailing_fault bytes e (OfVersion c at others) is = absurd cc
-trailing_fault bytes e (OfEnd c tree) is = tree
+fault_stands : (bytes : List ℕ) (f : Malformed) → file_at (at_place 0 bytes) ≡ Err f → Fault bytes f → StandsAt bytes f.cause f.offset
+fault_stands bytes f e (OfField h) = field_stands bytes f.cause f.offset e h
+fault_stands bytes f e (OfMagic is stands) = subst (λ cause. StandsAt bytes cause f.offset) (sym is) stands
+fault_stands bytes f e (OfVersion is stands) = subst (λ cause. StandsAt bytes cause f.offset) (sym is) stands
+fault_stands bytes f e (OfEnd is stands) = subst (λ cause. StandsAt bytes cause f.offset) (sym is) stands
 
--- a cause of a field is one of reading
-field_cause : (cause : Cause) → IsTrue (is_field_cause cause) → IsTrue (is_reading_cause cause)
-field_cause causes.Truncated h = refl
-field_cause causes.Tag h = refl
-field_cause causes.Utf8 h = refl
-field_cause causes.Attribute h = refl
-field_cause causes.Magic h = refl
-field_cause causes.Version h = refl
-field_cause causes.Trailing h = refl
-field_cause causes.OutOfMemory h = refl
-field_cause causes.Index h = h
-field_cause causes.Name h = h
-field_cause causes.Descriptor h = h
-field_cause causes.Duplicate h = h
-field_cause causes.Code h = h
+pub refused_of : (bytes : List ℕ) (r : Result ClassFile Malformed) → IsBytes bytes → Decodes r (file_at (at_place 0 bytes)) → IfErr r (IsFaultOf bytes)
+refused_of bytes (Ok x) small h = tt
+refused_of bytes (Err f) small h = elim h [ inl k ↦ inl k | inr k ↦ inr (fault_stands bytes f k (fault_of bytes f small k)) ]
 
-reading_cause : (bytes : List ℕ) (e : Malformed) → Fault bytes e → IsTrue (is_reading_cause e.cause)
-reading_cause bytes e (OfField h) = field_cause e.cause h
-reading_cause bytes e (OfMagic c at others) = rw c refl
-reading_cause bytes e (OfVersion c at others) = rw c refl
-reading_cause bytes e (OfEnd c tree) = rw c refl
+-- a condition that a tree doesn't meet
+cause_stands : (bytes : List ℕ) (c : FileTree) (cause : Cause) (offset : ℕ) → Layout bytes c → Stands cause c → StandsAt bytes cause offset
+cause_stands bytes c causes.Index offset l h = (c, l, h)
+cause_stands bytes c causes.Name offset l h = (c, l, h)
+cause_stands bytes c causes.Descriptor offset l h = (c, l, h)
+cause_stands bytes c causes.Attribute offset l h = inr (c, l, h)
+cause_stands bytes c causes.Duplicate offset l h = (c, l, h)
+cause_stands bytes c causes.Truncated offset l h = absurd h
+cause_stands bytes c causes.Magic offset l h = absurd h
+cause_stands bytes c causes.Version offset l h = absurd h
+cause_stands bytes c causes.Tag offset l h = absurd h
+cause_stands bytes c causes.Utf8 offset l h = absurd h
+cause_stands bytes c causes.Trailing offset l h = absurd h
+cause_stands bytes c causes.OutOfMemory offset l h = absurd h
+cause_stands bytes c causes.Code offset l h = absurd h
 
-pub cause_of : (bytes : List ℕ) (r : Result ClassFile Malformed) → IsBytes bytes → Decodes r (file_at (at_place 0 bytes)) → IfErr r (λ e. IsTrue (is_reading_cause e.cause))
-cause_of bytes (Ok x) small h = tt
-cause_of bytes (Err e) small h = elim h [ inl k ↦ rw k refl | inr k ↦ reading_cause bytes e (fault_of bytes e small k) ]
-
-pub magic_of : (bytes : List ℕ) (r : Result ClassFile Malformed) → IsBytes bytes → Decodes r (file_at (at_place 0 bytes)) → IfErr r (λ e. e.cause ≡ causes.Magic → (e.offset ≡ 0) × (BeginsWith magic bytes → ⊥))
-magic_of bytes (Ok x) small h = tt
-magic_of bytes (Err e) small h = λ is. elim h [ inl k ↦ absurd cc | inr k ↦ magic_fault bytes e (fault_of bytes e small k) is ]
-
-pub version_of : (bytes : List ℕ) (r : Result ClassFile Malformed) → IsBytes bytes → Decodes r (file_at (at_place 0 bytes)) → IfErr r (λ e. e.cause ≡ causes.Version → (e.offset ≡ 4) × (BeginsWith version (drop 4 bytes) → ⊥))
-version_of bytes (Ok x) small h = tt
-version_of bytes (Err e) small h = λ is. elim h [ inl k ↦ absurd cc | inr k ↦ version_fault bytes e (fault_of bytes e small k) is ]
-
-pub trailing_of : (bytes : List ℕ) (r : Result ClassFile Malformed) → IsBytes bytes → Decodes r (file_at (at_place 0 bytes)) → IfErr r (λ e. e.cause ≡ causes.Trailing → (c : FileTree) × Layout (take e.offset bytes) c)
-trailing_of bytes (Ok x) small h = tt
-trailing_of bytes (Err e) small h = λ is. elim h [ inl k ↦ absurd cc | inr k ↦ trailing_fault bytes e (fault_of bytes e small k) is ]
+pub condition_stands : (bytes : List ℕ) (c : FileTree) (stop : Stop) → Layout bytes c → StandsOrStops stop c → IsFaultOf bytes (malformed_of stop)
+condition_stands bytes c stops.Memory l h = inl refl
+condition_stands bytes c (stops.Fault f) l h = inr (cause_stands bytes c f.cause f.offset l h)
 
 -- where a condition stands, not all are met
 pub stands_not : (cause : Cause) (c : FileTree) → Stands cause c → IsWhole c → ⊥

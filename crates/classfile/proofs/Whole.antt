@@ -1,19 +1,21 @@
 -- The laws of the whole file.
-use Rattle.std.proofs.Common.{◌≡◌, ◌⊎◌, ℕ, ◌+◌, Bool, true, false, cond, eqb, ◌&&◌, List, [], ◌++◌, length, take, drop, Result, Ok, Err, refl, sym, ap, subst, ◌∙◌, arith, IsTrue, inl, inr, lit<}
-use Rattle.std.proofs.lemmas.Bool.{eqb-true}
+use Rattle.std.proofs.Common.{◌≡◌, ◌⊎◌, ℕ, ◌+◌, ◌<◌, ◌≤◌, Bool, true, false, cond, eqb, ltb, ◌&&◌, List, [], ◌++◌, length, take, drop, Result, Ok, Err, refl, sym, ap, subst, ◌∙◌, arith, IsTrue, inl, inr, lit<, length-append}
+use Rattle.std.proofs.lemmas.Bool.{eqb-true, eqb-false, ltb-false}
 use Rattle.std.proofs.lemmas.List.{append-nil, nil_from_length, take_at, drop_at}
+use Rattle.byteorder.specs.Endian.{big_number}
+use Rattle.byteorder.specs.Numbers.{length-bytes_high_first}
 use Rattle.reading.specs.declared.fault.Malformed.{Malformed}
 use Rattle.reading.specs.declared.fault.Cause.{Cause}
 use Rattle.reading.specs.declared.fault.Cause.TheVariants as causes
 use Rattle.reading.specs.Input.{Input}
-use Rattle.reading.specs.Reading.{◌>>=◌, Read, number_at, pair_at, tested, is_field_cause}
-use Rattle.reading.proofs.Laws.{IsBytes, bind_ok, bind_err, done, failed, ok_is, err_is, guard_passed, at_place, Takes, Takes-then, Laws, fits, last, then}
+use Rattle.reading.specs.Reading.{◌>>=◌, Read, number_at, pair_at, tested, after, is_field_cause}
+use Rattle.reading.proofs.Laws.{IsBytes, bind_ok, bind_err, done, failed, ok_is, err_is, guard_ok, guard_passed, at_place, Takes, Takes-then, Laws, fits, last, then}
 use Rattle.reading.proofs.Fields.{u2_laws, u4_laws, pair_laws, table_laws}
 use Rattle.model.specs.Tree.{FileTree}
-use Rattle.model.specs.Spelling.{magic, version, parts, file, FileFits, Layout}
+use Rattle.model.specs.Spelling.{u2, magic, version, parts, file, FileFits, Layout}
 use Rattle.classfile.specs.declared.part.Owner.TheVariants as owners
 use Rattle.classfile.specs.FileReading.{is_version, parts_at, file_at}
-use Rattle.classfile.specs.Decoding.{BeginsWith}
+use Rattle.classfile.specs.Decoding.{BeginsWith, StandsAt}
 use Rattle.constant_pool.proofs.PoolLaws.{pool_laws}
 use Rattle.classfile.proofs.MemberLaws.{skipped_laws, field_laws, method_laws}
 
@@ -152,32 +154,32 @@ file_again bytes c l =
 
 -- ---- the faults of a file
 
--- a fault of a field is another
-pub field_is : (cause other : Cause) → IsTrue (is_field_cause cause) → is_field_cause other ≡ false → cause ≡ other → ⊥
-field_is cause other h out e = let k : is_field_cause other ≡ true = subst (λ (c : Cause). is_field_cause c ≡ true) e h in absurd cc
-
 -- the bytes up to the fault are a file, and others stand behind
 HasTrailing : Input → Malformed → Type 0
-HasTrailing i f = (f.cause ≡ causes.Trailing) × ((c : FileTree) × (j : Input) × (parts_at i ≡ Ok (c, j)) × (f.offset ≡ j.at))
+HasTrailing i f = (f.cause ≡ causes.Trailing) × ((c : FileTree) × (j : Input) × (parts_at i ≡ Ok (c, j)) × (f.offset ≡ j.at) × (0 < length j.rest))
 
-unended : (b : Bool) (x : FileTree × Input) (f : Malformed) → cond b (done x.0) (failed (record { cause = causes.Trailing; offset = x.1.at })) ≡ Err f → (f.cause ≡ causes.Trailing) × (f.offset ≡ x.1.at)
+unended : (b : Bool) (x : FileTree × Input) (f : Malformed) → cond b (done x.0) (failed (record { cause = causes.Trailing; offset = x.1.at })) ≡ Err f → (f.cause ≡ causes.Trailing) × (f.offset ≡ x.1.at) × (b ≡ false)
 unended true x f e = absurd cc
-unended false x f e = let is = err_is {B = FileTree} (record { cause = causes.Trailing; offset = x.1.at }) f e in (ap (λ (m : Malformed). m.cause) (sym is), ap (λ (m : Malformed). m.offset) (sym is))
+unended false x f e = let is = err_is {B = FileTree} (record { cause = causes.Trailing; offset = x.1.at }) f e in (ap (λ (m : Malformed). m.cause) (sym is), ap (λ (m : Malformed). m.offset) (sym is), refl)
+
+-- a length that is not 0
+some_left : (n : ℕ) → eqb n 0 ≡ false → 0 < n
+some_left n h = omega (arith, eqb-false n 0 h)
 
 ends_err : (i : Input) (f : Malformed) → IsBytes i.rest → ends (parts_at i) ≡ Err f → IsTrue (is_field_cause f.cause) ⊎ HasTrailing i f
 unfolding ends HasTrailing
 ends_err i f small e =
     elim (bind_err (parts_at i) (λ x. cond (eqb (length x.1.rest) 0) (done x.0) (failed (record { cause = causes.Trailing; offset = x.1.at }))) f e) [
       | inl h ↦ inl (parts_laws.stops i f small h)
-      | inr h ↦ (let u = unended (eqb (length h.0.1.rest) 0) h.0 f h.2 in inr (u.0, (h.0.0, h.0.1, h.1, u.1)))
+      | inr h ↦ (let u = unended (eqb (length h.0.1.rest) 0) h.0 f h.2 in inr (u.0, (h.0.0, h.0.1, h.1, u.1, some_left (length h.0.1.rest) u.2)))
     ]
 
 -- what the fault of a file is: one of a field, or Magic, Version or Trailing
 pub data Fault (bytes : List ℕ) (f : Malformed) : Type 0 where
   OfField : IsTrue (is_field_cause f.cause) → Fault bytes f
-  OfMagic : f.cause ≡ causes.Magic → f.offset ≡ 0 → (BeginsWith magic bytes → ⊥) → Fault bytes f
-  OfVersion : f.cause ≡ causes.Version → f.offset ≡ 4 → (BeginsWith version (drop 4 bytes) → ⊥) → Fault bytes f
-  OfEnd : f.cause ≡ causes.Trailing → (c : FileTree) × Layout (take f.offset bytes) c → Fault bytes f
+  OfMagic : f.cause ≡ causes.Magic → StandsAt bytes causes.Magic f.offset → Fault bytes f
+  OfVersion : f.cause ≡ causes.Version → StandsAt bytes causes.Version f.offset → Fault bytes f
+  OfEnd : f.cause ≡ causes.Trailing → StandsAt bytes causes.Trailing f.offset → Fault bytes f
 
 -- a number that is another than the magic
 not_magic : (bytes : List ℕ) (f : Malformed) → Refused (number_at 4) is_magic causes.Magic (at_place 0 bytes) f → BeginsWith magic bytes → ⊥
@@ -198,23 +200,42 @@ not_version bytes i f t h begins =
     let no : is_version (0, 49) ≡ false = subst (λ (v : ℕ × ℕ). is_version v ≡ false) (sym same) h.1.1.0 in
     absurd cc
 
+fault_of_magic : (bytes : List ℕ) (f : Malformed) → Refused (number_at 4) is_magic causes.Magic (at_place 0 bytes) f → Fault bytes f
+unfolding Refused
+fault_of_magic bytes f h =
+    let g = guard_ok (ltb (length bytes) 4) (record { cause = causes.Truncated; offset = 0 }) (big_number 4 bytes, after 4 (at_place 0 bytes)) h.0 h.1.0 in
+    OfMagic h.1.1.1.0 (h.1.1.1.1, ltb-false _ _ g.0, not_magic bytes f h)
+
+-- four bytes are there where two numbers were read
+pair_length : (i : Input) (x : (ℕ × ℕ) × Input) → IsBytes i.rest → pair_at i ≡ Ok x → 4 ≤ length i.rest
+pair_length i x small e =
+    let t = pair_laws.takes i x.0 x.1 small e in
+    omega (arith, ap length t.0.parts, length-append (u2 x.0.0 ++ u2 x.0.1) x.1.rest, length-append (u2 x.0.0) (u2 x.0.1), length-bytes_high_first 2 x.0.0, length-bytes_high_first 2 x.0.1)
+
+fault_of_version : (bytes : List ℕ) (i : Input) (f : Malformed) → Takes (at_place 0 bytes) magic i → Refused pair_at is_version causes.Version i f → Fault bytes f
+unfolding Refused
+fault_of_version bytes i f t h =
+    let long : 8 ≤ length bytes = omega (arith, ap length t.parts, length-append magic i.rest, pair_length i h.0 t.rest_fits h.1.0) in
+    OfVersion h.1.1.1.0 (h.1.1.1.1 ∙ t.at, long, (i.rest, t.parts), not_version bytes i f t h)
+
 fault_of_end : (bytes : List ℕ) (i j : Input) (f : Malformed) → Takes (at_place 0 bytes) magic i → Takes i version j → HasTrailing j f → Fault bytes f
 unfolding HasTrailing
 fault_of_end bytes i j f t u k =
     let w = parts_laws.takes j k.1.0 k.1.1 u.rest_fits k.1.2 in
     let all : Takes (at_place 0 bytes) (file k.1.0) k.1.1 = Takes-then (at_place 0 bytes) magic i (version ++ parts k.1.0) k.1.1 t (Takes-then i version j (parts k.1.0) k.1.1 u w.0) in
-    let long : f.offset ≡ length (file k.1.0) = omega (arith, k.1.3, all.at) in
-    OfEnd k.0 (k.1.0, record { spelled = ap (λ (l : List ℕ). take f.offset l) all.parts ∙ take_at (file k.1.0) k.1.1.rest f.offset (sym long); fits = w.1 })
+    let at_end : f.offset ≡ length (file k.1.0) = omega (arith, k.1.3, all.at) in
+    let more : f.offset < length bytes = omega (arith, at_end, ap length all.parts, length-append (file k.1.0) k.1.1.rest, k.1.4) in
+    OfEnd k.0 (more, k.1.0, record { spelled = ap (λ (l : List ℕ). take f.offset l) all.parts ∙ take_at (file k.1.0) k.1.1.rest f.offset (sym at_end); fits = w.1 })
 
 pub fault_of : (bytes : List ℕ) (f : Malformed) → IsBytes bytes → file_at (at_place 0 bytes) ≡ Err f → Fault bytes f
-unfolding magic_at version_at Refused
+unfolding magic_at version_at
 fault_of bytes f small e =
     elim (bind_err (magic_at (at_place 0 bytes)) (λ magic. version_at magic.1 >>= λ version. ends (parts_at version.1)) f (sym (file_is (at_place 0 bytes)) ∙ e)) [
-      | inl h ↦ elim (tested_err u4_laws is_magic causes.Magic (at_place 0 bytes) f small h) [ inl k ↦ OfField k | inr k ↦ OfMagic k.1.1.1.0 k.1.1.1.1 (not_magic bytes f k) ]
+      | inl h ↦ elim (tested_err u4_laws is_magic causes.Magic (at_place 0 bytes) f small h) [ inl k ↦ OfField k | inr k ↦ fault_of_magic bytes f k ]
       | inr h ↦
           (let t = magic_takes (at_place 0 bytes) h.0 small h.1 in
           elim (bind_err (version_at h.0.1) (λ version. ends (parts_at version.1)) f h.2) [
-            | inl g ↦ elim (tested_err pair_laws is_version causes.Version h.0.1 f t.rest_fits g) [ inl k ↦ OfField k | inr k ↦ OfVersion k.1.1.1.0 (k.1.1.1.1 ∙ t.at) (not_version bytes h.0.1 f t k) ]
+            | inl g ↦ elim (tested_err pair_laws is_version causes.Version h.0.1 f t.rest_fits g) [ inl k ↦ OfField k | inr k ↦ fault_of_version bytes h.0.1 f t k ]
             | inr g ↦
                 (let u = version_takes h.0.1 g.0 t.rest_fits g.1 in
                 elim (ends_err g.0.1 f u.rest_fits g.2) [ inl k ↦ OfField k | inr k ↦ fault_of_end bytes h.0.1 g.0.1 f t u k ])

@@ -1,15 +1,13 @@
 //! The whole file (JVMS 4.1).
 
-ghost use Rattle.std.specs.Prelude.{◌≡◌, List, take, drop, IfOk, IfErr, IsTrue, IsFalse};
+ghost use Rattle.std.specs.Prelude.{◌≡◌, IfOk, IfErr};
 ghost use Rattle.model.specs.Tree.{FileTree};
-ghost use Rattle.model.specs.Spelling.{magic, version, Layout};
-ghost use Rattle.model.specs.Conditions.{file_indices, file_names, file_descriptors, members_differ};
+ghost use Rattle.model.specs.Spelling.{Layout};
 ghost use Rattle.model.specs.Spells.{Spells};
-ghost use Rattle.reading.specs.declared.fault.Cause.TheVariants as causes;
 ghost use Rattle.reading.specs.Reading.{Gives};
 ghost use Rattle.class_tree.specs.View.{file_of};
 ghost use Rattle.classfile.specs.FileReading.{parts_at, file_at};
-ghost use Rattle.classfile.specs.Decoding.{Answers, Decodes, BeginsWith, is_reading_cause};
+ghost use Rattle.classfile.specs.Decoding.{Answers, Decodes, IsFaultOf};
 
 use crate::part::{Owner, read_table};
 use class_tree::{ClassFile, check_conditions};
@@ -76,10 +74,7 @@ fn decoded(alloc: Global, bytes: &[u8]) -> Result<ClassFile, Malformed>
 fn laid_out(alloc: Global, bytes: &[u8]) -> Result<ClassFile, Malformed>
     ensures found { IfOk result (λ c. Layout bytes.now (file_of c)) }
     ensures only { (c : FileTree) → Layout bytes.now c → Answers result c }
-    ensures cause { IfErr result (λ e. IsTrue (is_reading_cause e.cause)) }
-    ensures magic { IfErr result (λ e. e.cause ≡ causes.Magic → (e.offset ≡ 0) × (BeginsWith magic bytes.now → ⊥)) }
-    ensures version { IfErr result (λ e. e.cause ≡ causes.Version → (e.offset ≡ 4) × (BeginsWith version (drop 4 bytes.now) → ⊥)) }
-    ensures trailing { IfErr result (λ e. e.cause ≡ causes.Trailing → (c : FileTree) × Layout (take e.offset bytes.now) c) }
+    ensures refused { IfErr result (IsFaultOf bytes.now) }
 {
     decoded(alloc, bytes)
 }
@@ -98,20 +93,8 @@ pub fn decode(alloc: Global, bytes: &[u8]) -> Result<ClassFile, Malformed>
     ensures found { IfOk result (λ c. Spells bytes.now (file_of c)) }
     // What is spelled so is answered, unless memory runs out.
     ensures only { (c : FileTree) → Spells bytes.now c → Answers result c }
-    // The first four bytes are others.
-    ensures magic { IfErr result (λ e. e.cause ≡ causes.Magic → (e.offset ≡ 0) × (BeginsWith magic bytes.now → ⊥)) }
-    // The bytes 4 to 7 are others.
-    ensures version { IfErr result (λ e. e.cause ≡ causes.Version → (e.offset ≡ 4) × (BeginsWith version (drop 4 bytes.now) → ⊥)) }
-    // The bytes before the offset have a layout.
-    ensures trailing { IfErr result (λ e. e.cause ≡ causes.Trailing → (c : FileTree) × Layout (take e.offset bytes.now) c) }
-    // The bytes have a layout in which an index names no entry of its kind.
-    ensures index { IfErr result (λ e. e.cause ≡ causes.Index → (c : FileTree) × (Layout bytes.now c × IsFalse (file_indices c))) }
-    // The bytes have a layout in which a name is none.
-    ensures name { IfErr result (λ e. e.cause ≡ causes.Name → (c : FileTree) × (Layout bytes.now c × IsFalse (file_names c))) }
-    // The bytes have a layout in which a descriptor is none or of another kind.
-    ensures descriptor { IfErr result (λ e. e.cause ≡ causes.Descriptor → (c : FileTree) × (Layout bytes.now c × IsFalse (file_descriptors c))) }
-    // The bytes have a layout in which two fields, or two methods, have one name and one descriptor.
-    ensures duplicate { IfErr result (λ e. e.cause ≡ causes.Duplicate → (c : FileTree) × (Layout bytes.now c × IsFalse (members_differ c))) }
+    // A refusal's cause stands there, unless memory ran out.
+    ensures refused { IfErr result (IsFaultOf bytes.now) }
 {
     let file = laid_out(alloc, bytes)?;
     match check_conditions(alloc, &file) {

@@ -1,11 +1,15 @@
 -- Ways that lead back to a class.
-use Rattle.std.proofs.Common.{◌≡◌, ℕ, zero, suc, ◌+◌, ◌<◌, ◌≤◌, Bool, true, false, ◌||◌, List, [], ◌∷◌, length, sym, subst, arith}
+use Rattle.std.proofs.Common.{◌≡◌, ℕ, zero, suc, ◌+◌, ◌<◌, ◌≤◌, Bool, true, false, ◌||◌, List, [], ◌∷◌, ◌++◌, length, refl, sym, ap, subst, arith, Option, Some, None, leb-false}
+use Rattle.std.specs.Option.{option_and_then, option_map_or, option_to_list}
 use Rattle.std.specs.List.{list_any}
 use Rattle.model.specs.Names.{Name, name_eq}
-use Rattle.model.specs.Classes.{Program, classes_of}
+use Rattle.model.specs.Tree.{FileTree}
+use Rattle.model.specs.Classes.{Program, classes_of, class_of, super_name_of, interface_names, is_named}
 use Rattle.model.specs.Hierarchy.{is_above, direct_supertypes}
 use Rattle.hierarchy.proofs.Names.{same_or_later, true_or, or_second}
-use Rattle.hierarchy.proofs.SetLaws.{same_name}
+use Rattle.hierarchy.specs.Ranks.{rank_of, is_late, is_reached, rises, NeverRise}
+use Rattle.hierarchy.proofs.SetLaws.{same_name, named_so}
+use Rattle.hierarchy.proofs.Indices.{not_found, none_both}
 use Rattle.hierarchy.proofs.RowLaws.{name_eq_refl}
 
 -- what passes one test passes another
@@ -62,3 +66,45 @@ leads_back_so files n class lower upper lt up direct same =
   where
     next : (a b : ℕ) → a < b → suc a ≤ b
     next a b h = omega arith
+
+-- ---- ranks that never rise on a way up
+
+-- what is directly above a class has no greater rank
+falls : (files : Program) (ranks : List ℕ) (class : Name) → NeverRise files ranks → is_reached files ranks (rank_of files ranks class + 1) class ≡ false
+falls files ranks class h = by (class_of files class) refl
+  where
+    by : (o : Option FileTree) → class_of files class ≡ o → is_reached files ranks (rank_of files ranks class + 1) class ≡ false
+    by None e = ap (λ (o : Option FileTree). list_any (is_late files ranks (rank_of files ranks class + 1)) (option_to_list (option_and_then super_name_of o) ++ option_map_or interface_names o [])) e
+    by (Some file) e =
+        subst (λ (name : Name). is_reached files ranks (rank_of files ranks name + 1) name ≡ false) (named_so files class file e)
+        (not_found (is_named class) (rises files ranks) (classes_of files) file e h)
+
+-- what is above a class has no greater rank
+no_greater : (files : Program) (ranks : List ℕ) → NeverRise files ranks → (n : ℕ) (c d : Name) → is_above files n c d ≡ true → rank_of files ranks d ≤ rank_of files ranks c
+no_greater files ranks h zero c d e = absurd cc
+no_greater files ranks h (suc n) c d e =
+    none_both (λ s. name_eq s d || is_above files n s d) (is_late files ranks (rank_of files ranks c + 1)) (direct_supertypes files c) (falls files ranks c h)
+    (λ s late found. step s (leb-false (rank_of files ranks c + 1) (rank_of files ranks s) late) found (no_greater files ranks h n s d)) e
+  where
+    step : (s : Name) → rank_of files ranks s < rank_of files ranks c + 1 → (name_eq s d || is_above files n s d) ≡ true → (is_above files n s d ≡ true → rank_of files ranks d ≤ rank_of files ranks s) → rank_of files ranks d ≤ rank_of files ranks c
+    step s low found above =
+        same_or_later (name_eq s d) (is_above files n s d) (rank_of files ranks d ≤ rank_of files ranks c) found
+        (λ same. let less : rank_of files ranks s ≤ rank_of files ranks c = omega (arith, low) in subst (λ x. rank_of files ranks x ≤ rank_of files ranks c) (same_name s d same) less)
+        (λ more. let less : rank_of files ranks d ≤ rank_of files ranks s = above more in omega (arith, less, low))
+
+-- a class whose rank is greater than those directly above it isn't above itself
+pub unreached : (files : Program) (ranks : List ℕ) → NeverRise files ranks → (n : ℕ) (class : Name) → is_reached files ranks (rank_of files ranks class) class ≡ false → is_above files n class class ≡ false
+unreached files ranks h zero class low = refl
+unreached files ranks h (suc n) class low = by (is_above files (suc n) class class) refl
+  where
+    step : (s : Name) → rank_of files ranks s < rank_of files ranks class → (name_eq s class || is_above files n s class) ≡ true → ⊥
+    step s less found =
+        same_or_later (name_eq s class) (is_above files n s class) ⊥ found
+        (λ same. let here : rank_of files ranks class < rank_of files ranks class = subst (λ x. rank_of files ranks x < rank_of files ranks class) (same_name s class same) less in omega (arith, here))
+        (λ more. let back : rank_of files ranks class ≤ rank_of files ranks s = no_greater files ranks h n s class more in omega (arith, back, less))
+
+    by : (b : Bool) → is_above files (suc n) class class ≡ b → is_above files (suc n) class class ≡ false
+    by false e = e
+    by true e =
+        absurd (none_both (λ s. name_eq s class || is_above files n s class) (is_late files ranks (rank_of files ranks class)) (direct_supertypes files class) low
+        (λ s late found. step s (leb-false (rank_of files ranks class) (rank_of files ranks s) late) found) e)

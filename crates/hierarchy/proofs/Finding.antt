@@ -1,12 +1,14 @@
 -- Finding in lists.
-use Rattle.std.proofs.Common.{◌≡◌, ℕ, ◌<◌, Bool, true, false, ltb, cond, List, [], ◌∷◌, length, map, refl, ap, subst, ◌∙◌, Some, None}
+use Rattle.std.proofs.Common.{◌≡◌, ℕ, zero, suc, ◌<◌, Bool, true, false, ltb, cond, List, [], ◌∷◌, length, map, take, refl, ap, subst, ◌∙◌, Some, None, arith}
 use Rattle.std.specs.Prelude.{find, position, slice_get}
 use Rattle.std.specs.Option.{option_and_then}
-use Rattle.std.specs.List.{position_or_len}
+use Rattle.std.specs.List.{position_or_len, list_any}
 use Rattle.std.proofs.lemmas.List.{length-map}
 use Rattle.std.proofs.lemmas.List.Folds.{find_at}
-use Rattle.std.proofs.lemmas.Option.{slice_get_past}
+use Rattle.std.proofs.lemmas.Option.{slice_get_past, slice_get_within}
+use Rattle.std.proofs.lemmas.Bool.{lt-ltb, le-ltb}
 use borrow.Author.Tests.{ltb-true, ltb-false}
+use Rattle.hierarchy.proofs.Names.{or_neither}
 
 pub position_or_len-map : {A B : Type 0} (p : B → Bool) (f : A → B) (xs : List A) → position_or_len p (map f xs) ≡ position_or_len (λ x. p (f x)) xs
 position_or_len-map p f [] = refl
@@ -51,3 +53,25 @@ passes_at p xs i x e at = find_by_position p xs ∙ ap (λ o. option_and_then (s
 
 pub nowhere : {A : Type 0} (p : A → Bool) (xs : List A) → position p xs ≡ None → find p xs ≡ None
 nowhere p xs e = find_by_position p xs ∙ ap (λ o. option_and_then (slice_get xs) o) e
+
+-- the first that passes stands at the position
+pub position_first : {A : Type 0} (p : A → Bool) (xs : List A) (k : ℕ) (x : A) → slice_get xs k ≡ Some x → p x ≡ true → list_any p (take k xs) ≡ false → position p xs ≡ Some k
+position_first p xs k x at here before =
+    let is = first_or_len p xs k x at here before in
+    rw (is, lt-ltb _ _ (slice_get_within xs k x at)) refl
+  where
+    first_or_len : {A : Type 0} (p : A → Bool) (xs : List A) (k : ℕ) (x : A) → slice_get xs k ≡ Some x → p x ≡ true → list_any p (take k xs) ≡ false → position_or_len p xs ≡ k
+    first_or_len p [] k x at here before = absurd cc
+    first_or_len p (y ∷ ys) zero x at here before = let same : y ≡ x = cc in rw (same, here) refl
+    first_or_len p (y ∷ ys) (suc k) x at here before =
+        let both = or_neither (p y) (list_any p (take k ys)) before in
+        rw both.0 (omega (arith, first_or_len p ys k x at here both.1))
+
+pub position_absent : {A : Type 0} (p : A → Bool) (xs : List A) → list_any p xs ≡ false → position p xs ≡ None
+position_absent p xs h = let past : ltb (length xs) (length xs) ≡ false = le-ltb _ _ (omega arith) in rw (all_fail p xs h, past) refl
+  where
+    all_fail : {A : Type 0} (p : A → Bool) (xs : List A) → list_any p xs ≡ false → position_or_len p xs ≡ length xs
+    all_fail p [] h = refl
+    all_fail p (y ∷ ys) h =
+        let both = or_neither (p y) (list_any p ys) h in
+        rw both.0 (omega (arith, all_fail p ys both.1))

@@ -1,11 +1,12 @@
 -- Ranks: a number for each class, greater than those of the classes directly above it. There are such numbers only where no
 -- class is above itself (JVMS 5.3.5).
-use Rattle.std.specs.Prelude.{◌≡◌, ℕ, length, List, ◌||◌, Bool, false, nat_le, nat_lt, ◌==◌, slice_get}
+use Rattle.std.specs.Prelude.{◌≡◌, ℕ, ◌+◌, length, List, ◌||◌, Bool, false, nat_le, nat_lt, ◌==◌, slice_get}
 use Rattle.std.specs.Option.{option_and_then, option_map_or, option_to_list}
 use Rattle.std.specs.List.{list_any}
 use Rattle.model.specs.Names.{Name}
 use Rattle.model.specs.Tree.{FileTree}
 use Rattle.model.specs.Classes.{Program, name_of, classes_of, super_name_of, interface_names}
+use Rattle.model.specs.Hierarchy.{direct_supertypes}
 use Rattle.hierarchy.specs.Places.{place_of}
 
 -- the rank of the class of a name, counted from 1; a name of no class has 0
@@ -28,3 +29,18 @@ is_misranked files ranks file =
 pub record HasRanks (files : Program) : Type 0 where
   pub ranks : List ℕ
   pub ranked : list_any (is_misranked files ranks) (classes_of files) ≡ false
+
+-- ---- ranks in a program in which classes may be above themselves
+
+-- something directly above the class of a name has this rank or a greater one
+abbrev pub is_reached : Program → List ℕ → ℕ → Name → Bool
+is_reached files ranks rank class = list_any (is_late files ranks rank) (direct_supertypes files class)
+
+-- something directly above a class has a greater rank than the class
+abbrev pub rises : Program → List ℕ → FileTree → Bool
+rises files ranks file = is_reached files ranks (rank_of files ranks (name_of file) + 1) (name_of file)
+
+-- On no way up a rank is greater than one before it. So a class whose rank is greater than those directly above it isn't above
+-- itself.
+abbrev pub NeverRise : Program → List ℕ → Type 0
+NeverRise files ranks = list_any (rises files ranks) (classes_of files) ≡ false

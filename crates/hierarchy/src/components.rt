@@ -1,4 +1,5 @@
-//! A search for the classes of a set that are above themselves. Nothing is proved of what it finds: that is checked.
+//! A search for the classes of a set that are above themselves. It only spares time: nothing is proved of what it finds, and
+//! what rests on that is checked.
 
 use crate::order::{is_first_visit, supertypes_first};
 use crate::set::{ClassSet, superclass_name};
@@ -83,44 +84,47 @@ fn come_to_all_below(
     Ok(found)
 }
 
-pub(crate) fn is_marked(marks: &[bool], place: usize) -> bool {
-    match marks.get(place) {
+/// Whether the class at a place was come to.
+fn is_entered(entered: &[bool], place: usize) -> bool {
+    match entered.get(place) {
         Some(mark) => *mark,
         None => false,
     }
 }
 
-fn mark_all(marks: &mut [bool], places: &[usize]) {
+fn set_all(ranks: &mut [usize], places: &[usize], rank: usize) {
     for place in places {
-        if let Some(mark) = marks.get_mut(*place) {
-            *mark = true;
+        if let Some(old) = ranks.get_mut(*place) {
+            *old = rank;
         }
     }
 }
 
-/// For each class whether it is above itself, by those below each. The classes go with those that are both above and below
-/// them: they are found from the topmost on, which the order has last.
-pub(crate) fn classes_in_cycles(
+/// A rank for each class, counted from 1, by those below each: classes that are above each other have the same, and else what is
+/// above a class has a smaller one. Classes go with those that are both above and below them: they are found from the lowest
+/// on, which the order has last.
+pub(crate) fn ranks_with_cycles(
     alloc: Global,
     set: &ClassSet,
     below: &[Vec<usize>],
-) -> Result<Vec<bool>, AllocError> {
+) -> Result<Vec<usize>, AllocError> {
     let order = supertypes_first(alloc, set)?;
-    let mut marks = Vec::new(alloc);
-    marks.resize(below.len(), false)?;
+    let mut ranks = Vec::new(alloc);
+    ranks.resize(below.len(), 0)?;
     let mut entered = Vec::new(alloc);
     entered.resize(below.len(), false)?;
     let mut ways = Vec::new(alloc);
     ways.resize(below.len(), 0)?;
+    let mut rank = below.len();
     for place in order.iter().rev() {
-        if !is_marked(&entered, *place) {
+        if !is_entered(&entered, *place) {
             let found = come_to_all_below(alloc, below, *place, &mut entered, &mut ways)?;
-            if !is_first_visit(&mut entered, *place) {
-                mark_all(&mut marks, &found);
-            }
+            let _is_alone = is_first_visit(&mut entered, *place);
+            set_all(&mut ranks, &found, rank);
+            rank = rank.saturating_sub(1);
         }
     }
-    Ok(marks)
+    Ok(ranks)
 }
 
 /// For each class below a class the place of one directly above it, on a way up to that class.

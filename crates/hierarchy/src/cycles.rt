@@ -1,7 +1,7 @@
 //! Classes that are above themselves (JVMS 5.3.5).
 
-ghost use Rattle.std.specs.Prelude.{◌≡◌, ◌-◌, length, option_map, slice_get, false, true, IfOk, IfSome, MatchOption};
-ghost use Rattle.std.specs.Option.{option_map_or, option_to_list};
+ghost use Rattle.std.specs.Prelude.{◌≡◌, ◌-◌, length, option_map, position, true, Some, IfOk, IfSome};
+ghost use Rattle.std.specs.Option.{option_to_list};
 ghost use Rattle.std.specs.List.{list_any};
 ghost use Rattle.classfile.specs.View.{file_of};
 ghost use Rattle.model.specs.Names.{name_eq};
@@ -10,9 +10,9 @@ ghost use Rattle.model.specs.Classes.{classes_of, interface_names};
 ghost use Rattle.hierarchy.specs.declared.rows.Above.TheVariants as above;
 ghost use Rattle.hierarchy.specs.Above.{leads_to, rows_of};
 
-use crate::components::{classes_below, classes_in_cycles, is_marked, ways_up};
+use crate::components::{classes_below, ranks_with_cycles, ways_up};
 use crate::name_set::NameSet;
-use crate::ranks::ranked_order;
+use crate::ranks::{is_reached, never_rise, rank_of, ranked_order};
 use crate::rows::{row_of, supertype_rows};
 use crate::set::{ClassSet, class_name, superclass_name};
 use classfile::ClassFile;
@@ -75,7 +75,7 @@ fn is_above_itself(set: &ClassSet, supertypes: &[NameSet], class: &[u8]) -> bool
 /// The number of the first file whose class is above itself, by the rows of all that is above classes.
 fn first_above_itself(set: &ClassSet, supertypes: &[NameSet]) -> Option<usize>
     requires { supertypes.now ≡ rows_of set.now above.Supertypes (length (classes_of set.now) - 1) }
-    ensures { MatchOption result (list_any (in_cycle set.now) set.now ≡ false) (λ k. option_map_or (in_cycle set.now) (slice_get set.now k) false ≡ true) }
+    ensures { result ≡ position (in_cycle set.now) set.now }
 {
     for number in 0..set.count().saturating_sub(BUILT_IN) {
         let Some(file) = set.class_at(BUILT_IN + number) else {
@@ -145,30 +145,41 @@ fn leads_back(set: &ClassSet, ways: &[usize], place: usize, class: &[u8]) -> boo
     false
 }
 
-/// The number of the first file whose class is found to be above itself by a way that leads back to it.
+/// The number of the first file whose class is above itself, where ranks show that none before it is and a way leads back to
+/// its class. None says nothing.
 fn first_led_back(alloc: Global, set: &ClassSet) -> Result<Option<usize>, AllocError>
-    ensures { IfOk result (λ found. IfSome found (λ k. option_map_or (in_cycle set.now) (slice_get set.now k) false ≡ true)) }
+    ensures { IfOk result (λ found. IfSome found (λ number. position (in_cycle set.now) set.now ≡ Some number)) }
 {
     let below = classes_below(alloc, set)?;
-    let marks = classes_in_cycles(alloc, set, &below)?;
+    let found = ranks_with_cycles(alloc, set, &below)?;
+    let ranks = found.as_slice();
+    if !never_rise(set, ranks) {
+        return Ok(None);
+    }
     for number in 0..set.count().saturating_sub(BUILT_IN) {
         let place = BUILT_IN + number;
         let Some(file) = set.class_at(place) else {
             return Ok(None);
         };
-        if is_marked(&marks, place) {
+        let class = class_name(file);
+        let rank = rank_of(set, ranks, class);
+        if is_reached(set, ranks, rank, class) {
             let ways = ways_up(alloc, &below, place)?;
-            if leads_back(set, &ways, place, class_name(file)) {
+            if leads_back(set, &ways, place, class) {
                 return Ok(Some(number));
             }
+            return Ok(None);
         }
     }
     Ok(None)
 }
 
 /// The number of the first file whose class is above itself (JVMS 5.3.5). Files are counted from 0.
+///
+/// Ranks and ways only spare the time to write down all that is above each class. What they show is checked, and where they show
+/// nothing, that is done.
 pub fn first_in_cycle(alloc: Global, set: &ClassSet) -> Result<Option<usize>, AllocError>
-    ensures { IfOk result (λ found. MatchOption found (list_any (in_cycle set.now) set.now ≡ false) (λ k. option_map_or (in_cycle set.now) (slice_get set.now k) false ≡ true)) }
+    ensures { IfOk result (λ found. found ≡ position (in_cycle set.now) set.now) }
 {
     if let Some(_order) = ranked_order(alloc, set)? {
         return Ok(None);

@@ -1,11 +1,11 @@
 //! Ranks of the classes of a set, and whether they show that no class is above itself (JVMS 5.3.5).
 
-ghost use Rattle.std.specs.Prelude.{◌≡◌, option_map, IfOk, OnSome, not};
+ghost use Rattle.std.specs.Prelude.{◌≡◌, true, false, option_map, IfOk, OnSome, not};
 ghost use Rattle.std.specs.Option.{option_to_list};
 ghost use Rattle.std.specs.List.{list_any};
 ghost use Rattle.classfile.specs.View.{file_of};
 ghost use Rattle.model.specs.Classes.{classes_of, interface_names};
-ghost use Rattle.hierarchy.specs.Ranks.{rank_of, is_late, is_misranked, HasRanks};
+ghost use Rattle.hierarchy.specs.Ranks.{rank_of, is_late, is_misranked, HasRanks, is_reached, rises, NeverRise};
 
 use crate::order::supertypes_first;
 use crate::set::{ClassSet, class_name, superclass_name};
@@ -13,7 +13,7 @@ use classfile::ClassFile;
 use std::alloc::{AllocError, Global};
 
 /// The rank of the class of a name.
-fn rank_of(set: &ClassSet, ranks: &[usize], name: &[u8]) -> usize
+pub(crate) fn rank_of(set: &ClassSet, ranks: &[usize], name: &[u8]) -> usize
     ensures { result ≡ rank_of set.now ranks.now name.now }
 {
     let Some(place) = set.place_of(name) else {
@@ -73,6 +73,45 @@ fn are_ranked(set: &ClassSet, ranks: &[usize]) -> bool
     true
 }
 
+/// Whether something directly above the class of a name has this rank or a greater one.
+pub(crate) fn is_reached(set: &ClassSet, ranks: &[usize], rank: usize, class: &[u8]) -> bool
+    ensures { result ≡ is_reached set.now ranks.now rank class.now }
+{
+    match set.class_of(class) {
+        Some(file) => {
+            is_late(set, ranks, rank, superclass_name(file))
+                || an_interface_is_late(set, ranks, rank, file)
+        }
+        None => false,
+    }
+}
+
+/// Whether a class has a smaller rank than something directly above it.
+fn rises(set: &ClassSet, ranks: &[usize], file: &ClassFile) -> bool
+    ensures { result ≡ false → rises set.now ranks.now (file_of file.now) ≡ false }
+{
+    let class = class_name(file);
+    match rank_of(set, ranks, class).checked_add(1) {
+        Some(rank) => is_reached(set, ranks, rank, class),
+        None => true,
+    }
+}
+
+/// Whether no class has a smaller rank than something directly above it.
+pub(crate) fn never_rise(set: &ClassSet, ranks: &[usize]) -> bool
+    ensures { result ≡ true → NeverRise set.now ranks.now }
+{
+    for place in 0..set.count() {
+        let Some(file) = set.class_at(place) else {
+            return true;
+        };
+        if rises(set, ranks, file) {
+            return false;
+        }
+    }
+    true
+}
+
 /// The ranks of classes: their places in an order, counted from 1.
 fn ranks_by(alloc: Global, set: &ClassSet, order: &[usize]) -> Result<Vec<usize>, AllocError> {
     let mut ranks = Vec::new(alloc);
@@ -85,7 +124,8 @@ fn ranks_by(alloc: Global, set: &ClassSet, order: &[usize]) -> Result<Vec<usize>
     Ok(ranks)
 }
 
-/// The places of the classes, each after those of the classes above it. None where a class is above itself.
+/// The places of the classes, each after those of the classes above it. None where a class is above itself. The order only
+/// spares time; that there are ranks is proved.
 pub(crate) fn ranked_order(alloc: Global, set: &ClassSet) -> Result<Option<Vec<usize>>, AllocError>
     ensures { IfOk result (λ order. OnSome order (HasRanks set.now)) }
 {

@@ -5,12 +5,16 @@ use Rattle.std.proofs.lemmas.List.{map_more, map-append, take-map}
 use Rattle.std.proofs.lemmas.Option.{slice_get-get_or}
 use Rattle.class_tree.specs.declared.tree.ClassFile.{ClassFile}
 use Rattle.classfile.specs.View.{file_of}
+use Rattle.classfile.specs.Decoding.{IsFaultOf}
+use Rattle.reading.specs.declared.fault.Cause.{Cause}
+use Rattle.reading.specs.declared.fault.Cause.TheVariants as causes
+use Rattle.reading.specs.declared.fault.Malformed.{Malformed}
 use Rattle.hierarchy.specs.Set.{trees_of}
 use Rattle.model.specs.Tree.{FileTree}
 use Rattle.model.specs.Spells.{Spells}
 use Rattle.model.specs.Classes.{Program}
 use Rattle.model.specs.Linkable.{AreSpelled}
-use Rattle.linker.specs.Linking.{SpellsNothing, NamesUnread, IsUnreadable}
+use Rattle.linker.specs.Linking.{SpellsNothing, IsMalformed, IsUnreadable}
 use Rattle.refusal.specs.declared.why.RefusalKind.{RefusalKind}
 use Rattle.refusal.specs.declared.why.RefusalKind.TheVariants as kinds
 
@@ -47,10 +51,21 @@ nothing_spelled (f ∷ files) place bytes [] e none h = h
 nothing_spelled (f ∷ files) zero bytes (t ∷ trees) e none h = let same : f ≡ bytes = cc in none t (subst (λ b. Spells b t) same h.0)
 nothing_spelled (f ∷ files) (suc place) bytes (t ∷ trees) e none h = nothing_spelled files place bytes trees e none h.1
 
-pub unread_memory : (files : List (List ℕ)) (trees : Program) (kind : RefusalKind) (file : Option ℕ) → AreSpelled files trees → IsUnreadable files kind file → kind ≡ kinds.OutOfMemory
-unread_memory files trees kind file h (inl memory) = memory
-unread_memory files trees kind None h (inr unread) = absurd unread.1
-unread_memory files trees kind (Some place) h (inr unread) = absurd (nothing_spelled files place unread.1.bytes trees unread.1.stands unread.1.none h)
+pub unread_memory : (files : List (List ℕ)) (trees : Program) (kind : RefusalKind) (file offset : Option ℕ) (cause : Option Cause) → AreSpelled files trees → IsUnreadable files kind file offset cause → kind ≡ kinds.OutOfMemory
+unread_memory files trees kind file offset cause h (inl memory) = memory
+unread_memory files trees kind file offset cause h (inr unread) = absurd (nothing_spelled files unread.1.place unread.1.bytes trees unread.1.stands unread.1.malformed.none h)
+
+-- ---- bytes that aren't decoded
+
+-- a fault that isn't a want of memory stands in the bytes
+pub malformed_so : (bytes : List ℕ) (fault : Malformed) → (fault.cause ≡ causes.OutOfMemory → ⊥) → IsFaultOf bytes fault → ((c : FileTree) → Spells bytes c → fault.cause ≡ causes.OutOfMemory) → IsMalformed bytes (Some fault.offset) (Some fault.cause)
+malformed_so bytes fault other told only = record {
+  fault = fault;
+  at = refl;
+  named = refl;
+  none = λ tree spelled. other (only tree spelled);
+  stands = elim told [ inl memory ↦ absurd (other (ap (λ (f : Malformed). f.cause) memory)) | inr stands ↦ stands ];
+}
 
 -- ---- files in memory
 
@@ -69,17 +84,19 @@ bytes_at files i file bytes lt at e = get_map vec_items files i file (slice_get-
 pub trees_more : (classes all : List ClassFile) (class : ClassFile) → all ≡ classes ++ class ∷ [] → trees_of all ≡ trees_of classes ++ file_of class ∷ []
 trees_more classes all class e = ap trees_of e ∙ map-append file_of classes (class ∷ [])
 
-pub unread_at : (files : List (Vec ℕ Global)) (i : ℕ) (file : Vec ℕ Global) (bytes : List ℕ) (trees : Program) (kind : RefusalKind) (named : Option ℕ) → i < length files → file ≡ get_or files i file → bytes ≡ file.items
-    → AreSpelled (map vec_items (take i files)) trees → (kind ≡ kinds.OutOfMemory) ⊎ ((kind ≡ kinds.Malformed) × (named ≡ Some i) × SpellsNothing bytes) → IsUnreadable (map vec_items files) kind named
-unread_at files i file bytes trees kind named lt at e found (inl memory) = inl memory
-unread_at files i file bytes trees kind named lt at e found (inr r) =
+pub unread_at : (files : List (Vec ℕ Global)) (i : ℕ) (file : Vec ℕ Global) (bytes : List ℕ) (trees : Program) (kind : RefusalKind) (named offset : Option ℕ) (cause : Option Cause) → i < length files → file ≡ get_or files i file → bytes ≡ file.items
+    → AreSpelled (map vec_items (take i files)) trees → (kind ≡ kinds.OutOfMemory) ⊎ ((kind ≡ kinds.Malformed) × (named ≡ Some i) × IsMalformed bytes offset cause) → IsUnreadable (map vec_items files) kind named offset cause
+unread_at files i file bytes trees kind named offset cause lt at e found (inl memory) = inl memory
+unread_at files i file bytes trees kind named offset cause lt at e found (inr r) =
     inr (
       r.0,
-      subst (λ n. NamesUnread (map vec_items files) n) (sym r.1) (record {
+      record {
+        place = i;
         bytes = bytes;
+        named = r.1;
         stands = bytes_at files i file bytes lt at e;
-        none = r.2;
+        malformed = r.2;
         trees = trees;
         before = subst (λ (l : List (List ℕ)). AreSpelled l trees) (sym (take-map vec_items i files)) found;
-      }),
+      },
     )

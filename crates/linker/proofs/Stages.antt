@@ -87,20 +87,20 @@ names_refused trees tree number kind file cause none at (inr r) = subst (λ k. R
 refused_with : (condition : LinkCondition) (files : List (List ℕ)) (trees : Program) (file : Option ℕ) → AreSpelled files trees → IsFirst condition trees file → IsRefusedWith condition files file
 refused_with condition files trees file spelled r = record { trees = trees; refused = record { spelled = spelled; first = r.first }; named = r.named }
 
-pub may_refuse : (files : List (List ℕ)) (trees : Program) (kind : RefusalKind) (file : Option ℕ) (cause : Option Cause) → AreSpelled files trees → RefusesTrees trees kind file cause → MayRefuse files kind file cause
-may_refuse files trees kinds.OutOfMemory file cause s r = tt
-may_refuse files trees kinds.Malformed file cause s r = inr (r.0, refused_with MalformedCode files trees file s r.1)
-may_refuse files trees kinds.OutsideProfile file cause s r = refused_with OutsideProfile files trees file s r
-may_refuse files trees kinds.DuplicateClass file cause s r = refused_with DuplicateClass files trees file s r
-may_refuse files trees kinds.Unresolved file cause s r = refused_with Unresolved files trees file s r
-may_refuse files trees kinds.BadHierarchy file cause s r = refused_with BadHierarchy files trees file s r
-may_refuse files trees kinds.Unverified file cause s r = absurd r
-may_refuse files trees kinds.NoMain file cause s r = refused_with NoMain files trees file s r
-may_refuse files trees kinds.TooLarge file cause s r = refused_with (size_condition file) files trees file s r
+pub may_refuse : (files : List (List ℕ)) (trees : Program) (kind : RefusalKind) (file offset : Option ℕ) (cause : Option Cause) → AreSpelled files trees → RefusesTrees trees kind file cause → MayRefuse files kind file offset cause
+may_refuse files trees kinds.OutOfMemory file offset cause s r = tt
+may_refuse files trees kinds.Malformed file offset cause s r = inr (r.0, refused_with MalformedCode files trees file s r.1)
+may_refuse files trees kinds.OutsideProfile file offset cause s r = refused_with OutsideProfile files trees file s r
+may_refuse files trees kinds.DuplicateClass file offset cause s r = refused_with DuplicateClass files trees file s r
+may_refuse files trees kinds.Unresolved file offset cause s r = refused_with Unresolved files trees file s r
+may_refuse files trees kinds.BadHierarchy file offset cause s r = refused_with BadHierarchy files trees file s r
+may_refuse files trees kinds.Unverified file offset cause s r = absurd r
+may_refuse files trees kinds.NoMain file offset cause s r = refused_with NoMain files trees file s r
+may_refuse files trees kinds.TooLarge file offset cause s r = refused_with (size_condition file) files trees file s r
 
-pub unread_refused : (files : List (List ℕ)) (kind : RefusalKind) (file : Option ℕ) (cause : Option Cause) → IsUnreadable files kind file → MayRefuse files kind file cause
-unread_refused files kind file cause (inl e) = subst (λ k. MayRefuse files k file cause) (sym e) tt
-unread_refused files kind file cause (inr r) = subst (λ k. MayRefuse files k file cause) (sym r.0) (inl r.1)
+pub unread_refused : (files : List (List ℕ)) (kind : RefusalKind) (file offset : Option ℕ) (cause : Option Cause) → IsUnreadable files kind file offset cause → MayRefuse files kind file offset cause
+unread_refused files kind file offset cause (inl e) = subst (λ k. MayRefuse files k file offset cause) (sym e) tt
+unread_refused files kind file offset cause (inr r) = subst (λ k. MayRefuse files k file offset cause) (sym r.0) (inl r.1)
 
 -- ---- no condition stands in files that may be linked
 
@@ -138,13 +138,10 @@ fields_refused trees tree number kind file cause none at is named h =
     (subst (λ f. RefusesTrees trees kinds.TooLarge f cause) (sym named) (fields_first trees tree number (Some number) none at refl h))
 
 -- a class that is above itself
-pub cycle_refused : (trees : Program) (number : ℕ) (kind : RefusalKind) (file : Option ℕ) (cause : Option Cause) → list_any (stands trees) before_links ≡ false → option_map_or (in_cycle trees) (slice_get trees number) false ≡ true
+pub cycle_refused : (trees : Program) (tree : FileTree) (number : ℕ) (kind : RefusalKind) (file : Option ℕ) (cause : Option Cause) → list_any (stands trees) before_links ≡ false → slice_get trees number ≡ Some tree → in_cycle trees tree ≡ true
     → kind ≡ kinds.BadHierarchy → file ≡ Some number → RefusesTrees trees kind file cause
-cycle_refused trees number kind file cause none h is named = by (slice_get trees number) refl h
-  where
-    by : (o : Option FileTree) → slice_get trees number ≡ o → option_map_or (in_cycle trees) o false ≡ true → RefusesTrees trees kind file cause
-    by None at h = absurd cc
-    by (Some tree) at h = subst (λ k. RefusesTrees trees k file cause) (sym is) (rules_first trees tree number file none at named (here (in_cycle trees tree) _ h))
+cycle_refused trees tree number kind file cause none at h is named =
+    subst (λ k. RefusesTrees trees k file cause) (sym is) (rules_first trees tree number file none at named (here (in_cycle trees tree) _ h))
 
 -- a fault that is found
 pub fault_refused : (trees : Program) (tree : FileTree) (number : ℕ) (flaw : Flaw) (kind : RefusalKind) (file : Option ℕ) (cause : Option Cause) → has_flaw trees tree flaw ≡ true → IsFaultRefusal flaw number kind file cause → WalkRefuses trees tree number kind file cause

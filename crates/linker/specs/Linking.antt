@@ -14,6 +14,8 @@ use Rattle.model.specs.Linkable.{LinkCondition, TooLarge, DuplicateClass, Outsid
 use Rattle.hierarchy.specs.Set.{IsAgain}
 use Rattle.reading.specs.declared.fault.Cause.{Cause}
 use Rattle.reading.specs.declared.fault.Cause.TheVariants as causes
+use Rattle.reading.specs.declared.fault.Malformed.{Malformed}
+use Rattle.classfile.specs.Decoding.{StandsAt}
 use Rattle.profile.specs.declared.fault.Flaw as declared_flaw
 use Rattle.profile.specs.declared.fault.Flaw.TheVariants as flaws
 use Rattle.refusal.specs.declared.why.RefusalKind.{RefusalKind}
@@ -31,18 +33,23 @@ IsLinked trees = (files : List (List ℕ)) × IsLinkable files trees
 abbrev pub SpellsNothing : List ℕ → Type 0
 SpellsNothing bytes = (c : FileTree) → Spells bytes c → ⊥
 
--- the file at a place is no class file, and those before it are some
-pub record IsFirstUnread (files : List (List ℕ)) (place : ℕ) : Type 0 where
-  pub bytes : List ℕ
-  pub stands : slice_get files place ≡ Some bytes
+-- bytes that are no class file, and the cause that stands in them, with its offset
+pub record IsMalformed (bytes : List ℕ) (offset : Option ℕ) (cause : Option Cause) : Type 0 where
+  pub fault : Malformed
+  pub at : offset ≡ Some fault.offset
+  pub named : cause ≡ Some fault.cause
   pub none : SpellsNothing bytes
+  pub stands : StandsAt bytes fault.cause fault.offset
+
+-- the file that is named is no class file for this cause at this offset, and those before it are some
+pub record IsFirstUnread (files : List (List ℕ)) (file offset : Option ℕ) (cause : Option Cause) : Type 0 where
+  pub place : ℕ
+  pub bytes : List ℕ
+  pub named : file ≡ Some place
+  pub stands : slice_get files place ≡ Some bytes
+  pub malformed : IsMalformed bytes offset cause
   pub trees : Program
   pub before : AreSpelled (take place files) trees
-
--- it is the one that a refusal names
-abbrev pub NamesUnread : List (List ℕ) → Option ℕ → Type 0
-NamesUnread files None = ⊥
-NamesUnread files (Some place) = IsFirstUnread files place
 
 -- ---- the file that a refusal names
 
@@ -81,23 +88,24 @@ pub record IsRefusedWith (condition : LinkCondition) (files : List (List ℕ)) (
   pub refused : IsRefusedFor condition files trees
   pub named : NamesFile trees condition file
 
--- when files may be refused so
-abbrev pub MayRefuse : List (List ℕ) → RefusalKind → Option ℕ → Option Cause → Type 0
-MayRefuse files kinds.OutOfMemory file cause = Unit {0}
-MayRefuse files kinds.Malformed file cause = NamesUnread files file ⊎ ((cause ≡ Some causes.Code) × IsRefusedWith MalformedCode files file)
-MayRefuse files kinds.OutsideProfile file cause = IsRefusedWith OutsideProfile files file
-MayRefuse files kinds.DuplicateClass file cause = IsRefusedWith DuplicateClass files file
-MayRefuse files kinds.Unresolved file cause = IsRefusedWith Unresolved files file
-MayRefuse files kinds.BadHierarchy file cause = IsRefusedWith BadHierarchy files file
-MayRefuse files kinds.Unverified file cause = ⊥
-MayRefuse files kinds.NoMain file cause = IsRefusedWith NoMain files file
-MayRefuse files kinds.TooLarge file cause = IsRefusedWith (size_condition file) files file
+-- When files may be refused so: with this kind, file, offset and cause. No more is said of the offset of another refusal than that
+-- of a file that is no class file.
+abbrev pub MayRefuse : List (List ℕ) → RefusalKind → Option ℕ → Option ℕ → Option Cause → Type 0
+MayRefuse files kinds.OutOfMemory file offset cause = Unit {0}
+MayRefuse files kinds.Malformed file offset cause = IsFirstUnread files file offset cause ⊎ ((cause ≡ Some causes.Code) × IsRefusedWith MalformedCode files file)
+MayRefuse files kinds.OutsideProfile file offset cause = IsRefusedWith OutsideProfile files file
+MayRefuse files kinds.DuplicateClass file offset cause = IsRefusedWith DuplicateClass files file
+MayRefuse files kinds.Unresolved file offset cause = IsRefusedWith Unresolved files file
+MayRefuse files kinds.BadHierarchy file offset cause = IsRefusedWith BadHierarchy files file
+MayRefuse files kinds.Unverified file offset cause = ⊥
+MayRefuse files kinds.NoMain file offset cause = IsRefusedWith NoMain files file
+MayRefuse files kinds.TooLarge file offset cause = IsRefusedWith (size_condition file) files file
 
 -- ---- refusals of the parts
 
 -- of files that are not all class files
-abbrev pub IsUnreadable : List (List ℕ) → RefusalKind → Option ℕ → Type 0
-IsUnreadable files kind file = (kind ≡ kinds.OutOfMemory) ⊎ ((kind ≡ kinds.Malformed) × NamesUnread files file)
+abbrev pub IsUnreadable : List (List ℕ) → RefusalKind → Option ℕ → Option ℕ → Option Cause → Type 0
+IsUnreadable files kind file offset cause = (kind ≡ kinds.OutOfMemory) ⊎ ((kind ≡ kinds.Malformed) × IsFirstUnread files file offset cause)
 
 -- the condition stands in the trees, and none before it; where it is of a file, the file is named
 pub record IsFirst (condition : LinkCondition) (trees : Program) (file : Option ℕ) : Type 0 where

@@ -7,7 +7,7 @@ ghost use Rattle.model.specs.Spells.{Spells};
 ghost use Rattle.model.specs.Tree.{FileTree};
 ghost use Rattle.classfile.specs.View.{file_of};
 ghost use Rattle.hierarchy.specs.Set.{trees_of};
-ghost use Rattle.linker.specs.Linking.{SpellsNothing, IsUnreadable};
+ghost use Rattle.linker.specs.Linking.{IsMalformed, IsUnreadable};
 
 use classfile::{ClassFile, decode};
 use reading::Cause;
@@ -18,7 +18,7 @@ use std::alloc::Global;
 fn decoded(alloc: Global, number: usize, bytes: &[u8]) -> Result<ClassFile, Refusal>
     ensures found { IfOk result (λ file. Spells bytes.now (file_of file)) }
     ensures only { IfOk result (λ file. (c : FileTree) → Spells bytes.now c → file_of file ≡ c) }
-    ensures refused { IfErr result (λ r. (r.kind ≡ RefusalKind.OutOfMemory) ⊎ ((r.kind ≡ RefusalKind.Malformed) × (r.file ≡ Some number) × SpellsNothing bytes.now)) }
+    ensures refused { IfErr result (λ r. (r.kind ≡ RefusalKind.OutOfMemory) ⊎ ((r.kind ≡ RefusalKind.Malformed) × (r.file ≡ Some number) × IsMalformed bytes.now r.offset r.cause)) }
 {
     match decode(alloc, bytes) {
         Ok(file) => Ok(file),
@@ -33,7 +33,7 @@ fn decoded(alloc: Global, number: usize, bytes: &[u8]) -> Result<ClassFile, Refu
 pub(crate) fn decode_all(alloc: Global, files: &[Vec<u8>]) -> Result<Vec<ClassFile>, Refusal>
     ensures found { IfOk result (λ classes. AreSpelled (map vec_items files.now) (trees_of classes.items)) }
     ensures only { IfOk result (λ classes. (trees : Program) → AreSpelled (map vec_items files.now) trees → trees_of classes.items ≡ trees) }
-    ensures refused { IfErr result (λ r. IsUnreadable (map vec_items files.now) r.kind r.file) }
+    ensures refused { IfErr result (λ r. IsUnreadable (map vec_items files.now) r.kind r.file r.offset r.cause) }
 {
     let mut classes = Vec::new(alloc);
     for (number, bytes) in files.iter().enumerate() {

@@ -60,7 +60,7 @@ unpassed true d f x e = absurd cc
 unpassed {A = A} false d f x e = err_is {B = A} d f e
 
 -- the same of a test for a fault
-guard_ok : {A : Type 0} (b : Bool) (d : ScheduleFault) (x y : A) → cond b (failed d) (done x) ≡ Ok y → (b ≡ false) × (x ≡ y)
+pub guard_ok : {A : Type 0} (b : Bool) (d : ScheduleFault) (x y : A) → cond b (failed d) (done x) ≡ Ok y → (b ≡ false) × (x ≡ y)
 guard_ok true d x y e = absurd cc
 guard_ok false d x y e = (refl, cc)
 

@@ -1,16 +1,16 @@
 -- What reading a schedule promises, by the definition of schedule files.
-use Rattle.std.proofs.Common.{◌≡◌, ◌⊎◌, ℕ, Bool, true, false, cond, eqb, List, [], ◌∷◌, ◌++◌, Result, Ok, Err, refl, sym, ap, ◌∙◌, inl, inr, lit<}
+use Rattle.std.proofs.Common.{◌≡◌, ◌⊎◌, ℕ, ◌≤◌, Bool, true, false, cond, eqb, ltb, List, ◌∷◌, ◌++◌, length, drop, Result, Ok, Err, refl, sym, ap, ◌∙◌, inl, inr, lit<, arith, length-append}
 use Rattle.std.specs.Prelude.{codes, None}
-use Rattle.std.proofs.lemmas.Bool.{eqb-true}
-use Rattle.byteorder.specs.Endian.{big_bytes}
+use Rattle.std.proofs.lemmas.Bool.{eqb-true, ltb-false}
+use Rattle.byteorder.specs.Endian.{big_number, big_bytes}
 use Rattle.model.specs.declared.event.Event.{Event}
 use Rattle.model.specs.declared.event.ScheduleEntry.{ScheduleEntry}
 use Rattle.model.specs.Schedule.{AreEntries, ScheduleFile, events_of, schedule, table}
 use Rattle.schedule.specs.declared.fault.ScheduleFault.{ScheduleFault}
 use Rattle.schedule.specs.declared.fault.ScheduleFault.TheVariants as faults
-use Rattle.schedule.specs.Outcomes.{BeginsWith, HasMore}
+use Rattle.schedule.specs.Outcomes.{HasMore, StandsIn, IsFaultOf}
 use Rattle.schedule.specs.Reading.{◌>>=◌, Read, Fails, number_at, table_at, version_at, schedule_at}
-use Rattle.schedule.proofs.Laws.{IsBytes, bind_ok, bind_err, done, failed, ok_is, err_is, back1, back4, number_takes, number_again, number_stops, table_takes, table_again, table_stops, table_trailing}
+use Rattle.schedule.proofs.Laws.{IsBytes, bind_ok, bind_err, done, failed, ok_is, err_is, guard_ok, back1, back4, number_takes, number_again, number_stops, table_takes, table_again, table_stops, table_trailing}
 
 -- behind the right magic, and the right version
 after_magic : (rest : List ℕ) → schedule_at (codes "JSCH" ++ rest) ≡ version_at rest
@@ -105,8 +105,8 @@ headed bytes f small no_m no_v no_t e =
       ]
     ]
 
-pub trailing_of : (bytes : List ℕ) (f : ScheduleFault) → IsBytes bytes → Fails f (schedule_at bytes) → f ≡ faults.Trailing → HasMore bytes
-trailing_of bytes faults.Trailing small e is =
+more_of : (bytes : List ℕ) → IsBytes bytes → schedule_at bytes ≡ Err faults.Trailing → HasMore bytes
+more_of bytes small e =
     let a = headed bytes faults.Trailing small (λ e. absurd cc) (λ e. absurd cc) (λ e. absurd cc) e in
     let b = table_trailing a.0 a.1 a.3 in
     record {
@@ -117,11 +117,6 @@ trailing_of bytes faults.Trailing small e is =
       some = b.3;
       parts = a.2 ∙ ap (λ (l : List ℕ). codes "JSCH" ++ 1 ∷ l) b.4;
     }
-trailing_of bytes faults.OutOfMemory small e is = absurd cc
-trailing_of bytes faults.Truncated small e is = absurd cc
-trailing_of bytes faults.Magic small e is = absurd cc
-trailing_of bytes faults.Version small e is = absurd cc
-trailing_of bytes faults.Repeat small e is = absurd cc
 
 -- a table has no such fault
 no_magic : (rest : List ℕ) → version_at rest ≡ Err faults.Magic → ⊥
@@ -138,18 +133,53 @@ no_magic rest e =
 no_version : (rest : List ℕ) → table_at rest ≡ Err faults.Version → ⊥
 no_version rest e = let clash : false ≡ true = table_stops rest faults.Version e in absurd cc
 
-pub magic_of : (bytes : List ℕ) (f : ScheduleFault) → Fails f (schedule_at bytes) → f ≡ faults.Magic → BeginsWith (codes "JSCH") bytes → ⊥
-magic_of bytes faults.Magic e is b = no_magic b.0 (sym (after_magic b.0) ∙ ap schedule_at (sym b.1) ∙ e)
-magic_of bytes faults.OutOfMemory e is b = absurd cc
-magic_of bytes faults.Truncated e is b = absurd cc
-magic_of bytes faults.Version e is b = absurd cc
-magic_of bytes faults.Repeat e is b = absurd cc
-magic_of bytes faults.Trailing e is b = absurd cc
+-- a number that was read was there
+there : (n : ℕ) (bytes : List ℕ) (x : ℕ × List ℕ) → number_at n bytes ≡ Ok x → n ≤ length bytes
+there n bytes x e = ltb-false _ _ (guard_ok (ltb (length bytes) n) faults.Truncated (big_number n bytes, drop n bytes) x e).0
 
-pub version_of : (bytes : List ℕ) (f : ScheduleFault) → Fails f (schedule_at bytes) → f ≡ faults.Version → BeginsWith (codes "JSCH" ++ 1 ∷ []) bytes → ⊥
-version_of bytes faults.Version e is b = no_version b.0 (sym (after_version b.0) ∙ sym (after_magic (1 ∷ b.0)) ∙ ap schedule_at (sym b.1) ∙ e)
-version_of bytes faults.OutOfMemory e is b = absurd cc
-version_of bytes faults.Truncated e is b = absurd cc
-version_of bytes faults.Magic e is b = absurd cc
-version_of bytes faults.Repeat e is b = absurd cc
-version_of bytes faults.Trailing e is b = absurd cc
+magic_stands : (bytes : List ℕ) → schedule_at bytes ≡ Err faults.Magic → StandsIn bytes faults.Magic
+unfolding schedule_at
+magic_stands bytes e = (
+  elim (bind_err (number_at 4 bytes) (λ magic. cond (eqb magic.0 0x4a534348) (version_at magic.1) (failed faults.Magic)) faults.Magic e) [
+    | inl h ↦ (let clash = number_stops 4 bytes faults.Magic h in absurd cc)
+    | inr h ↦ there 4 bytes h.0 h.1
+  ],
+  λ b. no_magic b.0 (sym (after_magic b.0) ∙ ap schedule_at (sym b.1) ∙ e),
+)
+
+-- behind the magic a byte is there
+version_there : (rest : List ℕ) → version_at rest ≡ Err faults.Version → 1 ≤ length rest
+unfolding version_at
+version_there rest e =
+    elim (bind_err (number_at 1 rest) (λ version. cond (eqb version.0 1) (table_at version.1) (failed faults.Version)) faults.Version e) [
+      | inl h ↦ (let clash = number_stops 1 rest faults.Version h in absurd cc)
+      | inr h ↦ there 1 rest h.0 h.1
+    ]
+
+-- the magic was read
+behind_magic : (bytes : List ℕ) → IsBytes bytes → schedule_at bytes ≡ Err faults.Version → (rest : List ℕ) × (bytes ≡ codes "JSCH" ++ rest) × (version_at rest ≡ Err faults.Version)
+unfolding schedule_at
+behind_magic bytes small e =
+    elim (bind_err (number_at 4 bytes) (λ magic. cond (eqb magic.0 0x4a534348) (version_at magic.1) (failed faults.Magic)) faults.Version e) [
+      | inl h ↦ (let clash = number_stops 4 bytes faults.Version h in absurd cc)
+      | inr h ↦ elim (test_err (eqb h.0.0 0x4a534348) (version_at h.0.1) faults.Magic faults.Version h.2) [
+        | inl g ↦ (h.0.1, (number_takes 4 back4 bytes h.0.0 h.0.1 small h.1).0.parts ∙ ap (λ (k : ℕ). big_bytes 4 k ++ h.0.1) (eqb-true _ _ g.0), g.1)
+        | inr g ↦ absurd cc
+      ]
+    ]
+
+version_stands : (bytes : List ℕ) → IsBytes bytes → schedule_at bytes ≡ Err faults.Version → StandsIn bytes faults.Version
+version_stands bytes small e =
+    let b = behind_magic bytes small e in (
+      omega (arith, ap length b.1, length-append (codes "JSCH") b.0, version_there b.0 b.2),
+      (b.0, b.1),
+      λ v. no_version v.0 (sym (after_version v.0) ∙ sym (after_magic (1 ∷ v.0)) ∙ ap schedule_at (sym v.1) ∙ e),
+    )
+
+pub refused_of : (bytes : List ℕ) (f : ScheduleFault) → IsBytes bytes → Fails f (schedule_at bytes) → IsFaultOf bytes f
+refused_of bytes faults.OutOfMemory small e = inl refl
+refused_of bytes faults.Truncated small e = inr e
+refused_of bytes faults.Repeat small e = inr e
+refused_of bytes faults.Magic small e = inr (magic_stands bytes e)
+refused_of bytes faults.Version small e = inr (version_stands bytes small e)
+refused_of bytes faults.Trailing small e = inr (more_of bytes small e)

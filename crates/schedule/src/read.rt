@@ -1,10 +1,9 @@
 //! Schedule files of version 1.
 
-ghost use Rattle.std.specs.Prelude.{◌≡◌, ◌∷◌, ◌++◌, [], List, IfOk, IfErr, None, codes};
+ghost use Rattle.std.specs.Prelude.{List, IfOk, IfErr, None};
 ghost use Rattle.model.specs.Schedule.{ScheduleFile, events_of};
 ghost use Rattle.model.specs.declared.event.Event.{Event};
-ghost use Rattle.schedule.specs.declared.fault.ScheduleFault.TheVariants as faults;
-ghost use Rattle.schedule.specs.Outcomes.{Answers, BeginsWith, HasMore};
+ghost use Rattle.schedule.specs.Outcomes.{Answers, IsFaultOf};
 ghost use Rattle.schedule.specs.Reading.{Gives, entry_at, entries_at, schedule_at};
 
 use crate::fault::ScheduleFault;
@@ -81,9 +80,8 @@ pub fn read_schedule(alloc: Global, bytes: &[u8]) -> Result<Schedule, ScheduleFa
     ensures found { IfOk result (λ s. ScheduleFile bytes.now None (events_of s)) }
     // What is spelled so is read, unless memory runs out.
     ensures only { (events : List Event) → ScheduleFile bytes.now None events → Answers result events }
-    ensures magic { IfErr result (λ e. e ≡ faults.Magic → BeginsWith (codes "JSCH") bytes.now → ⊥) }
-    ensures trailing { IfErr result (λ e. e ≡ faults.Trailing → HasMore bytes.now) }
-    ensures version { IfErr result (λ e. e ≡ faults.Version → BeginsWith (codes "JSCH" ++ 1 ∷ []) bytes.now → ⊥) }
+    // A fault stands in the bytes, unless memory ran out.
+    ensures refused { IfErr result (IsFaultOf bytes.now) }
 {
     Ok(Schedule::of_entries(read_all(alloc, bytes)?))
 }

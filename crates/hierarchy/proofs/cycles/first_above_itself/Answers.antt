@@ -1,16 +1,16 @@
 use Rattle.std.proofs.Common.{◌≡◌, ◌∙◌, ◌≤◌, true, false, length, sym, ap, arith}
-use Rattle.std.specs.Option.{option_map_or}
 use Rattle.std.specs.List.{list_any}
 use Rattle.classfile.specs.View.{file_of}
 use Rattle.model.specs.Classes.{classes_of}
 use Rattle.model.specs.Hierarchy.{is_above, in_cycle}
+use Rattle.hierarchy.proofs.Finding.{position_first, position_absent}
 use Rattle.hierarchy.proofs.Indices.{none_more, none_all, file_behind, count_behind, take_enough}
 use Rattle.hierarchy.proofs.cycles.first_above_itself.Goals as goal
 
 pub returns-in_default : goal.returns-in_default
 returns-in_default c =
     let files = c.args.set.now in
-    none_all (in_cycle files) files c.loop-number.number (sym (c.in_default.ensures ∙ file_behind files c.loop-number.number)) c.loop-number.invariant
+    sym (position_absent (in_cycle files) files (none_all (in_cycle files) files c.loop-number.number (sym (c.in_default.ensures ∙ file_behind files c.loop-number.number)) c.loop-number.invariant))
 
 pub returns-then-is_above_itself : goal.returns-then-is_above_itself
 returns-then-is_above_itself c =
@@ -18,7 +18,7 @@ returns-then-is_above_itself c =
     let file = file_of c.in-Some.file.now in
     let at = sym (c.in-Some.ensures ∙ file_behind files c.loop-number.number) in
     let above : in_cycle files file ≡ true = ap (λ name. is_above files (length (classes_of files)) name name) (sym c.class_name.ensures) ∙ sym c.is_above_itself.ensures ∙ c.if-is_above_itself.true in
-    ap (λ o. option_map_or (in_cycle files) o false) at ∙ above
+    sym (position_first (in_cycle files) files c.loop-number.number file at above c.loop-number.invariant)
 
 pub loop-number-preserved : goal.loop-number-preserved
 loop-number-preserved c =
@@ -32,4 +32,4 @@ pub returns : goal.returns
 returns c =
     let files = c.args.set.now in
     let all : length files ≤ c.loop-number.number = omega (arith, c.loop-number-test.false, c.saturating_sub-number-end.ensures, c.count.ensures, count_behind files) in
-    ap (list_any (in_cycle files)) (sym (take_enough files c.loop-number.number all)) ∙ c.loop-number.invariant
+    sym (position_absent (in_cycle files) files (ap (list_any (in_cycle files)) (sym (take_enough files c.loop-number.number all)) ∙ c.loop-number.invariant))

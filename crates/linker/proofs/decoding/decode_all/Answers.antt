@@ -12,7 +12,7 @@ returns-in_err-decoded-clause-refused c =
     let e = c.in_err-decoded.field-0.0 in
     let items = c.index-files-number.result in
     rw (p.1, p.2)
-    (unread_at c.args.files.now c.loop-number.number items c.deref.result.now (trees_of c.loop-number.classes.items) e.kind e.file c.loop-number-test.true c.index-files-number.is c.deref.ensures.value c.loop-number.invariant.found c.in_err-decoded.ensures.refused)
+    (unread_at c.args.files.now c.loop-number.number items c.deref.result.now (trees_of c.loop-number.classes.items) e.kind e.file e.offset e.cause c.loop-number-test.true c.index-files-number.is c.deref.ensures.value c.loop-number.invariant.found c.in_err-decoded.ensures.refused)
 
 pub loop-number-preserved : goal.loop-number-preserved
 loop-number-preserved c =

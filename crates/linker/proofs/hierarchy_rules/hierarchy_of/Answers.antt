@@ -1,8 +1,6 @@
-use Rattle.std.proofs.Common.{◌≡◌, true, false, subst}
-use Rattle.std.specs.Prelude.{slice_get, MatchOption}
-use Rattle.std.specs.Option.{option_map_or}
-use Rattle.std.specs.List.{list_any}
+use Rattle.std.proofs.Common.{◌∙◌, sym}
 use Rattle.model.specs.Hierarchy.{in_cycle}
+use Rattle.linker.proofs.Lists.{position_passes, position_none}
 use Rattle.linker.proofs.Stages.{cycle_refused}
 use Rattle.linker.proofs.hierarchy_rules.hierarchy_of.Goals as goal
 
@@ -10,6 +8,9 @@ pub returns-in-Some-clause-refused : goal.returns-in-Some-clause-refused
 returns-in-Some-clause-refused c =
     let trees = c.args.set in
     let n = c.in-Some.number in
-    let found : option_map_or (in_cycle trees) (slice_get trees n) false ≡ true =
-    subst (λ o. MatchOption o (list_any (in_cycle trees) trees ≡ false) (λ k. option_map_or (in_cycle trees) (slice_get trees k) false ≡ true)) c.in-Some.is c.in_ok-found.ensures in
-    cycle_refused trees n c.of_file.result.kind c.of_file.result.file c.of_file.result.cause c.requires found c.of_file.ensures.kind c.of_file.ensures.file
+    let found = position_passes (in_cycle trees) trees n (sym c.in_ok-found.ensures ∙ c.in-Some.is) in
+    cycle_refused trees found.0 n c.of_file.result.kind c.of_file.result.file c.of_file.result.cause c.requires found.1 found.2 c.of_file.ensures.kind c.of_file.ensures.file
+
+pub check_rules-requires-clause-acyclic : goal.check_rules-requires-clause-acyclic
+check_rules-requires-clause-acyclic c =
+    position_none (in_cycle c.args.set) c.args.set (sym c.in_ok-found.ensures ∙ c.in_default.is)

@@ -7,4 +7,4 @@ pub returns-in_err-classes-clause-only : goal.returns-in_err-classes-clause-only
 returns-in_err-classes-clause-only c =
     let p = err_from_is_err_and c.from_residual.result c.from_residual.ensures.1 in
     let e = c.in_err-classes.field-0.0 in
-    λ trees l. rw (p.1, p.2) (unread_memory (map vec_items c.args.files.now) trees e.kind e.file l.spelled c.in_err-classes.ensures.refused)
+    λ trees l. rw (p.1, p.2) (unread_memory (map vec_items c.args.files.now) trees e.kind e.file e.offset e.cause l.spelled c.in_err-classes.ensures.refused)

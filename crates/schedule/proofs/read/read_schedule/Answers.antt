@@ -1,6 +1,6 @@
 use Rattle.std.proofs.Common.{arith}
 use Rattle.std.proofs.lemmas.Result.{err_from_is_err_and}
-use Rattle.schedule.proofs.Whole.{schedule_takes, found_of, only_of, only_memory, magic_of, version_of, trailing_of}
+use Rattle.schedule.proofs.Whole.{schedule_takes, found_of, only_of, only_memory, refused_of}
 use Rattle.schedule.proofs.read.read_schedule.Goals as goal
 
 pub of_entries-requires : goal.of_entries-requires
@@ -17,17 +17,7 @@ returns-in_err-read_all-clause-only c =
     let p = err_from_is_err_and c.from_residual.result c.from_residual.ensures.1 in
     rw (p.1, p.2) (only_memory c.args.bytes.now c.in_err-read_all.field-0.0 c.in_err-read_all.ensures)
 
-pub returns-in_err-read_all-clause-magic : goal.returns-in_err-read_all-clause-magic
-returns-in_err-read_all-clause-magic c =
+pub returns-in_err-read_all-clause-refused : goal.returns-in_err-read_all-clause-refused
+returns-in_err-read_all-clause-refused c =
     let p = err_from_is_err_and c.from_residual.result c.from_residual.ensures.1 in
-    rw (p.1, p.2) (magic_of c.args.bytes.now c.in_err-read_all.field-0.0 c.in_err-read_all.ensures)
-
-pub returns-in_err-read_all-clause-version : goal.returns-in_err-read_all-clause-version
-returns-in_err-read_all-clause-version c =
-    let p = err_from_is_err_and c.from_residual.result c.from_residual.ensures.1 in
-    rw (p.1, p.2) (version_of c.args.bytes.now c.in_err-read_all.field-0.0 c.in_err-read_all.ensures)
-
-pub returns-in_err-read_all-clause-trailing : goal.returns-in_err-read_all-clause-trailing
-returns-in_err-read_all-clause-trailing c =
-    let p = err_from_is_err_and c.from_residual.result c.from_residual.ensures.1 in
-    rw (p.1, p.2) (trailing_of c.args.bytes.now c.in_err-read_all.field-0.0 (λ i. omega (arith, c.type_inv.bytes i)) c.in_err-read_all.ensures)
+    rw (p.1, p.2) (refused_of c.args.bytes.now c.in_err-read_all.field-0.0 (λ i. omega (arith, c.type_inv.bytes i)) c.in_err-read_all.ensures)
