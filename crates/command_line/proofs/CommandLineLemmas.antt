@@ -1,25 +1,38 @@
 -- What the parser found, and the values of a command.
-use Rattle.std.proofs.Common.{◌≡◌, ℕ, ◌≤◌, List, Option, None, Some, option_map, unwrap_or, get_or, eqb, [], true, false, codes, inl, refl, sym, ap, subst, ◌∙◌, Box, Global}
+use Rattle.std.proofs.Common.{◌≡◌, ℕ, ◌≤◌, List, Option, None, Some, option_map, unwrap_or, get_or, eqb, [], true, false, codes, ◌⊎◌, inl, inr, refl, sym, ap, subst, ◌∙◌, Box, Global}
 use Rattle.std.specs.Box.{box_value}
 use Rattle.std.specs.Str.Parse.{IsNumeral, digits_value}
 use Rattle.clap.proofs.OnLiterals.{clap_on_literals}
 use Rattle.clap.proofs.WalkLemmas.{first_value-rows, raw_values-rows}
-use Rattle.clap.specs.Words.{HasMatchesOf, Row, Text, all_of, first_of, first_value, found_of, is_simple, matched_of, raw_values, rows_of, subcommand_name_of, subcommand_of, subcommand_rows, subcommand_rows_of, takes}
+use Rattle.clap.specs.Words.{HasKind, HasMatchesOf, IsAmong, Kinds, Row, Text, all_of, first_of, fault_of, first_value, found_of, is_simple, is_simple_and_free, kind_of, matched_of, raw_values, rows_of, subcommand_name_of, subcommand_of, subcommand_rows, subcommand_rows_of, takes}
 use Rattle.clap.specs.declared.parser.matches.ArgMatches.{ArgMatches}
 use Rattle.clap.specs.declared.parser.matches.ArgMatches.TheViews.{out-ArgMatches, out-SubCommand}
 use Rattle.clap.specs.declared.parser.matches.SubCommand.{SubCommand}
-use Rattle.command_line.specs.CommandLine.{AreFiles, AreValues, IsFile, IsNumber, Refuses, Spells, SpellsNothing, jvm}
+use Rattle.clap.specs.declared.error.Error.{Error}
+use Rattle.clap.specs.declared.error.kind.ErrorKind.{ErrorKind}
+use Rattle.clap.specs.declared.error.kind.ErrorKind.TheVariants as errors
+use Rattle.command_line.specs.CommandLine.{AreFiles, AreValues, Asks, Fails, IsFile, IsNumber, Refuses, Spells, SpellsNothing, jvm, usage_by, usage_of}
 use Rattle.command_line.specs.declared.parse.Usage.{Usage}
-use Rattle.command_line.specs.declared.parse.Usage.TheVariants.{Parser, OutOfMemory}
+use Rattle.command_line.specs.declared.parse.Usage.TheVariants.{Parser, Number, Asked, OutOfMemory}
 use Rattle.command_line.specs.declared.options.Command.{Command}
 use Rattle.command_line.specs.declared.options.Command.TheVariants as commands
 use Rattle.command_line.specs.declared.options.Disasm.{Disasm}
 use Rattle.command_line.specs.declared.options.Replay.{Replay}
 use Rattle.command_line.specs.declared.options.Verify.{Verify}
 
-pub refuses : (usage : Usage) (reason : Type 0) → reason → Refuses usage reason
-refuses OutOfMemory reason known = tt
-refuses (Parser error) reason known = known
+-- a mistake is refused for a reason that holds
+pub refuses : (usage : Usage) (reason : Type 0) → (Asks usage → ⊥) → reason → Refuses usage reason
+refuses OutOfMemory reason mistake known = tt
+refuses (Parser error) reason mistake known = known
+refuses (Number text) reason mistake known = known
+refuses (Asked error) reason mistake known = elim (mistake tt) [ ]
+
+-- and by that the words spell no command
+pub fails : (words : List Text) (usage : Usage) (reason : Type 0) → Refuses usage reason → (reason → SpellsNothing words) → Fails words usage
+fails words OutOfMemory reason known on = tt
+fails words (Parser error) reason known on = on known
+fails words (Number text) reason known on = on known
+fails words (Asked error) reason known on = elim known [ ]
 
 -- the first value of an option
 pub first_is : (matches : ArgMatches) (id : Text) (text : Option Text) → text ≡ first_value (found_of matches) id → first_of id (rows_of (found_of matches)) ≡ text
@@ -40,10 +53,50 @@ all_is matches id texts found = sym (found ∙ raw_values-rows (found_of matches
 pub no_value : {A : Type 0} (there : Option A) → there ≡ None → (value : A) → there ≡ Some value → ⊥
 no_value there none value some = let bad : None ≡ Some value = sym none ∙ some in cc
 
--- the parser refused the words
-pub parser_refuses : (usage : Usage) (words : List Text) (of_memory : Type 0) → (of_memory → usage ≡ OutOfMemory) → (takes jvm words ≡ true → of_memory) → Refuses usage (SpellsNothing words)
-parser_refuses OutOfMemory words of_memory gives passes = tt
-parser_refuses (Parser error) words of_memory gives passes = inl (λ taken. let bad : Parser error ≡ OutOfMemory = gives (passes taken) in cc)
+pub is_free_jvm : is_simple_and_free jvm ≡ true
+unfolding clap_on_literals
+is_free_jvm = refl
+
+-- what isn't a want of memory is among the kinds
+among : (kinds : Kinds) (error : Error) (kind : ErrorKind) → kind_of error ≡ kind → (kind ≡ errors.OutOfMemory → ⊥) → HasKind kinds error → IsAmong (kind_of error) kinds
+among kinds error kind is other (inl memory) = elim (other (sym is ∙ memory)) [ ]
+among kinds error kind is other (inr found) = found
+
+-- an error of the parser that says of itself that there was no memory
+pub memory_fails : (words : List Text) (error : Error) (usage : Usage) → usage ≡ usage_of error → kind_of error ≡ errors.OutOfMemory → Fails words usage
+memory_fails words error usage same memory = rw (same, memory) tt
+
+-- the parser refused the words, or answers what they ask for
+usage_fails : (words : List Text) (error : Error) (kind : ErrorKind) → kind_of error ≡ kind → (takes jvm words ≡ true → kind_of error ≡ errors.OutOfMemory) → HasKind (fault_of jvm words) error → Fails words (usage_by kind error)
+usage_fails words error errors.OutOfMemory is passes has = tt
+usage_fails words error errors.DisplayHelp is passes has =
+    (inl (λ taken. let bad : errors.OutOfMemory ≡ errors.DisplayHelp = sym (passes taken) ∙ is in cc), (inl is, among (fault_of jvm words) error errors.DisplayHelp is (λ bad. cc) has))
+usage_fails words error errors.DisplayVersion is passes has =
+    (inl (λ taken. let bad : errors.OutOfMemory ≡ errors.DisplayVersion = sym (passes taken) ∙ is in cc), (inr is, among (fault_of jvm words) error errors.DisplayVersion is (λ bad. cc) has))
+usage_fails words error errors.InvalidValue is passes has = inl (λ taken. let bad : errors.OutOfMemory ≡ errors.InvalidValue = sym (passes taken) ∙ is in cc)
+usage_fails words error errors.UnknownArgument is passes has = inl (λ taken. let bad : errors.OutOfMemory ≡ errors.UnknownArgument = sym (passes taken) ∙ is in cc)
+usage_fails words error errors.InvalidSubcommand is passes has = inl (λ taken. let bad : errors.OutOfMemory ≡ errors.InvalidSubcommand = sym (passes taken) ∙ is in cc)
+usage_fails words error errors.NoEquals is passes has = inl (λ taken. let bad : errors.OutOfMemory ≡ errors.NoEquals = sym (passes taken) ∙ is in cc)
+usage_fails words error errors.ValueValidation is passes has = inl (λ taken. let bad : errors.OutOfMemory ≡ errors.ValueValidation = sym (passes taken) ∙ is in cc)
+usage_fails words error errors.TooManyValues is passes has = inl (λ taken. let bad : errors.OutOfMemory ≡ errors.TooManyValues = sym (passes taken) ∙ is in cc)
+usage_fails words error errors.TooFewValues is passes has = inl (λ taken. let bad : errors.OutOfMemory ≡ errors.TooFewValues = sym (passes taken) ∙ is in cc)
+usage_fails words error errors.WrongNumberOfValues is passes has = inl (λ taken. let bad : errors.OutOfMemory ≡ errors.WrongNumberOfValues = sym (passes taken) ∙ is in cc)
+usage_fails words error errors.ArgumentConflict is passes has = inl (λ taken. let bad : errors.OutOfMemory ≡ errors.ArgumentConflict = sym (passes taken) ∙ is in cc)
+usage_fails words error errors.MissingRequiredArgument is passes has = inl (λ taken. let bad : errors.OutOfMemory ≡ errors.MissingRequiredArgument = sym (passes taken) ∙ is in cc)
+usage_fails words error errors.MissingSubcommand is passes has = inl (λ taken. let bad : errors.OutOfMemory ≡ errors.MissingSubcommand = sym (passes taken) ∙ is in cc)
+usage_fails words error errors.DisplayHelpOnMissingArgumentOrSubcommand is passes has = inl (λ taken. let bad : errors.OutOfMemory ≡ errors.DisplayHelpOnMissingArgumentOrSubcommand = sym (passes taken) ∙ is in cc)
+usage_fails words error errors.Io is passes has = inl (λ taken. let bad : errors.OutOfMemory ≡ errors.Io = sym (passes taken) ∙ is in cc)
+usage_fails words error errors.Format is passes has = inl (λ taken. let bad : errors.OutOfMemory ≡ errors.Format = sym (passes taken) ∙ is in cc)
+
+-- a number with a sign, which the parser takes for an unknown argument
+sign_fails : (words : List Text) (error : Error) (usage : Usage) → (takes jvm words ≡ true → kind_of error ≡ errors.OutOfMemory) → kind_of error ≡ errors.UnknownArgument → (Asks usage → ⊥) → Fails words usage
+sign_fails words error usage passes unknown mistake =
+    fails words usage (SpellsNothing words) (refuses usage (SpellsNothing words) mistake (inl (λ taken. let bad : errors.OutOfMemory ≡ errors.UnknownArgument = sym (passes taken) ∙ unknown in cc))) (λ nothing. nothing)
+
+pub parser_fails : (words : List Text) (error : Error) (usage : Usage) → (takes jvm words ≡ true → kind_of error ≡ errors.OutOfMemory) → (is_simple_and_free jvm ≡ true → HasKind (fault_of jvm words) error)
+    → ((usage ≡ usage_of error) ⊎ ((kind_of error ≡ errors.UnknownArgument) × (Asks usage → ⊥))) → Fails words usage
+parser_fails words error usage passes kinds (inl same) = rw (same) (usage_fails words error (kind_of error) refl passes (kinds is_free_jvm))
+parser_fails words error usage passes kinds (inr sign) = sign_fails words error usage passes sign.0 sign.1
 
 pub is_simple_jvm : is_simple jvm ≡ true
 unfolding clap_on_literals
@@ -130,3 +183,5 @@ spells_other_disasm words rows met none (commands.Replay replay) spelled =
 pub refuses_more : (usage : Usage) (reason other : Type 0) → (reason → other) → Refuses usage reason → Refuses usage other
 refuses_more OutOfMemory reason other on known = tt
 refuses_more (Parser error) reason other on known = on known
+refuses_more (Number text) reason other on known = on known
+refuses_more (Asked error) reason other on known = elim known [ ]

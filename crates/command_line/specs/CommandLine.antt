@@ -1,14 +1,19 @@
 -- The command line (own), in the words of the crate `clap`: which options there are, and which command the words
 -- spell.
-use Rattle.std.specs.Prelude.{◌≡◌, ◌≤◌, ◌⊎◌, ℕ, ◌-◌, ◌^◌, List, map, true, false, codes, Option, Some, None, string_bytes}
+use Rattle.std.specs.Prelude.{◌≡◌, ◌≤◌, ◌⊎◌, ℕ, ◌-◌, ◌^◌, Bool, List, map, true, false, codes, Option, Some, None, string_bytes}
+use Rattle.std.specs.Option.{option_map_or}
+use Rattle.std.specs.Str.{bytes_eq}
 use Rattle.std.specs.Str.Parse.{IsNumeral, digits_value}
-use Rattle.clap.specs.Words.{App, Row, Rule, Shape, Text, all_of, first_of, new_app, new_rule, subcommand_of, takes, with_rule, with_subcommand}
+use Rattle.clap.specs.Words.{App, IsAmong, Row, Rule, Shape, Text, all_of, fault_of, first_of, kind_of, new_app, new_rule, subcommand_of, takes, with_rule, with_subcommand}
+use Rattle.clap.specs.declared.error.Error.{Error}
+use Rattle.clap.specs.declared.error.kind.ErrorKind.{ErrorKind}
+use Rattle.clap.specs.declared.error.kind.ErrorKind.TheVariants as errors
 use Rattle.clap.specs.declared.builder.command.Command as parser
 use Rattle.clap.specs.declared.builder.command.Command.TheViews.{out-Command}
-use Rattle.clap.specs.declared.builder.ArgAction.TheVariants.{Set, Append}
+use Rattle.clap.specs.declared.builder.ArgAction.TheVariants.{Set, SetTrue, Append}
 use Rattle.clap.specs.declared.builder.value_parser.ValueParser.TheVariants.{Unsigned}
 use Rattle.command_line.specs.declared.parse.Usage.{Usage}
-use Rattle.command_line.specs.declared.parse.Usage.TheVariants.{Parser, OutOfMemory}
+use Rattle.command_line.specs.declared.parse.Usage.TheVariants.{Parser, Number, Asked, OutOfMemory}
 use Rattle.command_line.specs.declared.options.Command.{Command}
 use Rattle.command_line.specs.declared.options.Command.TheVariants as commands
 use Rattle.command_line.specs.declared.options.Disasm.{Disasm}
@@ -34,6 +39,13 @@ schedule_option = record (new_rule (codes "schedule")) {
   action = Some Set;
 }
 
+-- `--explain`
+abbrev pub explain_option : Rule
+explain_option = record (new_rule (codes "explain")) {
+  long = Some (codes "explain");
+  action = Some SetTrue;
+}
+
 -- `FILE..`, at least one
 abbrev pub class_files : Rule
 class_files = record (new_rule (codes "files")) {
@@ -52,10 +64,10 @@ with_limits app = with_rule (with_rule (with_rule (with_rule (with_rule app
     (number_option (codes "frames") 1 65535)
 
 abbrev pub jvm_replay : App
-jvm_replay = with_rule (with_limits (with_rule (new_app (codes "replay")) schedule_option)) class_files
+jvm_replay = with_rule (with_rule (with_limits (with_rule (new_app (codes "replay")) schedule_option)) explain_option) class_files
 
 abbrev pub jvm_verify : App
-jvm_verify = with_rule (new_app (codes "verify")) class_files
+jvm_verify = with_rule (with_rule (new_app (codes "verify")) explain_option) class_files
 
 -- `FILE`, which has to be there
 abbrev pub class_file : Rule
@@ -66,14 +78,15 @@ class_file = record (new_rule (codes "file")) {
 }
 
 abbrev pub jvm_disasm : App
-jvm_disasm = with_rule (new_app (codes "disasm")) class_file
+jvm_disasm = with_rule (with_rule (new_app (codes "disasm")) explain_option) class_file
 
-abbrev pub without_help_subcommand : Shape → Shape
-without_help_subcommand shape = record shape { disable_help_subcommand = true; subcommand_required = true }
+-- it has `--version`, and a command has to be there
+abbrev pub with_version : Shape → Shape
+with_version shape = record shape { has_version = true; subcommand_required = true }
 
 abbrev pub jvm : App
 jvm = with_subcommand (with_subcommand (with_subcommand
-    (record (new_app (codes "jvm")) { top = without_help_subcommand (new_app (codes "jvm")).top })
+    (record (new_app (codes "jvm")) { top = with_version (new_app (codes "jvm")).top })
     jvm_replay.top)
     jvm_verify.top)
     jvm_disasm.top
@@ -96,19 +109,26 @@ pub record AreLimitNumbers (rows : List Row) (limits : LimitOptions) : Type 0 wh
   pub threads : IsNumber 1 32767 (first_of (codes "threads") rows) limits.threads
   pub frames : IsNumber 1 65535 (first_of (codes "frames") rows) limits.frames
 
+-- a flag is there
+abbrev pub is_set : Option Text → Bool
+is_set text = option_map_or (λ text. bytes_eq text (codes "true")) text false
+
 -- the values that the words give to `jvm replay`
 pub record AreValues (rows : List Row) (replay : Replay) : Type 0 where
   pub schedule : first_of (codes "schedule") rows ≡ Some (string_bytes replay.schedule)
   pub limits : AreLimitNumbers rows replay.limits
   pub files : all_of (codes "files") rows ≡ Some (map string_bytes replay.files.items)
+  pub explain : replay.explain ≡ is_set (first_of (codes "explain") rows)
 
 -- the values that the words give to `jvm verify`
 abbrev pub AreFiles : List Row → Verify → Type 0
-AreFiles rows verify = all_of (codes "files") rows ≡ Some (map string_bytes verify.files.items)
+AreFiles rows verify = (all_of (codes "files") rows ≡ Some (map string_bytes verify.files.items))
+    × (verify.explain ≡ is_set (first_of (codes "explain") rows))
 
 -- the value that the words give to `jvm disasm`
 abbrev pub IsFile : List Row → Disasm → Type 0
-IsFile rows disasm = first_of (codes "file") rows ≡ Some (string_bytes disasm.file)
+IsFile rows disasm = (first_of (codes "file") rows ≡ Some (string_bytes disasm.file))
+    × (disasm.explain ≡ is_set (first_of (codes "explain") rows))
 
 -- the words, the program's name first, spell the command
 abbrev pub Spells : List Text → Command → Type 0
@@ -116,11 +136,41 @@ Spells words (commands.Replay replay) = (rows : List Row) × (subcommand_of jvm 
 Spells words (commands.Verify verify) = (rows : List Row) × (subcommand_of jvm words ≡ Some (codes "verify", rows)) × AreFiles rows verify
 Spells words (commands.Disasm disasm) = (rows : List Row) × (subcommand_of jvm words ≡ Some (codes "disasm", rows)) × IsFile rows disasm
 
+-- what an error of the parser comes to
+abbrev pub usage_by : ErrorKind → Error → Usage
+usage_by errors.OutOfMemory error = OutOfMemory
+usage_by errors.DisplayHelp error = Asked error
+usage_by errors.DisplayVersion error = Asked error
+usage_by kind error = Parser error
+
+abbrev pub usage_of : Error → Usage
+usage_of error = usage_by (kind_of error) error
+
+-- it is what the words ask for
+abbrev pub Asks : Usage → Type 0
+Asks OutOfMemory = ⊥
+Asks (Parser error) = ⊥
+Asks (Number text) = ⊥
+Asks (Asked error) = Unit {0}
+
 -- memory apart, there is no command because this holds
 abbrev pub Refuses : Usage → Type 0 → Type 0
 Refuses OutOfMemory reason = Unit {0}
 Refuses (Parser error) reason = reason
+Refuses (Number text) reason = reason
+Refuses (Asked error) reason = ⊥
 
 -- the parser doesn't take the words, or they spell no command
 abbrev pub SpellsNothing : List Text → Type 0
 SpellsNothing words = (takes jvm words ≡ true → ⊥) ⊎ ((command : Command) → Spells words command → ⊥)
+
+-- the error is help or the version, and may be what the parser says of the words
+abbrev pub IsAskedFor : List Text → Error → Type 0
+IsAskedFor words error = ((kind_of error ≡ errors.DisplayHelp) ⊎ (kind_of error ≡ errors.DisplayVersion)) × IsAmong (kind_of error) (fault_of jvm words)
+
+-- why there is no command: memory apart, the words spell none; and what is told as asked for is asked for
+abbrev pub Fails : List Text → Usage → Type 0
+Fails words OutOfMemory = Unit {0}
+Fails words (Parser error) = SpellsNothing words
+Fails words (Number text) = SpellsNothing words
+Fails words (Asked error) = SpellsNothing words × IsAskedFor words error

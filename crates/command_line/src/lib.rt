@@ -1,6 +1,7 @@
 //! The command line of the program `jvm`: which command its words spell, with which options.
 #![tactic(auto)]
 
+mod help;
 mod options;
 mod parse;
 

@@ -20,6 +20,8 @@ pub struct Replay {
     pub limits: LimitOptions,
     /// The paths of the class files. The first holds the class whose `main` is run.
     pub files: Vec<String>,
+    /// Whether a refusal is explained.
+    pub explain: bool,
 }
 
 /// `jvm verify`: class files are linked and verified, and nothing is run.
@@ -27,6 +29,8 @@ pub struct Replay {
 pub struct Verify {
     /// The paths of the class files. The first holds the class that has to have a `main`.
     pub files: Vec<String>,
+    /// Whether a refusal is explained.
+    pub explain: bool,
 }
 
 /// `jvm disasm`: the listing of a class file is written.
@@ -34,6 +38,8 @@ pub struct Verify {
 pub struct Disasm {
     /// The path of the class file.
     pub file: String,
+    /// Whether a refusal is explained.
+    pub explain: bool,
 }
 
 /// The limits that are asked for, each in its range, and `None` for the usual one.

@@ -1,13 +1,14 @@
 //! The reading of the command line.
 
-ghost use Rattle.std.specs.Prelude.{◌≡◌, ◌≤◌, false, Some, codes, map, string_bytes, IfOk, IfErr};
+ghost use Rattle.std.specs.Prelude.{◌≡◌, ◌≤◌, ◌⊎◌, false, Some, codes, map, string_bytes, IfOk, IfErr};
 ghost use Rattle.std.specs.Option.{SomeIff};
-ghost use Rattle.clap.specs.Words.{all_of, app_of, first_of, found_of, kind_of, rows_of, rule_of};
-ghost use Rattle.clap.specs.declared.error.kind.ErrorKind.TheVariants.{OutOfMemory as no_memory};
+ghost use Rattle.clap.specs.Words.{HasMatchesOf, all_of, app_of, first_of, found_of, kind_of, rows_of, rule_of};
+ghost use Rattle.clap.specs.declared.error.kind.ErrorKind.TheVariants.{OutOfMemory as no_memory, UnknownArgument as unknown_argument};
 ghost use Rattle.command_line.specs.declared.parse.Usage.TheVariants.{OutOfMemory};
-ghost use Rattle.command_line.specs.CommandLine.{AreFiles, AreLimitNumbers, AreValues, IsFile, IsLocal, IsNumber, Refuses, Spells, SpellsNothing, class_files, class_file, jvm, jvm_disasm, jvm_replay, jvm_verify, number_option, with_limits as limited};
+ghost use Rattle.command_line.specs.CommandLine.{AreFiles, AreLimitNumbers, AreValues, Asks, Fails, IsFile, IsLocal, IsNumber, Refuses, Spells, class_files, class_file, explain_option, is_set as is_true, jvm, jvm_disasm, jvm_replay, jvm_verify, number_option, usage_of, with_limits as limited};
 ghost use Rattle.std.specs.Str.Parse.{IsNumeral, digits_value};
 
+use crate::help::{ABOUT, AFTER, VERSION};
 use crate::options;
 use crate::options::{Disasm, LimitOptions, Replay, Verify};
 use clap::builder::ValueParser;
@@ -19,26 +20,33 @@ use std::fmt;
 /// Why there is no command.
 #[derive(Debug, Drop)]
 pub enum Usage {
-    /// The words are no command, or ask for help. Its text is for the user.
+    /// The words are no command. Its text is for the user.
     Parser(clap::Error),
+    /// A number of an option has a sign. This is the text for the user.
+    Number(String),
+    /// The words ask for help or for the version, and this is it.
+    Asked(clap::Error),
     OutOfMemory,
 }
 
 impl fmt::Display for Usage {
     fn fmt<W: fmt::Write>(&self, f: &mut fmt::Formatter<W>) -> fmt::Result {
         match self {
-            Usage::Parser(error) => error.fmt(f),
+            Usage::Parser(error) | Usage::Asked(error) => error.fmt(f),
+            Usage::Number(text) => f.write_str(text.as_str()),
             Usage::OutOfMemory => f.write_str("run refused Memory\n"),
         }
     }
 }
 
 impl From<clap::Error> for Usage {
-    ghost from_gives = { λ error usage. kind_of error ≡ no_memory → usage ≡ OutOfMemory };
+    ghost from_gives = { λ error usage. usage ≡ usage_of error };
 
     fn from(error: clap::Error) -> Usage {
         match error.kind() {
             ErrorKind::OutOfMemory => Usage::OutOfMemory,
+            ErrorKind::DisplayHelp => Usage::Asked(error),
+            ErrorKind::DisplayVersion => Usage::Asked(error),
             _ => Usage::Parser(error),
         }
     }
@@ -59,6 +67,9 @@ impl<T: Drop> From<AllocFailed<T>> for Usage {
         Usage::OutOfMemory
     }
 }
+
+/// How the parser's texts on wrong values end.
+const MORE: &str = "For more information, try '--help'.";
 
 /// An option that takes a number: its name, its range, and what its help says.
 #[derive(Clone, Copy)]
@@ -129,20 +140,59 @@ impl NumberOption {
             None => Ok(None),
             Some(text) => match decimal(text, self.least, self.most) {
                 Some(number) => Ok(Some(number)),
-                None => Err(self.refusal(alloc, text)?),
+                None => Err(self.refusal(alloc, text)),
             },
         }
     }
 
-    /// That a text isn't a number of the option's. The parser takes a sign, which this program doesn't.
-    fn refusal(self, alloc: Global, text: &str) -> Result<Usage, Usage> {
+    /// That a text with a sign isn't a number of the option's, in the parser's words for every other text that is none.
+    /// The parser takes a plus, and takes a minus for an option.
+    fn refusal(self, alloc: Global, text: &str) -> Usage
+        ensures { Asks result → ⊥ }
+    {
         let name = self.name;
-        let message = format!(in alloc;
-            "invalid value '{text}' for '--{name} <NUMBER>': digits alone are a number"
-        )?;
-        let mut program = program(alloc)?;
-        Ok(Usage::from(program.error(ErrorKind::ValueValidation, message.as_str())?))
+        let told = format!(in alloc;
+            "error: invalid value '{text}' for '--{name} <NUMBER>': invalid digit found in string\n\n{MORE}\n"
+        );
+        match told {
+            Ok(message) => Usage::Number(message),
+            Err(AllocError) => Usage::OutOfMemory,
+        }
     }
+}
+
+/// The option with this name behind two hyphens.
+fn number_option(word: &str) -> Option<NumberOption> {
+    match word.strip_prefix("--")? {
+        "objects" => Some(OBJECTS),
+        "cells" => Some(CELLS),
+        "monitors" => Some(MONITORS),
+        "threads" => Some(THREADS),
+        "frames" => Some(FRAMES),
+        _ => None,
+    }
+}
+
+/// Whether a word is a minus with a digit behind it.
+fn is_negative(word: &str) -> bool {
+    matches!(word.as_bytes(), [b'-', b'0'..=b'9', ..])
+}
+
+/// The first word of `replay` that is a negative number behind an option that takes a number.
+fn negative_number(words: &[String]) -> Option<(NumberOption, &str)> {
+    if words.get(1)?.as_str() != "replay" {
+        return None;
+    }
+    let mut before = "";
+    for word in words {
+        if let Some(option) = number_option(before) {
+            if is_negative(word.as_str()) {
+                return Some((option, word.as_str()));
+            }
+        }
+        before = word.as_str();
+    }
+    None
 }
 
 /// The number that decimal digits spell, where it lies between these two. Digits alone do, and no sign.
@@ -163,9 +213,9 @@ fn decimal(text: &str, least: u32, most: u32) -> Option<u32>
 /// The command that the words spell, the program's name first.
 pub fn command(alloc: Global, words: &[String]) -> Result<options::Command, Usage>
     ensures spelled { IfOk result (Spells (map string_bytes words.now)) }
-    ensures refused { IfErr result (λ usage. Refuses usage (SpellsNothing (map string_bytes words.now))) }
+    ensures refused { IfErr result (Fails (map string_bytes words.now)) }
 {
-    let matches = program(alloc)?.try_get_matches_from(words)?;
+    let matches = parsed(alloc, words)?;
     if let Some(replay) = matches.subcommand_matches("replay") {
         return Ok(options::Command::Replay(replay_of(alloc, replay)?));
     }
@@ -174,14 +224,56 @@ pub fn command(alloc: Global, words: &[String]) -> Result<options::Command, Usag
     }
     match matches.subcommand_matches("disasm") {
         Some(disasm) => Ok(options::Command::Disasm(disasm_of(alloc, disasm)?)),
-        None => Err(missing(alloc, "a subcommand is missing")?),
+        None => Err(missing(alloc, "a subcommand is missing")),
     }
 }
 
+/// What the parser finds in the words.
+fn parsed<'a>(alloc: Global, words: &'a [String]) -> Result<ArgMatches<'a>, Usage>
+    ensures matches { IfOk result (HasMatchesOf jvm (map string_bytes words.now)) }
+    ensures refused { IfErr result (Fails (map string_bytes words.now)) }
+{
+    match program(alloc)?.try_get_matches_from(words) {
+        Ok(matches) => Ok(matches),
+        Err(error) => Err(parser_usage(alloc, words, error)),
+    }
+}
+
+/// What the parser says of the words. A negative number it takes for an option that it doesn't know.
+fn parser_usage(alloc: Global, words: &[String], error: clap::Error) -> Usage
+    ensures { (result ≡ usage_of error) ⊎ ((kind_of error ≡ unknown_argument) × (Asks result → ⊥)) }
+{
+    if error.kind() == ErrorKind::UnknownArgument {
+        if let Some((option, text)) = negative_number(words) {
+            return option.refusal(alloc, text);
+        }
+    }
+    Usage::from(error)
+}
+
 /// That the words lack something. The parser says so first, so that this text is never seen.
-fn missing(alloc: Global, what: &str) -> Result<Usage, Usage> {
+fn missing(alloc: Global, what: &str) -> Usage
+    ensures { Asks result → ⊥ }
+{
+    match missing_argument(alloc, what) {
+        Ok(error) => Usage::Parser(error),
+        Err(_) => Usage::OutOfMemory,
+    }
+}
+
+fn missing_argument(alloc: Global, what: &str) -> Result<clap::Error, clap::Error> {
     let mut program = program(alloc)?;
-    Ok(Usage::from(program.error(ErrorKind::MissingRequiredArgument, what)?))
+    Ok(program.error(ErrorKind::MissingRequiredArgument, what)?)
+}
+
+/// Whether a flag is there.
+fn is_set(matches: &ArgMatches<'_>, flag: &str) -> bool
+    ensures { result ≡ is_true (first_of flag.now (rows_of (found_of matches.now))) }
+{
+    match matches.get_str(flag) {
+        Some(text) => text == "true",
+        None => false,
+    }
 }
 
 fn replay_of(alloc: Global, matches: &ArgMatches<'_>) -> Result<Replay, Usage>
@@ -191,7 +283,7 @@ fn replay_of(alloc: Global, matches: &ArgMatches<'_>) -> Result<Replay, Usage>
 {
     let schedule = match matches.get_str("schedule") {
         Some(path) => String::from_str(alloc, path)?,
-        None => return Err(missing(alloc, "the schedule file is missing")?),
+        None => return Err(missing(alloc, "the schedule file is missing")),
     };
     let limits = limits_of(alloc, matches)?;
     let files = files_of(alloc, matches)?;
@@ -199,6 +291,7 @@ fn replay_of(alloc: Global, matches: &ArgMatches<'_>) -> Result<Replay, Usage>
         schedule,
         limits,
         files,
+        explain: is_set(matches, "explain"),
     })
 }
 
@@ -208,7 +301,10 @@ fn verify_of(alloc: Global, matches: &ArgMatches<'_>) -> Result<Verify, Usage>
         → AreFiles (rows_of (found_of matches.now)) verify → ⊥)) }
 {
     let files = files_of(alloc, matches)?;
-    Ok(Verify { files })
+    Ok(Verify {
+        files,
+        explain: is_set(matches, "explain"),
+    })
 }
 
 fn disasm_of(alloc: Global, matches: &ArgMatches<'_>) -> Result<Disasm, Usage>
@@ -219,8 +315,9 @@ fn disasm_of(alloc: Global, matches: &ArgMatches<'_>) -> Result<Disasm, Usage>
     match matches.get_str("file") {
         Some(path) => Ok(Disasm {
             file: String::from_str(alloc, path)?,
+            explain: is_set(matches, "explain"),
         }),
-        None => Err(missing(alloc, "the class file is missing")?),
+        None => Err(missing(alloc, "the class file is missing")),
     }
 }
 
@@ -247,7 +344,7 @@ fn files_of(alloc: Global, matches: &ArgMatches<'_>) -> Result<Vec<String>, Usag
 {
     match matches.get_strs("files") {
         Some(paths) => Ok(copied(alloc, paths)?),
-        None => Err(missing(alloc, "the class files are missing")?),
+        None => Err(missing(alloc, "the class files are missing")),
     }
 }
 
@@ -267,8 +364,9 @@ fn program<'a>(alloc: Global) -> Result<clap::Command<'a>, clap::Error>
     ensures err { IfErr result (λ error. kind_of error ≡ no_memory) }
 {
     let program = clap::Command::new(alloc, "jvm")
-        .about("Runs Java class files under a schedule, verifies them, and lists them")
-        .disable_help_subcommand(true)
+        .about(ABOUT)
+        .version(VERSION)
+        .after_help(AFTER)
         .subcommand_required(true)
         .subcommand(replay_parser(alloc)?)?
         .subcommand(verify_parser(alloc)?)?
@@ -288,7 +386,9 @@ fn replay_parser<'a>(alloc: Global) -> Result<clap::Command<'a>, AllocError>
     let replay = clap::Command::new(alloc, "replay")
         .about("Runs class files under the schedule of a file")
         .arg(schedule)?;
-    with_limits(alloc, replay)?.arg(files_argument(alloc))
+    with_limits(alloc, replay)?
+        .arg(explain_argument(alloc))?
+        .arg(files_argument(alloc))
 }
 
 fn verify_parser<'a>(alloc: Global) -> Result<clap::Command<'a>, AllocError>
@@ -296,6 +396,7 @@ fn verify_parser<'a>(alloc: Global) -> Result<clap::Command<'a>, AllocError>
 {
     clap::Command::new(alloc, "verify")
         .about("Links and verifies class files")
+        .arg(explain_argument(alloc))?
         .arg(files_argument(alloc))
 }
 
@@ -309,6 +410,7 @@ fn disasm_parser<'a>(alloc: Global) -> Result<clap::Command<'a>, AllocError>
         .help("The class file");
     clap::Command::new(alloc, "disasm")
         .about("Lists a class file")
+        .arg(explain_argument(alloc))?
         .arg(file)
 }
 
@@ -323,6 +425,17 @@ fn files_argument<'a>(alloc: Global) -> Arg<'a>
         .num_args(1..)
         .action(ArgAction::Append)
         .help("The class files; the main method is that of the first")
+}
+
+/// The flag that asks for a second line behind a refusal.
+fn explain_argument<'a>(alloc: Global) -> Arg<'a>
+    ensures rule { rule_of result ≡ explain_option }
+    ensures local { result.global ≡ false }
+{
+    Arg::new(alloc, "explain")
+        .long("explain")
+        .action(ArgAction::SetTrue)
+        .help("Tells on a second line why files are refused")
 }
 
 /// The command with the options of the limits.

@@ -2,7 +2,7 @@
 
 use crate::case_folder::CaseFolder;
 use crate::case_text::{Case, CaseText};
-use engines::{Counted, Folder, Status, run};
+use engines::{Counted, Folder, Status, run, second_line};
 use std::alloc::Global;
 use std::io;
 use std::io::Write;
@@ -31,6 +31,7 @@ fn write_outcome<F: Folder, W: Write>(
 ) -> io::Result<()> {
     let mut output = Counted::new(alloc, Vec::new(alloc));
     let outcome = run(alloc, folder, case.words.as_slice(), &mut output);
+    let failure = output.failure();
     let written = output.into_inner();
     writeln!(to, "case {}", case.name)?;
     to.write_all(written.as_slice())?;
@@ -38,6 +39,16 @@ fn write_outcome<F: Folder, W: Write>(
         Ok(status) => status,
         Err(complaint) => {
             write!(to, "{complaint}")?;
+            if let Some(line) = second_line(
+                alloc,
+                folder,
+                &case.words,
+                false,
+                &complaint,
+                failure,
+            ) {
+                to.write_all(&line)?;
+            }
             Status::of_complaint(&complaint)
         }
     };

@@ -52,9 +52,11 @@ fault_status faults.Memory = statuses.Stopped
 fault_status (faults.Refusal refusal) = statuses.Refused
 fault_status (faults.Schedule refusal) = statuses.Refused
 
--- the status where there is no command
+-- the status where there is no command: words that ask for help get it
 abbrev pub usage_status : Usage → Status
 usage_status (usages.Parser error) = statuses.Unusable
+usage_status (usages.Number text) = statuses.Unusable
+usage_status (usages.Asked error) = statuses.Returned
 usage_status usages.OutOfMemory = statuses.Stopped
 
 -- the status where words have none of their own

@@ -33,6 +33,11 @@ impl<D> Counted<D> {
         self.device
     }
 
+    /// The kind of its first failure.
+    pub fn failure(&self) -> Option<ErrorKind> {
+        self.failures.first().copied()
+    }
+
     /// Counts a failure, unless it is a want of memory.
     fn fault(&mut self, kind: ErrorKind) -> DeviceFault
         ensures device { self.new.device ≡ self.old.device }

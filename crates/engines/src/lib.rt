@@ -4,6 +4,7 @@
 mod complaint;
 mod device;
 mod engine;
+mod explaining;
 mod fault;
 mod folder;
 mod listing;
@@ -15,6 +16,7 @@ pub use command_line::{LimitOptions, Usage};
 pub use complaint::Complaint;
 pub use device::Counted;
 pub use engine::replay_engine;
+pub use explaining::second_line;
 pub use fault::Fault;
 pub use folder::{Folder, SystemFolder};
 pub use listing::disasm_engine;

@@ -8,26 +8,53 @@ use crate::folder::{Folder, NamedFile};
 use crate::listing::disasm_engine;
 use crate::status::Status;
 use crate::verification::verify_engine;
-use command_line::{Command, Disasm, Replay, Verify, command};
-use model::Sink;
-use std::alloc::Global;
+use command_line::{Command, Disasm, Replay, Usage, Verify, command};
+use model::{DeviceFault, Sink};
+use std::alloc::{AllocError, Global};
 
 /// Does what the words say, the program's name first, and answers the status or why there is none.
 ///
-/// The files that they name are those of the folder. A report, a listing or the line of a verification is written to
-/// the output, and nothing else. The complaint is for the caller to tell.
+/// The files that they name are those of the folder. A report, a listing, the line of a verification, or the help or the
+/// version that the words ask for is written to the output, and nothing else. The complaint is for the caller to tell.
 pub fn run<F: Folder, W: Sink>(
     alloc: Global,
     folder: &F,
     words: &[String],
     output: &mut W,
 ) -> Result<Status, Complaint> {
-    let status = match command(alloc, words)? {
-        Command::Replay(options) => replay(alloc, folder, &options, output)?,
-        Command::Verify(options) => verify(alloc, folder, &options, output)?,
-        Command::Disasm(options) => disasm(alloc, folder, &options, output)?,
+    match command(alloc, words) {
+        Ok(command) => Ok(done(alloc, folder, &command, output)?),
+        Err(usage) => told(alloc, usage, output),
+    }
+}
+
+/// Writes help or the version, where the words ask for it.
+fn told<W: Sink>(alloc: Global, usage: Usage, output: &mut W) -> Result<Status, Complaint> {
+    if !matches!(&usage, Usage::Asked(_)) {
+        return Err(Complaint::Usage(usage));
+    }
+    let written = match usage.to_string(alloc) {
+        Ok(text) => output.write_all(text.as_bytes()),
+        Err(AllocError) => Err(DeviceFault::Memory),
     };
-    Ok(status)
+    match written {
+        Ok(()) => Ok(Status::Returned),
+        Err(fault) => Err(Complaint::Fault(Fault::from(fault))),
+    }
+}
+
+/// Does what a command says.
+fn done<F: Folder, W: Sink>(
+    alloc: Global,
+    folder: &F,
+    command: &Command,
+    output: &mut W,
+) -> Result<Status, Fault> {
+    match command {
+        Command::Replay(options) => replay(alloc, folder, options, output),
+        Command::Verify(options) => verify(alloc, folder, options, output),
+        Command::Disasm(options) => disasm(alloc, folder, options, output),
+    }
 }
 
 /// `replay`.

@@ -73,12 +73,13 @@ impl Status {
         }
     }
 
-    /// That of words that are no command.
+    /// That of words that are no command. Words that ask for help get it.
     pub fn of_usage(usage: &Usage) -> Status
         ensures { result ≡ usage_status usage.now }
     {
         match usage {
-            Usage::Parser(_) => Status::Unusable,
+            Usage::Parser(_) | Usage::Number(_) => Status::Unusable,
+            Usage::Asked(_) => Status::Returned,
             Usage::OutOfMemory => Status::Stopped,
         }
     }

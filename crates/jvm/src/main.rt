@@ -4,10 +4,9 @@
 ghost use Rattle.std.specs.Prelude.{◌≡◌, MatchResult};
 ghost use Rattle.engines.specs.Statuses.{complaint_status};
 
-use engines::{Complaint, Counted, Fault, Status, SystemFolder, run};
-use std::io::ErrorKind;
+use engines::{Complaint, Counted, Fault, Status, SystemFolder, run, second_line};
+use std::io::{ErrorKind, IsTerminal, Write};
 use std::process::ExitCode;
-use std::rt::Files;
 use std::{env, io};
 
 fn main(rt: HostRuntime) -> ExitCode {
@@ -19,30 +18,42 @@ fn main(rt: HostRuntime) -> ExitCode {
 }
 
 /// The words of the command line, the program's name first.
-fn words<R: env::Env + AllocGlobal>(rt: &R) -> io::Result<Vec<String>> {
+fn words(rt: &HostRuntime) -> io::Result<Vec<String>> {
     let words = env::args(rt)?;
     Ok(words.collect(rt.alloc())?)
 }
 
 /// The status of what the words say, which is done over the files of the system and the standard output.
-fn done<R: Files + Print + Eprint + AllocGlobal>(rt: &R, words: &[String]) -> Status {
+fn done(rt: &HostRuntime, words: &[String]) -> Status {
     let mut output = Counted::new(rt.alloc(), io::writer(rt));
-    let outcome = run(rt.alloc(), &SystemFolder::new(rt), words, &mut output);
-    told(rt, outcome)
+    let folder = SystemFolder::new(rt);
+    let outcome = run(rt.alloc(), &folder, words, &mut output);
+    let second = match &outcome {
+        Ok(_) => None,
+        Err(complaint) => second_line(
+            rt.alloc(),
+            &folder,
+            words,
+            rt.stderr().is_terminal(),
+            complaint,
+            output.failure(),
+        ),
+    };
+    told(rt, outcome, second)
 }
 
 /// The status where the words can't be had: they aren't text, or there is no memory for them.
-fn without_words<R: Eprint>(rt: &R, error: &io::Error) -> Status {
+fn without_words(rt: &HostRuntime, error: &io::Error) -> Status {
     if error.kind() == ErrorKind::OutOfMemory {
-        told(rt, Err(Complaint::Fault(Fault::Memory)))
+        told(rt, Err(Complaint::Fault(Fault::Memory)), None)
     } else {
         let _ = rt.eprintln(error);
         Status::Unusable
     }
 }
 
-/// The status, after a complaint has been told.
-fn told<R: Eprint>(rt: &R, outcome: Result<Status, Complaint>) -> Status
+/// The status, after a complaint has been told, with the second line that there may be.
+fn told(rt: &HostRuntime, outcome: Result<Status, Complaint>, second: Option<Vec<u8>>) -> Status
     ensures { MatchResult outcome (λ status. result ≡ status) (λ complaint. result ≡ complaint_status complaint) }
 {
     match outcome {
@@ -51,6 +62,9 @@ fn told<R: Eprint>(rt: &R, outcome: Result<Status, Complaint>) -> Status
             let status = Status::of_complaint(&complaint);
             // Where the standard error fails, the status alone tells the complaint.
             let _ = rt.eprint(complaint);
+            if let Some(line) = second {
+                let _ = Write::write_all(&mut rt.stderr(), &line);
+            }
             status
         }
     }

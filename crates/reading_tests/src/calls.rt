@@ -216,6 +216,7 @@ fn no_command_has_its_reason(rt: HostRuntime) -> Result<(), Fail> {
         let words = words(rt.alloc(), line)?;
         let text = match command(rt.alloc(), words.as_slice()) {
             Err(Usage::Parser(error)) => error.to_string(rt.alloc())?,
+            Err(Usage::Number(text)) => text,
             _ => return Err(Fail::from("a command")),
         };
         assert!(rt;

@@ -12,7 +12,9 @@ returns c =
     let file_local : c.help-file.result.global ≡ false = search rules in
     let new_is = ap app_of_fields c.about.ensures ∙ c.new-2.ensures.app in
     let new_local : IsLocal c.about.result = ap (λ fields. fields.has_globals) c.about.ensures ∙ c.new-2.ensures.local in
-    IfOk-weaker c.arg.result _ _ (λ disasm added. (
-      added.shape file_local ∙ ap₂ with_rule new_is file_is,
-      added.globals ∙ ap₂ (λ a b. a || b) new_local file_local,
-    )) c.arg.ensures
+    let explained = c.in_ok-arg.ensures.shape c.explain_argument.ensures.local ∙ ap₂ with_rule new_is c.explain_argument.ensures.rule in
+    let explained_local = c.in_ok-arg.ensures.globals ∙ ap₂ (λ a b. a || b) new_local c.explain_argument.ensures.local in
+    IfOk-weaker c.arg-2.result _ _ (λ disasm added. (
+      added.shape file_local ∙ ap₂ with_rule explained file_is,
+      added.globals ∙ ap₂ (λ a b. a || b) explained_local file_local,
+    )) c.arg-2.ensures

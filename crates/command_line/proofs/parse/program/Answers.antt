@@ -1,11 +1,11 @@
 use Rattle.std.proofs.Common.{◌≡◌, ◌∙◌, ap, ap₂, codes, rules}
 use Rattle.clap.specs.Words.{app_of, new_app, with_subcommand}
-use Rattle.command_line.specs.CommandLine.{without_help_subcommand}
+use Rattle.command_line.specs.CommandLine.{with_version}
 use Rattle.command_line.proofs.parse.program.Goals as goal
 
 pub returns-clause-app : goal.returns-clause-app
 returns-clause-app c =
-    let base : app_of c.subcommand_required.result ≡ record (new_app (codes "jvm")) { top = without_help_subcommand (new_app (codes "jvm")).top } = search rules in
+    let base : app_of c.subcommand_required.result ≡ record (new_app (codes "jvm")) { top = with_version (new_app (codes "jvm")).top } = search rules in
     let replay = c.in_ok-replay_parser.ensures in
     let verify = c.in_ok-verify_parser.ensures in
     let disasm = c.in_ok-disasm_parser.ensures in

@@ -16,7 +16,9 @@ returns c =
     let schedule_is_local = c.in_ok-replay.ensures.globals ∙ ap₂ (λ a b. a || b) new_local schedule_local in
     let limited = c.in_ok-with_limits.ensures.app ∙ ap with_limits with_schedule in
     let limited_local = c.in_ok-with_limits.ensures.local schedule_is_local in
-    IfOk-weaker c.arg-2.result _ _ (λ replay added. (
-      added.shape c.files_argument.ensures.local ∙ ap₂ with_rule limited c.files_argument.ensures.rule,
-      added.globals ∙ ap₂ (λ a b. a || b) limited_local c.files_argument.ensures.local,
-    )) c.arg-2.ensures
+    let explained = c.in_ok-arg.ensures.shape c.explain_argument.ensures.local ∙ ap₂ with_rule limited c.explain_argument.ensures.rule in
+    let explained_local = c.in_ok-arg.ensures.globals ∙ ap₂ (λ a b. a || b) limited_local c.explain_argument.ensures.local in
+    IfOk-weaker c.arg-3.result _ _ (λ replay added. (
+      added.shape c.files_argument.ensures.local ∙ ap₂ with_rule explained c.files_argument.ensures.rule,
+      added.globals ∙ ap₂ (λ a b. a || b) explained_local c.files_argument.ensures.local,
+    )) c.arg-3.ensures

@@ -1,13 +1,6 @@
 use Rattle.std.proofs.Common.{Some, None}
-use Rattle.std.proofs.lemmas.Result.{err_from_is_err_and}
 use Rattle.command_line.proofs.CommandLineLemmas.{first_is, is_number, no_number, refuses}
 use Rattle.command_line.proofs.parse.NumberOption.number.Goals as goal
-
-pub returns-in_err-refusal-in-None-decimal-clause-none : goal.returns-in_err-refusal-in-None-decimal-clause-none
-returns-in_err-refusal-in-None-decimal-clause-none c =
-    let p = err_from_is_err_and c.from_residual.result c.from_residual.ensures.1 in
-    rw (p.1) (refuses p.0 _ (rw (first_is c.args.matches.now c.args.self.name.now (Some c.in-Some.text.now) c.in-Some.ensures)
-    (no_number c.in-Some.text.now c.args.self.least c.args.self.most c.in-None-decimal.ensures)))
 
 pub returns-in-None-clause-number : goal.returns-in-None-clause-number
 returns-in-None-clause-number c = rw (first_is c.args.matches.now c.args.self.name.now None c.in-None.ensures) tt
@@ -18,7 +11,7 @@ returns-in-Some-decimal-clause-number c =
     rw (first_is c.args.matches.now c.args.self.name.now (Some c.in-Some.text.now) c.in-Some.ensures)
     (is_number c.in-Some.text.now c.args.self.least c.args.self.most c.in-Some-decimal.number digits.0 digits.1 digits.2 c.in-Some-decimal.ensures.1)
 
-pub returns-in_ok-refusal-in-None-decimal-clause-none : goal.returns-in_ok-refusal-in-None-decimal-clause-none
-returns-in_ok-refusal-in-None-decimal-clause-none c =
-    refuses c.in_ok-refusal-in-None-decimal.field-0 _ (rw (first_is c.args.matches.now c.args.self.name.now (Some c.in-Some.text.now) c.in-Some.ensures)
+pub returns-in-None-decimal-clause-none : goal.returns-in-None-decimal-clause-none
+returns-in-None-decimal-clause-none c =
+    refuses c.refusal.result _ c.refusal.ensures (rw (first_is c.args.matches.now c.args.self.name.now (Some c.in-Some.text.now) c.in-Some.ensures)
     (no_number c.in-Some.text.now c.args.self.least c.args.self.most c.in-None-decimal.ensures))

@@ -1,0 +1,145 @@
+//! The line that tells a person why a command was not done. For it the files are read a second time.
+
+use crate::complaint::Complaint;
+use crate::fault::Fault;
+use crate::folder::Folder;
+use command_line::{Command, command};
+use explanation::{GivenFile, explain, explain_schedule};
+use std::alloc::{AllocError, Global};
+use std::io;
+use std::io::{ErrorKind, Read};
+
+/// The line with two spaces before it and its end, where there is one to tell: the words ask for it by `--explain`, or it
+/// is wanted anyway, and more is known than the complaint says. The kind is that of the first failure of the output.
+pub fn second_line<F: Folder>(
+    alloc: Global,
+    folder: &F,
+    words: &[String],
+    is_wanted: bool,
+    complaint: &Complaint,
+    output: Option<ErrorKind>,
+) -> Option<Vec<u8>> {
+    let Complaint::Fault(fault) = complaint else {
+        return None;
+    };
+    let command = command(alloc, words).ok()?;
+    if !is_wanted && !asks(&command) {
+        return None;
+    }
+    let line = line_of(alloc, folder, &command, fault, output).ok()??;
+    indented(alloc, line.as_slice()).ok()
+}
+
+/// Whether the command has `--explain`.
+fn asks(command: &Command) -> bool {
+    match command {
+        Command::Replay(options) => options.explain,
+        Command::Verify(options) => options.explain,
+        Command::Disasm(options) => options.explain,
+    }
+}
+
+/// The line with two spaces before it and its end.
+fn indented(alloc: Global, line: &[u8]) -> Result<Vec<u8>, AllocError> {
+    let mut bytes = Vec::from_slice(alloc, b"  ")?;
+    bytes.extend_from_slice(line)?;
+    bytes.push(b'\n')?;
+    Ok(bytes)
+}
+
+/// The path of the schedule file.
+fn schedule_of(command: &Command) -> Option<&str> {
+    match command {
+        Command::Replay(options) => Some(options.schedule.as_str()),
+        _ => None,
+    }
+}
+
+/// The paths of the class files.
+fn files_of<'a>(alloc: Global, command: &'a Command) -> Result<Vec<&'a str>, AllocError> {
+    let mut paths = Vec::new(alloc);
+    match command {
+        Command::Replay(options) => push_all(&mut paths, &options.files)?,
+        Command::Verify(options) => push_all(&mut paths, &options.files)?,
+        Command::Disasm(options) => paths.push(options.file.as_str())?,
+    }
+    Ok(paths)
+}
+
+fn push_all<'a>(paths: &mut Vec<&'a str>, files: &'a [String]) -> Result<(), AllocError> {
+    for file in files {
+        paths.push(file.as_str())?;
+    }
+    Ok(())
+}
+
+/// The bytes of the file at a path.
+fn bytes_of<F: Folder>(alloc: Global, folder: &F, path: &str) -> io::Result<Vec<u8>> {
+    let mut file = folder.open(path)?;
+    let mut bytes = Vec::new(alloc);
+    file.read_to_end(&mut bytes)?;
+    Ok(bytes)
+}
+
+/// What is known of a fault.
+fn line_of<F: Folder>(
+    alloc: Global,
+    folder: &F,
+    command: &Command,
+    fault: &Fault,
+    output: Option<ErrorKind>,
+) -> Result<Option<Vec<u8>>, AllocError> {
+    let paths = files_of(alloc, command)?;
+    let schedule = schedule_of(command);
+    match fault {
+        Fault::Device => of_device(alloc, folder, schedule, &paths, output),
+        Fault::Memory => Ok(None),
+        Fault::Schedule(fault) => match schedule {
+            Some(path) => Ok(Some(explain_schedule(alloc, path, *fault)?)),
+            None => Ok(None),
+        },
+        Fault::Refusal(refusal) => match given(alloc, folder, &paths) {
+            Ok(files) => Ok(Some(explain(alloc, refusal, &files)?)),
+            Err(_) => Ok(None),
+        },
+    }
+}
+
+/// The class files at the paths.
+fn given<'a, F: Folder>(
+    alloc: Global,
+    folder: &F,
+    paths: &[&'a str],
+) -> io::Result<Vec<GivenFile<'a>>> {
+    let mut files = Vec::new(alloc);
+    for path in paths {
+        let bytes = bytes_of(alloc, folder, path)?;
+        files.push(GivenFile { name: *path, bytes })?;
+    }
+    Ok(files)
+}
+
+/// The first file that can't be read with the system's reason, or what failed the output.
+fn of_device<F: Folder>(
+    alloc: Global,
+    folder: &F,
+    schedule: Option<&str>,
+    paths: &[&str],
+    output: Option<ErrorKind>,
+) -> Result<Option<Vec<u8>>, AllocError> {
+    if let Some(kind) = output {
+        let line = format!(in alloc; "the output: {kind}")?;
+        return Ok(Some(line.into_bytes()));
+    }
+    if let Some(path) = schedule {
+        if let Err(error) = bytes_of(alloc, folder, path) {
+            return Ok(Some(format!(in alloc; "{path}: {error}")?.into_bytes()));
+        }
+    }
+    for path in paths {
+        if let Err(error) = bytes_of(alloc, folder, path) {
+            return Ok(Some(format!(in alloc; "{path}: {error}")?.into_bytes()));
+        }
+    }
+    Ok(None)
+}

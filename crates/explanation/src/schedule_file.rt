@@ -1,0 +1,29 @@
+//! What is wrong with a file that is no schedule file.
+
+use crate::line::Line;
+use schedule::ScheduleFault;
+use std::alloc::{AllocError, Global};
+
+fn words_of(fault: ScheduleFault) -> &'static str {
+    match fault {
+        ScheduleFault::Truncated => ": the file ends within a field",
+        ScheduleFault::Magic => ": the first four bytes are not those of a schedule file",
+        ScheduleFault::Version => ": the version byte is another than 1",
+        ScheduleFault::Repeat =>
+            ": an entry has repeat 0, or repeat above 1 with a pick that isn't 0",
+        ScheduleFault::Trailing => ": bytes follow the last entry",
+        ScheduleFault::OutOfMemory => ": there is no memory for it",
+    }
+}
+
+/// The line, without its end, that tells why the schedule file of this name is refused.
+pub fn explain_schedule(
+    alloc: Global,
+    name: &str,
+    fault: ScheduleFault,
+) -> Result<Vec<u8>, AllocError> {
+    let mut line = Line::new(alloc);
+    line.say(name)?;
+    line.say(words_of(fault))?;
+    Ok(line.into_bytes())
+}
