@@ -1,10 +1,10 @@
 -- Ways that lead back to a class.
-use Rattle.std.proofs.Common.{◌≡◌, ℕ, zero, suc, ◌+◌, ◌<◌, ◌≤◌, Bool, true, false, ◌||◌, List, [], ◌∷◌, length, sym, subst, arith}
+use Rattle.std.proofs.Common.{◌≡◌, ℕ, zero, suc, ◌+◌, ◌<◌, ◌≤◌, Bool, true, false, ◌||◌, List, [], ◌∷◌, length, sym, subst, arith, ⊎_elim}
 use Rattle.std.specs.List.{list_any}
+use Rattle.std.proofs.lemmas.Bool.{or_cases, or_left, or_right}
 use Rattle.model.specs.Names.{Name, name_eq}
 use Rattle.model.specs.Classes.{Program, classes_of}
 use Rattle.model.specs.Hierarchy.{is_above, direct_supertypes}
-use Rattle.hierarchy.proofs.Names.{same_or_later, true_or, or_second}
 use Rattle.hierarchy.proofs.SetLaws.{same_name}
 use Rattle.hierarchy.proofs.RowLaws.{name_eq_refl}
 
@@ -12,20 +12,24 @@ use Rattle.hierarchy.proofs.RowLaws.{name_eq_refl}
 any_weaken : (p q : Name → Bool) (xs : List Name) → ((x : Name) → p x ≡ true → q x ≡ true) → list_any p xs ≡ true → list_any q xs ≡ true
 any_weaken p q [] f h = h
 any_weaken p q (x ∷ xs) f h =
-    same_or_later (p x) (list_any p xs) (list_any q (x ∷ xs) ≡ true) h (λ here. true_or (q x) (list_any q xs) (f x here)) (λ later. or_second (q x) (list_any q xs) (any_weaken p q xs f later))
+    ⊎_elim
+    (λ here. or_left (q x) (list_any q xs) (f x here))
+    (λ later. or_right (q x) (list_any q xs) (any_weaken p q xs f later))
+    (or_cases (p x) (list_any p xs) h)
 
 -- what stands directly above a class is above it
 direct_above : (files : Program) (n : ℕ) (b c : Name) → list_any (λ s. name_eq s c) (direct_supertypes files b) ≡ true → is_above files (suc n) b c ≡ true
-direct_above files n b c h = any_weaken (λ s. name_eq s c) (λ s. name_eq s c || is_above files n s c) (direct_supertypes files b) (λ s e. true_or (name_eq s c) (is_above files n s c) e) h
+direct_above files n b c h = any_weaken (λ s. name_eq s c) (λ s. name_eq s c || is_above files n s c) (direct_supertypes files b) (λ s e. or_left (name_eq s c) (is_above files n s c) e) h
 
 -- what stands directly above what is above a class is above it
 above_more : (files : Program) (n : ℕ) (a b c : Name) → list_any (λ s. name_eq s c) (direct_supertypes files b) ≡ true → is_above files n a b ≡ true → is_above files (suc n) a c ≡ true
 above_more files zero a b c h e = absurd cc
 above_more files (suc n) a b c h e =
     any_weaken (λ s. name_eq s b || is_above files n s b) (λ s. name_eq s c || is_above files (suc n) s c) (direct_supertypes files a)
-    (λ s found. same_or_later (name_eq s b) (is_above files n s b) ((name_eq s c || is_above files (suc n) s c) ≡ true) found
-    (λ same. or_second (name_eq s c) (is_above files (suc n) s c) (subst (λ x. is_above files (suc n) x c ≡ true) (sym (same_name s b same)) (direct_above files n b c h)))
-    (λ more. or_second (name_eq s c) (is_above files (suc n) s c) (above_more files n s b c h more))) e
+    (λ s found. ⊎_elim
+    (λ same. or_right (name_eq s c) (is_above files (suc n) s c) (subst (λ x. is_above files (suc n) x c ≡ true) (sym (same_name s b same)) (direct_above files n b c h)))
+    (λ more. or_right (name_eq s c) (is_above files (suc n) s c) (above_more files n s b c h more))
+    (or_cases (name_eq s b) (is_above files n s b) found)) e
 
 -- what is above a class by so many steps is above it by more
 above_within : (files : Program) (n m : ℕ) (c d : Name) → n ≤ m → is_above files n c d ≡ true → is_above files m c d ≡ true
@@ -33,27 +37,29 @@ above_within files zero m c d le e = absurd cc
 above_within files (suc n) zero c d le e = absurd (omega (arith, le))
 above_within files (suc n) (suc m) c d le e =
     any_weaken (λ s. name_eq s d || is_above files n s d) (λ s. name_eq s d || is_above files m s d) (direct_supertypes files c)
-    (λ s found. same_or_later (name_eq s d) (is_above files n s d) ((name_eq s d || is_above files m s d) ≡ true) found
-    (λ same. true_or (name_eq s d) (is_above files m s d) same)
-    (λ more. or_second (name_eq s d) (is_above files m s d) (above_within files n m s d (omega (arith, le)) more))) e
+    (λ s found. ⊎_elim
+    (λ same. or_left (name_eq s d) (is_above files m s d) same)
+    (λ more. or_right (name_eq s d) (is_above files m s d) (above_within files n m s d (omega (arith, le)) more))
+    (or_cases (name_eq s d) (is_above files n s d) found)) e
 
 -- the second class is the first, or is above it by at most so many steps
 abbrev pub IsUp : Program → ℕ → Name → Name → Type 0
 IsUp files n class upper = (name_eq class upper || is_above files n class upper) ≡ true
 
 pub up_first : (files : Program) (class : Name) → IsUp files 0 class class
-up_first files class = true_or (name_eq class class) false (name_eq_refl class)
+up_first files class = or_left (name_eq class class) false (name_eq_refl class)
 
 step_above : (files : Program) (n : ℕ) (class lower upper : Name) → IsUp files n class lower → list_any (λ s. name_eq s upper) (direct_supertypes files lower) ≡ true → is_above files (suc n) class upper ≡ true
 step_above files n class lower upper up direct =
-    same_or_later (name_eq class lower) (is_above files n class lower) (is_above files (suc n) class upper ≡ true) up
+    ⊎_elim
     (λ same. subst (λ x. is_above files (suc n) x upper ≡ true) (sym (same_name class lower same)) (direct_above files n lower upper direct))
     (λ more. above_more files n class lower upper direct more)
+    (or_cases (name_eq class lower) (is_above files n class lower) up)
 
 pub up_next : (files : Program) (n : ℕ) (class lower upper : Name) → IsUp files n class lower → list_any (λ s. name_eq s upper) (direct_supertypes files lower) ≡ true → IsUp files (n + 1) class upper
 up_next files n class lower upper up direct =
     let more : suc n ≡ n + 1 = omega arith in
-    or_second (name_eq class upper) (is_above files (n + 1) class upper) (subst (λ k. is_above files k class upper ≡ true) more (step_above files n class lower upper up direct))
+    or_right (name_eq class upper) (is_above files (n + 1) class upper) (subst (λ k. is_above files k class upper ≡ true) more (step_above files n class lower upper up direct))
 
 pub leads_back_so : (files : Program) (n : ℕ) (class lower upper : Name) → n < length (classes_of files) → IsUp files n class lower → list_any (λ s. name_eq s upper) (direct_supertypes files lower) ≡ true → upper ≡ class
     → is_above files (length (classes_of files)) class class ≡ true

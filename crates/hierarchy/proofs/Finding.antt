@@ -1,12 +1,13 @@
 -- Finding in lists.
-use Rattle.std.proofs.Common.{◌≡◌, ℕ, ◌<◌, Bool, true, false, ltb, cond, List, [], ◌∷◌, length, map, refl, ap, subst, ◌∙◌, Some, None}
+use Rattle.std.proofs.Common.{◌≡◌, ℕ, ◌<◌, Bool, true, false, ltb, cond, List, [], ◌∷◌, length, map, refl, ap, subst, ◌∙◌, Some, None, zero, suc}
 use Rattle.std.specs.Prelude.{find, position, slice_get}
 use Rattle.std.specs.Option.{option_and_then}
-use Rattle.std.specs.List.{position_or_len}
+use Rattle.std.specs.List.{position_or_len, list_any}
 use Rattle.std.proofs.lemmas.List.{length-map}
 use Rattle.std.proofs.lemmas.List.Folds.{find_at}
 use Rattle.std.proofs.lemmas.Option.{slice_get_past}
 use borrow.Author.Tests.{ltb-true, ltb-false}
+use Rattle.std.proofs.lemmas.Bool.{or_right, or_parts}
 
 pub position_or_len-map : {A B : Type 0} (p : B → Bool) (f : A → B) (xs : List A) → position_or_len p (map f xs) ≡ position_or_len (λ x. p (f x)) xs
 position_or_len-map p f [] = refl
@@ -51,3 +52,16 @@ passes_at p xs i x e at = find_by_position p xs ∙ ap (λ o. option_and_then (s
 
 pub nowhere : {A : Type 0} (p : A → Bool) (xs : List A) → position p xs ≡ None → find p xs ≡ None
 nowhere p xs e = find_by_position p xs ∙ ap (λ o. option_and_then (slice_get xs) o) e
+
+-- ---- tests of items
+
+pub one_at : {A : Type 0} (p : A → Bool) (xs : List A) (k : ℕ) (x : A) → slice_get xs k ≡ Some x → p x ≡ true → list_any p xs ≡ true
+one_at p [] k x e h = absurd cc
+one_at p (y ∷ xs) zero x e h = let same : y ≡ x = cc in rw (same, h) refl
+one_at p (y ∷ xs) (suc k) x e h = or_right (p y) (list_any p xs) (one_at p xs k x e h)
+
+-- what is so of none isn't so of the one at a place
+pub none_at : {A : Type 0} (q : A → Bool) (xs : List A) (k : ℕ) (x : A) → list_any q xs ≡ false → slice_get xs k ≡ Some x → q x ≡ false
+none_at q [] k x h e = absurd cc
+none_at q (y ∷ xs) zero x h e = let same : y ≡ x = cc in subst (λ z. q z ≡ false) same (or_parts (q y) _ h).0
+none_at q (y ∷ xs) (suc k) x h e = none_at q xs k x (or_parts (q y) _ h).1 e
