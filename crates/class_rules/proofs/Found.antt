@@ -1,18 +1,20 @@
 -- What is found first.
-use Rattle.std.proofs.Common.{◌≡◌, ℕ, ◌<◌, true, false, ◌&&◌, refl, sym, ◌∙◌, subst, Option, Some, None}
+use Rattle.std.proofs.Common.{◌≡◌, ℕ, ◌<◌, true, false, ◌&&◌, refl, sym, ◌∙◌, subst, Option, Some, None, ⊎_elim}
 use Rattle.std.specs.Prelude.{position, slice_get, nat_lt, ◌==◌}
 use Rattle.std.specs.Option.{option_and_then, option_map_or}
 use Rattle.std.specs.List.{list_any}
 use borrow.Author.Tests.{ltb-true, eqb-true}
+use Rattle.std.proofs.lemmas.Bool.{or_left, or_right, or_from, and_parts, or_cases}
 use Rattle.model.specs.Tree.{CodeTree, MethodTree, FileTree}
 use Rattle.model.specs.Classes.{Program, code_in}
 use Rattle.class_rules.specs.declared.place.RulePlace.{RulePlace}
 use Rattle.class_rules.specs.declared.place.RulePlace.TheVariants.{Class, Method, Exception}
 use Rattle.class_rules.specs.Rules.{class_breaks_rule, method_breaks_rule, entry_breaks_rule, breaks_rules, entry_breaks_rule_at, exception_breaks_rule_at, is_broken_at, comes_before, IsFirstBroken}
 use Rattle.class_rules.specs.Finding.{first_entry_in, some_entry_in, FindsException}
-use Rattle.class_rules.proofs.Truth.{or_left, or_right, neither, either, both_left, both_right}
-use Rattle.class_rules.proofs.Lists.{any_at, none_at, none_before, no_position, passes, fails_before}
+use Rattle.class_rules.proofs.Lists.{passes, fails_before}
 use Rattle.class_rules.proofs.Redeclared.{rules_apart}
+use Rattle.constant_pool.proofs.Passing.{any_at, none_at, none_before}
+use Rattle.hierarchy.proofs.Indices.{no_position}
 
 module _ (files : Program) (file : FileTree) where
   -- ---- exception entries of a method
@@ -110,12 +112,13 @@ module _ (files : Program) (file : FileTree) where
       before Class e = class
       before (Method j) e = none_at (method_breaks_rule files file) file.methods j (no_position (method_breaks_rule files file) file.methods methods)
       before (Exception j other) e =
-          either (nat_lt j k) (j == k && nat_lt other entry) e
+          ⊎_elim
           (λ lt. none_of (slice_get file.methods j) other (none_before (some_entry_in files file) file.methods k j (ltb-true _ _ lt) h.0))
           (λ later.
-          let same : j ≡ k = eqb-true _ _ (both_left (j == k) _ later) in
+          let same : j ≡ k = eqb-true _ _ (and_parts (j == k) _ later).0 in
           subst (λ (n : ℕ). option_map_or (exception_breaks_rule_at files file other) (slice_get file.methods n) false ≡ false) (sym same)
-          (none_earlier_of (slice_get file.methods k) entry other h.1 (ltb-true _ _ (both_right (j == k) _ later))))
+          (none_earlier_of (slice_get file.methods k) entry other h.1 (ltb-true _ _ (and_parts (j == k) _ later).1)))
+          (or_cases (nat_lt j k) (j == k && nat_lt other entry) e)
 
   pub by_none : class_breaks_rule files file ≡ false → position (method_breaks_rule files file) file.methods ≡ None → FindsException files file None → breaks_rules files file ≡ false
-  by_none class methods h = rules_apart files file ∙ neither _ _ class (neither _ _ (no_position (method_breaks_rule files file) file.methods methods) h)
+  by_none class methods h = rules_apart files file ∙ or_from _ _ class (or_from _ _ (no_position (method_breaks_rule files file) file.methods methods) h)

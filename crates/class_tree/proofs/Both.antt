@@ -4,11 +4,7 @@ use Rattle.reading.specs.declared.fault.Malformed.{Malformed}
 use Rattle.reading.specs.declared.fault.Cause.{Cause}
 use Rattle.constant_pool.specs.Checking.{Checks}
 
-pub both : (a b : Bool) → a ≡ true → b ≡ true → (a && b) ≡ true
-both true b h k = k
-both false b h k = absurd cc
-
--- where the first is met, a check of the second is one of both
+-- where the first is met, a check of the second is one of and_from
 pub met_first : {A : Type 0} (cause : Cause) (r : Result A Malformed) (a b : Bool) → a ≡ true → Checks cause r b → Checks cause r (a && b)
 met_first cause r true b h k = k
 met_first cause r false b h k = absurd cc

@@ -1,10 +1,12 @@
 -- Names and descriptors that differ.
-use Rattle.std.proofs.Common.{◌≡◌, ℕ, ◌+◌, ◌<◌, Bool, true, false, not, eqb, ◌&&◌, ◌||◌, cond, List, [], ◌∷◌, ◌++◌, length, map, take, drop, get_or, refl, sym, ap, ◌∙◌, append_assoc, arith}
+use Rattle.std.proofs.Common.{◌≡◌, ℕ, ◌+◌, ◌<◌, Bool, true, false, not, eqb, ◌&&◌, ◌||◌, cond, List, [], ◌∷◌, ◌++◌, length, map, take, drop, get_or, refl, sym, ap, ◌∙◌, append_assoc, arith, ⊎_elim}
 use Rattle.std.specs.Str.{bytes_eq}
 use Rattle.std.specs.List.{list_any}
-use Rattle.std.proofs.lemmas.List.{map_more, map-append, take-append-drop, take_more}
-use Rattle.std.proofs.lemmas.List.Folds.{list_any-append}
+use Rattle.std.proofs.lemmas.List.{map_more, map-append, take-append-drop}
+use Rattle.std.proofs.lemmas.List.Folds.{list_any-append, list_any_more}
 use Rattle.std.proofs.lemmas.Bool.Decides.{nat_tests}
+use mathlib.Core.Bool.{or-false, or-true}
+use Rattle.std.proofs.lemmas.Bool.{and_parts, or_parts, or_cases, and_right, or_left, or_right}
 use Rattle.model.specs.Pool.{NameAndDescriptor}
 use Rattle.model.specs.Tree.{Entry}
 use Rattle.model.specs.Conditions.{is_same, differ, name_and_descriptor_at}
@@ -21,71 +23,37 @@ bytes_eq_sym [] (y ∷ b) = refl
 bytes_eq_sym (x ∷ a) [] = refl
 bytes_eq_sym (x ∷ a) (y ∷ b) = rw (eqb_sym x y, bytes_eq_sym a b) refl
 
-or_false : (b : Bool) → (b || false) ≡ b
-or_false true = refl
-or_false false = refl
-
-or_true : (b : Bool) → (b || true) ≡ true
-or_true true = refl
-or_true false = refl
-
 pub is_same_sym : (a b : NameAndDescriptor) → is_same a b ≡ is_same b a
 is_same_sym a b = rw (bytes_eq_sym a.name b.name, bytes_eq_sym a.descriptor b.descriptor) refl
-
-and_both : (a b : Bool) → (a && b) ≡ true → (a ≡ true) × (b ≡ true)
-and_both true true h = (refl, refl)
-and_both true false h = absurd cc
-and_both false b h = absurd cc
-
-or_neither : (a b : Bool) → (a || b) ≡ false → (a ≡ false) × (b ≡ false)
-or_neither false false h = (refl, refl)
-or_neither false true h = absurd cc
-or_neither true b h = absurd cc
 
 pub differ_push : (xs : List NameAndDescriptor) (y : NameAndDescriptor) → differ xs ≡ true → list_any (is_same y) xs ≡ false → differ (xs ++ y ∷ []) ≡ true
 differ_push [] y h new = refl
 differ_push (x ∷ xs) y h new =
-    let here = and_both (not (list_any (is_same x) xs)) (differ xs) h in
-    let apart = or_neither (is_same y x) (list_any (is_same y) xs) new in
+    let here = and_parts (not (list_any (is_same x) xs)) (differ xs) h in
+    let apart = or_parts (is_same y x) (list_any (is_same y) xs) new in
     let no : is_same x y ≡ false = is_same_sym x y ∙ apart.0 in
     let rest = differ_push xs y here.1 apart.1 in
-    let any : list_any (is_same x) (xs ++ y ∷ []) ≡ list_any (is_same x) xs = list_any-append (is_same x) xs (y ∷ []) ∙ rw no (or_false (list_any (is_same x) xs)) in
+    let any : list_any (is_same x) (xs ++ y ∷ []) ≡ list_any (is_same x) xs = list_any-append (is_same x) xs (y ∷ []) ∙ rw no (or-false (list_any (is_same x) xs)) in
     rw (any, here.0, rest) refl
-
--- whichever way the first is the same, a later one is
-same_or_later : (b c : Bool) (G : Type 0) → (b || c) ≡ true → (b ≡ true → G) → (c ≡ true → G) → G
-same_or_later true c G h on later = on refl
-same_or_later false c G h on later = later h
 
 not_first : (any differs : Bool) → any ≡ true → (not any && differs) ≡ false
 not_first true differs h = refl
 not_first false differs h = absurd cc
 
-not_later : (any differs : Bool) → differs ≡ false → (any && differs) ≡ false
-not_later true differs h = h
-not_later false differs h = refl
-
 pub same_again : (xs : List NameAndDescriptor) (y : NameAndDescriptor) (ys : List NameAndDescriptor) → list_any (is_same y) xs ≡ true → differ (xs ++ y ∷ ys) ≡ false
 same_again [] y ys h = absurd cc
 same_again (x ∷ xs) y ys h =
-    same_or_later (is_same y x) (list_any (is_same y) xs) (differ (x ∷ (xs ++ y ∷ ys)) ≡ false) h
+    ⊎_elim
     (λ same.
-    (let there : (is_same x y || list_any (is_same x) ys) ≡ true = rw (is_same_sym x y, same) refl in
-    let any : list_any (is_same x) (xs ++ y ∷ ys) ≡ true = list_any-append (is_same x) xs (y ∷ ys) ∙ rw there (or_true (list_any (is_same x) xs)) in
+    (let there : (is_same x y || list_any (is_same x) ys) ≡ true = or_left (is_same x y) _ (is_same_sym x y ∙ same) in
+    let any : list_any (is_same x) (xs ++ y ∷ ys) ≡ true = list_any-append (is_same x) xs (y ∷ ys) ∙ or_right (list_any (is_same x) xs) _ there in
     not_first (list_any (is_same x) (xs ++ y ∷ ys)) (differ (xs ++ y ∷ ys)) any))
-    (λ later. not_later (not (list_any (is_same x) (xs ++ y ∷ ys))) (differ (xs ++ y ∷ ys)) (same_again xs y ys later))
-
-pub not_false : (b : Bool) → not b ≡ false → b ≡ true
-not_false true h = refl
-not_false false h = absurd cc
-
-pub not_true : (b : Bool) → not b ≡ true → b ≡ false
-not_true true h = absurd cc
-not_true false h = refl
+    (λ later. and_right (not (list_any (is_same x) (xs ++ y ∷ ys))) (differ (xs ++ y ∷ ys)) (same_again xs y ys later))
+    (or_cases (is_same y x) (list_any (is_same y) xs) h)
 
 pub cond_or : (b c : Bool) → cond b true c ≡ (c || b)
-cond_or true c = sym (or_true c)
-cond_or false c = sym (or_false c)
+cond_or true c = sym (or-true c)
+cond_or false c = sym (or-false c)
 
 -- ---- over the members of a list, as a loop goes
 
@@ -127,12 +95,9 @@ pub any_same : {X : Type 0} (pool : List Entry) (name descriptor : X → ℕ) (x
 any_same pool name descriptor x xs =
     any_alike _ _ (λ m. name_and_descriptor_at pool (name m) (descriptor m)) (λ m. rw (same_first pool (name x) (name m), same_first pool (descriptor x) (descriptor m)) refl) xs
 
-any_more : {X : Type 0} (P : X → Bool) (xs : List X) (i : ℕ) (d : X) → i < length xs → list_any P (take (i + 1) xs) ≡ (list_any P (take i xs) || P (get_or xs i d))
-any_more P xs i d lt = rw (take_more xs i d lt) (list_any-append P (take i xs) (get_or xs i d ∷ []) ∙ ap (λ (b : Bool). list_any P (take i xs) || b) (or_false (P (get_or xs i d))))
-
 -- the keys after one more member
 pub more_keys : {X : Type 0} (key : X → Firsts) (q new : Firsts) (before after : Bool) (xs : List X) (i : ℕ) (d : X) → i < length xs → new ≡ key (get_or xs i d)
     → before ≡ list_any (λ m. is_key q (key m)) (take i xs) → after ≡ cond (is_key new q) true before → after ≡ list_any (λ m. is_key q (key m)) (take (i + 1) xs)
 more_keys key q new before after xs i d lt is so_far put =
     let same : is_key new q ≡ is_key q (key (get_or xs i d)) = is_key_sym new q ∙ ap (is_key q) is in
-    put ∙ cond_or (is_key new q) before ∙ rw (so_far, same) (sym (any_more (λ m. is_key q (key m)) xs i d lt))
+    put ∙ cond_or (is_key new q) before ∙ rw (so_far, same) (sym (list_any_more (λ m. is_key q (key m)) xs i d lt))

@@ -1,6 +1,6 @@
 -- The laws of the whole file.
 use Rattle.std.proofs.Common.{◌≡◌, ◌⊎◌, ℕ, ◌+◌, ◌<◌, ◌≤◌, Bool, true, false, cond, eqb, ltb, ◌&&◌, List, [], ◌++◌, length, take, drop, Result, Ok, Err, refl, sym, ap, subst, ◌∙◌, arith, IsTrue, inl, inr, lit<, length-append}
-use Rattle.std.proofs.lemmas.Bool.{eqb-true, eqb-false, ltb-false}
+use Rattle.std.proofs.lemmas.Bool.{eqb-true, eqb-false, ltb-false, and_parts}
 use Rattle.std.proofs.lemmas.List.{append-nil, nil_from_length, take_at, drop_at}
 use Rattle.byteorder.specs.Endian.{big_number}
 use Rattle.byteorder.specs.Numbers.{length-bytes_high_first}
@@ -80,14 +80,9 @@ only_magic : (n : ℕ) → is_magic n ≡ true → n ≡ 0xcafebabe
 unfolding is_magic
 only_magic n h = eqb-true n 0xcafebabe h
 
-and_true : (a b : Bool) → (a && b) ≡ true → (a ≡ true) × (b ≡ true)
-and_true true true h = (refl, refl)
-and_true true false h = absurd cc
-and_true false b h = absurd cc
-
 only_version : (v : ℕ × ℕ) → is_version v ≡ true → v ≡ (0, 49)
 only_version v h =
-    let both = and_true (eqb v.0 0) (eqb v.1 49) h in
+    let both = and_parts (eqb v.0 0) (eqb v.1 49) h in
     ap (λ (n : ℕ). (n, v.1)) (eqb-true v.0 0 both.0) ∙ ap (λ (n : ℕ). (0, n)) (eqb-true v.1 49 both.1)
 
 -- ---- the parts of a file

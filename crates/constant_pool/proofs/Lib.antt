@@ -2,3 +2,4 @@ mod Places
 pub mod TextLaws
 pub mod PoolLaws
 mod PoolPromises
+pub mod Passing

@@ -107,11 +107,11 @@ given x = Some x
 given_is : {A : Type 0} (x y : A) → given x ≡ given y → x ≡ y
 given_is x y e = cc
 
-chosen : {A : Type 0} {b : Bool} {t u x : Option A} {G : Type 0} → (b ≡ true → t ≡ x → G) → (b ≡ false → u ≡ x → G) → cond b t u ≡ x → G
+pub chosen : {A : Type 0} {b : Bool} {t u x : Option A} {G : Type 0} → (b ≡ true → t ≡ x → G) → (b ≡ false → u ≡ x → G) → cond b t u ≡ x → G
 chosen {b = true} on off e = on refl e
 chosen {b = false} on off e = off refl e
 
-none_some : {A G : Type 0} (x : A) → ◌≡◌ {A = Option A} None (Some x) → G
+pub none_some : {A G : Type 0} (x : A) → ◌≡◌ {A = Option A} None (Some x) → G
 none_some x e = absurd cc
 
 one_byte : (b n : ℕ) (bytes : List ℕ) (e : ElementType) (x : ElementType × List ℕ) → element e ≡ n ∷ [] → ElementFits e → (b == n) ≡ true → Some (e, bytes) ≡ Some x → TakesElement (b ∷ bytes) x

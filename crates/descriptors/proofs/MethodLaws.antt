@@ -9,7 +9,7 @@ use Rattle.std.proofs.lemmas.List.Sums.{sum_by-cons}
 use Rattle.model.specs.Descriptors.{ElementType, Byte, Char, Double, Float, Int, Long, Object, Short, Boolean, FieldType, element, field, FieldTypeFits, MethodType, returned, method, ReturnFits, element_slots, slots, parameter_slots, IsMethod}
 use Rattle.model.specs.DescriptorScan.{◌>>=◌, field_at, field_type, parameters_at, return_type, method_type, method_slots}
 use Rattle.descriptors.specs.Scan.{slots_at, scan}
-use Rattle.descriptors.proofs.FieldLaws.{field_again, field_takes, parse_takes, parse_again}
+use Rattle.descriptors.proofs.FieldLaws.{field_again, field_takes, parse_takes, parse_again, chosen, none_some}
 
 abbrev given : {A : Type 0} → A → Option A
 given x = Some x
@@ -20,13 +20,6 @@ some_is x y e = cc
 some_step : {A B : Type 0} (r : Option A) (f : A → Option B) (y : B) → (r >>= f) ≡ Some y → (x : A) × (r ≡ Some x) × (f x ≡ Some y)
 some_step (Some x) f y e = (x, refl, e)
 some_step None f y e = absurd cc
-
-chosen : {A : Type 0} {b : Bool} {t u x : Option A} {G : Type 0} → (b ≡ true → t ≡ x → G) → (b ≡ false → u ≡ x → G) → cond b t u ≡ x → G
-chosen {b = true} on off e = on refl e
-chosen {b = false} on off e = off refl e
-
-none_some : {A G : Type 0} (x : A) → ◌≡◌ {A = Option A} None (Some x) → G
-none_some x e = absurd cc
 
 -- ---- a loop over the parameters
 

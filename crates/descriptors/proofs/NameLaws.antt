@@ -2,6 +2,8 @@
 use Rattle.std.proofs.Common.{◌≡◌, ◌<◌, ℕ, Bool, true, false, not, ◌&&◌, ◌||◌, cond, eqb, ltb, List, [], ◌∷◌, length, refl, sym, ◌∙◌, arith, IsTrue}
 use Rattle.std.specs.List.{list_all}
 use Rattle.std.proofs.lemmas.Bool.Decides.{nat_tests}
+use mathlib.Core.Bool.{or-false, or-true, and-true}
+use Rattle.std.proofs.lemmas.Bool.{and_parts}
 use Rattle.model.specs.Descriptors.{is_name_byte, is_unqualified, with_first, names_of, is_class_name}
 use Rattle.descriptors.specs.Scan.{joined}
 
@@ -10,21 +12,9 @@ opened : Bool → List (List ℕ) → Bool
 opened begun [] = begun
 opened begun (name ∷ names) = (begun || ltb 0 (length name)) && (list_all is_name_byte name && list_all is_unqualified names)
 
-or_false : (b : Bool) → (b || false) ≡ b
-or_false true = refl
-or_false false = refl
-
-or_true : (b : Bool) → (b || true) ≡ true
-or_true true = refl
-or_true false = refl
-
 and_assoc : (a b c : Bool) → ((a && b) && c) ≡ (a && (b && c))
 and_assoc true b c = refl
 and_assoc false b c = refl
-
-and_true : (b : Bool) → (b && true) ≡ b
-and_true true = refl
-and_true false = refl
 
 some_bytes : (b : ℕ) (name : List ℕ) → ltb 0 (length (b ∷ name)) ≡ true
 some_bytes b name = grind (arith, nat_tests)
@@ -51,17 +41,17 @@ opened_first : (begun : Bool) (b : ℕ) (names : List (List ℕ)) → 0 < length
 unfolding opened
 opened_first begun b [] some = absurd (omega arith)
 opened_first begun b (name ∷ names) some =
-    rw (some_bytes b name, or_true begun) (and_assoc (is_name_byte b) (list_all is_name_byte name) (list_all is_unqualified names))
+    rw (some_bytes b name, or-true begun) (and_assoc (is_name_byte b) (list_all is_name_byte name) (list_all is_unqualified names))
 
 joined_more : (t : Bool) (begun : Bool) (b : ℕ) (names : List (List ℕ)) (before after : Bool) → 0 < length names → before ≡ opened false names → after ≡ opened true names
     → cond t (begun && before) (is_name_byte b && after) ≡ opened begun (cond t ([] ∷ names) (with_first b names))
 unfolding opened
-joined_more true begun b names before after some is then = rw (is, opened_all names some, or_false begun) refl
+joined_more true begun b names before after some is then = rw (is, opened_all names some, or-false begun) refl
 joined_more false begun b names before after some is then = rw then (sym (opened_first begun b names some))
 
 joined_is : (begun : Bool) (text : List ℕ) → joined begun text ≡ opened begun (names_of text)
 unfolding joined opened
-joined_is begun [] = sym (rw (or_false begun) (and_true begun))
+joined_is begun [] = sym (rw (or-false begun) (and-true begun))
 joined_is begun (b ∷ bytes) = joined_more (eqb b 47) begun b (names_of bytes) (joined false bytes) (joined true bytes) (names_some bytes) (joined_is false bytes) (joined_is true bytes)
 
 pub class_name : (text : List ℕ) → joined false text ≡ is_class_name text
@@ -71,11 +61,6 @@ class_name text = joined_is false text ∙ opened_all (names_of text) (names_som
 
 abbrev pub is_inside : ℕ → Bool
 is_inside b = not (eqb b 59)
-
-both : (a b : Bool) → (a && b) ≡ true → (a ≡ true) × (b ≡ true)
-both true true h = (refl, refl)
-both true false h = absurd cc
-both false b h = absurd cc
 
 inside_byte : (b : ℕ) → is_name_byte b ≡ true → is_inside b ≡ true
 inside_byte b h = grind (arith, nat_tests)
@@ -90,15 +75,15 @@ only_name_bytes : (names : List (List ℕ)) → list_all is_unqualified names �
 unfolding name_bytes
 only_name_bytes [] h = refl
 only_name_bytes (name ∷ names) h =
-    let k = both (is_unqualified name) (list_all is_unqualified names) h in
-    rw ((both (ltb 0 (length name)) (list_all is_name_byte name) k.0).1, only_name_bytes names k.1) refl
+    let k = and_parts (is_unqualified name) (list_all is_unqualified names) h in
+    rw ((and_parts (ltb 0 (length name)) (list_all is_name_byte name) k.0).1, only_name_bytes names k.1) refl
 
 first_byte : (b : ℕ) (names : List (List ℕ)) → name_bytes (with_first b names) ≡ true → (is_name_byte b ≡ true) × (name_bytes names ≡ true)
 unfolding name_bytes
-first_byte b [] h = ((both (is_name_byte b) true (sym (and_true (is_name_byte b && true)) ∙ h)).0, refl)
+first_byte b [] h = ((and_parts (is_name_byte b) true (sym (and-true (is_name_byte b && true)) ∙ h)).0, refl)
 first_byte b (name ∷ names) h =
-    let k = both (is_name_byte b && list_all is_name_byte name) (list_all (list_all is_name_byte) names) h in
-    let l = both (is_name_byte b) (list_all is_name_byte name) k.0 in
+    let k = and_parts (is_name_byte b && list_all is_name_byte name) (list_all (list_all is_name_byte) names) h in
+    let l = and_parts (is_name_byte b) (list_all is_name_byte name) k.0 in
     (l.0, rw (l.1, k.1) refl)
 
 inside_more : (t : Bool) (b : ℕ) (names : List (List ℕ)) (inside : Bool) → eqb b 47 ≡ t → (name_bytes names ≡ true → inside ≡ true) → name_bytes (cond t ([] ∷ names) (with_first b names)) ≡ true → (is_inside b && inside) ≡ true

@@ -1,52 +1,39 @@
 -- What linking gives of an instruction at a boundary of a method's code: what its operands name is found.
-use Rattle.std.proofs.Common.{◌≡◌, ℕ, zero, suc, ◌+◌, List, [], ◌∷◌, Bool, true, false, not, Option, Some, None, refl, sym, ap, ◌∙◌, subst, arith}
-use Rattle.std.specs.Prelude.{slice_index_or}
+use Rattle.std.proofs.Common.{◌≡◌, ℕ, List, Bool, true, false, not, Option, Some, None, refl, sym, ap, ◌∙◌, subst}
 use Rattle.std.specs.Option.{option_map_or}
 use Rattle.std.specs.List.{list_any, list_all}
-use Rattle.std.proofs.lemmas.Bool.{false≢true, and_parts, or_parts, not-true}
+use Rattle.std.proofs.lemmas.Bool.{and_parts, or_parts, not-true}
 use Rattle.model.specs.declared.instr.Instr.{Instr}
 use Rattle.model.specs.declared.instr.Instr.TheVariants.{LoadConstant, New, NewReferenceArray, CheckCast, InstanceOf}
-use Rattle.model.specs.Names.{Name}
+use Rattle.model.specs.Names.{Name, spells}
 use Rattle.model.specs.Tree.{Entry, Utf8, Integer, Float, Long, Double, Class, String, Field, Method, InterfaceMethod, NameAndType, Unusable, MethodTree, CodeTree, FileTree}
-use Rattle.model.specs.Spelling.{entry_at, text_of}
+use Rattle.model.specs.Spelling.{entry_at}
 use Rattle.model.specs.Spells.{IsWhole}
-use Rattle.model.specs.Pool.{utf8_of, class_name_of, class_name_at}
+use Rattle.model.specs.Pool.{class_name_of, class_name_at}
 use Rattle.model.specs.Conditions.{is_class_or_array, entry_names}
 use Rattle.model.specs.BuiltIn.{built_in_classes}
 use Rattle.model.specs.Classes.{Program, class_of, is_method, declared_in, code_in}
 use Rattle.model.specs.Instruction.{instr_at, wide_at, table_switch_at, lookup_switch_at}
 use Rattle.model.specs.InstructionStarts.{starts_from, is_start}
 use Rattle.model.specs.OpcodeTable.{low_form, high_form}
-use Rattle.model.specs.CodeParts.{marked_from, any_code, any_instruction, class_operand}
+use Rattle.model.specs.CodeParts.{any_code, any_instruction, class_operand}
 use Rattle.model.specs.CodeConditions.{jump_off_boundary, unsorted_matches, local_above_max, operand_of_wrong_kind, wrong_interface_count, wrong_interface_end, constructor_not_by_special, calls_initialiser, special_of_class_aside, new_of_array, too_many_dimensions, too_few_locals, malformed_offset, malformed_instruction, malformed_code, has_malformed_code}
 use Rattle.model.specs.CodeParts.{boundaries}
 use Rattle.model.specs.Resolution.{is_missing, operand_classes}
 use Rattle.laws.proofs.Lists.{every_weaken}
 use Rattle.laws.proofs.Found.{found_has, none_any, every_all, map_or_at}
-use Rattle.laws.proofs.Homes.{class_has}
+use Rattle.laws.proofs.Homes.{class_has, spelled}
 use Rattle.laws.proofs.Unrefused.{Unrefused}
-use Rattle.laws.proofs.LinkedCode.{resolved}
+use Rattle.laws.proofs.LinkedCode.{resolved, no_instruction}
 use Rattle.laws.proofs.LinkedClasses.{entry_right}
 use Rattle.classfile.specs.View as view
 use Rattle.method_code.specs.declared.declaration.MethodCode.{MethodCode}
 use Rattle.method_code.specs.Linked.{IsLinked}
 use Rattle.method_code.specs.View.{files_of, member_of, body_of}
 use Rattle.flow.proofs.LinkedTypes.{unrefused}
+use Rattle.laws.proofs.Classes.{name_self}
 
 -- ---- a condition that stands at no boundary
-
-unmarked : (q : ℕ → Bool) (base : ℕ) (marks : List Bool) (k : ℕ) → list_any q (marked_from base marks) ≡ false → slice_index_or marks k false ≡ true → q (base + k) ≡ false
-unmarked q base [] k h m = absurd (false≢true m)
-unmarked q base (true ∷ marks) zero h m = subst (λ n. q n ≡ false) (omega arith) (or_parts (q base) _ h).0
-unmarked q base (false ∷ marks) zero h m = absurd (false≢true m)
-unmarked q base (true ∷ marks) (suc k) h m = subst (λ n. q n ≡ false) (omega arith) (unmarked q (suc base) marks k (or_parts (q base) _ h).1 m)
-unmarked q base (false ∷ marks) (suc k) h m = subst (λ n. q n ≡ false) (omega arith) (unmarked q (suc base) marks k h m)
-
-at_boundary : (test : ℕ → Instr → Bool) (c : CodeTree) (pc : ℕ) (i : Instr) → any_instruction test c ≡ false → is_start c.code pc ≡ true → instr_at c.code pc ≡ Some i → test pc i ≡ false
-at_boundary test c pc i h start is =
-    let at : ℕ → Bool = λ k. option_map_or (test k) (instr_at c.code k) false in
-    let here : at pc ≡ false = subst (λ k. at k ≡ false) (omega arith) (unmarked at 0 _ pc h start) in
-    sym (map_or_at (test pc) (instr_at c.code pc) false i is) ∙ here
 
 in_method : (test : MethodTree → CodeTree → Bool) (file : FileTree) (name descriptor : Name) (m : MethodTree) (c : CodeTree) → any_code test file ≡ false → declared_in file name descriptor ≡ Some m → code_in m.parts ≡ Some c → test m c ≡ false
 in_method test file name descriptor m c h d q =
@@ -56,27 +43,13 @@ in_method test file name descriptor m c h d q =
 
 -- ---- names of class constants
 
-says : (e : Entry) (name : Name) → utf8_of e ≡ Some name → text_of e ≡ name
-says (Utf8 text) name h = cc
-says (Integer bits) name h = absurd cc
-says (Float bits) name h = absurd cc
-says (Long bits) name h = absurd cc
-says (Double bits) name h = absurd cc
-says (Class index) name h = absurd cc
-says (String text) name h = absurd cc
-says (Field class index) name h = absurd cc
-says (Method class index) name h = absurd cc
-says (InterfaceMethod class index) name h = absurd cc
-says (NameAndType index descriptor) name h = absurd cc
-says Unusable name h = absurd cc
-
 names_type : (pool : List Entry) (e : Entry) (name : Name) → entry_names pool e ≡ true → class_name_of pool e ≡ Some name → is_class_or_array name ≡ true
 names_type pool (Utf8 text) name h e = absurd cc
 names_type pool (Integer bits) name h e = absurd cc
 names_type pool (Float bits) name h e = absurd cc
 names_type pool (Long bits) name h e = absurd cc
 names_type pool (Double bits) name h e = absurd cc
-names_type pool (Class index) name h e = subst (λ n. is_class_or_array n ≡ true) (says (entry_at pool index) name e) h
+names_type pool (Class index) name h e = subst (λ n. is_class_or_array n ≡ true) (spelled (entry_at pool index) name (ap (λ o. spells o name) e ∙ name_self name)) h
 names_type pool (String text) name h e = absurd cc
 names_type pool (Field class index) name h e = absurd cc
 names_type pool (Method class index) name h e = absurd cc
@@ -126,14 +99,14 @@ module _ (files : Program) where
 
   few_built_in : (file : FileTree) → any_deep file ≡ false → FewDimensions file
   few_built_in file h name descriptor m c pc i d q start is =
-      at_boundary (λ pc i. too_many_dimensions file.pool i) c pc i (in_method (λ m c. any_instruction (λ pc i. too_many_dimensions file.pool i) c) file name descriptor m c h d q) start is
+      no_instruction (λ pc i. too_many_dimensions file.pool i) c pc i (in_method (λ m c. any_instruction (λ pc i. too_many_dimensions file.pool i) c) file name descriptor m c h d q) start is
 
   few_file : (file : FileTree) → has_malformed_code files file ≡ false → FewDimensions file
   few_file file h name descriptor m c pc i d q start is =
       let a = or_parts (too_few_locals file m c) _ (in_method (malformed_code files file) file name descriptor m c h d q) in
       let b = or_parts (list_any (malformed_offset c) (boundaries c.code)) _ a.1 in
       let e = or_parts (any_instruction (malformed_instruction files file c) c) _ b.1 in
-      last (at_boundary (malformed_instruction files file c) c pc i e.0 start is)
+      last (no_instruction (malformed_instruction files file c) c pc i e.0 start is)
     where
       last : malformed_instruction files file c pc i ≡ false → too_many_dimensions file.pool i ≡ false
       last h =
@@ -170,7 +143,7 @@ module _ (m : MethodCode) (linked : IsLinked (files_of m)) (offset : ℕ) (i : I
       let files = files_of m in
       let r = resolved files (unrefused files linked) _ _ m.declared.is_class in
       let test = in_method (λ m c. any_instruction (λ pc i. r.test i) c) (view.file_of m.file.now) (member_of m).name (member_of m).descriptor (view.method_of m.method.now) (view.code_of m.code.now) r.none m.declared.is_method m.declared.is_code in
-      (or_parts (list_any (is_missing files) (operand_classes (body_of m).pool i)) _ (r.resolves i (at_boundary (λ pc i. r.test i) (body_of m).code offset i test start is))).0
+      (or_parts (list_any (is_missing files) (operand_classes (body_of m).pool i)) _ (r.resolves i (no_instruction (λ pc i. r.test i) (body_of m).code offset i test start is))).0
 
   pub dimensions_few : too_many_dimensions (body_of m).pool i ≡ false
   dimensions_few = few_dimensions (files_of m) (unrefused (files_of m) linked) _ _ m.declared.is_class _ _ _ _ offset i m.declared.is_method m.declared.is_code start is

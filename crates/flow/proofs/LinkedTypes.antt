@@ -7,11 +7,11 @@ use Rattle.std.proofs.lemmas.Bool.{false≢true, and_parts, or_parts, or_from, n
 use Rattle.std.proofs.lemmas.List.Folds.{list_any-append}
 use Rattle.model.specs.declared.class_file.ExceptionEntry.{ExceptionEntry}
 use Rattle.model.specs.Names.{Name, java_lang_throwable}
-use Rattle.model.specs.Tree.{Entry, Utf8, Integer, Float, Long, Double, Class, String, Field, Method, InterfaceMethod, NameAndType, Unusable, FieldTree, MethodPart, CodeOf, SkippedOfMethod, MethodTree, CodeTree, FileTree}
+use Rattle.model.specs.Tree.{Entry, FieldTree, MethodPart, CodeOf, SkippedOfMethod, MethodTree, CodeTree, FileTree}
 use Rattle.model.specs.Spelling.{entry_at}
 use Rattle.model.specs.Spells.{IsWhole}
-use Rattle.model.specs.Pool.{utf8_of, class_name_of, class_name_at}
-use Rattle.model.specs.Conditions.{text_at, is_utf8, is_class, names_utf8, names_class, entry_indices, exception_indices, skipped_indices, method_part_indices, field_indices, method_indices}
+use Rattle.model.specs.Pool.{class_name_at}
+use Rattle.model.specs.Conditions.{text_at, is_class, names_utf8, names_class, entry_indices, exception_indices, skipped_indices, method_part_indices, field_indices, method_indices}
 use Rattle.model.specs.BuiltIn.{built_in_classes}
 use Rattle.model.specs.Classes.{Program, class_of, is_method, declared_in, code_in}
 use Rattle.model.specs.DescriptorScan.{element_at, field_at, field_type, parameters_at, method_type}
@@ -27,41 +27,13 @@ use Rattle.laws.proofs.Lists.{every_weaken}
 use Rattle.laws.proofs.Found.{found_has, none_any, every_all, every_both, map_or_at}
 use Rattle.laws.proofs.Homes.{class_has}
 use Rattle.laws.proofs.Unrefused.{Unrefused, unrefused_of}
-use Rattle.laws.proofs.LinkedClasses.{entry_right}
+use Rattle.laws.proofs.LinkedClasses.{entry_right, has_class_name}
 use Rattle.method_code.specs.declared.declaration.MethodCode.{MethodCode}
 use Rattle.method_code.specs.Linked.{IsLinked}
 use Rattle.method_code.specs.View.{files_of, member_of, body_of}
 
 pub unrefused : (files : Program) → IsLinked files → Unrefused files
 unrefused files linked = unrefused_of linked.0 files linked.1.spelled linked.1.no_refusal
-
-has_text : (e : Entry) → is_utf8 e ≡ true → is_some (utf8_of e) ≡ true
-has_text (Utf8 text) h = refl
-has_text (Integer bits) h = h
-has_text (Float bits) h = h
-has_text (Long bits) h = h
-has_text (Double bits) h = h
-has_text (Class name) h = h
-has_text (String text) h = h
-has_text (Field class name) h = h
-has_text (Method class name) h = h
-has_text (InterfaceMethod class name) h = h
-has_text (NameAndType name descriptor) h = h
-has_text Unusable h = h
-
-class_is_named : (pool : List Entry) (e : Entry) → is_class e ≡ true → entry_indices pool e ≡ true → is_some (class_name_of pool e) ≡ true
-class_is_named pool (Utf8 text) h i = h
-class_is_named pool (Integer bits) h i = h
-class_is_named pool (Float bits) h i = h
-class_is_named pool (Long bits) h i = h
-class_is_named pool (Double bits) h i = h
-class_is_named pool (Class name) h i = has_text (entry_at pool name) i
-class_is_named pool (String text) h i = h
-class_is_named pool (Field class name) h i = h
-class_is_named pool (Method class name) h i = h
-class_is_named pool (InterfaceMethod class name) h i = h
-class_is_named pool (NameAndType name descriptor) h i = h
-class_is_named pool Unusable h i = h
 
 some_at : {A : Type 0} (o : Option A) → is_some o ≡ true → (x : A) × (o ≡ Some x)
 some_at None h = absurd (false≢true h)
@@ -142,7 +114,7 @@ module _ (files : Program) where
       by true z = ap (λ t. type_missing files (type_named (cond t java_lang_throwable (unwrap_or (class_name_at pool e.catch_type) [])))) z ∙ throwable_there
       by false z =
           let named : names_class pool e.catch_type ≡ true = sym (ap (λ t. t || names_class pool e.catch_type) z) ∙ index in
-          let n = some_at (class_name_at pool e.catch_type) (class_is_named pool (entry_at pool e.catch_type) named (entry_right (entry_indices pool) pool e.catch_type refl entries)) in
+          let n = some_at (class_name_at pool e.catch_type) (has_class_name pool (entry_at pool e.catch_type) named (entry_right (entry_indices pool) pool e.catch_type refl entries)) in
           named_found pool e n.0 n.1 z found kind
 
   -- of each entry of a code

@@ -1,5 +1,5 @@
 -- Local instructions: their rows, as the flow of types sees them.
-use Rattle.std.proofs.Common.{◌≡◌, ℕ, List, [], ◌∷◌, map, cond, Bool, true, false, ◌||◌, Option, Some, None, refl, sym, ap, ◌∙◌}
+use Rattle.std.proofs.Common.{◌≡◌, ℕ, List, [], ◌∷◌, map, cond, Bool, false, ◌||◌, Option, Some, None, refl, sym, ap, ◌∙◌}
 use Rattle.std.specs.Prelude.{Result, Ok, Err, IfOk}
 use Rattle.model.specs.declared.instr.Instr.{Instr}
 use Rattle.model.specs.declared.instr.Instr.TheVariants as instr
@@ -14,15 +14,12 @@ use Rattle.model.specs.Sites.{Site}
 use Rattle.model.specs.Meanings.{local_meaning, local_or, meaning_of}
 use Rattle.model.specs.Typing.{constructs_this, marked, successors}
 use Rattle.std.specs.declared.alloc.AllocError.{AllocError}
+use mathlib.Core.Bool.{or-false}
 use Rattle.operand_types.specs.declared.local.LocalFlow.{LocalFlow}
 use Rattle.operand_types.specs.declared.local.LocalFlow.TheVariants as flow
 use Rattle.operand_types.specs.Local.{row_leaves, FlowsLocally}
 use Rattle.flow.specs.Successors.{successors_by}
 use Rattle.flow.specs.Local.{AnswersLocally}
-
-or_false : (b : Bool) → (b || false) ≡ b
-or_false true = refl
-or_false false = refl
 
 -- a local instruction calls no constructor
 constructs_none : (site : Site) (ops : List VerificationType) (ints : List (Option ℕ)) (code : List ℕ) (offset next : ℕ) (i : Instr) (row : Row) → local_row ints code offset next i ≡ Some row → constructs_this site ops i ≡ false
@@ -45,7 +42,7 @@ module _ (files : Program) (site : Site) where
   row_leads row t e =
       let ops = operands over_types (row_wants row) t.slots in
       let none : (t.constructed || constructs_this site ops site.instr) ≡ t.constructed =
-      ap (λ b. t.constructed || b) (constructs_none site ops (integers_of site.body.pool) site.body.code.code site.offset site.next site.instr row e) ∙ or_false t.constructed in
+      ap (λ b. t.constructed || b) (constructs_none site ops (integers_of site.body.pool) site.body.code.code site.offset site.next site.instr row e) ∙ or-false t.constructed in
       ap (λ c. map (marked c) (map (λ to. (to, after_row over_types row t.slots)) (row.to ∷ row.others))) none
       ∙ marked_all t.constructed (after_row over_types row t.slots) (row.to ∷ row.others)
 

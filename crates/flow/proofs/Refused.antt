@@ -1,8 +1,7 @@
 -- Linked files name what is found, so that no instruction at a boundary is refused.
-use Rattle.std.proofs.Common.{◌≡◌, ◌<◌, ℕ, zero, suc, List, [], ◌∷◌, length, Bool, true, false, Some, refl, ap, ◌∙◌, subst, arith}
-use Rattle.std.specs.Prelude.{slice_index_or}
+use Rattle.std.proofs.Common.{◌≡◌, true, false, Some, refl, ◌∙◌}
 use Rattle.std.specs.List.{list_any}
-use Rattle.std.proofs.lemmas.Bool.{false≢true, or_from, or_parts}
+use Rattle.std.proofs.lemmas.Bool.{or_from, or_parts}
 use Rattle.std.proofs.lemmas.List.Folds.{list_any-append}
 use Rattle.model.specs.declared.instr.Instr.{Instr}
 use Rattle.model.specs.declared.instr.Instr.TheVariants.{Return}
@@ -11,7 +10,7 @@ use Rattle.model.specs.Classes.{Program}
 use Rattle.model.specs.DescriptorParts.{classes_in}
 use Rattle.model.specs.Resolution.{is_missing, operand_classes}
 use Rattle.model.specs.Instruction.{instr_at}
-use Rattle.model.specs.InstructionStarts.{starts_from, starts, is_start}
+use Rattle.model.specs.InstructionStarts.{is_start}
 use Rattle.model.specs.Linkable.{TooLarge, DuplicateClass, OutsideProfile, MalformedCode, BadHierarchy, Unresolved, TooManyFields, NoMain, stands}
 use Rattle.method_code.specs.declared.site.Site.{Site}
 use Rattle.method_code.specs.Linked.{IsLinked}
@@ -44,19 +43,3 @@ not_refused s linked start is =
     or_from _ _
     (list_any-append (is_missing files) (returned_classes (member_of s.method).descriptor s.instr) (operand_classes (body_of s.method).pool s.instr) ∙ or_from _ _ returned operands)
     (or_from _ _ (dimensions_few s.method linked s.offset s.instr start is) (operand_names_type s.method linked s.offset s.instr start is))
-
--- ---- an instruction boundary lies within the code
-
-length_starts : (code : List ℕ) (n pc inside : ℕ) → length (starts_from code n pc inside) ≡ n
-unfolding starts_from
-length_starts code zero pc inside = refl
-length_starts code (suc n) pc zero = ap suc (length_starts code n (suc pc) _)
-length_starts code (suc n) pc (suc inside) = ap suc (length_starts code n (suc pc) inside)
-
-marked_within : (marks : List Bool) (k : ℕ) → slice_index_or marks k false ≡ true → k < length marks
-marked_within [] k h = absurd (false≢true h)
-marked_within (b ∷ marks) zero h = omega arith
-marked_within (b ∷ marks) (suc k) h = let l = marked_within marks k h in omega (arith, l)
-
-pub start_within : (code : List ℕ) (offset : ℕ) → is_start code offset ≡ true → offset < length code
-start_within code offset h = subst (λ n. offset < n) (length_starts code (length code) 0 0) (marked_within (starts code) offset h)

@@ -3,6 +3,7 @@ use Rattle.std.proofs.Common.{◌≡◌, ◌∙◌, ℕ, zero, suc, ◌-◌, ◌
 use Rattle.std.specs.Prelude.{not, nat_le}
 use Rattle.std.specs.Option.{option_and_then, option_map_or, option_or, option_to_list}
 use Rattle.std.specs.List.{flat_map, list_any}
+use Rattle.std.proofs.lemmas.Bool.{or_parts, not-false}
 use Rattle.model.specs.BuiltIn.{built_in_classes, object_class}
 use Rattle.model.specs.Names.{Name, name_eq, Member, java_lang_object}
 use Rattle.model.specs.Tree.{FileTree}
@@ -12,7 +13,6 @@ use Rattle.hierarchy.specs.declared.rows.Above.TheVariants as above
 use Rattle.hierarchy.specs.Above.{directly_above, names_above, rows_of}
 use Rattle.hierarchy.specs.Fields.{is_below_other, has_interface_below_other, FieldsAlongSuperclasses, HasSupertypes}
 use Rattle.hierarchy.specs.Ranks.{rank_of}
-use Rattle.hierarchy.proofs.Names.{or_neither, not_false}
 use Rattle.hierarchy.proofs.SetLaws.{same_name, field_of_none}
 use Rattle.hierarchy.proofs.Indices.{not_found}
 use Rattle.hierarchy.proofs.Walks.{or_else_assoc, or_else_none, found-append, lineage_last, above_is, class_count}
@@ -33,15 +33,15 @@ object_alone files m (suc n) = rw (object_is files) refl
 -- fields of the superclass of an interface that is below Object alone
 nothing_above : (files : Program) (m : Member) (n : ℕ) (o : Option Name) → option_map_or (λ s. not (name_eq s java_lang_object)) o false ≡ false → option_and_then (λ s. field_from files n m s) o ≡ None
 nothing_above files m n None h = refl
-nothing_above files m n (Some s) h = ap (field_from files n m) (same_name s java_lang_object (not_false _ h)) ∙ object_alone files m n
+nothing_above files m n (Some s) h = ap (field_from files n m) (same_name s java_lang_object (not-false _ h)) ∙ object_alone files m n
 
 -- what is found in each of several is found in all of them together
 each_found : (f : Name → Option Member) (g : Name → Option Member) (h : Name → List Name) (late other : Name → Bool) (xs : List Name) → list_any late xs ≡ false → list_any other xs ≡ false
     → ((x : Name) → late x ≡ false → other x ≡ false → g x ≡ first_found f (x ∷ h x)) → first_found g xs ≡ first_found f (flat_map (λ x. x ∷ h x) xs)
 each_found f g h late other [] low flat same = refl
 each_found f g h late other (x ∷ xs) low flat same =
-    let a = or_neither (late x) (list_any late xs) low in
-    let b = or_neither (other x) (list_any other xs) flat in
+    let a = or_parts (late x) (list_any late xs) low in
+    let b = or_parts (other x) (list_any other xs) flat in
     ap (λ o. option_or o (first_found g xs)) (same x a.0 b.0)
     ∙ ap (option_or (first_found f (x ∷ h x))) (each_found f g h late other xs a.1 b.1 same)
     ∙ sym (found-append f (x ∷ h x) (flat_map (λ x. x ∷ h x) xs))
@@ -93,7 +93,7 @@ from_class files rank r flat m (suc n) class low =
         → ((s : Name) → rank s ≤ n → field_from files n m s ≡ first_found (field_declared files m) (flat_map near (lineage_of files n s)))
         → option_and_then (λ s. field_from files n m s) o ≡ first_found (field_declared files m) (flat_map near (option_map_or (λ s. lineage_of files n s) o []))
     super None h same = refl
-    super (Some s) h same = same s (one_less (rank s) (rank class) n (leb-false (rank class) (rank s) (or_neither (nat_le (rank class) (rank s)) false h).0) low)
+    super (Some s) h same = same s (one_less (rank s) (rank class) n (leb-false (rank class) (rank s) (or_parts (nat_le (rank class) (rank s)) false h).0) low)
 
 pub along_superclasses : (files : Program) → FieldsAlongSuperclasses files → (m : Member) → first_found (field_declared files m) (flat_map (λ c. c ∷ interfaces_above files c) (lineage_of files (length (classes_of files) - 0) m.class)) ≡ find_field files m
 along_superclasses files h m =

@@ -8,7 +8,7 @@ use Rattle.std.proofs.lemmas.List.Folds.{find_at}
 use Rattle.std.proofs.lemmas.Option.{slice_get_past, slice_get_within}
 use Rattle.std.proofs.lemmas.Bool.{lt-ltb, le-ltb}
 use borrow.Author.Tests.{ltb-true, ltb-false}
-use Rattle.hierarchy.proofs.Names.{or_neither}
+use Rattle.std.proofs.lemmas.Bool.{or_right, or_parts}
 
 pub position_or_len-map : {A B : Type 0} (p : B → Bool) (f : A → B) (xs : List A) → position_or_len p (map f xs) ≡ position_or_len (λ x. p (f x)) xs
 position_or_len-map p f [] = refl
@@ -64,7 +64,7 @@ position_first p xs k x at here before =
     first_or_len p [] k x at here before = absurd cc
     first_or_len p (y ∷ ys) zero x at here before = let same : y ≡ x = cc in rw (same, here) refl
     first_or_len p (y ∷ ys) (suc k) x at here before =
-        let both = or_neither (p y) (list_any p (take k ys)) before in
+        let both = or_parts (p y) (list_any p (take k ys)) before in
         rw both.0 (omega (arith, first_or_len p ys k x at here both.1))
 
 pub position_absent : {A : Type 0} (p : A → Bool) (xs : List A) → list_any p xs ≡ false → position p xs ≡ None
@@ -73,5 +73,18 @@ position_absent p xs h = let past : ltb (length xs) (length xs) ≡ false = le-l
     all_fail : {A : Type 0} (p : A → Bool) (xs : List A) → list_any p xs ≡ false → position_or_len p xs ≡ length xs
     all_fail p [] h = refl
     all_fail p (y ∷ ys) h =
-        let both = or_neither (p y) (list_any p ys) h in
+        let both = or_parts (p y) (list_any p ys) h in
         rw both.0 (omega (arith, all_fail p ys both.1))
+
+-- ---- tests of items
+
+pub one_at : {A : Type 0} (p : A → Bool) (xs : List A) (k : ℕ) (x : A) → slice_get xs k ≡ Some x → p x ≡ true → list_any p xs ≡ true
+one_at p [] k x e h = absurd cc
+one_at p (y ∷ xs) zero x e h = let same : y ≡ x = cc in rw (same, h) refl
+one_at p (y ∷ xs) (suc k) x e h = or_right (p y) (list_any p xs) (one_at p xs k x e h)
+
+-- what is so of none isn't so of the one at a place
+pub none_at : {A : Type 0} (q : A → Bool) (xs : List A) (k : ℕ) (x : A) → list_any q xs ≡ false → slice_get xs k ≡ Some x → q x ≡ false
+none_at q [] k x h e = absurd cc
+none_at q (y ∷ xs) zero x h e = let same : y ≡ x = cc in subst (λ z. q z ≡ false) same (or_parts (q y) _ h).0
+none_at q (y ∷ xs) (suc k) x h e = none_at q xs k x (or_parts (q y) _ h).1 e

@@ -1,14 +1,16 @@
 -- Walks over indices of names, and over classes.
-use Rattle.std.proofs.Common.{◌≡◌, ◌∙◌, ℕ, zero, suc, ◌+◌, ◌<◌, Bool, true, false, cond, ◌||◌, List, [], ◌∷◌, ◌++◌, length, drop, take, get_or, refl, sym, ap, subst, arith, length-append, ◌≤◌, Option, Some, None}
-use Rattle.std.specs.Prelude.{slice_get, find, IfOk, Result, Ok, Err}
+use Rattle.std.proofs.Common.{◌≡◌, ◌∙◌, ℕ, zero, suc, ◌+◌, ◌<◌, Bool, true, false, cond, ◌||◌, List, [], ◌∷◌, ◌++◌, length, drop, take, get_or, refl, sym, ap, subst, arith, length-append, ◌≤◌, Option, Some, None, ⊎_elim}
+use Rattle.std.specs.Prelude.{slice_get, find, IfOk, Result, Ok, Err, position, is_some}
 use Rattle.std.specs.Option.{option_to_list}
 use Rattle.std.specs.List.{list_any, filter_map}
 use Rattle.std.proofs.lemmas.List.Folds.{list_any-append}
+use Rattle.std.proofs.lemmas.Bool.{or_parts, or_from, or_cases}
 use Rattle.model.specs.Names.{Name}
 use Rattle.model.specs.BuiltIn.{built_in_classes}
 use Rattle.model.specs.Classes.{Program, classes_of}
-use Rattle.hierarchy.proofs.Names.{neither_or, or_neither, or_second, same_or_later}
 use Rattle.hierarchy.proofs.Walks.{any_index}
+use Rattle.hierarchy.proofs.Names.{found_any}
+use Rattle.hierarchy.proofs.Finding.{nowhere}
 
 -- ---- indices of names
 
@@ -26,32 +28,30 @@ no_index q h read xs i o b same less is test fails before =
 
 -- ---- tests of items
 
-take_one_more : {A : Type 0} (xs : List A) (i : ℕ) (x : A) → slice_get xs i ≡ Some x → take (i + 1) xs ≡ take i xs ++ x ∷ []
+pub take_one_more : {A : Type 0} (xs : List A) (i : ℕ) (x : A) → slice_get xs i ≡ Some x → take (i + 1) xs ≡ take i xs ++ x ∷ []
 take_one_more [] i x e = absurd cc
 take_one_more (y ∷ xs) zero x e = let same : y ≡ x = cc in ap (λ z. z ∷ []) same
 take_one_more (y ∷ xs) (suc i) x e = let more : suc i + 1 ≡ suc (i + 1) = omega arith in rw more (ap (λ l. y ∷ l) (take_one_more xs i x e))
 
-take_whole : {A : Type 0} (xs : List A) (i : ℕ) → slice_get xs i ≡ None → take i xs ≡ xs
+pub take_whole : {A : Type 0} (xs : List A) (i : ℕ) → slice_get xs i ≡ None → take i xs ≡ xs
 take_whole [] zero e = refl
 take_whole [] (suc i) e = refl
 take_whole (y ∷ xs) zero e = absurd cc
 take_whole (y ∷ xs) (suc i) e = ap (λ l. y ∷ l) (take_whole xs i e)
 
 pub none_more : {A : Type 0} (p : A → Bool) (xs : List A) (i : ℕ) (x : A) → slice_get xs i ≡ Some x → list_any p (take i xs) ≡ false → p x ≡ false → list_any p (take (i + 1) xs) ≡ false
-none_more p xs i x e h k = ap (list_any p) (take_one_more xs i x e) ∙ list_any-append p (take i xs) (x ∷ []) ∙ neither_or _ _ h (neither_or _ _ k refl)
+none_more p xs i x e h k = ap (list_any p) (take_one_more xs i x e) ∙ list_any-append p (take i xs) (x ∷ []) ∙ or_from _ _ h (or_from _ _ k refl)
 
 pub none_all : {A : Type 0} (p : A → Bool) (xs : List A) (i : ℕ) → slice_get xs i ≡ None → list_any p (take i xs) ≡ false → list_any p xs ≡ false
 none_all p xs i e h = ap (list_any p) (sym (take_whole xs i e)) ∙ h
 
-pub one_at : {A : Type 0} (p : A → Bool) (xs : List A) (k : ℕ) (x : A) → slice_get xs k ≡ Some x → p x ≡ true → list_any p xs ≡ true
-one_at p [] k x e h = absurd cc
-one_at p (y ∷ xs) zero x e h = let same : y ≡ x = cc in rw (same, h) refl
-one_at p (y ∷ xs) (suc k) x e h = or_second (p y) (list_any p xs) (one_at p xs k x e h)
+pub no_position : {A : Type 0} (p : A → Bool) (xs : List A) → position p xs ≡ None → list_any p xs ≡ false
+no_position p xs e = sym (found_any p xs) ∙ ap is_some (nowhere p xs e)
 
 -- what is so of no item isn't so of the one that is found
 pub not_found : {A : Type 0} (p q : A → Bool) (xs : List A) (x : A) → find p xs ≡ Some x → list_any q xs ≡ false → q x ≡ false
 not_found p q [] x e h = absurd cc
-not_found p q (y ∷ ys) x e h = let here = or_neither (q y) (list_any q ys) h in by (p y) here.0 (λ more. not_found p q ys x more here.1) e
+not_found p q (y ∷ ys) x e h = let here = or_parts (q y) (list_any q ys) h in by (p y) here.0 (λ more. not_found p q ys x more here.1) e
   where
     by : (b : Bool) → q y ≡ false → (find p ys ≡ Some x → q x ≡ false) → cond b (Some y) (find p ys) ≡ Some x → q x ≡ false
     by true fails more e = let same : y ≡ x = cc in subst (λ z. q z ≡ false) same fails
@@ -61,16 +61,21 @@ not_found p q (y ∷ ys) x e h = let here = or_neither (q y) (list_any q ys) h i
 pub none_both : {A : Type 0} {G : Type 0} (p q : A → Bool) (xs : List A) → list_any q xs ≡ false → ((x : A) → q x ≡ false → p x ≡ true → G) → list_any p xs ≡ true → G
 none_both p q [] h f e = absurd cc
 none_both p q (y ∷ ys) h f e =
-    let here = or_neither (q y) (list_any q ys) h in
-    same_or_later (p y) (list_any p ys) _ e (λ passes. f y here.0 passes) (λ more. none_both p q ys here.1 f more)
+    let here = or_parts (q y) (list_any q ys) h in
+    ⊎_elim (λ passes. f y here.0 passes) (λ more. none_both p q ys here.1 f more) (or_cases (p y) (list_any p ys) e)
 
 -- ---- files behind the built-in classes
 
-get_behind : {A : Type 0} (xs ys : List A) (k : ℕ) → slice_get (xs ++ ys) (length xs + k) ≡ slice_get ys k
+pub get_front : {A : Type 0} (xs ys : List A) (k : ℕ) → k < length xs → slice_get (xs ++ ys) k ≡ slice_get xs k
+get_front [] ys k lt = absurd (omega arith)
+get_front (x ∷ xs) ys zero lt = refl
+get_front (x ∷ xs) ys (suc k) lt = get_front xs ys k (omega arith)
+
+pub get_behind : {A : Type 0} (xs ys : List A) (k : ℕ) → slice_get (xs ++ ys) (length xs + k) ≡ slice_get ys k
 get_behind [] ys k = let same : zero + k ≡ k = omega arith in ap (slice_get ys) same
 get_behind (x ∷ xs) ys k = let same : suc (length xs) + k ≡ suc (length xs + k) = omega arith in rw same (get_behind xs ys k)
 
-built_in_count : length built_in_classes ≡ 30
+pub built_in_count : length built_in_classes ≡ 30
 unfolding built_in_classes
 built_in_count = refl
 

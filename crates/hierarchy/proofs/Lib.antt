@@ -10,3 +10,4 @@ pub mod RankLaws
 pub mod FieldLaws
 pub mod CycleLaws
 pub mod TypeLaws
+pub mod Apart

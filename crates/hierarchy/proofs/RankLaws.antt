@@ -1,10 +1,11 @@
 -- What follows from ranks: no class is above itself, and what is above a class is above it by few steps.
-use Rattle.std.proofs.Common.{◌≡◌, ◌∙◌, ℕ, zero, suc, ◌<◌, ◌≤◌, Bool, true, false, ◌||◌, List, [], ◌∷◌, ◌++◌, length, refl, sym, ap, subst, arith, Option, Some, None, leb-false, ltb-false}
+use Rattle.std.proofs.Common.{◌≡◌, ◌∙◌, ℕ, zero, suc, ◌<◌, ◌≤◌, Bool, true, false, ◌||◌, List, [], ◌∷◌, ◌++◌, length, refl, sym, ap, subst, arith, Option, Some, None, leb-false, ltb-false, ⊎_elim}
 use borrow.Author.Tests.{eqb-false}
 use Rattle.std.specs.Prelude.{slice_get, nat_le, nat_lt, ◌==◌}
 use Rattle.std.specs.Option.{option_and_then, option_map_or, option_to_list}
 use Rattle.std.specs.List.{flat_map, list_any}
 use Rattle.std.proofs.lemmas.List.Folds.{list_any-append}
+use Rattle.std.proofs.lemmas.Bool.{or_parts, or_cases}
 use Rattle.model.specs.Names.{Name, name_eq}
 use Rattle.model.specs.Tree.{FileTree}
 use Rattle.model.specs.Classes.{Program, name_of, classes_of, class_of, super_name_of, superclass_of, superinterfaces_of, interface_names, is_named}
@@ -13,7 +14,6 @@ use Rattle.hierarchy.specs.Places.{place_of}
 use Rattle.hierarchy.specs.declared.rows.Above.TheVariants as above
 use Rattle.hierarchy.specs.Above.{each_once, with_names, directly_above, names_above, row_of, rows_of, next_row, next_rows}
 use Rattle.hierarchy.specs.Ranks.{rank_of, is_late, is_misranked, HasRanks}
-use Rattle.hierarchy.proofs.Names.{or_neither, same_or_later}
 use Rattle.hierarchy.proofs.Finding.{position_within}
 use Rattle.hierarchy.proofs.SetLaws.{same_name, named_so, no_class, no_item, name_at_place, class_at_place}
 use Rattle.hierarchy.proofs.Indices.{not_found, none_both}
@@ -49,9 +49,9 @@ checked files ranks name file h is =
     let r = rank_of files ranks name in
     let here : (r == 0 || (nat_lt (length (classes_of files)) r || (list_any (is_late files ranks r) (option_to_list (super_name_of file)) || list_any (is_late files ranks r) (interface_names file)))) ≡ false =
     subst (λ (n : Name). (rank_of files ranks n == 0 || (nat_lt (length (classes_of files)) (rank_of files ranks n) || (list_any (is_late files ranks (rank_of files ranks n)) (option_to_list (super_name_of file)) || list_any (is_late files ranks (rank_of files ranks n)) (interface_names file)))) ≡ false) named all in
-    let one = or_neither _ _ here in
-    let two = or_neither _ _ one.1 in
-    let three = or_neither _ _ two.1 in
+    let one = or_parts _ _ here in
+    let two = or_parts _ _ one.1 in
+    let three = or_parts _ _ two.1 in
     (one.0, two.0, three.0, three.1)
 
 -- ranks that were checked
@@ -94,9 +94,10 @@ lower files rank r (suc n) c d e =
   where
     step : (s : Name) → rank s < rank c → (name_eq s d || is_above files n s d) ≡ true → (is_above files n s d ≡ true → rank d < rank s) → rank d < rank c
     step s low found above =
-        same_or_later (name_eq s d) (is_above files n s d) (rank d < rank c) found
+        ⊎_elim
         (λ same. subst (λ x. rank x < rank c) (same_name s d same) low)
         (λ more. let less : rank d < rank s = above more in omega arith)
+        (or_cases (name_eq s d) (is_above files n s d) found)
 
 never_below : (n : ℕ) → n < n → ⊥
 never_below n h = omega arith
@@ -119,7 +120,7 @@ acyclic files (file ∷ some) h = ap (λ b. b || list_any (in_cycle files) some)
 flat_where : (q : Name → Bool) (f g : Name → List Name) (xs : List Name) → list_any q xs ≡ false → ((x : Name) → q x ≡ false → f x ≡ g x) → flat_map (λ x. x ∷ f x) xs ≡ flat_map (λ x. x ∷ g x) xs
 flat_where q f g [] h same = refl
 flat_where q f g (x ∷ xs) h same =
-    let here = or_neither (q x) (list_any q xs) h in
+    let here = or_parts (q x) (list_any q xs) h in
     ap (λ (l : List Name). x ∷ (l ++ flat_map (λ x. x ∷ f x) xs)) (same x here.0) ∙ ap (λ (l : List Name). x ∷ (g x ++ l)) (flat_where q f g xs here.1 same)
 
 -- the same, cut to what stands in them once

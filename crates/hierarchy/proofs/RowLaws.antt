@@ -1,5 +1,5 @@
 -- Rows of names, each once.
-use Rattle.std.proofs.Common.{◌≡◌, ℕ, zero, suc, ◌+◌, ◌-◌, ◌<◌, Bool, true, false, ◌||◌, cond, List, [], ◌∷◌, ◌++◌, length, map, drop, drop-cons, get_or, refl, sym, ap, ◌∙◌, append_assoc, arith, Option, Some, None}
+use Rattle.std.proofs.Common.{◌≡◌, ℕ, zero, suc, ◌+◌, ◌-◌, ◌<◌, Bool, true, false, ◌||◌, cond, List, [], ◌∷◌, ◌++◌, length, map, drop, drop-cons, get_or, refl, sym, ap, ◌∙◌, append_assoc, arith, Option, Some, None, ⊎_elim}
 use Rattle.std.specs.Prelude.{slice_get}
 use Rattle.std.specs.Option.{option_and_then, option_map_or, option_to_list}
 use Rattle.std.specs.List.{flat_map, filter_map, list_any}
@@ -7,6 +7,7 @@ use Rattle.std.proofs.lemmas.List.{append-nil, map-append}
 use Rattle.std.proofs.lemmas.Grind.{flat_map-append}
 use Rattle.std.proofs.lemmas.List.Folds.{list_any-append}
 use Rattle.std.proofs.lemmas.Slice.Eq.{bytes_eq-Decides}
+use Rattle.std.proofs.lemmas.Bool.{or_cases, or_left, or_right}
 use Rattle.model.specs.Names.{Name, name_eq}
 use Rattle.model.specs.Tree.{FileTree}
 use Rattle.model.specs.Classes.{Program, name_of, classes_of, class_of, is_named}
@@ -14,7 +15,6 @@ use Rattle.hierarchy.specs.Places.{place_of}
 use Rattle.hierarchy.specs.declared.rows.Above as declared_above
 use Rattle.hierarchy.specs.declared.rows.Above.TheVariants as above
 use Rattle.hierarchy.specs.Above.{with_name, with_names, each_once, directly_above, names_above, row_of, rows_of, next_rows}
-use Rattle.hierarchy.proofs.Names.{same_or_later, or_second, true_or}
 use Rattle.hierarchy.proofs.Finding.{position_within}
 use Rattle.hierarchy.proofs.SetLaws.{same_name, no_class, no_item, name_at_place}
 
@@ -59,7 +59,7 @@ kept acc x y h = by (list_any (name_eq y) acc)
   where
     by : (b : Bool) → list_any (name_eq x) (cond b acc (acc ++ y ∷ [])) ≡ true
     by true = h
-    by false = list_any-append (name_eq x) acc (y ∷ []) ∙ true_or _ _ h
+    by false = list_any-append (name_eq x) acc (y ∷ []) ∙ or_left _ _ h
 
 pub name_eq_refl : (x : Name) → name_eq x x ≡ true
 name_eq_refl x = (bytes_eq-Decides x x).1 refl
@@ -70,7 +70,7 @@ added acc y = by (list_any (name_eq y) acc) refl
   where
     by : (b : Bool) → list_any (name_eq y) acc ≡ b → list_any (name_eq y) (cond b acc (acc ++ y ∷ [])) ≡ true
     by true h = h
-    by false h = list_any-append (name_eq y) acc (y ∷ []) ∙ or_second (list_any (name_eq y) acc) _ (true_or _ _ (name_eq_refl y))
+    by false h = list_any-append (name_eq y) acc (y ∷ []) ∙ or_right (list_any (name_eq y) acc) _ (or_left _ _ (name_eq_refl y))
 
 all_kept : (acc xs : List Name) (x : Name) → list_any (name_eq x) acc ≡ true → list_any (name_eq x) (with_names acc xs) ≡ true
 all_kept acc [] x h = h
@@ -78,7 +78,7 @@ all_kept acc (y ∷ xs) x h = all_kept (with_name acc y) xs x (kept acc x y h)
 
 all_added : (acc xs : List Name) (x : Name) → list_any (name_eq x) xs ≡ true → list_any (name_eq x) (with_names acc xs) ≡ true
 all_added acc [] x h = absurd cc
-all_added acc (y ∷ xs) x h = same_or_later (name_eq x y) (list_any (name_eq x) xs) _ h here (λ later. all_added (with_name acc y) xs x later)
+all_added acc (y ∷ xs) x h = ⊎_elim here (λ later. all_added (with_name acc y) xs x later) (or_cases (name_eq x y) (list_any (name_eq x) xs) h)
   where
     here : name_eq x y ≡ true → list_any (name_eq x) (with_names (with_name acc y) xs) ≡ true
     here e = let same : y ≡ x = sym (same_name x y e) in all_kept (with_name acc y) xs x (rw same (added acc x))

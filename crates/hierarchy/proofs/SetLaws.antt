@@ -1,5 +1,5 @@
 -- Sets of classes by their names.
-use Rattle.std.proofs.Common.{◌≡◌, ℕ, zero, suc, ◌+◌, ◌<◌, ◌≤◌, Bool, true, false, ltb, ◌||◌, List, [], ◌∷◌, ◌++◌, length, map, take, drop, get_or, refl, sym, ap, ◌∙◌, append_assoc, arith, Option, Some, None}
+use Rattle.std.proofs.Common.{◌≡◌, ℕ, zero, suc, ◌+◌, ◌<◌, ◌≤◌, Bool, true, false, ltb, ◌||◌, List, [], ◌∷◌, ◌++◌, length, map, take, drop, get_or, refl, sym, ap, ◌∙◌, append_assoc, arith, Option, Some, None, ⊎_elim}
 use Rattle.std.specs.Prelude.{position, slice_get}
 use Rattle.std.specs.Option.{option_and_then}
 use Rattle.std.specs.List.{list_any}
@@ -10,6 +10,7 @@ use Rattle.std.proofs.Math.Seq.{take-append-add}
 use Rattle.std.proofs.lemmas.Option.{slice_get-get_or, slice_get_within, get_or_from_slice_get}
 use borrow.Author.Tests.{ltb-true, ltb-false}
 use Rattle.std.proofs.lemmas.List.{take-append-le, get_or-append-add, get_or_append_left}
+use Rattle.std.proofs.lemmas.Bool.{or_cases, or_left, or_right, both_ways}
 use Rattle.model.specs.Names.{Name, name_eq, Member}
 use Rattle.model.specs.Tree.{FileTree, FieldTree, MethodTree}
 use Rattle.model.specs.BuiltIn.{built_in_classes}
@@ -17,8 +18,8 @@ use Rattle.model.specs.Classes.{Program, name_of, classes_of, class_of, is_named
 use Rattle.model.specs.Lookup.{is_field, in_class, where_so, field_declared, method_declared}
 use Rattle.model.specs.Linkable.{stands, DuplicateClass, two_of_one_name, has_built_in_name}
 use Rattle.hierarchy.specs.Set.{files_of, IsAgain}
-use Rattle.hierarchy.proofs.Names.{name_eq_sym, again, built_in_differ, found_any, same_or_later, or_second, true_or}
-use Rattle.hierarchy.proofs.Finding.{position-map, position_same, find_by_position, passes_at, nowhere, find_passes, position_within}
+use Rattle.hierarchy.proofs.Names.{name_eq_sym, again, built_in_differ, found_any}
+use Rattle.hierarchy.proofs.Finding.{position-map, position_same, find_by_position, passes_at, nowhere, find_passes, position_within, one_at}
 
 -- ---- by names
 
@@ -64,10 +65,6 @@ at_split xs i d lt =
 two_at : (xs : List FileTree) (i : ℕ) (d : FileTree) → i < length xs → list_any (is_named (name_of (get_or xs i d))) (take i xs) ≡ true → two_of_one_name xs ≡ true
 two_at xs i d lt h = ap two_of_one_name (at_split xs i d lt) ∙ again (take i xs) (get_or xs i d) (drop (i + 1) xs) h
 
-true_not_false : {G : Type 0} (b : Bool) → b ≡ true → b ≡ false → G
-true_not_false true h k = absurd cc
-true_not_false false h k = absurd cc
-
 pub is_file : (files : Program) (i : ℕ) (d : FileTree) → list_any (is_named (name_of (get_or (classes_of files) i d))) (take i (classes_of files)) ≡ true → length built_in_classes ≤ i
 is_file files i d h = by (ltb i (length built_in_classes)) refl
   where
@@ -79,7 +76,7 @@ is_file files i d h = by (ltb i (length built_in_classes)) refl
         let h' : list_any (is_named (name_of (get_or built_in_classes i d))) (take i built_in_classes) ≡ true =
         ap (λ (t : FileTree). list_any (is_named (name_of t)) (take i built_in_classes)) (sym (get_or_append_left built_in_classes files d i lt))
         ∙ ap (list_any (is_named (name_of (get_or (classes_of files) i d)))) (sym (take-append-le i built_in_classes files less)) ∙ h in
-        true_not_false (two_of_one_name built_in_classes) (two_at built_in_classes i d lt h') built_in_differ
+        absurd (both_ways (two_of_one_name built_in_classes) built_in_differ (two_at built_in_classes i d lt h'))
 
 pub is_again : (files : Program) (k : ℕ) (d : FileTree) → k < length files
     → list_any (is_named (name_of (get_or (classes_of files) (length built_in_classes + k) d))) (take (length built_in_classes + k) (classes_of files)) ≡ true → IsAgain files k
@@ -93,11 +90,6 @@ is_again files k d lt h = record {
       ∙ h;
 }
 
-any_at : (p : FileTree → Bool) (xs : List FileTree) (k : ℕ) (x : FileTree) → slice_get xs k ≡ Some x → p x ≡ true → list_any p xs ≡ true
-any_at p [] k x e h = absurd cc
-any_at p (y ∷ xs) zero x e h = let same : y ≡ x = cc in rw (same, h) refl
-any_at p (y ∷ xs) (suc k) x e h = or_second (p y) (list_any p xs) (any_at p xs k x e h)
-
 pub again_stands : (files : Program) (k : ℕ) → IsAgain files k → stands files DuplicateClass ≡ true
 again_stands files k h =
     let test = is_named (name_of h.file) in
@@ -105,9 +97,10 @@ again_stands files k h =
     let at : get_or files k h.file ≡ h.file = get_or_from_slice_get files k h.file h.file h.stands in
     let among : (list_any test built_in_classes || list_any test (take k files)) ≡ true =
     sym (list_any-append test built_in_classes (take k files)) ∙ sym (found_any test (classes_of (take k files))) ∙ h.named in
-    same_or_later (list_any test built_in_classes) (list_any test (take k files)) (stands files DuplicateClass ≡ true) among
-    (λ here. or_second (two_of_one_name files) (list_any has_built_in_name files) (any_at has_built_in_name files k h.file h.stands (found_any test built_in_classes ∙ here)))
-    (λ later. true_or (two_of_one_name files) (list_any has_built_in_name files) (two_at files k h.file lt (ap (λ (t : FileTree). list_any (is_named (name_of t)) (take k files)) at ∙ later)))
+    ⊎_elim
+    (λ here. or_right (two_of_one_name files) (list_any has_built_in_name files) (one_at has_built_in_name files k h.file h.stands (found_any test built_in_classes ∙ here)))
+    (λ later. or_left (two_of_one_name files) (list_any has_built_in_name files) (two_at files k h.file lt (ap (λ (t : FileTree). list_any (is_named (name_of t)) (take k files)) at ∙ later)))
+    (or_cases (list_any test built_in_classes) (list_any test (take k files)) among)
 
 -- ---- members that a class declares
 

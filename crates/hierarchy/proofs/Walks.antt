@@ -1,5 +1,5 @@
 -- Walks over rows of names, and over the superclasses of a class.
-use Rattle.std.proofs.Common.{◌≡◌, ℕ, zero, suc, ◌+◌, ◌-◌, ◌<◌, Bool, true, false, ◌||◌, cond, List, [], ◌∷◌, ◌++◌, length, drop, drop-cons, get_or, refl, sym, ap, ◌∙◌, arith, Option, Some, None}
+use Rattle.std.proofs.Common.{◌≡◌, ℕ, zero, suc, ◌+◌, ◌-◌, ◌<◌, Bool, true, false, ◌||◌, cond, List, [], ◌∷◌, ◌++◌, length, drop, drop-cons, get_or, refl, sym, ap, ◌∙◌, arith, Option, Some, None, ⊎_elim}
 use Rattle.std.specs.Option.{option_and_then, option_map_or, option_or, option_to_list}
 use Rattle.std.specs.List.{flat_map, filter_map, cons_option, list_any}
 use Rattle.std.proofs.lemmas.List.{append-nil}
@@ -11,18 +11,16 @@ use Rattle.model.specs.Hierarchy.{is_above, direct_supertypes}
 use Rattle.model.specs.BuiltIn.{built_in_classes}
 use Rattle.model.specs.Lookup.{first_found, field_from, field_declared, find_field}
 use Rattle.std.specs.Prelude.{slice_get}
+use Rattle.std.proofs.lemmas.Bool.{or_cases}
+use mathlib.Core.Bool.{or-false, or_comm}
 use Rattle.hierarchy.proofs.RowLaws.{drop_at}
 use Rattle.hierarchy.specs.declared.rows.Above.TheVariants as above
 use Rattle.hierarchy.specs.Above.{leads_to, with_name, with_names, each_once, directly_above, names_above}
-use Rattle.hierarchy.proofs.Names.{name_eq_sym, same_or_later}
+use Rattle.hierarchy.proofs.Names.{name_eq_sym}
 use Rattle.hierarchy.proofs.SetLaws.{same_name}
 use Rattle.hierarchy.proofs.Chains.{lineage_step}
 
 -- ---- whether a name is among names that are each once
-
-or_nothing : (b : Bool) → (b || false) ≡ b
-or_nothing true = refl
-or_nothing false = refl
 
 or_assoc : (a b c : Bool) → ((a || b) || c) ≡ (a || (b || c))
 or_assoc true b c = refl
@@ -35,7 +33,7 @@ or_again false false = refl
 
 any_in : (p : Name → Bool) (names : List Name) (x : Name) → list_any (name_eq x) names ≡ true → (list_any p names || p x) ≡ list_any p names
 any_in p [] x h = absurd cc
-any_in p (y ∷ names) x h = same_or_later (name_eq x y) (list_any (name_eq x) names) _ h here (λ e. later (any_in p names x e))
+any_in p (y ∷ names) x h = ⊎_elim here (λ e. later (any_in p names x e)) (or_cases (name_eq x y) (list_any (name_eq x) names) h)
   where
     here : name_eq x y ≡ true → ((p y || list_any p names) || p x) ≡ (p y || list_any p names)
     here e = ap (λ z. (p y || list_any p names) || p z) (same_name x y e) ∙ or_again (p y) (list_any p names)
@@ -44,12 +42,12 @@ any_in p (y ∷ names) x h = same_or_later (name_eq x y) (list_any (name_eq x) n
     later e = or_assoc (p y) (list_any p names) (p x) ∙ ap (λ b. p y || b) e
 
 any_after : (p : Name → Bool) (acc xs : List Name) → list_any p (with_names acc xs) ≡ (list_any p acc || list_any p xs)
-any_after p acc [] = sym (or_nothing (list_any p acc))
+any_after p acc [] = sym (or-false (list_any p acc))
 any_after p acc (x ∷ xs) = any_after p (with_name acc x) xs ∙ by (list_any (name_eq x) acc) refl
   where
     by : (b : Bool) → list_any (name_eq x) acc ≡ b → (list_any p (cond b acc (acc ++ x ∷ [])) || list_any p xs) ≡ (list_any p acc || (p x || list_any p xs))
     by true h = ap (λ b. b || list_any p xs) (sym (any_in p acc x h)) ∙ or_assoc (list_any p acc) (p x) (list_any p xs)
-    by false h = ap (λ b. b || list_any p xs) (list_any-append p acc (x ∷ []) ∙ ap (λ b. list_any p acc || b) (or_nothing (p x))) ∙ or_assoc (list_any p acc) (p x) (list_any p xs)
+    by false h = ap (λ b. b || list_any p xs) (list_any-append p acc (x ∷ []) ∙ ap (λ b. list_any p acc || b) (or-false (p x))) ∙ or_assoc (list_any p acc) (p x) (list_any p xs)
 
 pub any_once : (p : Name → Bool) (xs : List Name) → list_any p (each_once xs) ≡ list_any p xs
 any_once p xs = any_after p [] xs
@@ -74,7 +72,7 @@ or_else_again (Some m) b = refl
 
 found_in : (f : Name → Option Member) (names : List Name) (x : Name) → list_any (name_eq x) names ≡ true → option_or (first_found f names) (f x) ≡ first_found f names
 found_in f [] x h = absurd cc
-found_in f (y ∷ names) x h = same_or_later (name_eq x y) (list_any (name_eq x) names) _ h here (λ e. later (found_in f names x e))
+found_in f (y ∷ names) x h = ⊎_elim here (λ e. later (found_in f names x e)) (or_cases (name_eq x y) (list_any (name_eq x) names) h)
   where
     here : name_eq x y ≡ true → option_or (option_or (f y) (first_found f names)) (f x) ≡ option_or (f y) (first_found f names)
     here e = ap (λ z. option_or (option_or (f y) (first_found f names)) (f z)) (same_name x y e) ∙ or_else_again (f y) (first_found f names)
@@ -170,7 +168,7 @@ one_and_rest : (n : ℕ) → 0 < n → n ≡ suc (n - 1)
 one_and_rest n h = omega arith
 
 -- there are classes
-some_class : (files : Program) → 0 < length (classes_of files)
+pub some_class : (files : Program) → 0 < length (classes_of files)
 unfolding built_in_classes
 some_class files = omega arith
 
@@ -189,12 +187,6 @@ any_flat p g (x ∷ xs) = list_any-append p (x ∷ g x) (flat_map (λ i. i ∷ g
 any_same : (p q : Name → Bool) → ((x : Name) → p x ≡ q x) → (xs : List Name) → list_any p xs ≡ list_any q xs
 any_same p q same [] = refl
 any_same p q same (x ∷ xs) = rw (same x, any_same p q same xs) refl
-
-or_comm : (a b : Bool) → (a || b) ≡ (b || a)
-or_comm true true = refl
-or_comm true false = refl
-or_comm false true = refl
-or_comm false false = refl
 
 any_swap : (q : Name → Bool) (xs ys : List Name) → list_any q (xs ++ ys) ≡ list_any q (ys ++ xs)
 any_swap q xs ys = list_any-append q xs ys ∙ or_comm (list_any q xs) (list_any q ys) ∙ sym (list_any-append q ys xs)
@@ -218,7 +210,7 @@ any_index q h xs i lt =
 
     by : (o : Option Name) → list_any q (cons_option o (filter_map h (drop (i + 1) xs))) ≡ (list_any q (option_to_list o) || list_any q (filter_map h (drop (i + 1) xs)))
     by None = refl
-    by (Some name) = ap (λ b. b || list_any q (filter_map h (drop (i + 1) xs))) (sym (or_nothing (q name)))
+    by (Some name) = ap (λ b. b || list_any q (filter_map h (drop (i + 1) xs))) (sym (or-false (q name)))
 
 pub above_itself : (files : Program) (class : Name) → is_above files (length (classes_of files)) class class ≡ list_any (leads_to files class) (direct_supertypes files class)
 above_itself files class = ap (λ n. is_above files n class class) (class_count files)

@@ -4,6 +4,7 @@ use Rattle.std.specs.Prelude.{IfOk, IfErr}
 use Rattle.std.specs.List.{list_any}
 use Rattle.std.specs.Option.{option_and_then, option_map_or, option_to_list}
 use Rattle.std.proofs.lemmas.List.{length-map, map-append}
+use Rattle.std.proofs.lemmas.Bool.{or_left, or_right}
 use Rattle.model.specs.declared.value.Value.{Value}
 use Rattle.model.specs.Names.{Member}
 use Rattle.model.specs.Tree.{FieldTree, MethodTree}
@@ -34,8 +35,7 @@ use Rattle.instruction_types.specs.Leads.{leads_in, initialised_leads}
 use Rattle.instruction_types.specs.Means.{Means}
 use Rattle.instruction_types.specs.Answers.{Answers}
 use Rattle.instruction_types.specs.Wants.{want_for, CallsOn, Constructs, TellsCall, TellsCallOn, leads_of_result}
-use Rattle.instruction_types.proofs.Lists.{map-reverse}
-use Rattle.instruction_types.proofs.Missing.{or_left, or_right}
+use Rattle.operand_types.proofs.Lists.{map-reverse}
 
 module _ (files : Program) where
   -- ---- what is wanted of a value that is passed on

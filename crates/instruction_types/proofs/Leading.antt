@@ -17,19 +17,12 @@ use Rattle.types.specs.View.{type_in, frame_in}
 use Rattle.operand_types.specs.View.{want_in, reads_in}
 use Rattle.instruction_types.specs.declared.meaning.Meaning.{Meaning}
 use Rattle.instruction_types.specs.Leads.{leads_in}
-use Rattle.instruction_types.proofs.Lists.{map-reverse}
 use Rattle.instruction_types.specs.Means.{Means}
 use Rattle.instruction_types.specs.Successors.{found_by, left_by, with_slots, lead_after, followed}
 use Rattle.instruction_types.specs.declared.leads.Leads.{Leads}
+use Rattle.operand_types.proofs.Lists.{map-reverse}
 
 -- ---- frame types by their parts
-
-pub shown_by : (files : Program) (t : FrameType) (ls ts : List model.VerificationType) (mark : Bool) → map (type_in files) t.locals.items ≡ ls → reverse (map (type_in files) t.stack.items) ≡ ts → t.constructed ≡ mark
-    → frame_in files t ≡ record { slots = record { locals = ls; stack = ts }; constructed = mark }
-shown_by files t ls ts mark l s m =
-    ap (λ xs. record { slots = record { locals = xs; stack = reverse (map (type_in files) t.stack.items) }; constructed = t.constructed }) l
-    ∙ ap (λ xs. record { slots = record { locals = ls; stack = xs }; constructed = t.constructed }) s
-    ∙ ap (λ b. record { slots = record { locals = ls; stack = ts }; constructed = b }) m
 
 module _ (files : Program) (site : Site) (meaning : Meaning) (l : Leads) (old new : FrameType) (ls ts : List model.VerificationType) where
   pub next_after : meaning.leads ≡ l → frame_in files new ≡ with_slots (frame_in files old) ls ts

@@ -1,34 +1,7 @@
 -- Lists with their last first, and lists whose elements are changed one after the other.
-use Rattle.std.proofs.Common.{◌≡◌, ℕ, zero, suc, ◌+◌, ◌-◌, ◌<◌, ◌≤◌, List, [], ◌∷◌, ◌++◌, length, map, take, drop, reverse, get_or, set, refl, sym, ap, ◌∙◌, subst, arith, inl, inr}
-use Rattle.std.proofs.lemmas.Bool.{cases_lt}
-use Rattle.std.proofs.lemmas.List.{drop_at, take-append-drop, length-drop, length-map, length-reverse, reverse-append, map-append, map-set}
-use Rattle.std.proofs.Math.ListN.{drop_of_length-le, get_or-map}
-use Rattle.std.specs.List.{take-map}
-
--- ---- the first of a list are the last of it turned
-
-drop_some : {A : Type 0} (n m : ℕ) (xs : List A) → length (drop m xs) ≡ n → drop n (reverse xs) ≡ reverse (take m xs)
-drop_some n m xs e =
-    ap (λ ys. drop n (reverse ys)) (sym (take-append-drop m xs)) ∙ ap (drop n) (reverse-append (take m xs) (drop m xs)) ∙ drop_at (reverse (drop m xs)) (reverse (take m xs)) n (length-reverse (drop m xs) ∙ e)
-
-drop_reverse : {A : Type 0} (n : ℕ) (xs : List A) → drop n (reverse xs) ≡ reverse (take (length xs - n) xs)
-drop_reverse n xs =
-    elim (cases_lt n (length xs)) [
-      | inl lt ↦ drop_some n (length xs - n) xs (omega (arith, length-drop (length xs - n) xs))
-      | inr le ↦
-          (let none : length xs - n ≡ 0 = omega arith in
-          drop_of_length-le (reverse xs) (omega (arith, length-reverse xs)) ∙ sym (ap (λ k. reverse (take k xs)) none))
-    ]
-
-pub map-reverse : {A B : Type 0} (f : A → B) (xs : List A) → map f (reverse xs) ≡ reverse (map f xs)
-map-reverse f [] = refl
-map-reverse f (x ∷ xs) =
-    ap (map f) (reverse-append (x ∷ []) xs) ∙ map-append f (reverse xs) (x ∷ []) ∙ ap (λ ys. ys ++ f x ∷ []) (map-reverse f xs) ∙ sym (reverse-append (f x ∷ []) (map f xs))
-
--- what is left of a list without its last, seen from the end
-pub under_reversed : {A B : Type 0} (f : A → B) (n : ℕ) (xs : List A) → reverse (map f (take (length xs - n) xs)) ≡ drop n (reverse (map f xs))
-under_reversed f n xs =
-    ap reverse (sym (take-map f (length xs - n) xs)) ∙ ap (λ k. reverse (take (k - n) (map f xs))) (sym (length-map xs f)) ∙ sym (drop_reverse n (map f xs))
+use Rattle.std.proofs.Common.{◌≡◌, ℕ, zero, suc, ◌+◌, ◌-◌, ◌<◌, ◌≤◌, List, [], ◌∷◌, length, map, get_or, set, refl, sym, ap, ◌∙◌, subst, arith}
+use Rattle.std.proofs.lemmas.List.{length-map, map-set}
+use Rattle.std.proofs.Math.ListN.{get_or-map}
 
 -- ---- the first so many elements are changed
 

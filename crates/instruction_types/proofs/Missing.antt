@@ -4,37 +4,24 @@ use Rattle.std.specs.Prelude.{drop, length, nat_lt, ◌==◌}
 use Rattle.std.specs.Option.{option_map_or}
 use Rattle.std.specs.List.{list_any, list_all, filter_map}
 use borrow.Author.Tests.{eqb-true}
+use mathlib.Core.Bool.{or-false, and-false}
+use Rattle.std.proofs.lemmas.Bool.{or_left, or_right}
 use Rattle.model.specs.Names.{Name}
 use Rattle.model.specs.Classes.{Program}
-use Rattle.model.specs.ReferenceTypes.{ReferenceType, ClassType}
+use Rattle.model.specs.ReferenceTypes.{ClassType}
 use Rattle.model.specs.Descriptors.{ElementType, FieldType, MethodType, is_class_name, is_unqualified, names_of, with_first}
 use Rattle.model.specs.Conditions.{is_class_or_array}
 use Rattle.model.specs.Descriptors as element
 use Rattle.model.specs.DescriptorScan.{◌>>=◌, dimensions_of, field_type, field_at, element_at, method_type}
 use Rattle.model.specs.DescriptorParts.{class_of_element, classes_in, classes_named, method_types, return_types}
-use Rattle.model.specs.DescribedTypes.{DeclaredType, DeclaredInt, DeclaredReference, arrays, array_of, declared_with, declared_of, field_declared, returned_type, parameters_declared, results_declared, reference_declared, type_named}
+use Rattle.model.specs.DescribedTypes.{DeclaredType, DeclaredInt, DeclaredReference, array_of, declared_with, declared_of, field_declared, returned_type, parameters_declared, results_declared, reference_declared, type_named}
 use Rattle.model.specs.Resolution.{is_missing}
 use Rattle.described_types.specs.Described.{type_missing, declared_missing}
-
-or_false : (a : Bool) → a ≡ (a || false)
-or_false true = refl
-or_false false = refl
-
-and_false : (a : Bool) → (a && false) ≡ false
-and_false true = refl
-and_false false = refl
+use Rattle.described_types.proofs.Arrays.{arrays_missing}
 
 and_between : (a b : Bool) → (a && false && b) ≡ false
 and_between true b = refl
 and_between false b = refl
-
-pub or_left : (a b : Bool) → a ≡ true → (a || b) ≡ true
-or_left true b h = refl
-or_left false b h = absurd cc
-
-pub or_right : (a b : Bool) → b ≡ true → (a || b) ≡ true
-or_right true b h = refl
-or_right false b h = h
 
 -- another reason may stand between two
 pub or_beside : (a b c : Bool) → (a || c) ≡ true → (a || (b || c)) ≡ true
@@ -82,16 +69,12 @@ no_array b bytes q e = by (field_type (b ∷ bytes)) refl e
     by : (o : Option FieldType) → field_type (b ∷ bytes) ≡ o → option_map_or declared_of o DeclaredInt ≡ DeclaredInt → not (is_class_or_array (b ∷ bytes)) ≡ true
     by None h e =
         let named : is_class_name (b ∷ bytes) ≡ false = subst (λ (c : ℕ). is_class_name (c ∷ bytes) ≡ false) (sym q) (no_name bytes) in
-        rw (named, h, and_false (eqb b 91)) refl
+        rw (named, h, and-false (eqb b 91)) refl
     by (Some f) h e = absurd (array b q f h e)
 
 module _ (files : Program) where
   abbrev some_missing : List Name → Bool
   some_missing names = list_any (is_missing files) names
-
-  in_arrays : (n : ℕ) (t : ReferenceType) → type_missing files (arrays n t) ≡ type_missing files t
-  in_arrays zero t = refl
-  in_arrays (suc n) t = in_arrays n t
 
   abbrev named_in : List FieldType → List Name
   named_in fs = filter_map (λ (f : FieldType). class_of_element f.element) fs
@@ -110,15 +93,15 @@ module _ (files : Program) where
   by_element zero (element.Object name) = refl
   by_element zero element.Short = refl
   by_element zero element.Boolean = refl
-  by_element (suc n) element.Byte = in_arrays n (array_of element.Byte)
-  by_element (suc n) element.Char = in_arrays n (array_of element.Char)
-  by_element (suc n) element.Double = in_arrays n (array_of element.Double)
-  by_element (suc n) element.Float = in_arrays n (array_of element.Float)
-  by_element (suc n) element.Int = in_arrays n (array_of element.Int)
-  by_element (suc n) element.Long = in_arrays n (array_of element.Long)
-  by_element (suc n) (element.Object name) = in_arrays n (array_of (element.Object name))
-  by_element (suc n) element.Short = in_arrays n (array_of element.Short)
-  by_element (suc n) element.Boolean = in_arrays n (array_of element.Boolean)
+  by_element (suc n) element.Byte = arrays_missing files n (array_of element.Byte)
+  by_element (suc n) element.Char = arrays_missing files n (array_of element.Char)
+  by_element (suc n) element.Double = arrays_missing files n (array_of element.Double)
+  by_element (suc n) element.Float = arrays_missing files n (array_of element.Float)
+  by_element (suc n) element.Int = arrays_missing files n (array_of element.Int)
+  by_element (suc n) element.Long = arrays_missing files n (array_of element.Long)
+  by_element (suc n) (element.Object name) = arrays_missing files n (array_of (element.Object name))
+  by_element (suc n) element.Short = arrays_missing files n (array_of element.Short)
+  by_element (suc n) element.Boolean = arrays_missing files n (array_of element.Boolean)
 
   one_named : (o : Option Name) (names : List Name) → (option_map_or (is_missing files) o false || some_missing names) ≡ some_missing (option_map_or (λ name. name ∷ names) o names)
   one_named None names = refl
@@ -150,7 +133,7 @@ module _ (files : Program) where
           absurd cc
       by (Some f) e =
           ap (λ o. some_missing (named_in (option_map_or (λ g. g ∷ []) o (option_map_or method_types (method_type d) [])))) e
-          ∙ sym (by_types (f ∷ [])) ∙ sym (or_false (lacks f)) ∙ sym (ap (λ o. declared_missing files (option_map_or declared_of o DeclaredInt)) e) ∙ h
+          ∙ sym (by_types (f ∷ [])) ∙ or-false (lacks f) ∙ sym (ap (λ o. declared_missing files (option_map_or declared_of o DeclaredInt)) e) ∙ h
 
   -- ---- the descriptor of a method
 
@@ -192,7 +175,7 @@ module _ (files : Program) where
   -- ---- a class constant
 
   pub name_lacks : (name : Name) → type_missing files (type_named name) ≡ true → (some_missing (classes_named name) || not (is_class_or_array name)) ≡ true
-  name_lacks [] h = or_left (some_missing ([] ∷ [])) _ (sym (or_false (is_missing files [])) ∙ h)
+  name_lacks [] h = or_left (some_missing ([] ∷ [])) _ (or-false (is_missing files []) ∙ h)
   name_lacks (b ∷ bytes) h = by (eqb b 91) refl h
     where
       stands : b ≡ 91 → (t : DeclaredType) → field_declared (b ∷ bytes) ≡ t → type_missing files (reference_declared (b ∷ bytes) t) ≡ true → (some_missing (classes_in (b ∷ bytes)) || not (is_class_or_array (b ∷ bytes))) ≡ true
@@ -201,4 +184,4 @@ module _ (files : Program) where
 
       by : (v : Bool) → eqb b 91 ≡ v → type_missing files (cond v (reference_declared (b ∷ bytes) (field_declared (b ∷ bytes))) (ClassType (b ∷ bytes))) ≡ true → (some_missing (cond v (classes_in (b ∷ bytes)) ((b ∷ bytes) ∷ [])) || not (is_class_or_array (b ∷ bytes))) ≡ true
       by true q h = stands (eqb-true b 91 q) (field_declared (b ∷ bytes)) refl h
-      by false q h = or_left (some_missing ((b ∷ bytes) ∷ [])) _ (sym (or_false (is_missing files (b ∷ bytes))) ∙ h)
+      by false q h = or_left (some_missing ((b ∷ bytes) ∷ [])) _ (or-false (is_missing files (b ∷ bytes)) ∙ h)

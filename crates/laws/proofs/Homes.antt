@@ -16,7 +16,7 @@ use Rattle.laws.proofs.Classes.{names_same}
 use Rattle.laws.proofs.Found.{found_passes, found_has, some_from}
 
 -- a text that is found is the one that stands there
-spelled : (e : Entry) (name : Name) → spells (utf8_of e) name ≡ true → text_of e ≡ name
+pub spelled : (e : Entry) (name : Name) → spells (utf8_of e) name ≡ true → text_of e ≡ name
 spelled (Utf8 text) name h = names_same text name h
 spelled (Integer bits) name h = absurd (false≢true h)
 spelled (Float bits) name h = absurd (false≢true h)

@@ -34,7 +34,7 @@ pub entry_right : (q : Entry → Bool) (pool : List Entry) (index : ℕ) → q U
 entry_right q pool zero u h = u
 entry_right q pool (suc index) u h = every_entry q pool index u h
 
-has_text : (e : Entry) → is_utf8 e ≡ true → is_some (utf8_of e) ≡ true
+pub has_text : (e : Entry) → is_utf8 e ≡ true → is_some (utf8_of e) ≡ true
 has_text (Utf8 text) h = refl
 has_text (Integer bits) h = h
 has_text (Float bits) h = h
@@ -48,7 +48,7 @@ has_text (InterfaceMethod class name) h = h
 has_text (NameAndType name descriptor) h = h
 has_text Unusable h = h
 
-has_class_name : (pool : List Entry) (e : Entry) → is_class e ≡ true → entry_indices pool e ≡ true → is_some (class_name_of pool e) ≡ true
+pub has_class_name : (pool : List Entry) (e : Entry) → is_class e ≡ true → entry_indices pool e ≡ true → is_some (class_name_of pool e) ≡ true
 has_class_name pool (Utf8 text) h i = h
 has_class_name pool (Integer bits) h i = h
 has_class_name pool (Float bits) h i = h

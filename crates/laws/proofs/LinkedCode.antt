@@ -37,7 +37,7 @@ unmarked q base (false ∷ marks) zero h m = absurd (false≢true m)
 unmarked q base (true ∷ marks) (suc k) h m = subst (λ n. q n ≡ false) (omega arith) (unmarked q (suc base) marks k (or_parts (q base) _ h).1 m)
 unmarked q base (false ∷ marks) (suc k) h m = subst (λ n. q n ≡ false) (omega arith) (unmarked q (suc base) marks k h m)
 
-no_instruction : (test : ℕ → Instr → Bool) (c : CodeTree) (pc : ℕ) (i : Instr) → any_instruction test c ≡ false → is_start c.code pc ≡ true → instr_at c.code pc ≡ Some i → test pc i ≡ false
+pub no_instruction : (test : ℕ → Instr → Bool) (c : CodeTree) (pc : ℕ) (i : Instr) → any_instruction test c ≡ false → is_start c.code pc ≡ true → instr_at c.code pc ≡ Some i → test pc i ≡ false
 no_instruction test c pc i h start is =
     let at : ℕ → Bool = λ k. option_map_or (test k) (instr_at c.code k) false in
     let here : at pc ≡ false = subst (λ k. at k ≡ false) (omega arith) (unmarked at 0 _ pc h start) in

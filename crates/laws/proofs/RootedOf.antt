@@ -75,7 +75,7 @@ module _ (files : Program) where
   ends_later zero d e = absurd (false≢true e)
   ends_later (suc k) d e = kept_true (λ x. ends files k x) (λ x. ends files (suc k) x) (superclass_of files d) (λ x h. ends_later k x h) e
 
-  within_ends : (m k : ℕ) (s d : Name) → is_within files m s d ≡ true → ends files k s ≡ true → ends files k d ≡ true
+  pub within_ends : (m k : ℕ) (s d : Name) → is_within files m s d ≡ true → ends files k s ≡ true → ends files k d ≡ true
   within_ends zero k s d w e = subst (λ n. ends files k n ≡ true) (names_same s d w) e
   within_ends (suc m) zero s d w e = absurd (false≢true e)
   within_ends (suc m) (suc k) s d w e =

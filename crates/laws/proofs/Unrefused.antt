@@ -8,7 +8,7 @@ use Rattle.model.specs.Profile.{is_outside_profile}
 use Rattle.model.specs.CodeConditions.{has_malformed_code}
 use Rattle.model.specs.Hierarchy.{has_bad_hierarchy}
 use Rattle.model.specs.Resolution.{is_unresolved}
-use Rattle.model.specs.Linkable.{too_many_files, too_many_strings, no_file, no_static_main, AreSpelled, some_stands}
+use Rattle.model.specs.Linkable.{too_many_files, too_many_strings, no_file, no_static_main, AreSpelled, stands, some_stands, TooLarge, DuplicateClass, OutsideProfile, MalformedCode, BadHierarchy, Unresolved, TooManyFields, NoMain}
 use Rattle.laws.proofs.Found.{none_any}
 
 pub record Unrefused (files : Program) : Type 0 where
@@ -50,3 +50,15 @@ unrefused_of bytes files spelled h =
       files_fit = sizes.0;
       strings_fit = sizes.1;
     }
+
+-- names of classes differ in linked files
+pub names_differ : (files : Program) → some_stands files ≡ false → stands files DuplicateClass ≡ false
+names_differ files h =
+    let main = or_parts (stands files NoMain) _ h in
+    let fields = or_parts (stands files TooManyFields) _ main.1 in
+    let names = or_parts (stands files Unresolved) _ fields.1 in
+    let above = or_parts (stands files BadHierarchy) _ names.1 in
+    let profile = or_parts (stands files OutsideProfile) _ above.1 in
+    let code = or_parts (stands files MalformedCode) _ profile.1 in
+    let large = or_parts (stands files TooLarge) _ code.1 in
+    (or_parts (stands files DuplicateClass) _ large.1).0

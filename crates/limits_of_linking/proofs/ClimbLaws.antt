@@ -1,6 +1,6 @@
 -- Steps up from classes.
-use Rattle.std.proofs.Common.{◌≡◌, ℕ, zero, suc, ◌+◌, ◌<◌, ◌≤◌, true, List, [], ◌∷◌, ◌++◌, length, map, drop, reverse, refl, sym, ap, ⊎_elim, ◌∙◌, append_assoc, length-append, arith, Option, Some, None}
-use Rattle.std.specs.Prelude.{position, slice_get, slice_range, nat_lt, IfOk, Result, Ok, Err}
+use Rattle.std.proofs.Common.{◌≡◌, ℕ, zero, suc, ◌+◌, ◌≤◌, true, List, [], ◌∷◌, ◌++◌, length, map, drop, reverse, refl, sym, ap, ⊎_elim, ◌∙◌, length-append, arith, Option, Some, None}
+use Rattle.std.specs.Prelude.{position, slice_get, slice_range, nat_lt}
 use Rattle.std.specs.Option.{option_and_then, option_map_or}
 use Rattle.std.specs.List.{filter, flat_map}
 use Rattle.std.proofs.lemmas.List.{append-nil, reverse-append, drop-map, length-map, take_rest}
@@ -16,9 +16,11 @@ use Rattle.model.specs.Lookup.{own_instance_fields, field_member}
 use Rattle.model.specs.Linkable.{too_many_fields}
 use Rattle.hierarchy.specs.Places.{place_of}
 use Rattle.hierarchy.proofs.Finding.{position_within, position-map, position_same}
-use Rattle.hierarchy.proofs.SetLaws.{no_class, name_at_place}
+use Rattle.hierarchy.proofs.SetLaws.{no_class, name_at_place, no_item}
 use Rattle.limits_of_linking.specs.declared.climb.Climb.{Climb}
 use Rattle.limits_of_linking.specs.Climbing.{superclass_after, fields_within, capped, climb, climbs, after, onward}
+use Rattle.hierarchy.proofs.RowLaws.{get_map}
+use Rattle.hierarchy.proofs.Indices.{count_behind}
 
 suc_add : (m n : ℕ) → suc m + n ≡ suc (m + n)
 suc_add m n = omega arith
@@ -74,17 +76,6 @@ fields_none files (suc n) s h =
 
 -- ---- rows
 
--- there is an item below the length
-no_item : {A : Type 0} (xs : List A) (i : ℕ) → i < length xs → slice_get xs i ≡ None → ⊥
-no_item [] i lt e = omega arith
-no_item (x ∷ xs) zero lt e = cc
-no_item (x ∷ xs) (suc i) lt e = no_item xs i (omega arith) e
-
-get_map : {A B : Type 0} (f : A → B) (xs : List A) (i : ℕ) (x : A) → slice_get xs i ≡ Some x → slice_get (map f xs) i ≡ Some (f x)
-get_map f [] i x e = absurd cc
-get_map f (y ∷ xs) zero x e = let same : y ≡ x = cc in ap (λ z. Some (f z)) same
-get_map f (y ∷ xs) (suc i) x e = get_map f xs i x e
-
 capped_add : (a b : ℕ) → capped (capped a + capped b) ≡ capped (a + b)
 capped_add a b = omega arith
 
@@ -135,10 +126,6 @@ climbs_add files m n = map_same (λ (file : FileTree). climb files m (name_of fi
 
 -- ---- as many steps as there are classes
 
-pub some_classes : (files : Program) → 0 < length (classes_of files)
-unfolding built_in_classes
-some_classes files = omega arith
-
 sum_reverse : (f : Name → List Member) (xs : List Name) → length (flat_map f (reverse xs)) ≡ length (flat_map f xs)
 sum_reverse f [] = refl
 sum_reverse f (x ∷ xs) =
@@ -166,10 +153,6 @@ files_after : (files : Program) → drop 30 (classes_of files) ≡ files
 unfolding built_in_classes
 files_after files = refl
 
-built_in_count : (files : Program) → length (classes_of files) ≡ 30 + length files
-unfolding built_in_classes
-built_in_count files = omega arith
-
 pub too_many_at : (files : Program) → position (λ (row : Climb). nat_lt 65535 row.fields) (drop 30 (climbs files (length (classes_of files)))) ≡ position (too_many_fields files) files
 unfolding climbs
 too_many_at files =
@@ -178,28 +161,6 @@ too_many_at files =
     ap (position (λ (row : Climb). nat_lt 65535 row.fields)) rest
     ∙ position-map (λ (row : Climb). nat_lt 65535 row.fields) f files
     ∙ position_same _ _ (λ file. is_too_many files file) files
-
--- ---- pushing rows
-
-drop_at : {A : Type 0} (xs : List A) (i : ℕ) (x : A) → slice_get xs i ≡ Some x → drop i xs ≡ x ∷ drop (i + 1) xs
-drop_at [] i x e = absurd cc
-drop_at (y ∷ xs) zero x e = let same : y ≡ x = cc in ap (λ z. z ∷ xs) same
-drop_at (y ∷ xs) (suc i) x e = let more : suc i + 1 ≡ suc (i + 1) = omega arith in rw more (drop_at xs i x e)
-
-pub drop_past : {A : Type 0} (xs : List A) (i : ℕ) → slice_get xs i ≡ None → drop i xs ≡ []
-drop_past [] zero e = refl
-drop_past [] (suc i) e = refl
-drop_past (y ∷ xs) zero e = absurd cc
-drop_past (y ∷ xs) (suc i) e = drop_past xs i e
-
-pub row_pushed : {A B : Type 0} (f : A → B) (done new : List B) (row : B) (xs : List A) (i : ℕ) (x : A) (all : List B) → slice_get xs i ≡ Some x → row ≡ f x → new ≡ done ++ row ∷ [] → done ++ map f (drop i xs) ≡ all → new ++ map f (drop (i + 1) xs) ≡ all
-row_pushed f done new row xs i x all at is pushed e =
-    ap (λ (l : List _). l ++ map f (drop (i + 1) xs)) (pushed ∙ ap (λ r. done ++ r ∷ []) is)
-    ∙ append_assoc done (f x ∷ []) (map f (drop (i + 1) xs))
-    ∙ ap (λ (l : List _). done ++ map f l) (sym (drop_at xs i x at)) ∙ e
-
-pub all_pushed : {A B : Type 0} (f : A → B) (done all : List B) (rest : List A) → rest ≡ [] → done ++ map f rest ≡ all → done ≡ all
-all_pushed f done all rest none e = sym (append-nil done) ∙ ap (λ (l : List _). done ++ map f l) (sym none) ∙ e
 
 -- ---- twice as many steps
 
@@ -215,11 +176,7 @@ one_more files n m first one rows is single made count =
 
 pub built_in_at_least : (files : Program) (n : ℕ) → 30 ≤ length (climbs files n)
 unfolding climbs
-built_in_at_least files n = omega (arith, built_in_count files, length-map (classes_of files) (λ (file : FileTree). climb files n (name_of file)))
+built_in_at_least files n = omega (arith, count_behind files, length-map (classes_of files) (λ (file : FileTree). climb files n (name_of file)))
 
 pub rest_of : (rows : List Climb) → slice_range rows 30 (length rows) ≡ drop 30 rows
 rest_of rows = take_rest rows 30
-
-pub ok_weaken : {A E : Type 0} (P Q : A → Type 0) → ((x : A) → P x → Q x) → (r : Result A E) → IfOk r P → IfOk r Q
-ok_weaken P Q f (Ok x) h = f x h
-ok_weaken P Q f (Err e) h = tt

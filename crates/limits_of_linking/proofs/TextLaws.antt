@@ -15,12 +15,9 @@ use Rattle.model.specs.Linkable.{stands, TooLarge}
 use Rattle.hierarchy.proofs.Names.{name_eq_sym}
 use Rattle.hierarchy.proofs.SetLaws.{same_name}
 use Rattle.limits_of_linking.specs.Texts.{with_text, with_texts}
+use Rattle.hierarchy.proofs.RowLaws.{any_map}
 
 -- ---- keys of a set
-
-pub any_map : {X : Type 0} (f : X → Name) (p : Name → Bool) (xs : List X) → list_any (λ x. p (f x)) xs ≡ list_any p (map f xs)
-any_map f p [] = refl
-any_map f p (x ∷ xs) = ap (λ b. p (f x) || b) (any_map f p xs)
 
 -- one text more among keys
 pub pushed : {K : Type 0} (items : K → Name) (keys : List K) (key : K) (texts : List Name) (text : Name) → map items keys ≡ texts → items key ≡ text → list_any (name_eq text) texts ≡ false

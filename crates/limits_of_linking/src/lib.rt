@@ -10,3 +10,4 @@ mod text_set;
 pub use fields::first_with_too_many_fields;
 pub use main_method::has_no_main;
 pub use size::is_too_large;
+pub use text_set::{TextSet, add_texts};

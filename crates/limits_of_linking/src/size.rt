@@ -1,17 +1,13 @@
 //! How many files a program may have, and how many texts of string constants (own).
 
-ghost use Rattle.std.specs.Prelude.{◌≡◌, ◌≤◌, false, length, map, option_map, IfOk, OnOk};
-ghost use Rattle.std.specs.Option.{option_to_list};
+ghost use Rattle.std.specs.Prelude.{◌≡◌, ◌≤◌, false, length, map, IfOk};
 ghost use Rattle.std.specs.List.{flat_map};
-ghost use Rattle.constant_pool.specs.View.{entry_of};
 ghost use Rattle.classfile.specs.View.{file_of};
-ghost use Rattle.model.specs.Pool.{string_of};
 ghost use Rattle.model.specs.StringConstants.{texts_in, string_texts};
 ghost use Rattle.model.specs.Linkable.{stands, TooLarge};
-ghost use Rattle.limits_of_linking.specs.Texts.{with_texts};
 
-use crate::text_set::TextSet;
-use classfile::{ClassFile, Constant};
+use crate::text_set::{TextSet, add_texts};
+use classfile::ClassFile;
 use std::alloc::{AllocError, Global};
 
 /// How many files a program may have.
@@ -29,37 +25,6 @@ fn has_many_entries(files: &[ClassFile]) -> bool
         entries = entries.saturating_add(file.pool.constants().len());
     }
     entries > MAX_TEXTS
-}
-
-/// The text of a String, where the entry is one.
-fn string_text<'a>(file: &'a ClassFile, constant: &Constant) -> Option<&'a [u8]>
-    ensures { option_map (λ t. t.now) result ≡ string_of file.now.pool (entry_of constant.now) }
-{
-    match constant {
-        Constant::String { text } => file.utf8(*text),
-        _ => None,
-    }
-}
-
-/// Adds a text that is there.
-fn add_text(alloc: Global, texts: &mut TextSet, text: Option<&[u8]>) -> Result<(), AllocError>
-    ensures { OnOk result (texts.new ≡ with_texts texts.old (option_to_list (option_map (λ t. t.now) text.entry))) }
-{
-    match text {
-        Some(text) => texts.add(alloc, text),
-        None => Ok(()),
-    }
-}
-
-/// Adds the texts of a file's string constants.
-fn add_texts(alloc: Global, texts: &mut TextSet, file: &ClassFile) -> Result<(), AllocError>
-    ensures { OnOk result (texts.new ≡ with_texts texts.old (texts_in (file_of file.now))) }
-{
-    let constants = file.pool.constants();
-    for constant in constants {
-        add_text(alloc, texts, string_text(file, constant))?;
-    }
-    Ok(())
 }
 
 /// How many texts the string constants of files have, each counted once.

@@ -1,41 +1,29 @@
 -- Where the method at a place is declared, and the model's body of it.
-use Rattle.std.proofs.Common.{◌≡◌, ℕ, List, [], length, get_or, map, ltb, true, false, Some, sym, ap, ◌∙◌}
+use Rattle.std.proofs.Common.{◌≡◌, ℕ, List, [], length, get_or, map, ltb, true, Some, sym, ap, ◌∙◌}
 use Rattle.std.specs.Prelude.{slice_get, nat_lt}
 use Rattle.std.specs.Option.{option_and_then, option_map}
-use Rattle.std.proofs.lemmas.Bool.{and_parts, or_parts}
+use Rattle.std.proofs.lemmas.Bool.{and_parts}
 use Rattle.model.specs.Tree.{FileTree, MethodTree, CodeTree}
 use Rattle.model.specs.Conditions.{names_utf8}
 use Rattle.model.specs.Classes.{Program, name_of, classes_of, class_of, declared_in, code_in, with_pool, body_in}
 use Rattle.model.specs.Classes as classes
 use Rattle.model.specs.Lookup.{method_of}
-use Rattle.model.specs.Linkable.{TooLarge, DuplicateClass, OutsideProfile, MalformedCode, BadHierarchy, Unresolved, TooManyFields, NoMain, stands, some_stands, two_of_one_name, has_built_in_name}
-use Rattle.std.specs.List.{list_any, list_all}
+use Rattle.std.specs.List.{list_all}
 use Rattle.laws.proofs.Found.{every_all, map_or_at}
 use Rattle.hierarchy.specs.Places.{name_at, class_at}
 use Rattle.method_code.specs.declared.declaration.MethodCode.{MethodCode}
 use Rattle.method_code.specs.Declaration.{IsDeclared}
 use Rattle.method_code.specs.Linked.{IsLinked}
 use Rattle.method_code.specs.View.{files_of, member_named, member_of, body_of, shown_in, shown_at}
-use Rattle.method_code.proofs.Firsts.{class_there, method_there}
+use Rattle.method_code.proofs.Firsts.{method_there}
 use Rattle.class_tree.specs.declared.tree.Method.{Method}
 use Rattle.std.proofs.lemmas.Option.{slice_get-map, slice_get-get_or}
 use borrow.Author.Tests.{ltb-true}
 use Rattle.classfile.specs.View as view
-use Rattle.method_code.proofs.Rights.{method_right, class_right, every_at, classes_right}
-
--- names of classes differ in linked files
-differ : (files : Program) → some_stands files ≡ false → (two_of_one_name files ≡ false) × (list_any has_built_in_name files ≡ false)
-differ files h =
-    let main = or_parts (stands files NoMain) _ h in
-    let fields = or_parts (stands files TooManyFields) _ main.1 in
-    let names = or_parts (stands files Unresolved) _ fields.1 in
-    let above = or_parts (stands files BadHierarchy) _ names.1 in
-    let profile = or_parts (stands files OutsideProfile) _ above.1 in
-    let code = or_parts (stands files MalformedCode) _ profile.1 in
-    let large = or_parts (stands files TooLarge) _ code.1 in
-    let last = or_parts (stands files DuplicateClass) _ large.1 in
-    let twice = or_parts (two_of_one_name files) _ last.0 in
-    (twice.0, twice.1)
+use Rattle.method_code.proofs.Rights.{method_right, class_right, classes_right}
+use Rattle.hierarchy.proofs.Apart.{class_of_its_name}
+use Rattle.laws.proofs.Unrefused.{names_differ}
+use Rattle.laws.proofs.Lists.{every_at}
 
 pub declared_at : (files : Program) (class k : ℕ) (file : FileTree) (m : MethodTree) (code : CodeTree) → IsLinked files → class_at files class ≡ Some file → slice_get file.methods k ≡ Some m → code_in m.parts ≡ Some code → IsDeclared files class file m code
 declared_at files class k file m code linked c s q =
@@ -44,10 +32,9 @@ declared_at files class k file m code linked c s q =
     let its : method_right file.pool m ≡ true = every_at (λ m. method_right file.pool m ≡ true) file.methods k m (every_all (method_right file.pool) file.methods parts.0) s in
     let named = and_parts (names_utf8 file.pool m.name) _ its in
     let described = and_parts (names_utf8 file.pool m.descriptor) _ named.1 in
-    let apart = differ files linked.1.no_refusal in
     let name : name_at files class ≡ name_of file = map_or_at name_of (class_at files class) [] file c in
     record {
-      is_class = ap (class_of files) name ∙ class_there files class file apart.0 apart.1 c;
+      is_class = ap (class_of files) name ∙ class_of_its_name files class file (names_differ files linked.1.no_refusal) c;
       is_method = method_there file.pool file.methods k m parts.1 named.0 described.0 s;
       is_code = q;
       is_short = ltb-true (length code.code) 65536 (sym (map_or_at (λ (c : CodeTree). nat_lt (length c.code) 65536) (code_in m.parts) true code q) ∙ described.1);

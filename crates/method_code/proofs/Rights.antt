@@ -1,6 +1,6 @@
 -- What is so of the methods of each class: their names, that they differ, and the length of their code.
-use Rattle.std.proofs.Common.{◌≡◌, ℕ, zero, suc, List, [], ◌∷◌, length, Bool, true, false, ◌&&◌, Some, refl, subst}
-use Rattle.std.specs.Prelude.{nat_lt, slice_get, MatchBool}
+use Rattle.std.proofs.Common.{◌≡◌, ℕ, List, [], ◌∷◌, length, Bool, true, false, ◌&&◌, refl}
+use Rattle.std.specs.Prelude.{nat_lt, MatchBool}
 use Rattle.std.specs.Option.{option_map_or}
 use Rattle.std.specs.List.{list_all, AllByRecursion}
 use Rattle.std.proofs.lemmas.Bool.{and_parts, and_from}
@@ -60,11 +60,6 @@ files_right [] [] h = tt
 files_right [] (file ∷ files) h = absurd h
 files_right (b ∷ bytes) [] h = tt
 files_right (b ∷ bytes) (file ∷ files) h = (file_right b file h.0, files_right bytes files h.1)
-
-pub every_at : {A : Type 0} (P : A → Type 0) (xs : List A) (k : ℕ) (x : A) → AllByRecursion P xs → slice_get xs k ≡ Some x → P x
-every_at P [] k x h e = absurd cc
-every_at P (y ∷ ys) zero x h e = let same : y ≡ x = cc in subst P same h.0
-every_at P (y ∷ ys) (suc k) x h e = every_at P ys k x h.1 e
 
 pub classes_right : (bytes : List (List ℕ)) (files : Program) → AreSpelled bytes files → AllByRecursion (λ file. class_right file ≡ true) (classes_of files)
 classes_right bytes files h = every_append (λ file. class_right file ≡ true) built_in_classes files (every_all class_right built_in_classes built_in_right) (files_right bytes files h)

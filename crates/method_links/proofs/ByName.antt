@@ -2,41 +2,29 @@
 use Rattle.std.proofs.Common.{◌≡◌, ℕ, [], refl, sym, ap, ◌∙◌, subst, true, false, Option, Some, None}
 use Rattle.std.specs.Prelude.{slice_get, Bool}
 use Rattle.std.specs.Option.{option_and_then, option_map, option_map_or}
-use Rattle.std.specs.List.{list_any, list_all}
-use Rattle.std.proofs.lemmas.Bool.{and_parts, or_parts}
+use Rattle.std.specs.List.{list_all}
+use Rattle.std.proofs.lemmas.Bool.{and_parts}
 use Rattle.laws.proofs.Found.{every_all, map_or_at}
 use Rattle.model.specs.Tree.{FileTree, MethodTree, CodeTree}
 use Rattle.model.specs.Conditions.{names_utf8, text_at}
 use Rattle.model.specs.Classes.{Program, name_of, classes_of, class_of, declared_in, code_in, with_pool, body_in, body_of}
 use Rattle.model.specs.Lookup.{method_of, is_static_method, is_private_method, is_synchronized_method, is_native_method, is_abstract_method}
 use Rattle.model.specs.Calls.{is_one}
-use Rattle.model.specs.Linkable.{TooLarge, DuplicateClass, OutsideProfile, MalformedCode, BadHierarchy, Unresolved, TooManyFields, NoMain, stands, some_stands, two_of_one_name, has_built_in_name}
 use Rattle.hierarchy.specs.Places.{name_at, class_at}
 use Rattle.method_code.specs.Linked.{IsLinked}
-use Rattle.method_code.proofs.Firsts.{class_there, method_there}
-use Rattle.method_code.proofs.Rights.{method_right, class_right, every_at, classes_right}
+use Rattle.method_code.proofs.Firsts.{method_there}
+use Rattle.method_code.proofs.Rights.{method_right, class_right, classes_right}
 use Rattle.method_links.specs.Methods.{member_of, member_at}
 use Rattle.method_links.proofs.Numbering.{member_is}
 use Rattle.method_links.specs.Describing.{Describes}
 use Rattle.method_links.specs.Calls.{IsCallOf, IsTold, needs_of, body_needs}
 use Rattle.method_links.specs.declared.call.MethodCall.{MethodCall}
-
--- names of classes differ in linked files
-differ : (files : Program) → some_stands files ≡ false → (two_of_one_name files ≡ false) × (list_any has_built_in_name files ≡ false)
-differ files h =
-    let main = or_parts (stands files NoMain) _ h in
-    let fields = or_parts (stands files TooManyFields) _ main.1 in
-    let names = or_parts (stands files Unresolved) _ fields.1 in
-    let above = or_parts (stands files BadHierarchy) _ names.1 in
-    let profile = or_parts (stands files OutsideProfile) _ above.1 in
-    let code = or_parts (stands files MalformedCode) _ profile.1 in
-    let large = or_parts (stands files TooLarge) _ code.1 in
-    let last = or_parts (stands files DuplicateClass) _ large.1 in
-    let twice = or_parts (two_of_one_name files) _ last.0 in
-    (twice.0, twice.1)
+use Rattle.hierarchy.proofs.Apart.{class_of_its_name}
+use Rattle.laws.proofs.Unrefused.{names_differ}
+use Rattle.laws.proofs.Lists.{every_at}
 
 pub class_found : (files : Program) (linked : IsLinked files) (class : ℕ) (file : FileTree) → class_at files class ≡ Some file → class_of files (name_of file) ≡ Some file
-class_found files linked class file c = let apart = differ files linked.1.no_refusal in class_there files class file apart.0 apart.1 c
+class_found files linked class file c = class_of_its_name files class file (names_differ files linked.1.no_refusal) c
 
 module _ (files : Program) (linked : IsLinked files) (class k : ℕ) (file : FileTree) (m : MethodTree) (c : class_at files class ≡ Some file) (s : slice_get file.methods k ≡ Some m) where
   pub method_in_class : declared_in file (text_at file.pool m.name) (text_at file.pool m.descriptor) ≡ Some m

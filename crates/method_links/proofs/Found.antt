@@ -2,11 +2,10 @@
 use Rattle.std.proofs.Common.{◌≡◌, ℕ, ◌<◌, ◌≤◌, true, List, [], length, refl, ap, ◌∙◌, subst, arith, Option, Some, None}
 use Rattle.std.specs.Prelude.{slice_get, position, find}
 use Rattle.std.specs.Option.{option_and_then, option_map, option_map_or}
-use Rattle.std.proofs.lemmas.Bool.{false≢true, and_parts}
-use Rattle.std.proofs.lemmas.Slice.Eq.{bytes_eq-Decides}
-use Rattle.model.specs.Names.{Name, name_eq, spells, Member}
-use Rattle.model.specs.Tree.{Entry, Utf8, Integer, Float, Long, Double, Class, String, Field, Method, InterfaceMethod, NameAndType, Unusable, FileTree, MethodTree}
-use Rattle.model.specs.Spelling.{entry_at, text_of}
+use Rattle.std.proofs.lemmas.Bool.{and_parts}
+use Rattle.model.specs.Names.{Name, spells, Member}
+use Rattle.model.specs.Tree.{Entry, FileTree, MethodTree}
+use Rattle.model.specs.Spelling.{entry_at}
 use Rattle.model.specs.Pool.{utf8_of}
 use Rattle.model.specs.Conditions.{text_at}
 use Rattle.model.specs.Classes.{Program, name_of, is_method}
@@ -16,23 +15,10 @@ use Rattle.hierarchy.specs.declared.place.MemberPlace.{MemberPlace}
 use Rattle.hierarchy.proofs.Finding.{find_by_position, position_within, find_passes}
 use Rattle.method_links.specs.Methods.{member_of, member_at, Names}
 use Rattle.method_links.proofs.Lists.{get_within}
-
-says_text : (e : Entry) (name : Name) → spells (utf8_of e) name ≡ true → name_eq (text_of e) name ≡ true
-says_text (Utf8 text) name h = h
-says_text (Integer bits) name h = absurd (false≢true h)
-says_text (Float bits) name h = absurd (false≢true h)
-says_text (Long bits) name h = absurd (false≢true h)
-says_text (Double bits) name h = absurd (false≢true h)
-says_text (Class index) name h = absurd (false≢true h)
-says_text (String text) name h = absurd (false≢true h)
-says_text (Field class index) name h = absurd (false≢true h)
-says_text (Method class index) name h = absurd (false≢true h)
-says_text (InterfaceMethod class index) name h = absurd (false≢true h)
-says_text (NameAndType index descriptor) name h = absurd (false≢true h)
-says_text Unusable name h = absurd (false≢true h)
+use Rattle.laws.proofs.Homes.{spelled}
 
 text_is : (pool : List Entry) (index : ℕ) (name : Name) → spells (utf8_of (entry_at pool index)) name ≡ true → text_at pool index ≡ name
-text_is pool index name h = (bytes_eq-Decides (text_at pool index) name).0 (says_text (entry_at pool index) name h)
+text_is pool index name h = spelled (entry_at pool index) name h
 
 -- a method of this name and descriptor is this member of its class
 pub same_member : (file : FileTree) (m : Member) (tree : MethodTree) → is_method file.pool m.name m.descriptor tree ≡ true → member_of file tree ≡ in_class (name_of file) m

@@ -1,31 +1,14 @@
 -- Lists by their places.
-use Rattle.std.proofs.Common.{◌≡◌, ℕ, zero, suc, ◌<◌, ◌≤◌, List, [], ◌∷◌, ◌++◌, length, refl, arith, Bool, true, false, cond, Option, Some, None}
+use Rattle.std.proofs.Common.{◌≡◌, ℕ, zero, suc, ◌≤◌, List, [], ◌∷◌, ◌++◌, length, refl, arith, Bool, true, false, cond, Option, Some, None}
 use Rattle.std.specs.Prelude.{slice_get, find}
 use Rattle.std.specs.Option.{option_map}
 
 module _ {A : Type 0} where
-  pub get_before : (xs ys : List A) (k : ℕ) → k < length xs → slice_get (xs ++ ys) k ≡ slice_get xs k
-  get_before [] ys k lt = absurd (no k lt)
-    where
-      no : (k : ℕ) → k < 0 → ⊥
-      no k lt = omega (arith, lt)
-  get_before (x ∷ xs) ys zero lt = refl
-  get_before (x ∷ xs) ys (suc k) lt = get_before xs ys k (omega (arith, lt))
-
   pub get_last : (xs : List A) (x : A) (k : ℕ) → length xs ≡ k → slice_get (xs ++ x ∷ []) k ≡ Some x
   get_last [] x zero e = refl
   get_last [] x (suc k) e = absurd cc
   get_last (y ∷ xs) x zero e = absurd cc
   get_last (y ∷ xs) x (suc k) e = get_last xs x k (omega (arith, e))
-
-  pub get_past : (xs : List A) (k : ℕ) → length xs ≤ k → slice_get xs k ≡ None
-  get_past [] zero le = refl
-  get_past [] (suc k) le = refl
-  get_past (x ∷ xs) zero le = absurd (no le)
-    where
-      no : length (x ∷ xs) ≤ 0 → ⊥
-      no le = omega (arith, le)
-  get_past (x ∷ xs) (suc k) le = get_past xs k (omega (arith, le))
 
   pub get_within : (xs : List A) (k : ℕ) → slice_get xs k ≡ None → length xs ≤ k
   get_within [] k e = omega arith

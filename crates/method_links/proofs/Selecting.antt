@@ -1,5 +1,5 @@
 -- The methods that classes declare, by numbers of their names and descriptors.
-use Rattle.std.proofs.Common.{◌≡◌, ℕ, zero, suc, ◌+◌, ◌<◌, ◌≤◌, Bool, true, false, cond, eqb, ◌&&◌, List, [], ◌∷◌, ◌++◌, length, map, drop, get_or, refl, sym, ap, ◌∙◌, subst, arith, below_more, Option, Some, None}
+use Rattle.std.proofs.Common.{◌≡◌, ℕ, ◌+◌, ◌<◌, ◌≤◌, Bool, true, false, cond, eqb, ◌&&◌, List, [], ◌∷◌, ◌++◌, length, map, drop, get_or, refl, sym, ap, ◌∙◌, subst, arith, below_more, Option, Some, None}
 use Rattle.std.specs.Prelude.{slice_get, is_some, find}
 use Rattle.std.specs.Option.{option_and_then, option_map, option_map_or}
 use Rattle.std.specs.Map.{lookup}
@@ -27,13 +27,9 @@ use Rattle.method_links.proofs.Numbering.{at, member_is, at_place}
 use Rattle.method_links.proofs.Lists.{find_place}
 use Rattle.method_links.proofs.Found.{same_member}
 use Rattle.method_links.proofs.ByName.{class_found, method_found}
+use Rattle.laws.proofs.Lists.{get_map}
 
 -- ---- numbers of texts
-
-pub got_map : {A B : Type 0} (f : A → B) (xs : List A) (n : ℕ) (x : A) → slice_get xs n ≡ Some x → slice_get (map f xs) n ≡ Some (f x)
-got_map f [] n x e = absurd cc
-got_map f (y ∷ xs) zero x e = let same : y ≡ x = cc in ap (λ z. Some (f z)) same
-got_map f (y ∷ xs) (suc n) x e = got_map f xs n x e
 
 stands_among : (texts : List Name) (n : ℕ) (t : Name) → slice_get texts n ≡ Some t → get_or texts (first_place texts t) [] ≡ t
 stands_among texts n t e =
@@ -45,15 +41,15 @@ module _ (files : Program) (part : Part) where
   first_number : (n : ℕ) (m : Member) → slice_get (methods_of files) n ≡ Some m → get_or (firsts_of (parts_of part files)) n 0 ≡ first_place (parts_of part files) (part_of part m)
   first_number n m e =
       get_or_from_slice_get (firsts_of (parts_of part files)) n (first_place (parts_of part files) (part_of part m)) 0
-      (got_map (first_place (parts_of part files)) (parts_of part files) n (part_of part m) (got_map (part_of part) (methods_of files) n m e))
+      (get_map (first_place (parts_of part files)) (parts_of part files) n (part_of part m) (get_map (part_of part) (methods_of files) n m e))
 
   -- methods of one number have one text
   same_text : (n k : ℕ) (m o : Member) → slice_get (methods_of files) n ≡ Some m → slice_get (methods_of files) k ≡ Some o
       → get_or (firsts_of (parts_of part files)) n 0 ≡ get_or (firsts_of (parts_of part files)) k 0 → part_of part m ≡ part_of part o
   same_text n k m o e f h =
-      sym (stands_among (parts_of part files) n (part_of part m) (got_map (part_of part) (methods_of files) n m e))
+      sym (stands_among (parts_of part files) n (part_of part m) (get_map (part_of part) (methods_of files) n m e))
       ∙ ap (λ i. get_or (parts_of part files) i []) (sym (first_number n m e) ∙ h ∙ first_number k o f)
-      ∙ stands_among (parts_of part files) k (part_of part o) (got_map (part_of part) (methods_of files) k o f)
+      ∙ stands_among (parts_of part files) k (part_of part o) (get_map (part_of part) (methods_of files) k o f)
 
   -- and the other way round
   same_number : (n k : ℕ) (m o : Member) → slice_get (methods_of files) n ≡ Some m → slice_get (methods_of files) k ≡ Some o → part_of part m ≡ part_of part o

@@ -3,13 +3,15 @@ use Rattle.std.proofs.Common.{◌≡◌, ℕ, ◌+◌, ◌<◌, ◌≤◌, List,
 use Rattle.std.specs.Prelude.{slice_get}
 use Rattle.std.specs.Option.{option_map}
 use Rattle.std.proofs.lemmas.Bool.{cases_lt}
+use Rattle.std.proofs.lemmas.Option.{slice_get_past}
 use Rattle.model.specs.Names.{Member}
 use Rattle.model.specs.Classes.{Program}
 use Rattle.hierarchy.specs.declared.place.MemberPlace.{MemberPlace}
 use Rattle.method_links.specs.Methods.{methods_of, member_at}
 use Rattle.method_links.specs.Calls.{IsTold, AreCallsOf}
 use Rattle.method_links.specs.declared.call.MethodCall.{MethodCall}
-use Rattle.method_links.proofs.Lists.{get_before, get_last, get_past, get_within, inner, none_of}
+use Rattle.method_links.proofs.Lists.{get_last, get_within, inner, none_of}
+use Rattle.hierarchy.proofs.Indices.{get_front}
 
 module _ (files : Program) where
   -- of the methods before a number
@@ -26,13 +28,13 @@ module _ (files : Program) where
       → Some (member_at files place) ≡ option_map (λ m. Some m) (slice_get (methods_of files) n) → IsTold files (member_at files place) (Some call) → Told (calls ++ call ∷ []) (n + 1)
   one_told calls n call place count said at told =
       below_more (λ (k : ℕ). IsTold files (slice_get (methods_of files) k) (slice_get (calls ++ call ∷ []) k)) n
-      (λ k below. subst (IsTold files (slice_get (methods_of files) k)) (sym (get_before calls (call ∷ []) k (omega (arith, below, count)))) (said k below))
+      (λ k below. subst (IsTold files (slice_get (methods_of files) k)) (sym (get_front calls (call ∷ []) k (omega (arith, below, count)))) (said k below))
       (subst (IsTold files (slice_get (methods_of files) n)) (sym (get_last calls call n count)) (subst (λ o. IsTold files o (Some call)) (inner (member_at files place) (slice_get (methods_of files) n) at) told))
 
   pub all_told : (calls : List MethodCall) (n : ℕ) → length calls ≡ n → Told calls n → length (methods_of files) ≤ n → AreCallsOf files calls
   all_told calls n count said all k = elim (cases_lt k n) [
     | inl below ↦ said k below
-    | inr above ↦ subst (λ o. IsTold files o (slice_get calls k)) (sym (get_past (methods_of files) k (omega (arith, above, all)))) (subst (IsTold files None) (sym (get_past calls k (omega (arith, above, count)))) tt)
+    | inr above ↦ subst (λ o. IsTold files o (slice_get calls k)) (sym (slice_get_past (methods_of files) k (omega (arith, above, all)))) (subst (IsTold files None) (sym (slice_get_past calls k (omega (arith, above, count)))) tt)
   ]
 
   -- there is no method of a number that has no place

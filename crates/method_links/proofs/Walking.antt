@@ -14,7 +14,7 @@ use Rattle.hierarchy.proofs.Finding.{position_within}
 use Rattle.hierarchy.proofs.SetLaws.{no_class, name_at_place, method_of_none, no_item}
 use Rattle.method_links.specs.Methods.{methods_of, Names}
 use Rattle.method_links.specs.Selected.{SelectionTable, AreSelectionsOf, declared_number, superclass_place, superclass_places}
-use Rattle.method_links.proofs.Selecting.{got_map}
+use Rattle.laws.proofs.Lists.{get_map}
 
 -- what is answered for a class and a method is what the model selects
 abbrev pub Selects : SelectionTable → ℕ → ℕ → Option ℕ → Type 0
@@ -93,7 +93,7 @@ module _ (table : SelectionTable) (first number : ℕ) where
   unfolding superclass_places
   place_is files e class file c =
       ap (λ (l : List (Option ℕ)). get_or l class None) e
-      ∙ get_or_from_slice_get (map (superclass_place files) (classes_of files)) class (superclass_place files file) None (got_map (superclass_place files) (classes_of files) class file c)
+      ∙ get_or_from_slice_get (map (superclass_place files) (classes_of files)) class (superclass_place files file) None (get_map (superclass_place files) (classes_of files) class file c)
 
   pub walk_begins : Walked first 0
   walk_begins files sel file c m e =

@@ -1,5 +1,5 @@
 -- Lists with their last first, and lists that grow from their end.
-use Rattle.std.proofs.Common.{◌≡◌, ℕ, zero, suc, ◌+◌, ◌-◌, ◌<◌, ◌≤◌, List, [], ◌∷◌, ◌++◌, length, map, take, drop, reverse, get_or, set, refl, sym, ap, ◌∙◌, arith, inl, inr, add-one, append_assoc}
+use Rattle.std.proofs.Common.{◌≡◌, ℕ, zero, suc, ◌+◌, ◌-◌, ◌<◌, ◌≤◌, List, [], ◌∷◌, ◌++◌, length, map, take, drop, reverse, get_or, refl, sym, ap, ◌∙◌, arith, inl, inr, add-one, append_assoc}
 use Rattle.std.proofs.lemmas.Bool.{cases_lt}
 use Rattle.std.proofs.lemmas.List.{drop_at, take-append-drop, length-drop, length-map, length-reverse, reverse-append, map-append, append-nil}
 use Rattle.std.proofs.Math.ListN.{drop_of_length-le, get_or-map}
@@ -67,17 +67,6 @@ module _ {A B W : Type 0} (f : A → B) (g : W → B) where
   laid_all ws i ys zs l e =
       let none : length ws - i ≡ 0 = omega arith in
       e ∙ ap (λ k. map g (drop k ws) ++ zs) none
-
--- what stands up to a place that was just set
-taken_suc : {A : Type 0} (xs : List A) (i : ℕ) (x : A) → i < length xs → take (suc i) (set xs i x) ≡ take i xs ++ x ∷ []
-taken_suc [] i x l = absurd (omega arith)
-taken_suc (y ∷ xs) zero x l = refl
-taken_suc (y ∷ xs) (suc i) x l = ap (λ ys. y ∷ ys) (taken_suc xs i x (omega arith))
-
-pub taken_set : {A : Type 0} (xs : List A) (i : ℕ) (x : A) → i < length xs → take (i + 1) (set xs i x) ≡ take i xs ++ x ∷ []
-taken_set xs i x l =
-    let next : i + 1 ≡ suc i = omega arith in
-    ap (λ k. take k (set xs i x)) next ∙ taken_suc xs i x l
 
 -- ---- numbers from one on
 

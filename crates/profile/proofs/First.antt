@@ -1,11 +1,9 @@
 -- The first fault.
-use Rattle.std.proofs.Common.{◌≡◌, ℕ, zero, suc, ◌<◌, List, [], ◌∷◌, length, map, get_or, take, Option, Some, None, Bool, true, false, not, ◌&&◌, ◌||◌, refl, sym, ap, subst, ◌∙◌, arith}
+use Rattle.std.proofs.Common.{◌≡◌, ℕ, ◌<◌, List, length, take, Option, Some, None, Bool, true, false, not, ◌&&◌, ◌||◌, refl, sym, ap, subst, ◌∙◌, ⊎_elim}
 use Rattle.std.specs.Prelude.{Result, Ok, Err, IfOk, nat_lt, ◌==◌, is_some, option_map}
 use Rattle.std.specs.List.{list_any, slice_get}
 use Rattle.std.specs.Option.{option_map_or}
-use Rattle.std.proofs.lemmas.Bool.{ltb-true, eqb-true}
-use Rattle.std.proofs.lemmas.List.{take-map}
-use Rattle.std.proofs.lemmas.Option.{slice_get-map, slice_get_read}
+use Rattle.std.proofs.lemmas.Bool.{ltb-true, eqb-true, or_from, or_left, or_right, and_parts, or_parts, or_cases}
 use Rattle.model.specs.declared.class_file.ExceptionEntry.{ExceptionEntry}
 use Rattle.model.specs.declared.instr.Instr.{Instr}
 use Rattle.model.specs.Tree.{Entry, FieldTree, MethodTree, CodeTree, FileTree}
@@ -25,9 +23,10 @@ use Rattle.profile.specs.declared.fault.Place.{Place}
 use Rattle.profile.specs.declared.fault.Place.TheVariants as places
 use Rattle.profile.specs.declared.fault.MethodFault.{MethodFault}
 use Rattle.profile.specs.Faults.{malformed_instruction_by, malformed_code_by, instruction_outside_at, instruction_malformed_at, malformed_method_by, code_outside_profile, whole_method_outside_profile, outside_at, malformed_at, exception_stands, is_first_field, code_stands, declaration_stands, method_stands, field_stands, place_stands, field_before, spot_before, place_before, IsFirstBy, IsFirstInMethod, FindsInMethod, IsFirstInCode, FindsInCode, Says, NothingAt, FindsAmong, FindsEntry}
-use Rattle.profile.proofs.Walks.{or_left, or_right, and_left, and_right, neither_left, neither_right, either, some_exception, method_is_outside, method_is_malformed}
-use Rattle.profile.proofs.Marks.{list_any-map, none_of_marks}
+use Rattle.profile.proofs.Walks.{some_exception, method_is_outside, method_is_malformed}
 use Rattle.profile.proofs.Sized.{known_there, formed_there}
+use Rattle.constant_pool.proofs.Passing.{none_at, none_before}
+use Rattle.opcodes.proofs.Marked.{none_of_marks}
 
 -- ---- truth
 
@@ -39,35 +38,9 @@ guarded : (a b : Bool) → (a ≡ true → b ≡ false) → (a && b) ≡ false
 guarded true b h = h refl
 guarded false b h = refl
 
-neither : (a b : Bool) → a ≡ false → b ≡ false → (a || b) ≡ false
-neither true b h k = h
-neither false b h k = k
-
 denied : (a b : Bool) → (not a && b) ≡ true → a ≡ false
 denied true b h = absurd cc
 denied false b h = refl
-
--- ---- elements of lists
-
-module _ {A : Type 0} (p : A → Bool) where
-  none_at : (xs : List A) (k : ℕ) → list_any p xs ≡ false → option_map_or p (slice_get xs k) false ≡ false
-  none_at [] k h = refl
-  none_at (x ∷ xs) zero h = neither_left (p x) _ h
-  none_at (x ∷ xs) (suc k) h = none_at xs k (neither_right (p x) _ h)
-
-  none_of_first : (xs : List A) (n k : ℕ) → k < n → list_any p (take n xs) ≡ false → option_map_or p (slice_get xs k) false ≡ false
-  none_of_first [] n k lt h = refl
-  none_of_first (x ∷ xs) zero k lt h = absurd (omega arith)
-  none_of_first (x ∷ xs) (suc n) zero lt h = neither_left (p x) _ h
-  none_of_first (x ∷ xs) (suc n) (suc k) lt h = none_of_first xs n k (omega arith) (neither_right (p x) _ h)
-
--- the first ones, seen as other values
-pub none_taken : {V A : Type 0} (p : A → Bool) (f : V → A) (vs : List V) (n : ℕ) → list_any (λ v. p (f v)) (take n vs) ≡ false → list_any p (take n (map f vs)) ≡ false
-none_taken p f vs n h = ap (list_any p) (take-map f n vs) ∙ list_any-map p f (take n vs) ∙ h
-
--- an element that a loop reads, seen as another value
-pub read_at : {V A : Type 0} (f : V → A) (vs : List V) (k : ℕ) (v : V) → k < length vs → v ≡ get_or vs k v → slice_get (map f vs) k ≡ Some (f v)
-read_at f vs k v below is = rw (slice_get-map f vs k, slice_get_read vs (length vs) k v refl below is) refl
 
 -- ---- instructions
 
@@ -88,12 +61,6 @@ of_instr aside pool c pc i here is a b outside malformed =
       ap (λ (x : Bool). x || instruction_malformed_at aside pool c pc) (formed_there c.code pc here whole) ∙ ap (λ (o : Option Instr). option_map_or (malformed_instruction_by aside pool c pc) o false) is ∙ malformed,
     )
 
--- a mark is within the marks
-pub mark_within : (marks : List Bool) (k : ℕ) → get_or marks k false ≡ true → k < length marks
-mark_within [] k h = absurd cc
-mark_within (m ∷ marks) zero h = omega arith
-mark_within (m ∷ marks) (suc k) h = let rest = mark_within marks k h in omega (arith, rest)
-
 -- what is so of each start is so of each boundary
 none_of_boundaries : (p : ℕ → Bool) (code : List ℕ) → ((k : ℕ) → is_start code k ≡ true → p k ≡ false) → list_any p (boundaries code) ≡ false
 none_of_boundaries p code h = none_of_marks p code (starts code) refl (λ k below m. h k m)
@@ -102,8 +69,8 @@ none_of_boundaries p code h = none_of_marks p code (starts code) refl (λ k belo
 
 first_stands : (c : CodeTree) (field : ExceptionField) (e : ExceptionEntry) → is_first_field c field e ≡ true → exception_stands c field e ≡ true
 first_stands c StartPc e h = h
-first_stands c EndPc e h = and_right (not (exception_stands c StartPc e)) _ h
-first_stands c HandlerPc e h = and_right (not (exception_stands c EndPc e)) _ (and_right (not (exception_stands c StartPc e)) _ h)
+first_stands c EndPc e h = (and_parts (not (exception_stands c StartPc e)) _ h).1
+first_stands c HandlerPc e h = (and_parts (not (exception_stands c EndPc e)) _ (and_parts (not (exception_stands c StartPc e)) _ h).1).1
 
 none_earlier : (c : CodeTree) (other field : ExceptionField) (e : ExceptionEntry) → field_before other field ≡ true → is_first_field c field e ≡ true → exception_stands c other e ≡ false
 none_earlier c StartPc StartPc e lt h = absurd cc
@@ -111,7 +78,7 @@ none_earlier c StartPc EndPc e lt h = denied (exception_stands c StartPc e) _ h
 none_earlier c StartPc HandlerPc e lt h = denied (exception_stands c StartPc e) _ h
 none_earlier c EndPc StartPc e lt h = absurd cc
 none_earlier c EndPc EndPc e lt h = absurd cc
-none_earlier c EndPc HandlerPc e lt h = denied (exception_stands c EndPc e) _ (and_right (not (exception_stands c StartPc e)) _ h)
+none_earlier c EndPc HandlerPc e lt h = denied (exception_stands c EndPc e) _ (and_parts (not (exception_stands c StartPc e)) _ h).1
 none_earlier c HandlerPc StartPc e lt h = absurd cc
 none_earlier c HandlerPc EndPc e lt h = absurd cc
 none_earlier c HandlerPc HandlerPc e lt h = absurd cc
@@ -184,20 +151,21 @@ module _ (aside : ℕ → Bool) (file : FileTree) (m : MethodTree) where
       before flaw MaxLocals e = no_locals c flaw enough
       before flaw (Instruction j) e = no_instruction c j flaw (instructions j)
       before flaw (Exception j other) e =
-          either (nat_lt j entry) (j == entry && field_before other field) e
-          (λ lt. no_exception c j other flaw (none_of_first (malformed_exception c) c.exceptions entry j (ltb-true _ _ lt) found.0))
+          ⊎_elim
+          (λ lt. no_exception c j other flaw (none_before (malformed_exception c) c.exceptions entry j (ltb-true _ _ lt) found.0))
           (λ later.
-          let same : j ≡ entry = eqb-true _ _ (and_left (j == entry) _ later) in
+          let same : j ≡ entry = eqb-true _ _ (and_parts (j == entry) _ later).0 in
           subst (λ (n : ℕ). code_stands aside file m flaw (Exception n other) c ≡ false) (sym same)
-          (no_field_of c entry other field flaw (and_right (j == entry) _ later) found.1))
+          (no_field_of c entry other field flaw (and_parts (j == entry) _ later).1 found.1))
+          (or_cases (nat_lt j entry) (j == entry && field_before other field) e)
 
   pub code_none : (c : CodeTree) → too_few_locals file m c ≡ false → FindsAmong c.code (outside_at file.pool c) (malformed_at aside file.pool c) None → FindsEntry c None → FindsInCode aside file m c None
   code_none c enough found exceptions = (
-    neither _ _ (none_of_boundaries (λ pc. not (is_known_opcode c.code pc)) c.code (λ k s. neither_left _ _ (found k s).0))
-        (none_of_boundaries (instruction_outside_at file.pool c) c.code (λ k s. neither_right _ _ (found k s).0)),
-    neither _ _ enough
-        (neither _ _ (none_of_boundaries (malformed_offset c) c.code (λ k s. neither_left _ _ (found k s).1))
-        (neither _ _ (none_of_boundaries (instruction_malformed_at aside file.pool c) c.code (λ k s. neither_right _ _ (found k s).1)) exceptions)),
+    or_from _ _ (none_of_boundaries (λ pc. not (is_known_opcode c.code pc)) c.code (λ k s. (or_parts _ _ (found k s).0).0))
+        (none_of_boundaries (instruction_outside_at file.pool c) c.code (λ k s. (or_parts _ _ (found k s).0).1)),
+    or_from _ _ enough
+        (or_from _ _ (none_of_boundaries (malformed_offset c) c.code (λ k s. (or_parts _ _ (found k s).1).0))
+        (or_from _ _ (none_of_boundaries (instruction_malformed_at aside file.pool c) c.code (λ k s. (or_parts _ _ (found k s).1).1)) exceptions)),
   )
 
 -- ---- a method
@@ -222,8 +190,8 @@ module _ (aside : ℕ → Bool) (file : FileTree) (m : MethodTree) where
   of_code : (c : CodeTree) (f : MethodFault) → code_in m.parts ≡ Some c → method_outside_profile file m ≡ false → IsFirstInCode aside file m c f → IsFirstInMethod aside file m f
   of_code c f is declared h = record {
     stands = or_right (declaration_stands file f.flaw f.spot m) _ (there true f.flaw f.spot h.stands);
-    none_before = λ flaw spot e. neither _ _ (no_declared flaw spot declared) (there false flaw spot (h.none_before flaw spot e));
-    outside_told = λ e. neither _ _ (no_declared OutsideProfile f.spot declared) (there false OutsideProfile f.spot (h.outside_told e));
+    none_before = λ flaw spot e. or_from _ _ (no_declared flaw spot declared) (there false flaw spot (h.none_before flaw spot e));
+    outside_told = λ e. or_from _ _ (no_declared OutsideProfile f.spot declared) (there false OutsideProfile f.spot (h.outside_told e));
   }
     where
       there : (b : Bool) (flaw : Flaw) (spot : Spot) → code_stands aside file m flaw spot c ≡ b → option_map_or (code_stands aside file m flaw spot) (code_in m.parts) false ≡ b
@@ -231,7 +199,7 @@ module _ (aside : ℕ → Bool) (file : FileTree) (m : MethodTree) where
 
   pub in_code : {E : Type 0} (c : CodeTree) → code_in m.parts ≡ Some c → method_outside_profile file m ≡ false → (r : Result (Option MethodFault) E) → IfOk r (FindsInCode aside file m c) → IfOk r (FindsInMethod aside file m)
   in_code c is declared (Ok None) h = (
-    neither _ _ declared (subst (λ (o : Option CodeTree). option_map_or (code_outside_profile file) o false ≡ false) (sym is) h.0),
+    or_from _ _ declared (subst (λ (o : Option CodeTree). option_map_or (code_outside_profile file) o false ≡ false) (sym is) h.0),
     subst (λ (o : Option CodeTree). option_map_or (malformed_code_by aside file m) o false ≡ false) (sym is) h.1,
   )
   in_code c is declared (Ok (Some f)) h = of_code c f is declared h
@@ -255,7 +223,7 @@ module _ (aside : ℕ → Bool) (file : FileTree) where
   field_first k none here = record { stands = here; none_before = before; outside_told = λ e. absurd cc }
     where
       before : (flaw : Flaw) (place : Place) → place_before place (places.Field k) ≡ true → place_stands aside file flaw place ≡ false
-      before flaw (places.Field j) e = no_field flaw (slice_get file.fields j) (none_of_first (field_outside_profile file) file.fields k j (ltb-true _ _ e) none)
+      before flaw (places.Field j) e = no_field flaw (slice_get file.fields j) (none_before (field_outside_profile file) file.fields k j (ltb-true _ _ e) none)
       before flaw (places.Method j other) e = absurd cc
 
   pub method_first : (k : ℕ) (m : MethodTree) (f : MethodFault) → slice_get file.methods k ≡ Some m
@@ -274,12 +242,13 @@ module _ (aside : ℕ → Bool) (file : FileTree) where
       before : (flaw : Flaw) (place : Place) → place_before place (places.Method k f.spot) ≡ true → place_stands aside file flaw place ≡ false
       before flaw (places.Field j) e = no_field flaw (slice_get file.fields j) (none_at (field_outside_profile file) file.fields j fields)
       before flaw (places.Method j other) e =
-          either (nat_lt j k) (j == k && spot_before other f.spot) e
+          ⊎_elim
           (λ lt.
           no_method flaw other (slice_get file.methods j)
-          (none_of_first (whole_method_outside_profile file) file.methods k j (ltb-true _ _ lt) outside)
-          (none_of_first (malformed_method_by aside file) file.methods k j (ltb-true _ _ lt) malformed))
+          (none_before (whole_method_outside_profile file) file.methods k j (ltb-true _ _ lt) outside)
+          (none_before (malformed_method_by aside file) file.methods k j (ltb-true _ _ lt) malformed))
           (λ later.
-          let same : j ≡ k = eqb-true _ _ (and_left (j == k) _ later) in
+          let same : j ≡ k = eqb-true _ _ (and_parts (j == k) _ later).0 in
           subst (λ (n : ℕ). option_map_or (method_stands aside file flaw other) (slice_get file.methods n) false ≡ false) (sym same)
-          (there false flaw other (h.none_before flaw other (and_right (j == k) _ later))))
+          (there false flaw other (h.none_before flaw other (and_parts (j == k) _ later).1)))
+          (or_cases (nat_lt j k) (j == k && spot_before other f.spot) e)

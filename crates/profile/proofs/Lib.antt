@@ -1,4 +1,4 @@
-pub mod Marks
+pub mod Counted
 pub mod Sized
 pub mod Operands
 pub mod Walks

@@ -1,8 +1,10 @@
 -- What the operands of instructions name, and what the rows of a table say of it.
-use Rattle.std.proofs.Common.{◌≡◌, ℕ, zero, suc, List, [], ◌∷◌, map, get_or, Option, Some, None, Bool, true, false, ◌&&◌, ◌||◌, refl, sym, ap, subst, ◌∙◌}
+use Rattle.std.proofs.Common.{◌≡◌, ℕ, List, [], ◌∷◌, get_or, Option, Some, None, Bool, true, false, ◌&&◌, refl, sym, ap, subst, ◌∙◌}
 use Rattle.std.specs.Prelude.{is_some}
 use Rattle.std.specs.List.{list_any}
 use Rattle.std.specs.Option.{option_map_or}
+use mathlib.Core.Bool.{or-false}
+use Rattle.std.proofs.Math.ListN.{get_or-map}
 use Rattle.model.specs.Names.{Name, Member}
 use Rattle.model.specs.Tree.{Entry, Utf8, Integer, Float, Long, Double, Class, String, Field, Method, InterfaceMethod, NameAndType, Unusable}
 use Rattle.model.specs.Spelling.{entry_at, text_of}
@@ -21,17 +23,12 @@ pub nothing_described : described [] ≡ nothing
 unfolding element_at scanned_at field_type method_type
 nothing_described = refl
 
-mapped : {A B : Type 0} (f : A → B) (d : A) (xs : List A) (k : ℕ) → get_or (map f xs) k (f d) ≡ f (get_or xs k d)
-mapped f d [] k = refl
-mapped f d (x ∷ xs) zero = refl
-mapped f d (x ∷ xs) (suc k) = mapped f d xs k
-
 -- what the row of an index says
 pub row_said : (pool : List Entry) (rows : List Described) (index : ℕ) → rows ≡ rows_of pool → get_or rows index nothing ≡ described (text_at pool index)
 row_said pool rows index are =
     ap (λ (rs : List Described). get_or rs index nothing) are
     ∙ ap (λ (d : Described). get_or (rows_of pool) index d) (sym nothing_described)
-    ∙ mapped (λ (e : Entry). described (text_of e)) Unusable (Unusable ∷ pool) index
+    ∙ get_or-map (λ (e : Entry). described (text_of e)) (Unusable ∷ pool) index Unusable
 
 -- ---- the descriptor of a member
 
@@ -112,13 +109,9 @@ tells : (p : Name → Bool) (o : Option Member) (text : Name) → ((m : Member) 
 tells p None text h = refl
 tells p (Some m) text h = ap p (sym (h m refl))
 
-or_false : (b : Bool) → b ≡ (b || false)
-or_false true = refl
-or_false false = refl
-
 any_told : (p : Name → Bool) (o : Option Member) → option_map_or (λ (m : Member). p m.descriptor) o false ≡ list_any p (descriptors_of o)
 any_told p None = refl
-any_told p (Some m) = or_false (p m.descriptor)
+any_told p (Some m) = sym (or-false (p m.descriptor))
 
 module _ (p : Name → Bool) (pool : List Entry) (index : ℕ) where
   pub field_told : (is_some (pools.field_at pool index) && p (member_text pool index)) ≡ list_any p (descriptors_of (pools.field_at pool index))

@@ -1,11 +1,11 @@
 -- From the parts of a class file to the whole.
-use Rattle.std.proofs.Common.{◌≡◌, ℕ, zero, suc, ◌<◌, ◌≤◌, List, [], ◌∷◌, length, map, get_or, take, Option, Some, None, Bool, true, false, not, ◌&&◌, ◌||◌, refl, sym, ap, subst, ◌∙◌}
+use Rattle.std.proofs.Common.{◌≡◌, ℕ, ◌<◌, List, [], ◌∷◌, length, map, get_or, Option, Some, None, Bool, true, false, not, ◌||◌, refl, sym, ap, subst, ◌∙◌, ⊎_elim}
 use Rattle.std.proofs.Math.Path.{fun_ext}
 use Rattle.std.specs.Prelude.{Result, Ok, Err, IfOk}
 use Rattle.std.specs.List.{list_any, slice_get}
 use Rattle.std.specs.Option.{option_map_or}
-use Rattle.std.proofs.lemmas.List.{take_all}
 use Rattle.std.proofs.lemmas.Option.{slice_get-map, slice_get_read}
+use Rattle.std.proofs.lemmas.Bool.{or_left, or_right, and_parts, or_parts, or_cases}
 use Rattle.model.specs.declared.class_file.ExceptionEntry.{ExceptionEntry}
 use Rattle.model.specs.declared.instr.Instr.{Instr}
 use Rattle.model.specs.declared.instr.Instr.TheVariants as instrs
@@ -26,54 +26,14 @@ use Rattle.profile.specs.declared.fault.Place.{Place}
 use Rattle.profile.specs.declared.fault.Place.TheVariants as places
 use Rattle.profile.specs.declared.fault.Fault.{Fault}
 use Rattle.profile.specs.Faults.{names_class_aside, row_of, TellsClassAside, special_of, malformed_instruction_by, malformed_code_by, malformed_method_by, has_malformed_code_by, code_outside_profile, whole_method_outside_profile, instruction_outside_at, instruction_malformed_at, exception_stands, code_stands, declaration_stands, method_stands, field_stands, place_stands, has_flaw, Finds, FindsBy, FindsInMethods}
-use Rattle.profile.proofs.Marks.{any_of_starts, list_any-map}
-
--- ---- truth
-
-pub or_left : (a b : Bool) → a ≡ true → (a || b) ≡ true
-or_left true b h = refl
-or_left false b h = absurd cc
-
-pub or_right : (a b : Bool) → b ≡ true → (a || b) ≡ true
-or_right true b h = refl
-or_right false b h = h
-
-pub and_left : (a b : Bool) → (a && b) ≡ true → a ≡ true
-and_left true b h = refl
-and_left false b h = absurd cc
-
-pub and_right : (a b : Bool) → (a && b) ≡ true → b ≡ true
-and_right true b h = h
-and_right false b h = absurd cc
-
-pub neither_left : (a b : Bool) → (a || b) ≡ false → a ≡ false
-neither_left true b h = absurd cc
-neither_left false b h = refl
-
-pub neither_right : (a b : Bool) → (a || b) ≡ false → b ≡ false
-neither_right true b h = absurd cc
-neither_right false b h = h
-
--- one of two is so, and what follows of each
-pub either : (a b : Bool) {C : Type 0} → (a || b) ≡ true → (a ≡ true → C) → (b ≡ true → C) → C
-either true b h f g = f refl
-either false b h f g = g h
+use Rattle.constant_pool.proofs.Passing.{any_at}
+use Rattle.opcodes.proofs.Marked.{any_of_starts}
 
 -- ---- elements of lists
-
--- what is so of the element at a place is so of one
-pub any_at : {A : Type 0} (p : A → Bool) (xs : List A) (k : ℕ) → option_map_or p (slice_get xs k) false ≡ true → list_any p xs ≡ true
-any_at p [] k h = absurd cc
-any_at p (x ∷ xs) zero h = or_left (p x) _ h
-any_at p (x ∷ xs) (suc k) h = or_right (p x) _ (any_at p xs k h)
 
 -- an element that a loop reads, seen as another value
 pub at_place : {V A : Type 0} (p : A → Bool) (f : V → A) (vs : List V) (k : ℕ) (v : V) → k < length vs → v ≡ get_or vs k v → p (f v) ≡ true → option_map_or p (slice_get (map f vs) k) false ≡ true
 at_place p f vs k v below is h = rw (slice_get-map f vs k, slice_get_read vs (length vs) k v refl below is) h
-
--- all of them were looked at
-pub none_left : {V A : Type 0} (p : A → Bool) (f : V → A) (vs : List V) (n : ℕ) → length vs ≤ n → list_any (λ v. p (f v)) (take n vs) ≡ false → list_any p (map f vs) ≡ false
-none_left p f vs n all h = list_any-map p f vs ∙ ap (list_any (λ v. p (f v))) (sym (take_all n vs all)) ∙ h
 
 -- ---- outside of the profile
 
@@ -86,20 +46,20 @@ module _ (file : FileTree) where
 
   no_unknown : (m : MethodTree) (o : Option CodeTree) → option_map_or (code_outside_profile file) o false ≡ false → option_map_or (unknown_opcode m) o false ≡ false
   no_unknown m None h = refl
-  no_unknown m (Some c) h = neither_left (unknown_opcode m c) _ h
+  no_unknown m (Some c) h = (or_parts (unknown_opcode m c) _ h).0
 
   no_left_out : (o : Option CodeTree) → option_map_or (code_outside_profile file) o false ≡ false → option_map_or (λ c. any_instruction (λ pc i. instruction_outside_profile file.pool i) c) o false ≡ false
   no_left_out None h = refl
-  no_left_out (Some c) h = neither_right (list_any (λ pc. not (is_known_opcode c.code pc)) (boundaries c.code)) _ h
+  no_left_out (Some c) h = (or_parts (list_any (λ pc. not (is_known_opcode c.code pc)) (boundaries c.code)) _ h).1
 
   none_outside : (ms : List MethodTree) → list_any (whole_method_outside_profile file) ms ≡ false
       → (list_any (method_outside_profile file) ms ≡ false) × ((list_any unknown ms ≡ false) × (list_any left_out ms ≡ false))
   none_outside [] h = (refl, (refl, refl))
   none_outside (m ∷ ms) h =
-      let first : whole_method_outside_profile file m ≡ false = neither_left (whole_method_outside_profile file m) _ h in
-      let rest = none_outside ms (neither_right (whole_method_outside_profile file m) _ h) in
-      let declared : method_outside_profile file m ≡ false = neither_left (method_outside_profile file m) _ first in
-      let coded : option_map_or (code_outside_profile file) (code_in m.parts) false ≡ false = neither_right (method_outside_profile file m) _ first in
+      let first : whole_method_outside_profile file m ≡ false = (or_parts (whole_method_outside_profile file m) _ h).0 in
+      let rest = none_outside ms (or_parts (whole_method_outside_profile file m) _ h).1 in
+      let declared : method_outside_profile file m ≡ false = (or_parts (method_outside_profile file m) _ first).0 in
+      let coded : option_map_or (code_outside_profile file) (code_in m.parts) false ≡ false = (or_parts (method_outside_profile file m) _ first).1 in
       (rw declared rest.0, (rw (no_unknown m (code_in m.parts) coded) rest.1.0, rw (no_left_out (code_in m.parts) coded) rest.1.1))
 
   -- no field and no method with its code is outside
@@ -117,14 +77,18 @@ module _ (aside : ℕ → Bool) (file : FileTree) (m : MethodTree) where
   code_is_outside MaxLocals c h = absurd cc
   code_is_outside (Exception entry field) c h = absurd cc
   code_is_outside (Instruction pc) c h =
-      let start : is_start c.code pc ≡ true = and_left (is_start c.code pc) _ h in
-      either (not (is_known_opcode c.code pc)) (instruction_outside_at file.pool c pc) (and_right (is_start c.code pc) _ h)
+      let start : is_start c.code pc ≡ true = (and_parts (is_start c.code pc) _ h).0 in
+      ⊎_elim
       (λ e. or_left _ _ (any_of_starts (λ q. not (is_known_opcode c.code q)) c.code pc start e))
       (λ e. or_right _ _ (any_of_starts (instruction_outside_at file.pool c) c.code pc start e))
+      (or_cases (not (is_known_opcode c.code pc)) (instruction_outside_at file.pool c pc) (and_parts (is_start c.code pc) _ h).1)
 
   exception_is_malformed : (c : CodeTree) (field : ExceptionField) (e : ExceptionEntry) → exception_stands c field e ≡ true → malformed_exception c e ≡ true
   exception_is_malformed c StartPc e h =
-      either (empty_range c e) (not (is_start c.code e.start)) h (λ q. or_left _ _ q) (λ q. or_right (empty_range c e) _ (or_left _ _ (or_left _ _ q)))
+      ⊎_elim
+      (λ q. or_left _ _ q)
+      (λ q. or_right (empty_range c e) _ (or_left _ _ (or_left _ _ q)))
+      (or_cases (empty_range c e) (not (is_start c.code e.start)) h)
   exception_is_malformed c EndPc e h = or_right (empty_range c e) _ (or_left _ _ (or_right (not (is_start c.code e.start)) _ h))
   exception_is_malformed c HandlerPc e h = or_right (empty_range c e) _ (or_right (range_off_boundary c e) _ h)
 
@@ -136,11 +100,12 @@ module _ (aside : ℕ → Bool) (file : FileTree) (m : MethodTree) where
   code_is_malformed Declaration c h = absurd cc
   code_is_malformed MaxLocals c h = or_left _ _ h
   code_is_malformed (Instruction pc) c h =
-      let start : is_start c.code pc ≡ true = and_left (is_start c.code pc) _ h in
+      let start : is_start c.code pc ≡ true = (and_parts (is_start c.code pc) _ h).0 in
       or_right (too_few_locals file m c) _
-      (either (malformed_offset c pc) (instruction_malformed_at aside file.pool c pc) (and_right (is_start c.code pc) _ h)
+      (⊎_elim
       (λ e. or_left _ _ (any_of_starts (malformed_offset c) c.code pc start e))
-      (λ e. or_right (list_any (malformed_offset c) (boundaries c.code)) _ (or_left _ _ (any_of_starts (instruction_malformed_at aside file.pool c) c.code pc start e))))
+      (λ e. or_right (list_any (malformed_offset c) (boundaries c.code)) _ (or_left _ _ (any_of_starts (instruction_malformed_at aside file.pool c) c.code pc start e)))
+      (or_cases (malformed_offset c pc) (instruction_malformed_at aside file.pool c pc) (and_parts (is_start c.code pc) _ h).1))
   code_is_malformed (Exception entry field) c h =
       or_right (too_few_locals file m c) _
       (or_right (list_any (malformed_offset c) (boundaries c.code)) _
@@ -163,9 +128,10 @@ module _ (aside : ℕ → Bool) (file : FileTree) (m : MethodTree) where
 
   pub method_is_outside : (spot : Spot) → method_stands aside file OutsideProfile spot m ≡ true → whole_method_outside_profile file m ≡ true
   method_is_outside spot h =
-      either (declaration_stands file OutsideProfile spot m) (option_map_or (code_stands aside file m OutsideProfile spot) (code_in m.parts) false) h
+      ⊎_elim
       (λ e. or_left _ _ (declaration_is_outside spot e))
       (λ e. or_right (method_outside_profile file m) _ (some_code_outside spot (code_in m.parts) e))
+      (or_cases (declaration_stands file OutsideProfile spot m) (option_map_or (code_stands aside file m OutsideProfile spot) (code_in m.parts) false) h)
 
   pub method_is_malformed : (spot : Spot) → method_stands aside file MalformedCode spot m ≡ true → malformed_method_by aside file m ≡ true
   method_is_malformed spot h = some_code_malformed spot (code_in m.parts) h
@@ -180,9 +146,9 @@ module _ (aside : ℕ → Bool) (file : FileTree) where
       all_false [] a b c = refl
       all_false (m ∷ ms) a b c =
           let first : whole_method_outside_profile file m ≡ false =
-          rw (neither_left (method_outside_profile file m) _ a)
-          (coded m (code_in m.parts) (neither_left (unknown file m) _ b) (neither_left (left_out file m) _ c)) in
-          rw first (all_false ms (neither_right (method_outside_profile file m) _ a) (neither_right (unknown file m) _ b) (neither_right (left_out file m) _ c))
+          rw (or_parts (method_outside_profile file m) _ a).0
+          (coded m (code_in m.parts) (or_parts (unknown file m) _ b).0 (or_parts (left_out file m) _ c).0) in
+          rw first (all_false ms (or_parts (method_outside_profile file m) _ a).1 (or_parts (unknown file m) _ b).1 (or_parts (left_out file m) _ c).1)
         where
           coded : (m : MethodTree) (o : Option CodeTree) → option_map_or (unknown_opcode m) o false ≡ false → option_map_or (λ c. any_instruction (λ pc i. instruction_outside_profile file.pool i) c) o false ≡ false → option_map_or (code_outside_profile file) o false ≡ false
           coded m None b c = refl

@@ -1,9 +1,10 @@
 -- What an instruction asks for, by what its operand names.
-use Rattle.std.proofs.Common.{◌≡◌, ℕ, List, [], ◌∷◌, ◌++◌, Option, Some, None, Bool, true, false, ◌&&◌, ◌||◌, refl, sym, ap, ◌∙◌}
+use Rattle.std.proofs.Common.{◌≡◌, ℕ, List, [], ◌∷◌, ◌++◌, Option, Some, None, Bool, true, false, ◌&&◌, ◌||◌, refl, ap, ◌∙◌}
 use Rattle.std.specs.Prelude.{is_some}
 use Rattle.std.specs.List.{list_any, flat_map}
 use Rattle.std.specs.Option.{option_and_then, option_map_or, option_to_list, is_none}
 use Rattle.std.proofs.lemmas.List.{append-nil}
+use mathlib.Core.Bool.{or-false, or-true, or_comm}
 use Rattle.model.specs.declared.instr.Instr.TheVariants as instrs
 use Rattle.model.specs.declared.instr.FieldAccess.{FieldAccess}
 use Rattle.model.specs.declared.instr.FieldAccess.TheVariants as access
@@ -38,10 +39,6 @@ call_fails files found wants_static wants_interface m =
     || (differs wants_interface (is_interface files m.class)
     || option_map_or (method_fails files wants_static) (found m) true)
 
-or_false : (b : Bool) → (b || false) ≡ b
-or_false true = refl
-or_false false = refl
-
 -- ---- classes
 
 module _ (files : Program) (file : FileTree) (k : ℕ) where
@@ -49,12 +46,12 @@ module _ (files : Program) (file : FileTree) (k : ℕ) where
   needs o = list_any (is_missing files) (flat_map classes_named (option_to_list o))
 
   pub class_asked : unresolved_instruction files file (instrs.CheckCast k) ≡ needs (class_name_at file.pool k)
-  class_asked = ap (λ (names : List Name). list_any (is_missing files) names || false) (append-nil _) ∙ or_false _
+  class_asked = ap (λ (names : List Name). list_any (is_missing files) names || false) (append-nil _) ∙ or-false _
 
   pub new_asked : unresolved_instruction files file (instrs.New k) ≡ (needs (class_name_at file.pool k) || option_map_or is_uninstantiable (option_and_then (class_of files) (class_name_at file.pool k)) false)
   new_asked =
       ap (λ (names : List Name). list_any (is_missing files) names || (option_map_or is_uninstantiable (option_and_then (class_of files) (class_name_at file.pool k)) false || false)) (append-nil _)
-      ∙ ap (λ (b : Bool). needs (class_name_at file.pool k) || b) (or_false _)
+      ∙ ap (λ (b : Bool). needs (class_name_at file.pool k) || b) (or-false _)
 
 -- ---- fields
 
@@ -79,7 +76,7 @@ module _ (files : Program) where
   found_so : (wants : Bool) (put : Member → Bool) (puts : Option Member → Bool) → ((g : Member) → puts (Some g) ≡ put g) → (f : Option Member)
       → (is_none f || (is_other_field wants f || (puts f || (option_map_or is_hidden f false || false)))) ≡ option_map_or (may_not wants put) f true
   found_so wants put puts same None = refl
-  found_so wants put puts same (Some g) = rw (same g, or_false (is_hidden g)) refl
+  found_so wants put puts same (Some g) = rw (same g, or-false (is_hidden g)) refl
 
   named_so : (wants : Bool) (put : Member → Bool) (puts : Option Member → Bool) → ((g : Member) → puts (Some g) ≡ put g) → puts None ≡ false → (o : Option Member)
       → asked_of_field wants puts o ≡ option_map_or (λ m. member_lacks_class files m || option_map_or (may_not wants put) (find_field files m) true) o false
@@ -95,14 +92,6 @@ module _ (files : Program) where
   field_asked file k access.PutField = named_so false (λ g. false) (λ f. false) (λ g. refl) refl (field_at file.pool k)
 
 -- ---- methods
-
-or_true : (b : Bool) → (b || true) ≡ true
-or_true true = refl
-or_true false = refl
-
-or_swap : (a b : Bool) → (a || b) ≡ (b || a)
-or_swap true b = sym (or_true b)
-or_swap false b = sym (or_false b)
 
 module _ (files : Program) (found : Member → Option Member) (wants_static wants_interface : Bool) where
   abbrev is_other_method : Option Member → Bool
@@ -122,8 +111,8 @@ module _ (files : Program) (found : Member → Option Member) (wants_static want
       → ((is_none c || more) || (is_none f || (is_other_method f || is_other_class c)))
       ≡ ((is_none c || more) || (differs wants_interface (option_map_or is_interface_class c false) || option_map_or (method_fails files wants_static) f true))
   both None f more = refl
-  both (Some c) None more = rw (or_true (differs wants_interface (is_interface_class c))) refl
-  both (Some c) (Some g) more = ap (λ (b : Bool). more || b) (or_swap (is_other_method (Some g)) (is_other_class (Some c)))
+  both (Some c) None more = rw (or-true (differs wants_interface (is_interface_class c))) refl
+  both (Some c) (Some g) more = ap (λ (b : Bool). more || b) (or_comm (is_other_method (Some g)) (is_other_class (Some c)))
 
   pub call_so : (o : Option Member) → asked_of_method o ≡ option_map_or (call_fails files found wants_static wants_interface) o false
   call_so None = refl

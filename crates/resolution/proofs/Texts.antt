@@ -1,10 +1,11 @@
 -- The classes that texts name as descriptors.
-use Rattle.std.proofs.Common.{◌≡◌, ℕ, zero, suc, List, [], ◌∷◌, map, get_or, Option, Some, None, Bool, true, false, ◌||◌, refl, sym, ap, ◌∙◌}
+use Rattle.std.proofs.Common.{◌≡◌, ℕ, List, [], ◌∷◌, get_or, Option, Some, None, Bool, true, false, ◌||◌, refl, sym, ap, ◌∙◌}
 use Rattle.std.specs.List.{list_any, filter_map, cons_option}
 use Rattle.std.specs.Prelude.{is_some}
 use Rattle.std.specs.List.{flat_map}
 use Rattle.std.specs.Option.{option_map_or, option_to_list}
 use Rattle.std.proofs.lemmas.List.{append-nil}
+use Rattle.std.proofs.Math.ListN.{get_or-map}
 use Rattle.model.specs.declared.instr.Instr.TheVariants as instrs
 use Rattle.model.specs.Names.{Name}
 use Rattle.model.specs.Tree.{Entry, Utf8, Class, NameAndType, Unusable, FileTree}
@@ -38,17 +39,12 @@ pub nothing_lacks : (files : Program) → lacks_class files [] ≡ false
 unfolding element_at scanned_at field_type method_type
 nothing_lacks files = refl
 
-mapped : {A B : Type 0} (f : A → B) (d : A) (xs : List A) (k : ℕ) → get_or (map f xs) k (f d) ≡ f (get_or xs k d)
-mapped f d [] k = refl
-mapped f d (x ∷ xs) zero = refl
-mapped f d (x ∷ xs) (suc k) = mapped f d xs k
-
 -- what the row of an index says
 pub text_said : (files : Program) (pool : List Entry) (rows : List Bool) (index : ℕ) → rows ≡ lacking_texts files pool → get_or rows index false ≡ lacks_class files (text_at pool index)
 text_said files pool rows index are =
     ap (λ (rs : List Bool). get_or rs index false) are
     ∙ ap (λ (b : Bool). get_or (lacking_texts files pool) index b) (sym (nothing_lacks files))
-    ∙ mapped (λ (e : Entry). lacks_class files (text_of e)) Unusable (Unusable ∷ pool) index
+    ∙ get_or-map (λ (e : Entry). lacks_class files (text_of e)) (Unusable ∷ pool) index Unusable
 
 -- ---- the text of a Utf8
 

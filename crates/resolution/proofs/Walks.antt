@@ -1,11 +1,10 @@
 -- From the parts of a class file to the whole.
-use Rattle.std.proofs.Common.{◌≡◌, ℕ, zero, suc, ◌<◌, ◌≤◌, List, [], ◌∷◌, length, map, get_or, take, Option, Some, None, Bool, true, false, ◌&&◌, ◌||◌, refl, sym, ap, ◌∙◌}
+use Rattle.std.proofs.Common.{◌≡◌, ℕ, List, [], ◌∷◌, map, Option, Some, None, Bool, true, false, ◌||◌, refl, sym, ap, ◌∙◌}
 use Rattle.std.specs.Prelude.{Result, Ok, Err, IfOk, IfSome, IsTrue, is_some}
 use Rattle.std.specs.List.{list_any, slice_get, flat_map}
 use Rattle.std.specs.Option.{option_map_or}
-use Rattle.std.proofs.lemmas.List.{take_all}
 use Rattle.std.proofs.lemmas.List.Folds.{list_any-append}
-use Rattle.std.proofs.lemmas.Option.{slice_get-map, slice_get_read}
+use Rattle.std.proofs.lemmas.Bool.{or_left, or_right, and_parts, or_parts, or_from}
 use Rattle.model.specs.Tree.{FieldTree, MethodTree, CodeTree, FileTree}
 use Rattle.model.specs.Conditions.{text_at}
 use Rattle.model.specs.InstructionStarts.{is_start}
@@ -18,61 +17,14 @@ use Rattle.resolution.specs.declared.place.UnresolvedPlace.TheVariants as places
 use Rattle.resolution.specs.declared.place.Spot.{Spot}
 use Rattle.resolution.specs.declared.place.Spot.TheVariants.{Declaration, Instruction, Exception}
 use Rattle.resolution.specs.Unresolved.{lacks_class, class_stands, field_stands, declaration_stands, instruction_stands, exception_stands, code_stands, method_stands, stands_at, place_in, is_code_unresolved, is_method_unresolved, FindsInMethods}
-use Rattle.resolution.proofs.Marks.{any_of_starts}
-
--- ---- truth
-
-or_left : (a b : Bool) → a ≡ true → (a || b) ≡ true
-or_left true b h = refl
-or_left false b h = absurd cc
-
-or_right : (a b : Bool) → b ≡ true → (a || b) ≡ true
-or_right true b h = refl
-or_right false b h = h
-
-and_left : (a b : Bool) → (a && b) ≡ true → a ≡ true
-and_left true b h = refl
-and_left false b h = absurd cc
-
-and_right : (a b : Bool) → (a && b) ≡ true → b ≡ true
-and_right true b h = h
-and_right false b h = absurd cc
-
-neither_left : (a b : Bool) → (a || b) ≡ false → a ≡ false
-neither_left true b h = absurd cc
-neither_left false b h = refl
-
-neither_right : (a b : Bool) → (a || b) ≡ false → b ≡ false
-neither_right true b h = absurd cc
-neither_right false b h = h
-
-neither : (a b : Bool) → a ≡ false → b ≡ false → (a || b) ≡ false
-neither false b h k = k
-neither true b h k = absurd cc
+use Rattle.opcodes.proofs.Marked.{any_of_starts}
+use Rattle.constant_pool.proofs.Passing.{any_map, any_at}
 
 -- ---- elements of lists
-
-list_any-map : {A B : Type 0} (p : B → Bool) (f : A → B) (xs : List A) → list_any p (map f xs) ≡ list_any (λ x. p (f x)) xs
-list_any-map p f [] = refl
-list_any-map p f (x ∷ xs) = rw (list_any-map p f xs) refl
 
 list_any-flat_map : {A B : Type 0} (p : B → Bool) (f : A → List B) (xs : List A) → list_any p (flat_map f xs) ≡ list_any (λ x. list_any p (f x)) xs
 list_any-flat_map p f [] = refl
 list_any-flat_map p f (x ∷ xs) = list_any-append p (f x) (flat_map f xs) ∙ ap (λ b. list_any p (f x) || b) (list_any-flat_map p f xs)
-
--- what is so of the element at a place is so of one
-any_at : {A : Type 0} (p : A → Bool) (xs : List A) (k : ℕ) → option_map_or p (slice_get xs k) false ≡ true → list_any p xs ≡ true
-any_at p [] k h = absurd cc
-any_at p (x ∷ xs) zero h = or_left (p x) _ h
-any_at p (x ∷ xs) (suc k) h = or_right (p x) _ (any_at p xs k h)
-
--- an element that is read, seen as another value
-pub read_at : {V A : Type 0} (f : V → A) (vs : List V) (k : ℕ) (v : V) → k < length vs → v ≡ get_or vs k v → slice_get (map f vs) k ≡ Some (f v)
-read_at f vs k v below is = rw (slice_get-map f vs k, slice_get_read vs (length vs) k v refl below is) refl
-
--- all of them were looked at
-pub none_left : {V A : Type 0} (p : A → Bool) (f : V → A) (vs : List V) (n : ℕ) → length vs ≤ n → list_any (λ v. p (f v)) (take n vs) ≡ false → list_any p (map f vs) ≡ false
-none_left p f vs n all h = list_any-map p f vs ∙ ap (list_any (λ v. p (f v))) (sym (take_all n vs all)) ∙ h
 
 -- ---- the conditions of a class file
 
@@ -91,32 +43,32 @@ module _ (files : Program) (file : FileTree) where
   declared_parts =
       list_any-flat_map (is_missing files) classes_in (declared_descriptors file)
       ∙ list_any-append (lacks_class files) (map (λ (f : FieldTree). text_at file.pool f.descriptor) file.fields) (map (λ (m : MethodTree). text_at file.pool m.descriptor) file.methods)
-      ∙ ap (λ (b : Bool). b || list_any (lacks_class files) (map (λ (m : MethodTree). text_at file.pool m.descriptor) file.methods)) (list_any-map (lacks_class files) (λ (f : FieldTree). text_at file.pool f.descriptor) file.fields)
-      ∙ ap (λ (b : Bool). list_any (field_stands files file) file.fields || b) (list_any-map (lacks_class files) (λ (m : MethodTree). text_at file.pool m.descriptor) file.methods)
+      ∙ ap (λ (b : Bool). b || list_any (lacks_class files) (map (λ (m : MethodTree). text_at file.pool m.descriptor) file.methods)) (any_map (lacks_class files) (λ (f : FieldTree). text_at file.pool f.descriptor) file.fields)
+      ∙ ap (λ (b : Bool). list_any (field_stands files file) file.fields || b) (any_map (lacks_class files) (λ (m : MethodTree). text_at file.pool m.descriptor) file.methods)
 
   -- ---- where no condition stands
 
   no_code : (o : Option CodeTree) → option_map_or (is_code_unresolved files file) o false ≡ false
       → (option_map_or exceptions_stand o false ≡ false) × (option_map_or instructions_stand o false ≡ false)
   no_code None h = (refl, refl)
-  no_code (Some c) h = (neither_right (instructions_stand c) _ h, neither_left (instructions_stand c) _ h)
+  no_code (Some c) h = ((or_parts (instructions_stand c) _ h).1, (or_parts (instructions_stand c) _ h).0)
 
   no_method : (ms : List MethodTree) → list_any (is_method_unresolved files file) ms ≡ false
       → (list_any (of_codes exceptions_stand) ms ≡ false) × ((list_any (declaration_stands files file) ms ≡ false) × (list_any (of_codes instructions_stand) ms ≡ false))
   no_method [] h = (refl, (refl, refl))
   no_method (m ∷ ms) h =
-      let first : is_method_unresolved files file m ≡ false = neither_left (is_method_unresolved files file m) _ h in
-      let rest = no_method ms (neither_right (is_method_unresolved files file m) _ h) in
-      let codes = no_code (code_in m.parts) (neither_right (declaration_stands files file m) _ first) in
-      (neither _ _ codes.0 rest.0, (neither _ _ (neither_left (declaration_stands files file m) _ first) rest.1.0, neither _ _ codes.1 rest.1.1))
+      let first : is_method_unresolved files file m ≡ false = (or_parts (is_method_unresolved files file m) _ h).0 in
+      let rest = no_method ms (or_parts (is_method_unresolved files file m) _ h).1 in
+      let codes = no_code (code_in m.parts) (or_parts (declaration_stands files file m) _ first).1 in
+      (or_from _ _ codes.0 rest.0, (or_from _ _ (or_parts (declaration_stands files file m) _ first).0 rest.1.0, or_from _ _ codes.1 rest.1.1))
 
   pub all_found : class_stands files file ≡ false → list_any (field_stands files file) file.fields ≡ false → list_any (is_method_unresolved files file) file.methods ≡ false → is_unresolved files file ≡ false
   all_found class fields methods =
       let parts = no_method file.methods methods in
-      neither _ _ (neither_left (superclass_missing files file) _ class)
-      (neither _ _ (neither_right (superclass_missing files file) _ class)
-      (neither _ _ parts.0
-      (neither _ _ (declared_parts ∙ neither _ _ fields parts.1.0) parts.1.1)))
+      or_from _ _ (or_parts (superclass_missing files file) _ class).0
+      (or_from _ _ (or_parts (superclass_missing files file) _ class).1
+      (or_from _ _ parts.0
+      (or_from _ _ (declared_parts ∙ or_from _ _ fields parts.1.0) parts.1.1)))
 
   -- ---- where one stands
 
@@ -142,7 +94,7 @@ module _ (files : Program) (file : FileTree) where
 
   an_instruction : (pc : ℕ) (o : Option CodeTree) → option_map_or (code_stands files file (Instruction pc)) o false ≡ true → option_map_or instructions_stand o false ≡ true
   an_instruction pc None h = absurd cc
-  an_instruction pc (Some c) h = any_of_starts (instruction_stands files file c) c.code pc (and_left (is_start c.code pc) _ h) (and_right (is_start c.code pc) _ h)
+  an_instruction pc (Some c) h = any_of_starts (instruction_stands files file c) c.code pc (and_parts (is_start c.code pc) _ h).0 (and_parts (is_start c.code pc) _ h).1
 
   an_exception : (entry : ℕ) (o : Option CodeTree) → option_map_or (code_stands files file (Exception entry)) o false ≡ true → option_map_or exceptions_stand o false ≡ true
   an_exception entry None h = absurd cc

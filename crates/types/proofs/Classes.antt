@@ -3,17 +3,14 @@ use Rattle.std.proofs.Common.{◌≡◌, ℕ, zero, suc, ◌+◌, ◌-◌, ◌<�
 use Rattle.std.specs.Prelude.{is_some, option_map}
 use Rattle.std.specs.Option.{option_and_then, option_map_or}
 use Rattle.std.proofs.lemmas.Bool.{false≢true}
-use Rattle.std.proofs.lemmas.Slice.Eq.{bytes_eq-Decides}
-use Rattle.model.specs.Names.{Name, name_eq, java_lang_object}
+use Rattle.model.specs.Names.{Name, java_lang_object}
 use Rattle.model.specs.Tree.{FileTree}
 use Rattle.model.specs.BuiltIn.{built_in_classes}
 use Rattle.model.specs.Classes.{Program, name_of, classes_of, class_of, superclass_of, is_within, is_subclass}
 use Rattle.model.specs.TypeJoin.{common_within}
 use Rattle.hierarchy.specs.Places.{place_of, name_at}
 use Rattle.hierarchy.proofs.SetLaws.{class_at_place, no_class, name_at_place}
-
-pub name_self : (a : Name) → name_eq a a ≡ true
-name_self a = (bytes_eq-Decides a a).1 refl
+use Rattle.hierarchy.proofs.RowLaws.{name_eq_refl}
 
 -- Object is the first class of every program
 pub object_at : (files : Program) → name_at files 0 ≡ java_lang_object
@@ -21,8 +18,8 @@ unfolding built_in_classes
 object_at files = refl
 
 within_itself : (files : Program) (n : ℕ) (c : Name) → is_within files n c c ≡ true
-within_itself files zero c = name_self c
-within_itself files (suc n) c = ap (λ b. b || option_map_or (λ s. is_within files n s c) (superclass_of files c) false) (name_self c)
+within_itself files zero c = name_eq_refl c
+within_itself files (suc n) c = ap (λ b. b || option_map_or (λ s. is_within files n s c) (superclass_of files c) false) (name_eq_refl c)
 
 pub its_own_subclass : (files : Program) (c : Name) → is_subclass files c c ≡ true
 its_own_subclass files c = within_itself files (length (classes_of files)) c

@@ -1,20 +1,14 @@
 -- Going up along superclasses: how far they go, and where two classes meet.
 use Rattle.std.proofs.Common.{◌≡◌, ℕ, zero, suc, ◌+◌, ◌-◌, ◌<◌, ◌≤◌, length, Option, Some, None, Bool, true, false, cond, ◌||◌, refl, sym, ap, ◌∙◌, subst, arith}
 use Rattle.std.specs.Option.{option_and_then, option_map, option_map_or}
+use mathlib.Core.Bool.{or-false}
+use Rattle.std.proofs.lemmas.Bool.{or_from}
 use Rattle.model.specs.Names.{Name, name_eq}
 use Rattle.model.specs.Classes.{Program, classes_of, superclass_of, is_within, is_subclass}
 use Rattle.model.specs.TypeJoin.{common_within, class_join}
 use Rattle.hierarchy.proofs.Names.{name_eq_sym}
 use Rattle.hierarchy.proofs.SetLaws.{same_name}
 use Rattle.types.specs.Superclasses.{depth_below, class_above, meeting_below}
-
-or_nothing : (b : Bool) → (b || false) ≡ b
-or_nothing true = refl
-or_nothing false = refl
-
-neither : (a b : Bool) → a ≡ false → b ≡ false → (a || b) ≡ false
-neither true b p q = p
-neither false b p q = q
 
 module _ {A : Type 0} where
   none_or_some : (o : Option A) (x : A) → o ≡ None → o ≡ Some x → ⊥
@@ -71,7 +65,7 @@ module _ (files : Program) where
   within_next m c s d e = ap (λ o. name_eq c d || option_map_or (λ s. is_within files m s d) o false) e
 
   within_last : (m : ℕ) (c d : Name) → superclass_of files c ≡ None → is_within files (suc m) c d ≡ name_eq c d
-  within_last m c d e = ap (λ o. name_eq c d || option_map_or (λ s. is_within files m s d) o false) e ∙ or_nothing (name_eq c d)
+  within_last m c d e = ap (λ o. name_eq c d || option_map_or (λ s. is_within files m s d) o false) e ∙ or-false (name_eq c d)
 
   -- more steps than there are superclasses lead no further
   within_enough : (k m : ℕ) (c d : Name) → HasDepth k c → k ≤ m → is_within files m c d ≡ is_within files k c d
@@ -87,14 +81,14 @@ module _ (files : Program) where
   not_within (suc m) zero j c d h g l = within_last m c d h ∙ unlike zero j c d h g (λ e. omega (arith, l, e))
   not_within (suc m) (suc k) j c d h g l =
       within_next m c h.0 d h.1.0
-      ∙ neither (name_eq c d) (is_within files m h.0 d) (unlike (suc k) j c d h g (λ e. omega (arith, l, e))) (not_within m k j h.0 d h.1.1 g (omega (arith, l)))
+      ∙ or_from (name_eq c d) (is_within files m h.0 d) (unlike (suc k) j c d h g (λ e. omega (arith, l, e))) (not_within m k j h.0 d h.1.1 g (omega (arith, l)))
 
   -- of classes at one depth one is below the other only where they are one
   within_level : (m k : ℕ) (c d : Name) → HasDepth k c → HasDepth k d → is_within files m c d ≡ name_eq c d
   within_level zero k c d h g = refl
   within_level (suc m) zero c d h g = within_last m c d h
   within_level (suc m) (suc k) c d h g =
-      within_next m c h.0 d h.1.0 ∙ ap (λ b. name_eq c d || b) (not_within m k (suc k) h.0 d h.1.1 g (omega arith)) ∙ or_nothing (name_eq c d)
+      within_next m c h.0 d h.1.0 ∙ ap (λ b. name_eq c d || b) (not_within m k (suc k) h.0 d h.1.1 g (omega arith)) ∙ or-false (name_eq c d)
 
   -- what is above a class, and not so deep, is above its superclass
   subclass_deeper : (k j : ℕ) (c s d : Name) → superclass_of files c ≡ Some s → HasDepth k s → HasDepth j d → j ≤ k → k < length (classes_of files) → is_subclass files c d ≡ is_subclass files s d

@@ -4,8 +4,9 @@ use Rattle.std.specs.Prelude.{find, is_some, is_none, slice_get}
 use Rattle.std.specs.Option.{option_and_then, option_map_or}
 use Rattle.std.specs.List.{list_any}
 use Rattle.std.proofs.Math.ListN.{drop_of_length-le}
-use Rattle.std.proofs.lemmas.Bool.{false≢true}
+use Rattle.std.proofs.lemmas.Bool.{or_parts, or_from}
 use Rattle.std.proofs.lemmas.List.Folds.{list_any-append}
+use Rattle.std.proofs.lemmas.Option.{same_Some}
 use Rattle.model.specs.Tree.{FileTree}
 use Rattle.model.specs.BuiltIn.{built_in_classes}
 use Rattle.model.specs.Classes.{Program, super_name_of, classes_of, is_named, class_of}
@@ -13,25 +14,14 @@ use Rattle.model.specs.Resolution.{is_missing, superclass_missing, is_unresolved
 use Rattle.model.specs.Linkable.{stands, Unresolved}
 use Rattle.types.specs.Superclasses.{HasSuperclasses}
 
-or_parts : (a b : Bool) → (a || b) ≡ false → (a ≡ false) × (b ≡ false)
-or_parts true b e = absurd (false≢true (sym e))
-or_parts false b e = (refl, e)
-
-neither : (a b : Bool) → a ≡ false → b ≡ false → (a || b) ≡ false
-neither true b p q = p
-neither false b p q = q
-
 module _ {A : Type 0} where
-  some_same : (x y : A) → Some x ≡ Some y → x ≡ y
-  some_same x y e = cc
-
   -- what is found is none of those that a list has none of
   found_is_not : (p q : A → Bool) (xs : List A) (x : A) → list_any q xs ≡ false → find p xs ≡ Some x → q x ≡ false
   found_is_not p q [] x h e = absurd cc
   found_is_not p q (y ∷ ys) x h e = by (p y) e (λ g. found_is_not p q ys x (or_parts (q y) _ h).1 g)
     where
       by : (c : Bool) → cond c (Some y) (find p ys) ≡ Some x → (find p ys ≡ Some x → q x ≡ false) → q x ≡ false
-      by true e rest = ap q (sym (some_same y x e)) ∙ (or_parts (q y) _ h).0
+      by true e rest = ap q (sym (same_Some y x e)) ∙ (or_parts (q y) _ h).0
       by false e rest = rest e
 
 module _ (files : Program) where
@@ -39,7 +29,7 @@ module _ (files : Program) where
   none_missing [] e = refl
   none_missing (k ∷ ks) e =
       let both = or_parts (is_unresolved files k) _ e in
-      neither (superclass_missing files k) _ (or_parts (superclass_missing files k) _ both.0).0 (none_missing ks both.1)
+      or_from (superclass_missing files k) _ (or_parts (superclass_missing files k) _ both.0).0 (none_missing ks both.1)
 
   built_in_found : list_any (superclass_missing files) built_in_classes ≡ false
   unfolding built_in_classes
@@ -59,7 +49,7 @@ module _ (files : Program) where
           is_there (class_of files s) (sym (ap (λ o. option_map_or (is_missing files) o false) e) ∙ found)
 
   pub superclasses_found : stands files Unresolved ≡ false → HasSuperclasses files
-  superclasses_found linked = all_found (list_any-append (superclass_missing files) built_in_classes files ∙ neither _ _ built_in_found (none_missing files linked))
+  superclasses_found linked = all_found (list_any-append (superclass_missing files) built_in_classes files ∙ or_from _ _ built_in_found (none_missing files linked))
 
 -- ---- a walk over a list
 

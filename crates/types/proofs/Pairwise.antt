@@ -4,6 +4,7 @@ use Rattle.std.specs.Prelude.{option_map}
 use Rattle.std.proofs.lemmas.Bool.{cases_eq}
 use Rattle.std.proofs.lemmas.List.{length-map, length-reverse}
 use Rattle.std.proofs.lemmas.Grind.{reverse_onto}
+use mathlib.Core.Bool.{and-false, and-true, and_assoc}
 use Rattle.model.specs.TypeOrder.{pairwise}
 use Rattle.model.specs.TypeJoin.{join_pairwise, in_front}
 
@@ -22,30 +23,18 @@ and_apart true false = refl
 and_apart false true = refl
 and_apart false false = refl
 
-and_false : (a : Bool) → (a && false) ≡ false
-and_false true = refl
-and_false false = refl
-
-and_true : (a : Bool) → (a && true) ≡ a
-and_true true = refl
-and_true false = refl
-
-and_within : (a b c : Bool) → (a && (b && c)) ≡ ((a && b) && c)
-and_within true b c = refl
-and_within false b c = refl
-
 module _ {A : Type 0} (R : A → A → Bool) where
   pub pairwise_unlike : (xs ys : List A) → (length xs ≡ length ys → ⊥) → pairwise R xs ys ≡ false
   pairwise_unlike [] [] ne = absurd (ne refl)
   pairwise_unlike [] (y ∷ ys) ne = refl
   pairwise_unlike (x ∷ xs) [] ne = refl
-  pairwise_unlike (x ∷ xs) (y ∷ ys) ne = ap (λ b. R x y && b) (pairwise_unlike xs ys (λ e. ne (ap suc e))) ∙ and_false (R x y)
+  pairwise_unlike (x ∷ xs) (y ∷ ys) ne = ap (λ b. R x y && b) (pairwise_unlike xs ys (λ e. ne (ap suc e))) ∙ and-false (R x y)
 
   pairwise_last : (xs ys : List A) (x y : A) → length xs ≡ length ys → pairwise R (xs ++ x ∷ []) (ys ++ y ∷ []) ≡ (pairwise R xs ys && R x y)
-  pairwise_last [] [] x y e = and_true (R x y)
+  pairwise_last [] [] x y e = and-true (R x y)
   pairwise_last [] (b ∷ ys) x y e = absurd (omega (arith, e))
   pairwise_last (a ∷ xs) [] x y e = absurd (omega (arith, e))
-  pairwise_last (a ∷ xs) (b ∷ ys) x y e = ap (λ c. R a b && c) (pairwise_last xs ys x y (omega (arith, e))) ∙ and_within (R a b) _ _
+  pairwise_last (a ∷ xs) (b ∷ ys) x y e = ap (λ c. R a b && c) (pairwise_last xs ys x y (omega (arith, e))) ∙ sym (and_assoc (R a b) _ _)
 
   pairwise_turned : (xs ys : List A) → length xs ≡ length ys → pairwise R (reverse xs) (reverse ys) ≡ pairwise R xs ys
   pairwise_turned [] [] e = refl

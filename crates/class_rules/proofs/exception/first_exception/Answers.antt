@@ -5,9 +5,10 @@ use Rattle.std.proofs.lemmas.Option.{slice_get-map, slice_get_read}
 use Rattle.model.specs.Tree.{MethodTree}
 use Rattle.classfile.specs.View.{method_of, file_of}
 use Rattle.class_rules.specs.Finding.{first_entry_in, some_entry_in}
-use Rattle.class_rules.proofs.Lists.{none_more, none_of_first, none_left}
+use Rattle.class_rules.proofs.Lists.{none_more}
 use Rattle.class_rules.proofs.Found.{no_entry}
 use Rattle.class_rules.proofs.exception.first_exception.Goals as goal
+use Rattle.constant_pool.proofs.Passing.{none_of_first, none_left}
 
 pub returns-in-Some : goal.returns-in-Some
 returns-in-Some c =

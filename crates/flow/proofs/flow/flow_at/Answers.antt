@@ -11,9 +11,10 @@ use Rattle.method_code.specs.View.{files_of, member_of, body_of}
 use Rattle.method_code.specs.Site.{site_of}
 use Rattle.flow.specs.Leads.{lead_on}
 use Rattle.flow.specs.Successors.{successors_by}
-use Rattle.flow.proofs.Refused.{not_refused, start_within}
+use Rattle.flow.proofs.Refused.{not_refused}
 use Rattle.flow.proofs.Flowing.{flow_refused, flow_allowed, leads_in_all, site_said, none_through, some_through}
 use Rattle.flow.proofs.flow.flow_at.Goals as goal
+use Rattle.model.proofs.StartLaws.{start_within}
 
 pub overflow_cast-offset : goal.overflow_cast-offset
 overflow_cast-offset c =

@@ -3,8 +3,9 @@ use Rattle.std.specs.Prelude.{not}
 use Rattle.classfile.specs.View.{file_of}
 use Rattle.model.specs.Classes.{classes_of}
 use Rattle.hierarchy.specs.Fields.{has_interface_below_other}
-use Rattle.hierarchy.proofs.Indices.{none_more, none_all, one_at}
+use Rattle.hierarchy.proofs.Indices.{none_more, none_all}
 use Rattle.hierarchy.proofs.fields.superinterfaces_are_flat.Goals as goal
+use Rattle.hierarchy.proofs.Finding.{one_at}
 
 pub returns-in_default : goal.returns-in_default
 returns-in_default c = sym (ap not (none_all (has_interface_below_other c.args.set.now) (classes_of c.args.set.now) c.loop-place.place (sym c.in_default.ensures) c.loop-place.invariant))

@@ -1,11 +1,11 @@
 use Rattle.std.proofs.Common.{◌≡◌, ◌∙◌, ℕ, ◌++◌, [], ◌∷◌, true, false, Bool, cond, List, map, take, get_or, sym, ap}
 use Rattle.std.specs.List.{list_any}
+use Rattle.std.proofs.lemmas.Bool.{not-false, not-true}
 use Rattle.model.specs.Names.{Name, name_eq}
 use Rattle.model.specs.Classes.{name_of, is_named}
 use Rattle.class_tree.specs.declared.tree.ClassFile.{ClassFile}
 use Rattle.classfile.specs.View.{file_of}
 use Rattle.hierarchy.specs.Set.{trees_of}
-use Rattle.hierarchy.proofs.Names.{not_false, not_true}
 use Rattle.hierarchy.proofs.SetLaws.{among_by_name}
 use Rattle.hierarchy.proofs.Adding.{names_more, differ_more, again_at}
 use Rattle.hierarchy.proofs.set.names_of.Goals as goal
@@ -20,14 +20,14 @@ pub overflow_sub-result : goal.overflow_sub-result
 overflow_sub-result c =
     let class = c.index-classes-place.result in
     let text : c.in_ok-name.name.items ≡ name_of (file_of class) = c.in_ok-name.ensures.items ∙ c.class_name.ensures in
-    let found = before (λ name. name.items) c.classes.names.keys c.args.classes.now c.classes.place class c.in_ok-name.name.items true c.classes.invariant.named text c.index-classes-place.is (not_false _ (sym c.in_ok-insert.ensures.added ∙ c.if-not-branch.true)) in
+    let found = before (λ name. name.items) c.classes.names.keys c.args.classes.now c.classes.place class c.in_ok-name.name.items true c.classes.invariant.named text c.index-classes-place.is (not-false _ (sym c.in_ok-insert.ensures.added ∙ c.if-not-branch.true)) in
     (again_at c.args.classes.now c.classes.place c.args.built_in class c.classes-test.true c.requires.count c.requires.whole found).0
 
 pub returns-then-not-branch-clause-refused : goal.returns-then-not-branch-clause-refused
 returns-then-not-branch-clause-refused c =
     let class = c.index-classes-place.result in
     let text : c.in_ok-name.name.items ≡ name_of (file_of class) = c.in_ok-name.ensures.items ∙ c.class_name.ensures in
-    let found = before (λ name. name.items) c.classes.names.keys c.args.classes.now c.classes.place class c.in_ok-name.name.items true c.classes.invariant.named text c.index-classes-place.is (not_false _ (sym c.in_ok-insert.ensures.added ∙ c.if-not-branch.true)) in
+    let found = before (λ name. name.items) c.classes.names.keys c.args.classes.now c.classes.place class c.in_ok-name.name.items true c.classes.invariant.named text c.index-classes-place.is (not-false _ (sym c.in_ok-insert.ensures.added ∙ c.if-not-branch.true)) in
     let again = again_at c.args.classes.now c.classes.place c.args.built_in class c.classes-test.true c.requires.count c.requires.whole found in
     (again.1, again.2)
 
@@ -38,7 +38,7 @@ classes-preserved c =
     let i = c.classes.place in
     let text : c.in_ok-name.name.items ≡ name_of (file_of class) = c.in_ok-name.ensures.items ∙ c.class_name.ensures in
     let at : c.in_ok-name.name.items ≡ name_of (file_of (get_or classes i class)) = text ∙ ap (λ (k : ClassFile). name_of (file_of k)) c.index-classes-place.is in
-    let new = not_true _ (sym c.in_ok-insert.ensures.added ∙ c.if-not-branch.false) in
+    let new = not-true _ (sym c.in_ok-insert.ensures.added ∙ c.if-not-branch.false) in
     let none = before (λ name. name.items) c.classes.names.keys classes i class c.in_ok-name.name.items false c.classes.invariant.named text c.index-classes-place.is new in
     let keys : c.insert.new.self.keys ≡ c.classes.names.keys ++ c.in_ok-name.name ∷ [] = c.in_ok-insert.ensures.keys ∙ ap (λ b. cond b c.classes.names.keys (c.classes.names.keys ++ c.in_ok-name.name ∷ [])) new in
     record {

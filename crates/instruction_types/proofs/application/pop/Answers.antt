@@ -1,7 +1,7 @@
 use Rattle.std.proofs.Common.{◌≡◌, ◌∙◌, ◌-◌, length, map, reverse, ap, take, arith}
 use Rattle.types.specs.View.{type_in}
-use Rattle.instruction_types.proofs.Lists.{under_reversed}
 use Rattle.instruction_types.proofs.application.pop.Goals as goal
+use Rattle.operand_types.proofs.Lists.{under_reversed}
 
 pub returns : goal.returns
 returns c = λ files.

@@ -1,8 +1,9 @@
 use Rattle.std.proofs.Common.{Some}
 use Rattle.std.specs.List.{list_any}
+use Rattle.std.proofs.lemmas.Bool.{or_left, or_right}
 use Rattle.model.specs.Resolution.{is_missing, member_classes}
 use Rattle.constant_pool.specs.View.{reference_of}
-use Rattle.instruction_types.proofs.Missing.{or_left, or_right, field_lacks}
+use Rattle.instruction_types.proofs.Missing.{field_lacks}
 use Rattle.instruction_types.proofs.fields.on_found.Goals as goal
 
 pub returns-in_default : goal.returns-in_default

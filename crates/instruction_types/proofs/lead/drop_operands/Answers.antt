@@ -1,8 +1,8 @@
 use Rattle.std.proofs.Common.{refl}
 use Rattle.types.specs.View.{frame_in}
 use Rattle.instruction_types.specs.Successors.{left_by}
-use Rattle.instruction_types.proofs.Leading.{shown_by}
 use Rattle.instruction_types.proofs.lead.drop_operands.Goals as goal
+use Rattle.operand_types.proofs.Operands.{shown_by}
 
 pub returns : goal.returns
 returns c =

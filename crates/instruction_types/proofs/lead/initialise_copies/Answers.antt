@@ -3,8 +3,9 @@ use Rattle.model.specs.Types as model
 use Rattle.model.specs.InitialisedTypes.{initialised}
 use Rattle.types.specs.View.{frame_in}
 use Rattle.instruction_types.specs.Successors.{found_by, left_by}
-use Rattle.instruction_types.proofs.Leading.{shown_by, initialised_under}
+use Rattle.instruction_types.proofs.Leading.{initialised_under}
 use Rattle.instruction_types.proofs.lead.initialise_copies.Goals as goal
+use Rattle.operand_types.proofs.Operands.{shown_by}
 
 pub returns : goal.returns
 returns c =

@@ -4,8 +4,9 @@ use Rattle.model.specs.InitialisedTypes.{forgotten}
 use Rattle.hierarchy.specs.Places.{name_at}
 use Rattle.types.specs.View.{frame_in}
 use Rattle.instruction_types.specs.Successors.{left_by}
-use Rattle.instruction_types.proofs.Leading.{shown_by, pushed_on}
+use Rattle.instruction_types.proofs.Leading.{pushed_on}
 use Rattle.instruction_types.proofs.lead.push_made.Goals as goal
+use Rattle.operand_types.proofs.Operands.{shown_by}
 
 pub returns : goal.returns
 returns c =

@@ -1,8 +1,9 @@
 use Rattle.std.proofs.Common.{refl, ◌∷◌}
 use Rattle.types.specs.View.{type_in, frame_in}
 use Rattle.instruction_types.specs.Successors.{left_by}
-use Rattle.instruction_types.proofs.Leading.{shown_by, pushed_on}
+use Rattle.instruction_types.proofs.Leading.{pushed_on}
 use Rattle.instruction_types.proofs.lead.push_type.Goals as goal
+use Rattle.operand_types.proofs.Operands.{shown_by}
 
 pub returns : goal.returns
 returns c =

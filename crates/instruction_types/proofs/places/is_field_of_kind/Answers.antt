@@ -6,8 +6,9 @@ use Rattle.class_tree.specs.declared.tree.Field as declared_field
 use Rattle.classfile.specs.View.{field_of, file_of}
 use Rattle.hierarchy.specs.Places.{class_at}
 use Rattle.instruction_types.specs.Places.{is_field_of_kind}
-use Rattle.instruction_types.proofs.ClassesAndMembers.{read_at, field_kind, field_there}
+use Rattle.instruction_types.proofs.ClassesAndMembers.{read_at, field_kind}
 use Rattle.instruction_types.proofs.places.is_field_of_kind.Goals as goal
+use Rattle.hierarchy.proofs.Apart.{field_there}
 
 pub returns-in-Some-get : goal.returns-in-Some-get
 returns-in-Some-get c =

@@ -6,8 +6,9 @@ use Rattle.class_tree.specs.declared.tree.Method as declared_method
 use Rattle.classfile.specs.View.{method_of, file_of}
 use Rattle.hierarchy.specs.Places.{class_at}
 use Rattle.instruction_types.specs.Places.{is_method_of_kind}
-use Rattle.instruction_types.proofs.ClassesAndMembers.{read_at, method_kind, method_there}
+use Rattle.instruction_types.proofs.ClassesAndMembers.{read_at, method_kind}
 use Rattle.instruction_types.proofs.places.is_method_of_kind.Goals as goal
+use Rattle.hierarchy.proofs.Apart.{method_there}
 
 pub returns-in-Some-get : goal.returns-in-Some-get
 returns-in-Some-get c =

@@ -1,8 +1,9 @@
 use Rattle.std.proofs.Common.{◌≡◌, ◌+◌, ◌/◌, ◌∙◌, map, Vec, Global, arith}
 use Rattle.limits_of_linking.specs.declared.climb.Climb.{Climb}
 use Rattle.limits_of_linking.specs.Climbing.{onward}
-use Rattle.limits_of_linking.proofs.ClimbLaws.{twice, one_more, ok_weaken}
+use Rattle.limits_of_linking.proofs.ClimbLaws.{twice, one_more}
 use Rattle.limits_of_linking.proofs.climb.+steps_each.Goals as goal
+use Rattle.hierarchy.proofs.Indices.{ok_weaken}
 
 pub returns-then-steps-eq0 : goal.returns-then-steps-eq0
 returns-then-steps-eq0 t c files one =

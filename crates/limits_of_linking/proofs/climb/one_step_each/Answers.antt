@@ -4,8 +4,8 @@ use Rattle.model.specs.Tree.{FileTree}
 use Rattle.model.specs.Classes.{classes_of, name_of}
 use Rattle.limits_of_linking.specs.declared.climb.Climb.{Climb}
 use Rattle.limits_of_linking.specs.Climbing.{climb, climbs}
-use Rattle.limits_of_linking.proofs.ClimbLaws.{drop_past, row_pushed, all_pushed}
 use Rattle.limits_of_linking.proofs.climb.one_step_each.Goals as goal
+use Rattle.hierarchy.proofs.RowLaws.{drop_past, row_pushed, all_pushed}
 
 pub loop-place-init : goal.loop-place-init
 unfolding climbs

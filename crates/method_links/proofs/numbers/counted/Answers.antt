@@ -1,10 +1,10 @@
 use Rattle.std.proofs.Common.{rules, arith, ◌≡◌, ◌≤◌, ◌∙◌, ◌++◌, ◌∷◌, [], ℕ, List, length, drop, ap, sym}
 use Rattle.std.proofs.lemmas.List.{length-map, append-nil}
+use Rattle.std.proofs.lemmas.Option.{slice_get_past}
 use Rattle.classfile.specs.View.{file_of, method_of}
 use Rattle.model.specs.Classes.{classes_of}
 use Rattle.hierarchy.proofs.RowLaws.{drop_past}
 use Rattle.method_links.specs.Numbers.{places_in, places_from, firsts_from}
-use Rattle.method_links.proofs.Lists.{get_past}
 use Rattle.method_links.proofs.Numbering.{first_pushed, class_placed, table_made}
 use Rattle.method_links.proofs.numbers.counted.Goals as goal
 
@@ -32,7 +32,7 @@ returns c =
     let firsts = c.loop-class.firsts.items in
     let places = c.loop-class.places.items in
     let past : length xs ≤ class = omega (arith, c.loop-class-test.false, c.count-class-end.ensures) in
-    let none : drop class xs ≡ [] = drop_past xs class (get_past xs class past) in
+    let none : drop class xs ≡ [] = drop_past xs class (slice_get_past xs class past) in
     table_made c.args.set.now firsts places
     (sym (append-nil firsts) ∙ ap (λ (l : List _). firsts ++ firsts_from (length places) l) (sym none) ∙ c.loop-class.invariant.firsts)
     (sym (append-nil places) ∙ ap (λ (l : List _). places ++ places_from class l) (sym none) ∙ c.loop-class.invariant.places)

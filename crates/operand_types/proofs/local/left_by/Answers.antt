@@ -1,8 +1,8 @@
 use Rattle.std.proofs.Common.{◌≡◌, ◌<◌, ◌≤◌, ◌∙◌, refl, [], length, take, reverse, ap, map, arith}
-use Rattle.std.proofs.lemmas.List.{append-nil, length-set}
+use Rattle.std.proofs.lemmas.List.{append-nil, length-set, take_more_set}
 use Rattle.types.specs.View.{type_in}
 use Rattle.operand_types.specs.RowView.{left_in}
-use Rattle.operand_types.proofs.Lists.{taken_set, laid_none, laid_next, laid_all}
+use Rattle.operand_types.proofs.Lists.{laid_none, laid_next, laid_all}
 use Rattle.operand_types.proofs.local.left_by.Goals as goal
 
 pub loop-i-init : goal.loop-i-init
@@ -18,7 +18,7 @@ loop-i-preserved c =
     let there : c.loop-i.i < length c.loop-i.left = omega (arith, most, whole) in
     record {
       whole = length-set c.loop-i.left c.loop-i.i c.out_type.result ∙ whole;
-      laid = λ files. laid_next (type_in files) (left_in files c.args.row.now c.args.frame.now) c.args.row.now.pushes.now c.loop-i.i _ _ _ c.out_type.result [] c.loop-i-test.true (taken_set c.loop-i.left c.loop-i.i c.out_type.result there) (c.out_type.ensures files) (c.loop-i.invariant.laid files);
+      laid = λ files. laid_next (type_in files) (left_in files c.args.row.now c.args.frame.now) c.args.row.now.pushes.now c.loop-i.i _ _ _ c.out_type.result [] c.loop-i-test.true (take_more_set c.loop-i.left c.loop-i.i c.out_type.result there) (c.out_type.ensures files) (c.loop-i.invariant.laid files);
     }
 
 pub returns : goal.returns

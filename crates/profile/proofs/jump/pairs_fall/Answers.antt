@@ -1,8 +1,8 @@
 use Rattle.std.proofs.Common.{rules, arith, ◌≡◌, ℕ, suc, ◌+◌, ◌-◌, not, true, false, refl, sym, subst, below_more}
 use Rattle.std.specs.Prelude.{int_lt}
 use Rattle.model.specs.Instruction.{lookup_pair}
-use Rattle.profile.proofs.Marks.{any_counted, none_counted}
 use Rattle.profile.proofs.jump.pairs_fall.Goals as goal
+use Rattle.profile.proofs.Counted.{any_counted, none_counted}
 
 pub returns-then-value-next : goal.returns-then-value-next
 returns-then-value-next c =

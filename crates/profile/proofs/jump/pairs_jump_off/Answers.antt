@@ -1,8 +1,8 @@
 use Rattle.std.proofs.Common.{rules, arith, ◌≡◌, not, true, refl, sym}
 use Rattle.model.specs.Instruction.{lookup_pair}
 use Rattle.model.specs.CodeConditions.{lands}
-use Rattle.profile.proofs.Marks.{any_mapped, none_mapped}
 use Rattle.profile.proofs.jump.pairs_jump_off.Goals as goal
+use Rattle.profile.proofs.Counted.{any_mapped, none_mapped}
 
 pub returns-then-not-lands : goal.returns-then-not-lands
 returns-then-not-lands c =

@@ -2,9 +2,9 @@ use Rattle.std.proofs.Common.{arith, ◌≡◌, ◌<◌, ◌≤◌, length, get_
 use Rattle.classfile.specs.View.{method_of, file_of}
 use Rattle.profile.specs.declared.fault.MethodFault.{MethodFault}
 use Rattle.profile.specs.Faults.{row_of, whole_method_outside_profile, malformed_method_by, FindsInMethod}
-use Rattle.profile.proofs.Walks.{none_left}
-use Rattle.profile.proofs.First.{none_taken, read_at, method_first}
+use Rattle.profile.proofs.First.{method_first}
 use Rattle.profile.proofs.walk.first_in_methods.Goals as goal
+use Rattle.constant_pool.proofs.Passing.{none_left, none_of_first, read_at}
 
 pub returns-in-Some : goal.returns-in-Some
 returns-in-Some c =
@@ -15,8 +15,8 @@ returns-in-Some c =
     let below : c.loop-place.place < length methods = omega (arith, c.loop-place-test.true, c.deref-method-items.ensures.len, ap length c.deref-method-items.ensures.value) in
     let is : item ≡ get_or methods c.loop-place.place item = cc (c.method-item.is, c.deref-method-items.ensures.value) in
     method_first aside file c.loop-place.place (method_of item) c.in-Some.fault (read_at method_of methods c.loop-place.place item below is)
-    (none_taken (whole_method_outside_profile file) method_of methods c.loop-place.place c.loop-place.invariant.inside)
-    (none_taken (malformed_method_by aside file) method_of methods c.loop-place.place c.loop-place.invariant.formed)
+    (none_of_first (whole_method_outside_profile file) method_of methods c.loop-place.place c.loop-place.invariant.inside)
+    (none_of_first (malformed_method_by aside file) method_of methods c.loop-place.place c.loop-place.invariant.formed)
     (subst (λ (o : Option MethodFault). FindsInMethod aside file (method_of item) o) c.in-Some.is c.in_ok-fault.ensures)
 
 pub returns : goal.returns

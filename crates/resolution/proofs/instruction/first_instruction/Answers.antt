@@ -1,7 +1,7 @@
 use Rattle.std.proofs.Common.{rules, arith, ◌≡◌, get_or, false, below_more}
 use Rattle.classfile.specs.View.{code_of, file_of}
 use Rattle.resolution.specs.Unresolved.{instruction_stands}
-use Rattle.resolution.proofs.Marks.{none_of_marks}
+use Rattle.opcodes.proofs.Marked.{none_of_marks}
 use Rattle.resolution.proofs.instruction.first_instruction.Goals as goal
 use Rattle.resolution.proofs.instruction.first_instruction.Goals.{else-is_start-via-then-is_start+else-is_unresolved_at, else-is_start-via-else-is_start}
 

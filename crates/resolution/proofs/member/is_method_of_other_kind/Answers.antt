@@ -8,9 +8,9 @@ use Rattle.constant_pool.specs.View.{reference_of}
 use Rattle.class_tree.specs.declared.tree.Method as declared_method
 use Rattle.classfile.specs.View.{method_of, file_of}
 use Rattle.hierarchy.specs.Places.{class_at}
-use Rattle.resolution.proofs.Walks.{read_at}
-use Rattle.resolution.proofs.Places.{method_declared_at}
+use Rattle.hierarchy.proofs.Apart.{method_there}
 use Rattle.resolution.proofs.member.is_method_of_other_kind.Goals as goal
+use Rattle.constant_pool.proofs.Passing.{read_at}
 
 pub returns-in-Some-get : goal.returns-in-Some-get
 returns-in-Some-get c =
@@ -22,4 +22,4 @@ returns-in-Some-get c =
     let read = read_at method_of c.deref.result.now c.args.place.member c.in-Some-get.declared.now c.in-Some-get.ensures.lookup.3.0 c.in-Some-get.ensures.lookup.1 in
     let there : slice_get file.methods c.args.place.member ≡ Some declared = ap (λ (vs : List declared_method.Method). slice_get (map method_of vs) c.args.place.member) (sym c.deref.ensures.value) ∙ read in
     let so : c.differs.result ≡ kind declared = search rules in
-    so ∙ ap (λ (o : Option MethodTree). option_map_or kind o false) (sym (method_declared_at files (reference_of c.args.method) c.args.place file c.requires.differ at c.requires.at ∙ there))
+    so ∙ ap (λ (o : Option MethodTree). option_map_or kind o false) (sym there ∙ method_there files (reference_of c.args.method) c.args.place file c.requires.differ at c.requires.at)

@@ -1,8 +1,8 @@
 use Rattle.std.proofs.Common.{arith, ◌≤◌, length, ap}
 use Rattle.classfile.specs.View.{method_of, file_of}
 use Rattle.resolution.specs.Unresolved.{is_method_unresolved}
-use Rattle.resolution.proofs.Walks.{none_left}
 use Rattle.resolution.proofs.walk.first_in_methods.Goals as goal
+use Rattle.constant_pool.proofs.Passing.{none_left}
 
 pub returns : goal.returns
 returns c =

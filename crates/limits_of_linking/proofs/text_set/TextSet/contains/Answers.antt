@@ -1,8 +1,8 @@
 use Rattle.std.proofs.Common.{◌∙◌, ap}
 use Rattle.std.specs.List.{list_any}
 use Rattle.model.specs.Names.{name_eq}
-use Rattle.limits_of_linking.proofs.TextLaws.{any_map}
 use Rattle.limits_of_linking.proofs.text_set.TextSet.contains.Goals as goal
+use Rattle.hierarchy.proofs.RowLaws.{any_map}
 
 pub returns : goal.returns
 returns c =

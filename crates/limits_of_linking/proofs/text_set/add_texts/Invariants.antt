@@ -5,7 +5,7 @@ use Rattle.constant_pool.specs.View.{entry_of}
 use Rattle.model.specs.Pool.{string_of}
 use Rattle.model.specs.StringConstants.{texts_in}
 use Rattle.limits_of_linking.specs.Texts.{with_texts}
-use Rattle.limits_of_linking.proofs.size.add_texts.Given as goal
+use Rattle.limits_of_linking.proofs.text_set.add_texts.Given as goal
 
 abbrev pub invariant-loop-constant : goal.invariant-loop-constant
 invariant-loop-constant l = with_texts l.texts (filter_map (string_of l.file.pool) (map entry_of (drop l.constant-index l.constants))) ≡ with_texts l.initial.texts (texts_in (file_of l.file))

@@ -1,12 +1,9 @@
--- The marked offsets of a code.
-use Rattle.std.proofs.Common.{◌≡◌, ℕ, zero, suc, ◌+◌, ◌<◌, List, [], ◌∷◌, length, get_or, Bool, true, false, ◌||◌, refl, subst, arith}
+-- The marked offsets of a code are its instruction boundaries.
+use Rattle.std.proofs.Common.{◌≡◌, ℕ, zero, suc, ◌+◌, ◌<◌, List, [], ◌∷◌, length, get_or, Bool, true, false, refl, subst, arith}
 use Rattle.std.specs.List.{list_any}
+use Rattle.std.proofs.lemmas.Bool.{or_right}
 use Rattle.model.specs.InstructionStarts.{starts, is_start}
 use Rattle.model.specs.CodeParts.{marked_from, boundaries}
-
-or_true : (a b : Bool) → b ≡ true → (a || b) ≡ true
-or_true true b h = refl
-or_true false b h = h
 
 none_marked : (p : ℕ → Bool) (n : ℕ) (marks : List Bool) → ((k place : ℕ) → place ≡ n + k → k < length marks → get_or marks k false ≡ true → p place ≡ false) → list_any p (marked_from n marks) ≡ false
 none_marked p n [] h = refl
@@ -22,7 +19,7 @@ any_marked p n zero place (true ∷ marks) e m h =
     let here : p n ≡ true = subst (λ (q : ℕ). p q ≡ true) same h in
     rw here refl
 any_marked p n zero place (false ∷ marks) e m h = absurd cc
-any_marked p n (suc k) place (true ∷ marks) e m h = or_true (p n) (list_any p (marked_from (suc n) marks)) (any_marked p (suc n) k place marks (omega (arith, e)) m h)
+any_marked p n (suc k) place (true ∷ marks) e m h = or_right (p n) (list_any p (marked_from (suc n) marks)) (any_marked p (suc n) k place marks (omega (arith, e)) m h)
 any_marked p n (suc k) place (false ∷ marks) e m h = any_marked p (suc n) k place marks (omega (arith, e)) m h
 
 -- what is so of no marked offset is so of no boundary
@@ -37,3 +34,9 @@ any_of_starts p code k m h = any_marked p 0 k k (starts code) (omega arith) m h
 
 pub start_of_mark : (code : List ℕ) (marks : List Bool) (pc : ℕ) → marks ≡ starts code → get_or marks pc false ≡ true → is_start code pc ≡ true
 start_of_mark code marks pc e h = subst (λ (ms : List Bool). get_or ms pc false ≡ true) e h
+
+-- a mark is within the marks
+pub mark_within : (marks : List Bool) (k : ℕ) → get_or marks k false ≡ true → k < length marks
+mark_within [] k h = absurd cc
+mark_within (m ∷ marks) zero h = omega arith
+mark_within (m ∷ marks) (suc k) h = let rest = mark_within marks k h in omega (arith, rest)
