@@ -25,7 +25,7 @@ pub record IsAccepted (files : List (List ℕ)) (trees : Program) : Type 0 where
 -- refuses what is linked.
 pub record IsRefused (files : List (List ℕ)) (refusal : Refusal) : Type 0 where
   pub memory : (trees : Program) → IsAccepted files trees → refusal.kind ≡ kinds.OutOfMemory
-  pub stands : MayRefuse files refusal.kind refusal.file refusal.cause ⊎ ((trees : Program) × IsLinkable files trees × Refuses trees refusal)
+  pub stands : MayRefuse files refusal.kind refusal.file refusal.offset refusal.cause ⊎ ((trees : Program) × IsLinkable files trees × Refuses trees refusal)
 
 -- `verified N classes` and a line feed
 abbrev pub verified_line : ℕ → List ℕ
