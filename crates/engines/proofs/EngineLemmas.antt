@@ -9,6 +9,7 @@ use Rattle.model.specs.declared.event.Event.{Event}
 use Rattle.model.specs.Schedule.{ScheduleFile}
 use Rattle.schedule.specs.declared.fault.ScheduleFault.{ScheduleFault}
 use Rattle.schedule.specs.declared.fault.ScheduleFault.TheVariants as schedules
+use Rattle.schedule.specs.Outcomes.{StandsIn, IsFaultOf}
 use Rattle.model.specs.Tree.{FileTree}
 use Rattle.refusal.specs.declared.why.Refusal.{Refusal}
 use Rattle.refusal.specs.declared.why.RefusalKind.{RefusalKind}
@@ -72,14 +73,10 @@ counts_write devices.Device a b c d old new first second counted = omega (arith,
 counts_write devices.Memory a b c d old new first second counted = omega (arith, first, second, counted)
 
 -- a fault of a schedule file whose bytes spell nothing, memory aside
-pub schedule_is_faulty : (fault : ScheduleFault) (left : Option (List ℕ)) (bytes : List ℕ) → Reads left bytes → ((events : List Event) → ScheduleFile bytes None events → fault ≡ schedules.OutOfMemory)
-    → (fault ≡ schedules.OutOfMemory) ⊎ ((schedule : List ℕ) × Reads left schedule × ((events : List Event) → ScheduleFile schedule None events → ⊥))
-schedule_is_faulty schedules.OutOfMemory left bytes read only = inl refl
-schedule_is_faulty schedules.Truncated left bytes read only = inr (bytes, read, λ events h. let e : schedules.Truncated ≡ schedules.OutOfMemory = only events h in absurd cc)
-schedule_is_faulty schedules.Magic left bytes read only = inr (bytes, read, λ events h. let e : schedules.Magic ≡ schedules.OutOfMemory = only events h in absurd cc)
-schedule_is_faulty schedules.Version left bytes read only = inr (bytes, read, λ events h. let e : schedules.Version ≡ schedules.OutOfMemory = only events h in absurd cc)
-schedule_is_faulty schedules.Repeat left bytes read only = inr (bytes, read, λ events h. let e : schedules.Repeat ≡ schedules.OutOfMemory = only events h in absurd cc)
-schedule_is_faulty schedules.Trailing left bytes read only = inr (bytes, read, λ events h. let e : schedules.Trailing ≡ schedules.OutOfMemory = only events h in absurd cc)
+pub schedule_is_faulty : (fault : ScheduleFault) (left : Option (List ℕ)) (bytes : List ℕ) → Reads left bytes → ((events : List Event) → ScheduleFile bytes None events → fault ≡ schedules.OutOfMemory) → IsFaultOf bytes fault
+    → (fault ≡ schedules.OutOfMemory) ⊎ ((schedule : List ℕ) × Reads left schedule × ((events : List Event) → ScheduleFile schedule None events → ⊥) × StandsIn schedule fault)
+schedule_is_faulty fault left bytes read only (inl memory) = inl memory
+schedule_is_faulty fault left bytes read only (inr stands) = inr (bytes, read, (λ events h. subst (StandsIn bytes) (only events h) stands), stands)
 
 -- whether it was for want of memory
 is_memory : (kind : RefusalKind) → (kind ≡ kinds.OutOfMemory) ⊎ (kind ≡ kinds.OutOfMemory → ⊥)

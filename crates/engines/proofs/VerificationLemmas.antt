@@ -79,7 +79,7 @@ untyped files refusal linked of_method typed =
 
 -- ---- refusals
 
-pub linking_refuses : (files : List (List ℕ)) (refusal : Refusal) → ((trees : Program) → IsLinkable files trees → refusal.kind ≡ kinds.OutOfMemory) → MayRefuse files refusal.kind refusal.file refusal.cause → IsRefused files refusal
+pub linking_refuses : (files : List (List ℕ)) (refusal : Refusal) → ((trees : Program) → IsLinkable files trees → refusal.kind ≡ kinds.OutOfMemory) → MayRefuse files refusal.kind refusal.file refusal.offset refusal.cause → IsRefused files refusal
 linking_refuses files refusal only may = record {
   memory = λ trees accepted. only trees accepted.linkable;
   stands = inl may;

@@ -21,6 +21,7 @@ use Rattle.model.specs.declared.end.End.{End}
 use Rattle.refusal.specs.declared.why.Refusal.{Refusal}
 use Rattle.refusal.specs.declared.why.RefusalKind.TheVariants as kinds
 use Rattle.schedule.specs.declared.fault.ScheduleFault.TheVariants as schedules
+use Rattle.schedule.specs.Outcomes.{StandsIn}
 use Rattle.engines.specs.declared.fault.Fault.{Fault}
 use Rattle.engines.specs.declared.fault.Fault.TheVariants as faults
 use Rattle.engines.specs.declared.status.Status.{Status}
@@ -63,7 +64,7 @@ WritesPart left lefts options old new = (new ≡ old)
 -- why class files may be refused: they don't link; they link, and a method has no typing; or they are accepted, and the
 -- machine doesn't take them
 abbrev pub MayRefuse : List (List ℕ) → Refusal → Type 0
-MayRefuse files refusal = linking.MayRefuse files refusal.kind refusal.file refusal.cause
+MayRefuse files refusal = linking.MayRefuse files refusal.kind refusal.file refusal.offset refusal.cause
     ⊎ (((trees : Program) × IsLinkable files trees × Refuses trees refusal)
     ⊎ ((trees : Program) × IsAccepted files trees × MayLeave trees refusal.kind refusal.file))
 
@@ -71,9 +72,9 @@ MayRefuse files refusal = linking.MayRefuse files refusal.kind refusal.file refu
 abbrev pub IsFaulty : Option (List ℕ) → List (Option (List ℕ)) → LimitOptions → Option (List ℕ) → Option (List ℕ) → Fault → Type 0
 IsFaulty left lefts options old new faults.Device = WritesPart left lefts options old new
 IsFaulty left lefts options old new faults.Memory = WritesPart left lefts options old new
--- memory apart, the schedule file spells no events
+-- memory apart, the schedule file spells no events, and the fault stands in it
 IsFaulty left lefts options old new (faults.Schedule fault) = (new ≡ old) × ((fault ≡ schedules.OutOfMemory)
-    ⊎ ((schedule : List ℕ) × Reads left schedule × ((events : List Event) → ScheduleFile schedule None events → ⊥)))
+    ⊎ ((schedule : List ℕ) × Reads left schedule × ((events : List Event) → ScheduleFile schedule None events → ⊥) × StandsIn schedule fault))
 -- memory apart, it spells events, and the class files are not taken and may be refused so
 IsFaulty left lefts options old new (faults.Refusal refusal) = (new ≡ old) × ((refusal.kind ≡ kinds.OutOfMemory)
     ⊎ ((schedule : List ℕ) × (files : List (List ℕ)) × (events : List Event) × Reads left schedule × ReadsEach lefts files × ScheduleFile schedule None events

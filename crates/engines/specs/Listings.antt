@@ -1,15 +1,12 @@
 -- What the engine of listings answers and writes, by the bytes that its devices hold. Where a device says nothing of its
 -- bytes, they are any that it may have handed over.
-use Rattle.std.specs.Prelude.{◌≡◌, ◌⊎◌, ℕ, List, take, drop, Option, Some, None, IsFalse}
+use Rattle.std.specs.Prelude.{◌≡◌, ◌⊎◌, ℕ, List, Option, Some, None}
 use Rattle.model.specs.Tree.{FileTree}
-use Rattle.model.specs.Spelling.{Layout, magic, version}
-use Rattle.model.specs.Conditions.{file_indices, file_names, file_descriptors, members_differ}
 use Rattle.model.specs.Spells.{Spells}
 use Rattle.model.specs.Listing.{listing}
 use Rattle.model.specs.Devices.{AppendsFront}
 use Rattle.reading.specs.declared.fault.Cause.{Cause}
-use Rattle.reading.specs.declared.fault.Cause.TheVariants as causes
-use Rattle.classfile.specs.Decoding.{BeginsWith}
+use Rattle.classfile.specs.Decoding.{StandsAt}
 use Rattle.refusal.specs.declared.why.Refusal.{Refusal}
 use Rattle.refusal.specs.declared.why.RefusalKind.TheVariants as kinds
 use Rattle.engines.specs.Engines.{Reads, no_memory}
@@ -28,20 +25,7 @@ ListsFront left old new = (text : List ℕ) × Lists left text × AppendsFront o
 abbrev pub malformed : Cause → ℕ → Refusal
 malformed cause offset = record { kind = kinds.Malformed; file = Some 0; method = None; offset = Some offset; cause = Some cause }
 
--- What is so where bytes are refused for this cause at this offset. No contract says more of the causes that are left out.
-abbrev pub StandsAt : List ℕ → Cause → ℕ → Type 0
-StandsAt bytes causes.Magic offset = (offset ≡ 0) × (BeginsWith magic bytes → ⊥)
-StandsAt bytes causes.Version offset = (offset ≡ 4) × (BeginsWith version (drop 4 bytes) → ⊥)
-StandsAt bytes causes.Trailing offset = (tree : FileTree) × Layout (take offset bytes) tree
-StandsAt bytes causes.Index offset = (tree : FileTree) × (Layout bytes tree × IsFalse (file_indices tree))
-StandsAt bytes causes.Name offset = (tree : FileTree) × (Layout bytes tree × IsFalse (file_names tree))
-StandsAt bytes causes.Descriptor offset = (tree : FileTree) × (Layout bytes tree × IsFalse (file_descriptors tree))
-StandsAt bytes causes.Duplicate offset = (tree : FileTree) × (Layout bytes tree × IsFalse (members_differ tree))
--- it has a name of its own among the refusals
-StandsAt bytes causes.OutOfMemory offset = ⊥
-StandsAt bytes cause offset = Unit {0}
-
--- the bytes are no class file, and this says why
+-- the bytes are no class file, and this says why: the cause stands in them at the offset
 pub record IsMalformed (bytes : List ℕ) (refusal : Refusal) : Type 0 where
   pub cause : Cause
   pub offset : ℕ

@@ -20,7 +20,7 @@ use Rattle.engines.specs.declared.fault.Fault.TheVariants as faults
 -- refuses what is linked.
 pub record IsRefused (files : List (List ℕ)) (refusal : Refusal) : Type 0 where
   pub memory : (trees : Program) → IsAccepted files trees → refusal.kind ≡ kinds.OutOfMemory
-  pub stands : MayRefuse files refusal.kind refusal.file refusal.cause ⊎ ((trees : Program) × IsLinkable files trees × Refuses trees refusal)
+  pub stands : MayRefuse files refusal.kind refusal.file refusal.offset refusal.cause ⊎ ((trees : Program) × IsLinkable files trees × Refuses trees refusal)
 
 -- `verified N classes` and a line feed
 abbrev pub verified_line : ℕ → List ℕ

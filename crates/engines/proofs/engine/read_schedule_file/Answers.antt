@@ -3,6 +3,7 @@ use Rattle.std.proofs.lemmas.Result.{err_from_is_err_and}
 use Rattle.model.specs.declared.event.Event.{Event}
 use Rattle.model.specs.Schedule.{ScheduleFile}
 use Rattle.schedule.specs.declared.fault.ScheduleFault.TheVariants as schedules
+use Rattle.schedule.specs.Outcomes.{IsFaultOf}
 use Rattle.engines.proofs.EngineLemmas.{schedule_is_faulty}
 use Rattle.engines.proofs.engine.read_schedule_file.Goals as goal
 
@@ -12,4 +13,5 @@ returns-in_err-read_schedule-in-Ok-clause-faulty g c =
     let p = err_from_is_err_and c.from_residual.result c.from_residual.ensures.1 in
     let fault = c.in_err-read_schedule-in-Ok.field-0.0 in
     let only = subst (λ (bytes : List ℕ). (events : List Event) → ScheduleFile bytes None events → fault ≡ schedules.OutOfMemory) c.as_slice.ensures.value c.in_err-read_schedule-in-Ok.ensures.only in
-    rw (p.1, p.2) (λ lefts options sink. (refl, schedule_is_faulty fault (g.S.Source.remaining c.args.file.now) c.in-Ok.bytes.items c.in-Ok.ensures.read only))
+    let stands = subst (λ (bytes : List ℕ). IsFaultOf bytes fault) c.as_slice.ensures.value c.in_err-read_schedule-in-Ok.ensures.refused in
+    rw (p.1, p.2) (λ lefts options sink. (refl, schedule_is_faulty fault (g.S.Source.remaining c.args.file.now) c.in-Ok.bytes.items c.in-Ok.ensures.read only stands))

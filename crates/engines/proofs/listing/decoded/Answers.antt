@@ -4,13 +4,4 @@ use Rattle.engines.proofs.listing.decoded.Goals as goal
 pub returns-in-Err-clause-refused : goal.returns-in-Err-clause-refused
 returns-in-Err-clause-refused c =
     let ensures = c.in-Err.ensures in
-    refused_so c.args.bytes.now c.in-Err.fault.cause c.in-Err.fault.offset c.refusal.result c.refusal.ensures.memory c.refusal.ensures.cause ensures.only
-    (record {
-      magic = ensures.magic;
-      version = ensures.version;
-      trailing = ensures.trailing;
-      index = ensures.index;
-      name = ensures.name;
-      descriptor = ensures.descriptor;
-      duplicate = ensures.duplicate;
-    })
+    refused_so c.args.bytes.now c.in-Err.fault c.refusal.result c.refusal.ensures.memory c.refusal.ensures.cause ensures.only ensures.refused
