@@ -17,6 +17,7 @@ use Rattle.model.specs.Linkable.{AreSpelled}
 use Rattle.linker.specs.Linking.{SpellsNothing, IsMalformed, IsUnreadable}
 use Rattle.refusal.specs.declared.why.RefusalKind.{RefusalKind}
 use Rattle.refusal.specs.declared.why.RefusalKind.TheVariants as kinds
+use Rattle.hierarchy.proofs.RowLaws.{get_map}
 
 pub spelled_push : (files : List (List ℕ)) (trees : Program) (bytes : List ℕ) (tree : FileTree) → AreSpelled files trees → Spells bytes tree → AreSpelled (files ++ bytes ∷ []) (trees ++ tree ∷ [])
 spelled_push [] [] bytes tree h s = (s, tt)
@@ -68,11 +69,6 @@ malformed_so bytes fault other told only = record {
 }
 
 -- ---- files in memory
-
-get_map : {A B : Type 0} (f : A → B) (xs : List A) (i : ℕ) (x : A) → slice_get xs i ≡ Some x → slice_get (map f xs) i ≡ Some (f x)
-get_map f [] i x e = absurd cc
-get_map f (y ∷ xs) zero x e = let same : y ≡ x = cc in ap (λ z. Some (f z)) same
-get_map f (y ∷ xs) (suc i) x e = get_map f xs i x e
 
 pub bytes_more : (files : List (Vec ℕ Global)) (i : ℕ) (file : Vec ℕ Global) (bytes : List ℕ) → i < length files → file ≡ get_or files i file → bytes ≡ file.items → map vec_items (take (i + 1) files) ≡ map vec_items (take i files) ++ bytes ∷ []
 bytes_more files i file bytes lt at e =

@@ -3,6 +3,7 @@ use Rattle.std.proofs.Common.{◌≡◌, ℕ, Bool, true, false, not, List, refl
 use Rattle.std.specs.Prelude.{slice_get}
 use Rattle.std.specs.Option.{option_and_then, option_map_or}
 use Rattle.std.specs.List.{list_any}
+use Rattle.std.proofs.lemmas.Bool.{and_parts, both_ways, or_left, or_right}
 use Rattle.model.specs.Tree.{FileTree}
 use Rattle.model.specs.Classes.{Program}
 use Rattle.model.specs.Profile.{is_outside_profile}
@@ -17,7 +18,8 @@ use Rattle.profile.specs.declared.fault.Flaw.{Flaw}
 use Rattle.profile.specs.declared.fault.Flaw.TheVariants as flaws
 use Rattle.profile.specs.Faults.{has_flaw}
 use Rattle.linker.specs.Linking.{IsFaultRefusal, size_condition, IsRefusedWith, MayRefuse, IsUnreadable, IsFirst, RefusesTrees, RefusesFor, WalkRefuses}
-use Rattle.linker.proofs.Lists.{here, later, alone, of_both, not_both, any_at}
+use Rattle.linker.proofs.Lists.{alone}
+use Rattle.hierarchy.proofs.Finding.{one_at}
 
 -- ---- a condition stands first
 
@@ -30,31 +32,31 @@ named_at p trees tree number file at e h = ap (λ o. option_map_or p (option_and
 
 pub outside_first : (trees : Program) (tree : FileTree) (number : ℕ) (file : Option ℕ) → list_any (stands trees) before_walk ≡ false → slice_get trees number ≡ Some tree → file ≡ Some number → is_outside_profile tree ≡ true → IsFirst OutsideProfile trees file
 outside_first trees tree number file none at e h = record {
-  first = stands_now trees OutsideProfile (any_at is_outside_profile trees number tree at h) none;
+  first = stands_now trees OutsideProfile (one_at is_outside_profile trees number tree at h) none;
   named = named_at is_outside_profile trees tree number file at e h;
 }
 
 pub malformed_first : (trees : Program) (tree : FileTree) (number : ℕ) (file : Option ℕ) → list_any (stands trees) before_walk ≡ false → slice_get trees number ≡ Some tree → file ≡ Some number → has_malformed_code trees tree ≡ true → IsFirst MalformedCode trees file
 malformed_first trees tree number file none at e h = record {
-  first = stands_now trees MalformedCode (any_at (has_malformed_code trees) trees number tree at h) none;
+  first = stands_now trees MalformedCode (one_at (has_malformed_code trees) trees number tree at h) none;
   named = named_at (has_malformed_code trees) trees tree number file at e h;
 }
 
 pub rules_first : (trees : Program) (tree : FileTree) (number : ℕ) (file : Option ℕ) → list_any (stands trees) before_links ≡ false → slice_get trees number ≡ Some tree → file ≡ Some number → has_bad_hierarchy trees tree ≡ true → IsFirst BadHierarchy trees file
 rules_first trees tree number file none at e h = record {
-  first = stands_now trees BadHierarchy (any_at (has_bad_hierarchy trees) trees number tree at h) none;
+  first = stands_now trees BadHierarchy (one_at (has_bad_hierarchy trees) trees number tree at h) none;
   named = named_at (has_bad_hierarchy trees) trees tree number file at e h;
 }
 
 pub names_first : (trees : Program) (tree : FileTree) (number : ℕ) (file : Option ℕ) → list_any (stands trees) (earlier Unresolved) ≡ false → slice_get trees number ≡ Some tree → file ≡ Some number → is_unresolved trees tree ≡ true → IsFirst Unresolved trees file
 names_first trees tree number file none at e h = record {
-  first = stands_now trees Unresolved (any_at (is_unresolved trees) trees number tree at h) none;
+  first = stands_now trees Unresolved (one_at (is_unresolved trees) trees number tree at h) none;
   named = named_at (is_unresolved trees) trees tree number file at e h;
 }
 
 pub fields_first : (trees : Program) (tree : FileTree) (number : ℕ) (file : Option ℕ) → list_any (stands trees) (earlier TooManyFields) ≡ false → slice_get trees number ≡ Some tree → file ≡ Some number → too_many_fields trees tree ≡ true → IsFirst TooManyFields trees file
 fields_first trees tree number file none at e h = record {
-  first = stands_now trees TooManyFields (any_at (too_many_fields trees) trees number tree at h) none;
+  first = stands_now trees TooManyFields (one_at (too_many_fields trees) trees number tree at h) none;
   named = named_at (too_many_fields trees) trees tree number file at e h;
 }
 
@@ -105,19 +107,19 @@ unread_refused files kind file offset cause (inr r) = subst (λ k. MayRefuse fil
 -- ---- no condition stands in files that may be linked
 
 among_all : (s : LinkCondition → Bool) (condition : LinkCondition) → s condition ≡ true → list_any s all_conditions ≡ true
-among_all s NoMain h = here (s NoMain) _ h
-among_all s TooManyFields h = later (s NoMain) _ (here (s TooManyFields) _ h)
-among_all s Unresolved h = later (s NoMain) _ (later (s TooManyFields) _ (here (s Unresolved) _ h))
-among_all s BadHierarchy h = later (s NoMain) _ (later (s TooManyFields) _ (later (s Unresolved) _ (here (s BadHierarchy) _ h)))
-among_all s OutsideProfile h = later (s NoMain) _ (later (s TooManyFields) _ (later (s Unresolved) _ (later (s BadHierarchy) _ (here (s OutsideProfile) _ h))))
-among_all s MalformedCode h = later (s NoMain) _ (later (s TooManyFields) _ (later (s Unresolved) _ (later (s BadHierarchy) _ (later (s OutsideProfile) _ (here (s MalformedCode) _ h)))))
-among_all s TooLarge h = later (s NoMain) _ (later (s TooManyFields) _ (later (s Unresolved) _ (later (s BadHierarchy) _ (later (s OutsideProfile) _ (later (s MalformedCode) _ (here (s TooLarge) _ h))))))
+among_all s NoMain h = or_left (s NoMain) _ h
+among_all s TooManyFields h = or_right (s NoMain) _ (or_left (s TooManyFields) _ h)
+among_all s Unresolved h = or_right (s NoMain) _ (or_right (s TooManyFields) _ (or_left (s Unresolved) _ h))
+among_all s BadHierarchy h = or_right (s NoMain) _ (or_right (s TooManyFields) _ (or_right (s Unresolved) _ (or_left (s BadHierarchy) _ h)))
+among_all s OutsideProfile h = or_right (s NoMain) _ (or_right (s TooManyFields) _ (or_right (s Unresolved) _ (or_right (s BadHierarchy) _ (or_left (s OutsideProfile) _ h))))
+among_all s MalformedCode h = or_right (s NoMain) _ (or_right (s TooManyFields) _ (or_right (s Unresolved) _ (or_right (s BadHierarchy) _ (or_right (s OutsideProfile) _ (or_left (s MalformedCode) _ h)))))
+among_all s TooLarge h = or_right (s NoMain) _ (or_right (s TooManyFields) _ (or_right (s Unresolved) _ (or_right (s BadHierarchy) _ (or_right (s OutsideProfile) _ (or_right (s MalformedCode) _ (or_left (s TooLarge) _ h))))))
 among_all s DuplicateClass h =
-    later (s NoMain) _ (later (s TooManyFields) _ (later (s Unresolved) _ (later (s BadHierarchy) _ (later (s OutsideProfile) _ (later (s MalformedCode) _ (later (s TooLarge) _ (here (s DuplicateClass) _ h)))))))
+    or_right (s NoMain) _ (or_right (s TooManyFields) _ (or_right (s Unresolved) _ (or_right (s BadHierarchy) _ (or_right (s OutsideProfile) _ (or_right (s MalformedCode) _ (or_right (s TooLarge) _ (or_left (s DuplicateClass) _ h)))))))
 
 contradicts : {G : Type 0} (trees : Program) (condition : LinkCondition) (file : Option ℕ) → some_stands trees ≡ false → IsFirst condition trees file → G
 contradicts trees condition file none r =
-    not_both (some_stands trees) (among_all (stands trees) condition (of_both (stands trees condition) (not (list_any (stands trees) (earlier condition))) r.first)) none
+    absurd (both_ways (some_stands trees) none (among_all (stands trees) condition (and_parts (stands trees condition) (not (list_any (stands trees) (earlier condition))) r.first).0))
 
 pub refused_memory : (trees : Program) (kind : RefusalKind) (file : Option ℕ) (cause : Option Cause) → some_stands trees ≡ false → RefusesTrees trees kind file cause → kind ≡ kinds.OutOfMemory
 refused_memory trees kinds.OutOfMemory file cause none r = refl
@@ -141,7 +143,7 @@ fields_refused trees tree number kind file cause none at is named h =
 pub cycle_refused : (trees : Program) (tree : FileTree) (number : ℕ) (kind : RefusalKind) (file : Option ℕ) (cause : Option Cause) → list_any (stands trees) before_links ≡ false → slice_get trees number ≡ Some tree → in_cycle trees tree ≡ true
     → kind ≡ kinds.BadHierarchy → file ≡ Some number → RefusesTrees trees kind file cause
 cycle_refused trees tree number kind file cause none at h is named =
-    subst (λ k. RefusesTrees trees k file cause) (sym is) (rules_first trees tree number file none at named (here (in_cycle trees tree) _ h))
+    subst (λ k. RefusesTrees trees k file cause) (sym is) (rules_first trees tree number file none at named (or_left (in_cycle trees tree) _ h))
 
 -- a fault that is found
 pub fault_refused : (trees : Program) (tree : FileTree) (number : ℕ) (flaw : Flaw) (kind : RefusalKind) (file : Option ℕ) (cause : Option Cause) → has_flaw trees tree flaw ≡ true → IsFaultRefusal flaw number kind file cause → WalkRefuses trees tree number kind file cause

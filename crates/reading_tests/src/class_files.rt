@@ -1,7 +1,8 @@
 //! Whole class files: their beginnings, their neighbours, and what is written of them.
 
-use crate::class_bytes::{EACH_CONSTANT, PRINTS_SEVEN, SKIPPED};
+use crate::class_bytes::{EACH_CONSTANT, SKIPPED};
 use crate::kept::Kept;
+use class_builder::PRINTS_SEVEN;
 use classfile::{Cause, ClassFile, decode, encode};
 use disasm::list;
 use model::DeviceFault;

@@ -4,8 +4,9 @@ use Rattle.classfile.specs.View.{file_of}
 use Rattle.model.specs.Tree.{Unusable}
 use Rattle.profile.specs.Faults.{TellsClassAside}
 use Rattle.linker.specs.Aside.{names_method_aside, methods_aside}
-use Rattle.linker.proofs.Lists.{row_is, ok_weaken}
+use Rattle.linker.proofs.Lists.{row_is}
 use Rattle.linker.proofs.aside.class_aside.Goals as goal
+use Rattle.hierarchy.proofs.Indices.{ok_weaken}
 
 pub returns : goal.returns
 returns c =

@@ -2,12 +2,13 @@ use Rattle.std.proofs.Common.{sym}
 use Rattle.classfile.specs.View.{file_of}
 use Rattle.model.specs.Hierarchy.{in_cycle, has_bad_hierarchy}
 use Rattle.std.proofs.lemmas.Result.{err_from_is_err_and}
-use Rattle.linker.proofs.Lists.{none_at, none_more}
 use Rattle.linker.proofs.Stages.{rules_refused}
 use Rattle.linker.proofs.hierarchy_rules.check_rules.Goals as goal
+use Rattle.hierarchy.proofs.Indices.{none_more}
+use Rattle.hierarchy.proofs.Finding.{none_at}
 
 pub check_file-requires-clause-acyclic : goal.check_file-requires-clause-acyclic
-check_file-requires-clause-acyclic c = none_at (in_cycle c.args.set.now) c.args.set.now c.loop-number.number (file_of c.in-Some.file.now) (sym c.in-Some.ensures) c.requires.acyclic
+check_file-requires-clause-acyclic c = none_at (in_cycle c.args.set.now) c.args.set.now c.loop-number.number (file_of c.in-Some.file.now) c.requires.acyclic (sym c.in-Some.ensures)
 
 pub returns-in_err-check_file-clause-refused : goal.returns-in_err-check_file-clause-refused
 returns-in_err-check_file-clause-refused c =

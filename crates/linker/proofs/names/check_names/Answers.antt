@@ -3,9 +3,9 @@ use Rattle.std.specs.Prelude.{slice_get}
 use Rattle.classfile.specs.View.{file_of}
 use Rattle.model.specs.Resolution.{is_unresolved}
 use Rattle.std.proofs.lemmas.Result.{err_from_is_err_and}
-use Rattle.linker.proofs.Lists.{none_more}
 use Rattle.linker.proofs.Stages.{names_refused}
 use Rattle.linker.proofs.names.check_names.Goals as goal
+use Rattle.hierarchy.proofs.Indices.{none_more}
 
 pub returns-in_err-check_file-clause-refused : goal.returns-in_err-check_file-clause-refused
 returns-in_err-check_file-clause-refused c =

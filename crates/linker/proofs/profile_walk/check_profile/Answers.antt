@@ -3,9 +3,9 @@ use Rattle.classfile.specs.View.{file_of}
 use Rattle.model.specs.Profile.{is_outside_profile}
 use Rattle.model.specs.CodeConditions.{has_malformed_code}
 use Rattle.std.proofs.lemmas.Result.{err_from_is_err_and}
-use Rattle.linker.proofs.Lists.{none_more}
 use Rattle.linker.proofs.Stages.{walk_refused}
 use Rattle.linker.proofs.profile_walk.check_profile.Goals as goal
+use Rattle.hierarchy.proofs.Indices.{none_more}
 
 pub returns-in_err-check_file-clause-refused : goal.returns-in_err-check_file-clause-refused
 returns-in_err-check_file-clause-refused c =

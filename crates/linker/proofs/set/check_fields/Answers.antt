@@ -1,8 +1,10 @@
 use Rattle.std.proofs.Common.{◌∙◌, sym}
+use Rattle.std.proofs.lemmas.Bool.{or_from}
 use Rattle.model.specs.Linkable.{too_many_fields}
-use Rattle.linker.proofs.Lists.{neither, position_passes, position_none}
+use Rattle.linker.proofs.Lists.{position_passes}
 use Rattle.linker.proofs.Stages.{fields_refused}
 use Rattle.linker.proofs.set.check_fields.Goals as goal
+use Rattle.hierarchy.proofs.Indices.{no_position}
 
 pub returns-in-Some-clause-refused : goal.returns-in-Some-clause-refused
 returns-in-Some-clause-refused c =
@@ -13,4 +15,4 @@ returns-in-Some-clause-refused c =
 pub returns-in-None-clause-passed : goal.returns-in-None-clause-passed
 returns-in-None-clause-passed c =
     let trees = c.args.set.now in
-    neither _ _ (position_none (too_many_fields trees) trees (sym c.in_ok-number.ensures ∙ c.in-None.is)) c.requires
+    or_from _ _ (no_position (too_many_fields trees) trees (sym c.in_ok-number.ensures ∙ c.in-None.is)) c.requires
