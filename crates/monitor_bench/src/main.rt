@@ -3,9 +3,10 @@
 //! least, as many as the fourth says get a waiter, which is notified. `bench/monitors.sh` times it.
 #![tactic(auto)]
 
-use anyhow::{Context, Result, ensure};
+use anyhow::{Context, Error, Result, ensure};
 use model::MonitorAnswer;
 use monitor::{Call, MonitorCalls, Monitors};
+use std::alloc::{AllocError, Global};
 use std::env;
 
 /// The most locks that may be fat.
@@ -75,28 +76,65 @@ fn spread(monitors: &mut Monitors, objects: u32, fat: u32) -> u32 {
     fat.min(objects)
 }
 
-fn main(rt: HostRuntime) -> Result<()> {
-    let mut args = env::args(&rt)?;
-    let times = args.nth(1).context("how often")?;
-    let times = times.as_str().parse::<u32>()?;
-    let threads = args.next().context("how many threads")?;
-    let threads = threads.as_str().parse::<u16>()?;
-    let objects = args.next().context("how many objects")?;
-    let objects = objects.as_str().parse::<u32>()?;
-    let fat = args.next().context("how many objects with a waiter")?;
-    let fat = fat.as_str().parse::<u32>()?;
-    let mut monitors = Monitors::new(rt.alloc(), MOST_FAT);
-    for _ in 0..objects {
+/// How often an object is entered and left, how many threads wait for one, how many objects there are, and how many of
+/// them get a waiter.
+#[derive(Clone, Copy)]
+struct Counts {
+    times: u32,
+    threads: u16,
+    objects: u32,
+    fat: u32,
+}
+
+/// The number that a word spells.
+fn number(word: Option<String>, what: &'static str) -> Result<u32> {
+    let word = word.context(what)?;
+    word.as_str().parse::<u32>().map_err(Error::from)
+}
+
+/// The counts that the arguments are.
+fn asked(rt: &HostRuntime) -> Result<Counts> {
+    let mut args = env::args(rt)?;
+    let times = number(args.nth(1), "how often")?;
+    let threads = number(args.next(), "how many threads")?;
+    let objects = number(args.next(), "how many objects")?;
+    let fat = number(args.next(), "how many objects with a waiter")?;
+    Ok(Counts {
+        times,
+        threads: u16::try_from(threads)?,
+        objects,
+        fat,
+    })
+}
+
+/// Does what the counts ask for, and says how much of it was done.
+fn done(alloc: Global, asked: Counts) -> Result<Counts, AllocError> {
+    let mut monitors = Monitors::new(alloc, MOST_FAT);
+    for _ in 0..asked.objects {
         monitors.add()?;
     }
-    let done = laps(&mut monitors, times);
-    ensure!(done == times, "{done} times");
-    let waited = crowd(&mut monitors, threads);
-    ensure!(waited == threads, "{waited} threads");
-    let held = spread(&mut monitors, objects, fat);
-    ensure!(held == fat, "{held} objects");
+    Ok(Counts {
+        times: laps(&mut monitors, asked.times),
+        threads: crowd(&mut monitors, asked.threads),
+        objects: asked.objects,
+        fat: spread(&mut monitors, asked.objects, asked.fat),
+    })
+}
+
+fn main(rt: HostRuntime) -> Result<()> {
+    let asked = asked(&rt)?;
+    let Counts {
+        times,
+        threads,
+        objects,
+        fat,
+    } = done(rt.alloc(), asked)?;
+    ensure!(
+        times == asked.times && threads == asked.threads && fat == asked.fat,
+        "{times} times, {threads} threads, {fat} objects"
+    );
     println!(rt;
-        "{done} times entered and left, {waited} threads notified, {objects} objects, {held} with a waiter"
+        "{times} times entered and left, {threads} threads notified, {objects} objects, {fat} with a waiter"
     )?;
     Ok(())
 }
