@@ -186,7 +186,7 @@ module _ (files : Program) where
         let class_is : f.0 ≡ field.class = sym (ap (λ (x : Member). x.class) f.1) in
         let below : is_subclass files named.class field.class ≡ true = subst (λ c. is_subclass files named.class c ≡ true) class_is f.2 in
         let no_object : name_eq named.class java_lang_object ≡ false =
-            false_from_ne_true _ (λ h. none_of_object n named field (subst (λ c. field_from files n named c ≡ Some field) (names_same named.class java_lang_object h) e))
+        false_from_ne_true _ (λ h. none_of_object n named field (subst (λ c. field_from files n named c ≡ Some field) (names_same named.class java_lang_object h) e))
         in
         let no_interface : is_interface files named.class ≡ false = false_from_ne_true _ (λ h. none_of_interface n named field named.class h instance e) in
         let own = of_classes named.class field.class no_object below in

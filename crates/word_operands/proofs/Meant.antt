@@ -193,7 +193,7 @@ module _ (files : Program) where
         let th = thread_of_stack files os s.world.threads s.stacks t (Invocation f ∷ vs) typed.threads q in
         let thread = thread_at s.world t in
         let here : Beneath files os Instruction (Invocation f ∷ vs) =
-            subst (λ p. IsStackTyped files os p (Invocation f ∷ vs) Running) on.pending (subst (λ x. IsStackTyped files os thread.pending (Invocation f ∷ vs) x) on.runs th.stack_typed)
+        subst (λ p. IsStackTyped files os p (Invocation f ∷ vs) Running) on.pending (subst (λ x. IsStackTyped files os thread.pending (Invocation f ∷ vs) x) on.runs th.stack_typed)
         in
         record { found = f; is = cc; ready = here.0 }
 

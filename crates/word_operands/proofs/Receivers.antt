@@ -71,7 +71,7 @@ module _ (files : Program) where
   receiver_at method named want same =
       let wants = map (declared_want files) (parameters_declared method.descriptor) in
       let count : length (reverse wants) ≡ parameter_count named =
-          length-reverse wants ∙ (length-map (parameters_declared method.descriptor) (declared_want files) ∙ ap (λ d. length (parameters_declared d)) same)
+      length-reverse wants ∙ (length-map (parameters_declared method.descriptor) (declared_want files) ∙ ap (λ d. length (parameters_declared d)) same)
       in
       subst (λ n. slice_get (reverse wants ++ want ∷ []) n ≡ Some want) count (after_front (reverse wants) want)
 
