@@ -3,6 +3,7 @@ use Rattle.std.proofs.Common.{◌≡◌, ℕ, suc, ◌<◌, List, [], ◌∷◌,
 use Rattle.std.specs.Prelude.{slice_get}
 use Rattle.std.specs.Option.{option_and_then, option_map, option_map_or}
 use Rattle.std.proofs.lemmas.List.{append-nil}
+use Rattle.std.proofs.lemmas.Option.{same_Some}
 use Rattle.model.specs.declared.device.DeviceFault.{DeviceFault}
 use Rattle.model.specs.declared.device.DeviceFault.TheVariants as devices
 use Rattle.model.specs.Devices.{AppendsFront}
@@ -36,9 +37,6 @@ spelled_count (bytes ∷ files) [] h = absurd h
 
 -- ---- what verification refuses
 
-some_same : {A : Type 0} (a b : A) → Some a ≡ Some b → a ≡ b
-some_same a b q = cc
-
 abbrev shown_code : FileTree → MethodTree → CodeTree → Member × Body
 shown_code file m code = (member_named (name_of file) file.pool m.name m.descriptor, with_pool file.pool code)
 
@@ -57,7 +55,7 @@ module _ (files : Program) (linked : IsLinked files) (class k : ℕ) (member : M
       ∙ ap (option_map (with_pool file.pool)) declared.is_code in
       let shown : Member × Body = shown_code file m code in
       let given : Member × Body = (member, body) in
-      let same : shown ≡ given = some_same shown given e in
+      let same : shown ≡ given = same_Some shown given e in
       ap (body_of files) (sym (ap (λ (p : Member × Body). p.0) same)) ∙ found ∙ ap (λ (p : Member × Body). Some p.1) same
 
   by_method : (file : FileTree) → class_at files class ≡ Some file → (o : Option MethodTree) → slice_get file.methods k ≡ o → option_and_then (shown_in file) o ≡ Some (member, body) → body_of files member ≡ Some body
