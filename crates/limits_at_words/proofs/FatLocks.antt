@@ -1,7 +1,7 @@
 -- Flags of fat locks go on with what events take; calls of monitors set them so, and are refused at the limits.
 use Rattle.std.proofs.Common.{◌≡◌, ℕ, zero, suc, ◌+◌, ◌<◌, List, [], ◌∷◌, ◌++◌, length, replicate, Bool, true, false, ◌==◌, ◌&&◌, ◌||◌, not, Option, Some, None, refl, sym, ap, ◌∙◌, subst, arith}
-use Rattle.std.specs.Prelude.{if◌then◌else◌, nat_le, slice_index_or, slice_set, count_by}
-use Rattle.std.proofs.lemmas.Bool.{false≢true, cond_both, eqb-true, eq-eqb}
+use Rattle.std.specs.Prelude.{if◌then◌else◌, nat_le, slice_index_or, slice_set, count_by, Ok, Err}
+use Rattle.std.proofs.lemmas.Bool.{false≢true, cond_both, eqb-true, eq-eqb, and_parts, and_right}
 use Rattle.std.proofs.lemmas.List.{set-get_or, get_or-set_same, get_or-set_other}
 use Rattle.std.proofs.lemmas.List.Sums.{sum_by_push, sum_by-set}
 use Rattle.model.specs.declared.end.RunCause.TheVariants as cause
@@ -10,9 +10,12 @@ use Rattle.model.specs.State.{Monitor}
 use Rattle.model.specs.Outcomes.{Cost, Free, Makes, Starts, Enters, Joins}
 use Rattle.model.specs.Monitors.{Answered, done, owned, owns, as_entrant, monitor_at}
 use Rattle.model.specs.LimitStands.{is_inflating_entry, with_inflated, inflated_by, is_crowded}
-use Rattle.monitor.specs.Locks.{Locks, is_fat_at, fat_count}
+use Rattle.monitor.specs.declared.call.Call.{Call}
+use Rattle.monitor.specs.declared.call.Call.TheVariants as calls
+use Rattle.monitor.specs.declared.refusal.Refusal.TheVariants.{Monitors, LockCount, Memory}
+use Rattle.monitor.specs.Locks.{Locks, is_fat_at, fat_count, inflates_in, takes_memory, is_table_full, is_count_full}
 use Rattle.monitor_counts.specs.Counts.{is_inflated, IsOwnerCounted}
-use Rattle.limits_at_words.specs.FatLocks.{AreFlags, flags_after, IsOneOf, AreEntriesAsTaken, AreWaitsAsTaken, AreRelocksAllowed, AreFlagsKept, AreCallsAsTaken}
+use Rattle.limits_at_words.specs.FatLocks.{AreFlags, flags_after, IsOneOf, call_limit, AreEntriesAsTaken, AreWaitsAsTaken, AreRelocksAllowed, AreRefusalsLimits, AreFlagsKept, AreCallsAsTaken}
 
 -- ---- lists of flags
 
@@ -117,5 +120,41 @@ pub relocks_allowed : AreRelocksAllowed
 relocks_allowed locks objects object thread count flags returns there small =
     (there, small, returns.entries, λ thin. absurd (false≢true (sym thin ∙ (flags.same object ∙ returns.lock))))
 
+-- a lock that inflates has 256 entries, or is left by a wait
+not_full : (call : Call) (locks : Locks) → inflates_in call locks ≡ true → is_count_full call locks ≡ false
+not_full (calls.Enter object thread) locks e =
+    let m = monitor_at locks.monitors object in
+    let is = eqb-true m.count 256 (and_parts (owns thread m.owner) (m.count == 256) e).1 in
+    and_right (owns thread m.owner) (m.count == 4294967295) (ap (λ n. n == 4294967295) is)
+not_full (calls.Exit object thread) locks e = refl
+not_full (calls.Wait object thread) locks e = refl
+not_full (calls.Notify object thread pick) locks e = refl
+not_full (calls.NotifyAll object thread) locks e = refl
+not_full (calls.WakeAll object) locks e = refl
+not_full (calls.Interrupt object thread) locks e = refl
+not_full (calls.Relock object thread count) locks e = refl
+
+-- memory is taken by a wait, or where a lock inflates
+not_full_taking : (call : Call) (locks : Locks) → takes_memory call locks ≡ true → is_count_full call locks ≡ false
+not_full_taking (calls.Enter object thread) locks e = not_full (calls.Enter object thread) locks (and_parts _ _ e).0
+not_full_taking (calls.Exit object thread) locks e = refl
+not_full_taking (calls.Wait object thread) locks e = refl
+not_full_taking (calls.Notify object thread pick) locks e = refl
+not_full_taking (calls.NotifyAll object thread) locks e = refl
+not_full_taking (calls.WakeAll object) locks e = refl
+not_full_taking (calls.Interrupt object thread) locks e = refl
+not_full_taking (calls.Relock object thread count) locks e = refl
+
+-- by whether the count is full, and the table
+limit_at : (full table : Bool) (call : Call) (locks : Locks) → is_count_full call locks ≡ full → is_table_full call locks ≡ table
+    → call_limit call locks ≡ (if full then Some cause.LockCount else if table then Some cause.Monitors else None)
+limit_at full table call locks count crowded = λ i. if count i then Some cause.LockCount else if crowded i then Some cause.Monitors else None
+
+refusals_limit : AreRefusalsLimits
+refusals_limit (Ok answer) call old new h = limit_at false false call old h.count h.table
+refusals_limit (Err Monitors) call old new h = limit_at false true call old (not_full call old (and_parts _ _ h.0).0) h.0
+refusals_limit (Err LockCount) call old new h = ap (λ b. if b then Some cause.LockCount else if is_table_full call old then Some cause.Monitors else None) h.0
+refusals_limit (Err Memory) call old new h = limit_at false false call old (not_full_taking call old h.0) h.1
+
 pub calls_taken : AreCallsAsTaken
-calls_taken = record { entries = entries_as_taken; waits = waits_as_taken; relocks = relocks_allowed }
+calls_taken = record { entries = entries_as_taken; waits = waits_as_taken; relocks = relocks_allowed; refusals = refusals_limit }

@@ -1,7 +1,8 @@
 -- The locks that events inflate, as the calls of monitors keep them: a flag for each object; and what the calls answer and refuse.
-use Rattle.std.specs.Prelude.{◌≡◌, ℕ, ◌<◌, List, [], ◌∷◌, ◌++◌, Option, Some, None, Bool, true, false, if◌then◌else◌, length, replicate, slice_get, slice_index_or, slice_set, count_by, IsTrue}
+use Rattle.std.specs.Prelude.{◌≡◌, ℕ, ◌<◌, List, [], ◌∷◌, ◌++◌, Option, Some, None, Result, Ok, Err, Bool, true, false, if◌then◌else◌, length, replicate, slice_get, slice_index_or, slice_set, count_by, IsTrue}
 use Rattle.model.specs.declared.end.RunCause.{RunCause}
 use Rattle.model.specs.declared.end.RunCause.TheVariants as cause
+use Rattle.model.specs.declared.monitor_answer.MonitorAnswer.{MonitorAnswer}
 use Rattle.model.specs.declared.monitor_answer.MonitorAnswer.TheVariants.{Done}
 use Rattle.model.specs.Classes.{Program}
 use Rattle.model.specs.State.{WakeCause, Relock, Thread, StateOf}
@@ -11,7 +12,9 @@ use Rattle.model.specs.LimitStands.{is_inflating_entry, inflated_by, is_crowded,
 use Rattle.model.specs.Words.{AreWellTypedWords}
 use Rattle.monitor.specs.declared.call.Call.{Call}
 use Rattle.monitor.specs.declared.call.Call.TheVariants as calls
-use Rattle.monitor.specs.Locks.{Locks, IsAllowed, fat_after, is_table_full, is_count_full}
+use Rattle.monitor.specs.declared.refusal.Refusal.{Refusal}
+use Rattle.monitor.specs.declared.refusal.Refusal.TheVariants.{Monitors, LockCount, Memory}
+use Rattle.monitor.specs.Locks.{Locks, IsAllowed, fat_after, is_table_full, is_count_full, Answers}
 use Rattle.monitor_counts.specs.Counts.{is_inflated, Returns, IsMonitorCounted, AreMonitorsCounted}
 
 -- ---- flags
@@ -45,6 +48,18 @@ call_limit call locks =
     if is_count_full call locks then Some cause.LockCount
     else if is_table_full call locks then Some cause.Monitors
     else None
+
+-- what an answer says of limits: where a call is done, or refused for want of memory, none stands
+abbrev pub limit_told : Result MonitorAnswer Refusal → Option RunCause
+limit_told (Ok answer) = None
+limit_told (Err Monitors) = Some cause.Monitors
+limit_told (Err LockCount) = Some cause.LockCount
+limit_told (Err Memory) = None
+
+-- it tells the limit that stands, whichever call it is
+abbrev pub AreRefusalsLimits : Type 0
+AreRefusalsLimits =
+    (result : Result MonitorAnswer Refusal) (call : Call) (old new : Locks) → Answers result call old new → call_limit call old ≡ limit_told result
 
 -- the locks keep the flags of what was inflated
 pub record Shows (locks : Locks) (objects : List ℕ) (object : ℕ) : Type 0 where
@@ -94,3 +109,4 @@ pub record AreCallsAsTaken : Type 0 where
   pub entries : AreEntriesAsTaken
   pub waits : AreWaitsAsTaken
   pub relocks : AreRelocksAllowed
+  pub refusals : AreRefusalsLimits
