@@ -1,8 +1,8 @@
 -- An instance field is found in a class, and not in an interface: up the superclasses of the class that is named.
 use Rattle.std.proofs.Common.{◌≡◌, ◌⊎◌, inl, inr, ℕ, zero, suc, List, [], ◌∷◌, length, Bool, true, false, not, ◌&&◌, is_some, if◌then◌else◌, Option, Some, None, refl, sym, ap, ◌∙◌, subst, ⊎_elim}
 use Rattle.std.specs.Option.{option_and_then, option_map_or, option_or, is_none}
-use Rattle.std.specs.List.{AllByRecursion, list_any, list_all}
-use Rattle.std.proofs.lemmas.Bool.{false≢true, true≢false, and_parts, or_parts, or_right, not-true, false_from_ne_true}
+use Rattle.std.specs.List.{AllByRecursion, list_all}
+use Rattle.std.proofs.lemmas.Bool.{false≢true, true≢false, or_parts, or_right, not-true, false_from_ne_true}
 use Rattle.model.specs.Names.{Name, name_eq, Member, java_lang_object}
 use Rattle.model.specs.Tree.{FieldTree, FileTree}
 use Rattle.model.specs.AccessFlags.{is_interface_class}
@@ -12,15 +12,13 @@ use Rattle.model.specs.Lookup.{is_field, field_in, field_of, in_class, where_so,
 use Rattle.model.specs.Hierarchy.{is_found_class}
 use Rattle.model.specs.Resolution.{is_missing}
 use Rattle.model.specs.Profile.{field_of_left_out_type, left_out_constant, instance_field_of_interface, field_outside_profile, is_outside_profile}
-use Rattle.model.specs.ReferenceTypes.{ReferenceType, ClassType, PrimitiveArray, ReferenceArray, is_assignable}
-use Rattle.model.specs.DescribedTypes.{made_type}
-use Rattle.laws.specs.Steps.{Rooted}
+use Rattle.model.specs.ReferenceTypes.{ClassType, PrimitiveArray, ReferenceArray}
 use Rattle.laws.proofs.Lists.{every_weaken}
 use Rattle.laws.proofs.Found.{found_has, none_any, every_all, every_both, some_from, map_or_at}
 use Rattle.laws.proofs.Classes.{names_same, subclass_self, subclass_trans, object_is_top}
 use Rattle.laws.proofs.Homes.{class_has}
 use Rattle.laws.proofs.Unrefused.{Unrefused}
-use Rattle.laws.proofs.LinkedCode.{Resolved, resolved}
+use Rattle.laws.proofs.LinkedCode.{resolved}
 use Rattle.laws.proofs.LinkedClasses.{ordered, rooted, interface_super}
 use Rattle.word_operands.specs.Receivers.{AreInstances, NamesField}
 

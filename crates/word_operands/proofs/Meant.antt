@@ -1,7 +1,6 @@
 -- A frame that is ready stands at an instruction that means something, and that finds its operands.
-use Rattle.std.proofs.Common.{◌≡◌, ℕ, ◌+◌, ◌<◌, ◌≤◌, List, [], ◌∷◌, length, map, take, drop, leb, Bool, true, false, ◌&&◌, Option, Some, None, option_map, refl, sym, ap, ◌∙◌, subst, arith}
+use Rattle.std.proofs.Common.{◌≡◌, ℕ, ◌+◌, ◌<◌, ◌≤◌, List, [], ◌∷◌, length, map, take, drop, Bool, true, false, ◌&&◌, Option, Some, None, option_map, refl, sym, ap, ◌∙◌, subst, arith}
 use Rattle.std.specs.Prelude.{slice_get, nat_le, if◌then◌else◌}
-use Rattle.std.specs.Option.{option_and_then}
 use Rattle.std.specs.List.{AllByRecursion}
 use Rattle.std.proofs.lemmas.Bool.{and_parts, leb-true}
 use Rattle.std.proofs.lemmas.Option.{slice_get-map, same_Some}
@@ -22,7 +21,7 @@ use Rattle.model.specs.Typing.{may_stand, flow_by, flow_at}
 use Rattle.model.specs.WellTyped.{has_type, Ready, Beneath, Instruction, IsStackTyped, IsWellTyped}
 use Rattle.model.specs.Words.{map_object, map_frame, map_slots, words_of, AreWellTypedWords}
 use Rattle.laws.specs.Steps.{Rooted}
-use Rattle.laws.proofs.Lists.{Pairwise, of_pairs, pair_length}
+use Rattle.laws.proofs.Lists.{of_pairs, pair_length}
 use Rattle.laws.proofs.Rows.{SlotsTyped, slots_of, ready_both, ready_popped}
 use Rattle.laws.proofs.Answered.{thread_of_stack}
 use Rattle.word_runs.proofs.WordWorlds.{types_words}

@@ -1,24 +1,22 @@
 -- What a word that is as wanted refers to, and where the object of an instruction stands.
-use Rattle.std.proofs.Common.{◌≡◌, ℕ, zero, suc, ◌<◌, List, [], ◌∷◌, ◌++◌, length, map, Bool, true, false, ◌&&◌, ◌==◌, Option, Some, None, option_map, refl, sym, ap, ◌∙◌, subst, arith}
+use Rattle.std.proofs.Common.{◌≡◌, ℕ, zero, suc, ◌<◌, List, [], ◌∷◌, length, Bool, true, false, Option, Some, None, option_map, refl, sym, subst, arith}
 use Rattle.std.specs.Prelude.{slice_get, slice_index_or}
 use Rattle.std.specs.Option.{option_map_or}
 use Rattle.std.proofs.lemmas.Bool.{false≢true, and_parts}
 use Rattle.std.proofs.lemmas.Option.{slice_get-map}
-use Rattle.model.specs.declared.instr.ArrayKind.{ArrayKind}
 use Rattle.model.specs.declared.instr.ArrayKind.TheVariants as array_kind
 use Rattle.model.specs.Names.{Name, name_eq, java_lang_object, println_int}
 use Rattle.model.specs.DescriptorScan.{element_at, field_at, field_type, parameters_at, method_type}
 use Rattle.model.specs.Calls.{parameter_count}
 use Rattle.model.specs.Classes.{Program, is_subclass, classes_of}
-use Rattle.model.specs.ReferenceTypes.{Primitive, Boolean, Char, Byte, Short, Int, primitive_number, ReferenceType, ClassType, PrimitiveArray, ReferenceArray, is_assignable}
-use Rattle.model.specs.Types.{Want, AReference, AByteArray, is_array_type, is_byte_array_type}
+use Rattle.model.specs.ReferenceTypes.{Boolean, Char, Byte, Short, Int, ReferenceType, ClassType, PrimitiveArray, ReferenceArray, is_assignable}
+use Rattle.model.specs.Types.{Want, is_array_type, is_byte_array_type}
 use Rattle.model.specs.Operands.{pops_meet}
 use Rattle.model.specs.Objects.{any_object}
 use Rattle.model.specs.State.{ObjectOf, Instance, Primitives, References, type_of, types_of}
-use Rattle.model.specs.Worlds.{class_of_object}
 use Rattle.laws.proofs.Classes.{names_same, subclass_self}
 use Rattle.word_operands.specs.Operands.{is_word_with, word_meets}
-use Rattle.word_operands.specs.Receivers.{AreInstances, is_instance_below, has_class_below, is_array, is_array_of, is_null_or, Receiver, receiver, IsReceived}
+use Rattle.word_operands.specs.Receivers.{AreInstances, is_instance_below, has_class_below, is_array, is_array_of, is_null_or, receiver, IsReceived}
 
 -- ---- the operand at a place
 

@@ -1,7 +1,7 @@
 -- The object of each instruction of linked files is null or of the class or kind that the instruction needs.
-use Rattle.std.proofs.Common.{◌≡◌, ◌⊎◌, ℕ, zero, suc, ◌+◌, ◌≤◌, List, [], ◌∷◌, ◌++◌, length, map, reverse, drop, Bool, true, false, ◌&&◌, if◌then◌else◌, Option, Some, None, option_map, refl, sym, ap, ◌∙◌, subst, ⊎_elim, arith}
+use Rattle.std.proofs.Common.{◌≡◌, ℕ, suc, ◌+◌, List, [], ◌∷◌, ◌++◌, length, map, reverse, drop, Bool, true, false, ◌&&◌, if◌then◌else◌, Option, Some, None, option_map, refl, sym, ap, ◌∙◌, subst, ⊎_elim, arith}
 use Rattle.std.specs.Prelude.{slice_get, nat_le}
-use Rattle.std.specs.Option.{option_and_then, option_map_or, option_or}
+use Rattle.std.specs.Option.{option_and_then, option_map_or}
 use Rattle.std.proofs.lemmas.Bool.{true≢false, and_parts, or_cases}
 use Rattle.std.proofs.lemmas.Option.{same_Some}
 use Rattle.std.proofs.lemmas.List.{length-map, length-reverse}
@@ -10,12 +10,11 @@ use Rattle.model.specs.declared.instr.ArrayKind.TheVariants as array_kind
 use Rattle.model.specs.declared.instr.FieldAccess.TheVariants as access
 use Rattle.model.specs.declared.instr.Instr.{Instr}
 use Rattle.model.specs.declared.instr.Instr.TheVariants as instr
-use Rattle.model.specs.declared.instr.Invocation.{Invocation}
 use Rattle.model.specs.declared.instr.Invocation.TheVariants as invocation
 use Rattle.model.specs.Names.{Name, name_eq, Member, member_eq, constructor_name, println_int, java_lang_object, java_lang_throwable, java_io_print_stream}
 use Rattle.model.specs.Tree.{MethodTree}
 use Rattle.model.specs.Pool.{class_name_at, field_at, method_at, interface_method_at}
-use Rattle.model.specs.Classes.{Program, Body, body_of, classes_of, superclass_of, is_within, is_subclass, is_interface, lineage, all_superinterfaces}
+use Rattle.model.specs.Classes.{Program, Body, body_of, classes_of, is_within, is_subclass, is_interface, lineage, all_superinterfaces}
 use Rattle.model.specs.Instruction.{Sized, sized_at}
 use Rattle.model.specs.InstructionStarts.{is_start}
 use Rattle.model.specs.Lookup.{find_field, field_of, is_instance_field, method_of, in_class, first_found, method_declared, any_method, find_method, is_public_instance_method, find_interface_method}
@@ -37,8 +36,8 @@ use Rattle.laws.proofs.Classes.{names_same, members_same, more_steps, above_obje
 use Rattle.laws.proofs.Order.{assignable_trans}
 use Rattle.laws.proofs.Linked.{Linked}
 use Rattle.laws.proofs.Unrefused.{Unrefused}
-use Rattle.word_operands.specs.Operands.{IsOnTop, HasMeaning, Finds, word_meets}
-use Rattle.word_operands.specs.Receivers.{AreInstances, NamesField, is_instance_below, has_class_below, is_array, is_array_of, is_any, is_null_or, Receiver, receiver, receiver_of, IsReceived}
+use Rattle.word_operands.specs.Operands.{IsOnTop, HasMeaning, word_meets}
+use Rattle.word_operands.specs.Receivers.{AreInstances, is_instance_below, has_class_below, is_array, is_array_of, is_any, is_null_or, Receiver, receiver, receiver_of, IsReceived}
 use Rattle.word_operands.proofs.Meant.{meant, operands_found}
 use Rattle.word_operands.proofs.Fields.{or_some, where_is, names_field}
 use Rattle.word_operands.proofs.Objects.{println_count, of_objects, received, instance_fits, class_fits, array_fits, bytes_fit, ints_fit, chars_fit, shorts_fit, references_fit}

@@ -13,14 +13,14 @@ use Rattle.model.specs.Names.{Name, Member}
 use Rattle.model.specs.Tree.{CodeTree, FileTree}
 use Rattle.model.specs.Pool.{integers_of}
 use Rattle.model.specs.BuiltIn.{built_in_classes}
-use Rattle.model.specs.Classes.{Program, Body, class_of, with_pool, body_of}
+use Rattle.model.specs.Classes.{Program, Body, class_of, body_of}
 use Rattle.model.specs.Instruction.{Sized, instr_at, sized_at, wide_at, table_switch_at, lookup_switch_at}
 use Rattle.model.specs.OpcodeTable.{low_form, high_form}
 use Rattle.model.specs.DescriptorScan.{element_at, field_at, field_type, parameters_at, method_type}
 use Rattle.model.specs.InstructionStarts.{starts_from, is_start}
 use Rattle.model.specs.CodeParts.{marked_from, any_instruction}
 use Rattle.model.specs.CodeConditions.{jump_off_boundary, unsorted_matches, local_above_max, malformed_instruction, malformed_code, has_malformed_code}
-use Rattle.model.specs.Rows.{Row, move_row, constant_row, jump_row, local_row}
+use Rattle.model.specs.Rows.{Row, move_row, constant_row, local_row}
 use Rattle.model.specs.Sites.{Site, site_with, site_at}
 use Rattle.laws.proofs.Lists.{every_weaken}
 use Rattle.laws.proofs.Found.{every_all, map_or_at}

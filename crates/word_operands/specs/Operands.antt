@@ -1,6 +1,6 @@
 -- What the instruction of a frame finds at the words of a well-typed state (JVMS 2.6.1, 2.6.2, 4.10.1): that it means something,
 -- and which local variables and operands are there for it.
-use Rattle.std.specs.Prelude.{◌≡◌, ℕ, zero, suc, ◌+◌, ◌<◌, ◌≤◌, List, [], ◌∷◌, Option, Some, None, Bool, true, false, nat_lt, length, map, take, drop, slice_get, IsTrue}
+use Rattle.std.specs.Prelude.{◌≡◌, ℕ, zero, suc, ◌+◌, ◌<◌, ◌≤◌, List, ◌∷◌, Some, None, Bool, true, false, nat_lt, length, map, take, drop, slice_get, IsTrue}
 use Rattle.std.specs.Option.{option_map_or}
 use Rattle.std.specs.List.{AllByRecursion}
 use Rattle.model.specs.declared.value.Value.{Value}

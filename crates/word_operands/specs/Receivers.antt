@@ -1,6 +1,6 @@
 -- What the object is to which an instruction is done, at the words of a well-typed state (JVMS 4.10.1.9, 6.5): null, or there and
 -- of the class or kind that the instruction needs.
-use Rattle.std.specs.Prelude.{◌≡◌, ℕ, zero, suc, ◌<◌, List, [], ◌∷◌, Option, Some, None, Bool, true, false, length, slice_get, slice_index_or, IsTrue, IsFalse}
+use Rattle.std.specs.Prelude.{◌≡◌, ℕ, zero, suc, ◌<◌, List, Option, Some, None, Bool, true, false, length, slice_get, slice_index_or, IsTrue, IsFalse}
 use Rattle.std.specs.Option.{option_map, option_map_or, option_and_then}
 use Rattle.model.specs.declared.instr.ArrayKind.{ArrayKind}
 use Rattle.model.specs.declared.instr.ArrayKind.TheVariants as array_kind
@@ -9,12 +9,11 @@ use Rattle.model.specs.declared.instr.Instr.{Instr}
 use Rattle.model.specs.declared.instr.Instr.TheVariants as instr
 use Rattle.model.specs.declared.instr.Invocation.TheVariants as invocation
 use Rattle.model.specs.Names.{Name, name_eq, Member, java_lang_object, java_lang_throwable}
-use Rattle.model.specs.Tree.{FieldTree}
 use Rattle.model.specs.Pool.{field_at, method_at, interface_method_at}
 use Rattle.model.specs.Classes.{Program, Body, body_of, is_interface, is_subclass}
 use Rattle.model.specs.Lookup.{find_field, field_of, is_instance_field}
 use Rattle.model.specs.Linkable.{IsLinkable}
-use Rattle.model.specs.ReferenceTypes.{Primitive, Boolean, Char, Byte, Short, Int, ReferenceType, ClassType, is_assignable}
+use Rattle.model.specs.ReferenceTypes.{Primitive, Char, Short, Int, ReferenceType, ClassType, is_assignable}
 use Rattle.model.specs.DescribedTypes.{made_type}
 use Rattle.model.specs.Types.{is_byte_or_boolean}
 use Rattle.model.specs.State.{ObjectOf, Instance, Primitives, References, FrameOf, StateOf}
