@@ -1,6 +1,7 @@
 use Rattle.std.proofs.Common.{◌∙◌, sym}
 use Rattle.model.specs.Hierarchy.{in_cycle}
-use Rattle.linker.proofs.Lists.{position_passes, position_none}
+use Rattle.hierarchy.proofs.Indices.{no_position}
+use Rattle.linker.proofs.Lists.{position_passes}
 use Rattle.linker.proofs.Stages.{cycle_refused}
 use Rattle.linker.proofs.hierarchy_rules.hierarchy_of.Goals as goal
 
@@ -13,4 +14,4 @@ returns-in-Some-clause-refused c =
 
 pub check_rules-requires-clause-acyclic : goal.check_rules-requires-clause-acyclic
 check_rules-requires-clause-acyclic c =
-    position_none (in_cycle c.args.set) c.args.set (sym c.in_ok-found.ensures ∙ c.in_default.is)
+    no_position (in_cycle c.args.set) c.args.set (sym c.in_ok-found.ensures ∙ c.in_default.is)
