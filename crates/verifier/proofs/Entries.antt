@@ -2,7 +2,6 @@
 -- their parts.
 use Rattle.std.proofs.Common.{◌≡◌, ℕ, zero, suc, ◌<◌, ◌≤◌, ◌+◌, List, [], ◌∷◌, ◌++◌, length, map, take, drop, get_or, Bool, true, false, Option, Some, None, refl, sym, ap, ◌∙◌, subst, arith}
 use Rattle.std.specs.Prelude.{replicate, slice_get, slice_set, option_map}
-use Rattle.std.proofs.lemmas.Bool.{false≢true}
 use Rattle.std.proofs.lemmas.Option.{slice_get_read}
 use Rattle.std.proofs.lemmas.List.{length-map, append_assoc, take-append-drop, take_all, map-append}
 use Rattle.std.specs.Global.{Vec}
@@ -30,6 +29,7 @@ use Rattle.verifier.specs.declared.fault.MethodFault.TheVariants.{Unverified, Ou
 use Rattle.flow.specs.declared.lead.Lead.{Lead}
 use Rattle.verifier.specs.declared.found.Origin.{Origin}
 use Rattle.verifier.specs.declared.found.Found.{Found}
+use Rattle.opcodes.proofs.Marked.{mark_within}
 
 -- ---- entries
 
@@ -51,15 +51,10 @@ marked_again [] k w = refl
 marked_again (m ∷ ms) zero w = ap (λ b. b ∷ ms) (sym w)
 marked_again (m ∷ ms) (suc k) w = ap (λ l. m ∷ l) (marked_again ms k w)
 
-marked_within : (marks : List Bool) (k : ℕ) → get_or marks k false ≡ true → k < length marks
-marked_within [] k w = absurd (false≢true w)
-marked_within (m ∷ ms) zero w = omega arith
-marked_within (m ∷ ms) (suc k) w = let l = marked_within ms k w in omega (arith, l)
-
 -- an instruction begins within the code, and so within the tables
 pub start_within : (files : Program) (body : Body) (found : Found) (marks : List Bool) (k : ℕ) (is : Bool) → marks ≡ starts body.code.code → AreOver body (tables_in files found) → is ≡ get_or marks k false → is ≡ true → (k < length found.types.items) × (k < length found.waiting)
 start_within files body found marks k is e over f g =
-    let l = marked_within marks k (sym f ∙ g) in
+    let l = mark_within marks k (sym f ∙ g) in
     let m : length marks ≡ length body.code.code = ap length e ∙ length-starts body.code.code in
     let n : length found.types.items ≡ length body.code.code = sym (length-map _ _) ∙ over.types in
     let o = over.waiting in
@@ -68,7 +63,7 @@ start_within files body found marks k is e over f g =
 -- an offset that waits is within the tables
 pub waiting_within : (files : Program) (body : Body) (found : Found) (k : ℕ) → AreOver body (tables_in files found) → waits found.waiting k ≡ true → k < length found.types.items
 waiting_within files body found k over w =
-    let l = marked_within found.waiting k w in
+    let l = mark_within found.waiting k w in
     let n : length found.types.items ≡ length body.code.code = sym (length-map _ _) ∙ over.types in
     let o = over.waiting in
     omega (arith, l, n, o)

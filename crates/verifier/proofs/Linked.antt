@@ -1,14 +1,10 @@
 -- What linking gives to a search: the files are ordered, and each superclass is found.
-use Rattle.std.proofs.Common.{◌≡◌, Bool, true, false, ◌||◌, refl, sym, subst}
-use Rattle.std.proofs.lemmas.Bool.{false≢true}
+use Rattle.std.proofs.Common.{◌≡◌, false, sym, subst}
+use Rattle.std.proofs.lemmas.Bool.{or_parts}
 use Rattle.model.specs.Classes.{Program}
 use Rattle.model.specs.Linkable.{NoMain, TooManyFields, Unresolved, stands, some_stands}
 use Rattle.types.specs.Superclasses.{HasSuperclasses}
 use Rattle.types.proofs.Linking.{superclasses_found}
-
-or_parts : (a b : Bool) → (a || b) ≡ false → (a ≡ false) × (b ≡ false)
-or_parts true b e = absurd (false≢true (sym e))
-or_parts false b e = (refl, e)
 
 pub has_superclasses : (files set : Program) → set ≡ files → some_stands files ≡ false → HasSuperclasses set
 has_superclasses files set same e =

@@ -2,12 +2,11 @@
 use Rattle.std.proofs.Common.{◌≡◌, ℕ, suc, ◌≤◌, List, [], ◌∷◌, length, find, cond, Bool, true, false, Option, Some, None, refl, sym, ap, ◌∙◌}
 use Rattle.std.specs.Prelude.{slice_get}
 use Rattle.std.specs.Option.{option_and_then, option_map}
-use Rattle.std.proofs.lemmas.Bool.{false≢true, and_parts}
-use Rattle.std.proofs.lemmas.Option.{slice_get_past}
-use Rattle.model.specs.Names.{Name, spells, Member}
-use Rattle.model.specs.Tree.{Entry, Utf8, Integer, Float, Long, Double, Class, String, Field, Method, InterfaceMethod, NameAndType, Unusable, FileTree, MethodTree, CodeTree}
-use Rattle.model.specs.Spelling.{entry_at, text_of}
-use Rattle.model.specs.Pool.{utf8_of}
+use Rattle.std.proofs.lemmas.Bool.{and_parts}
+use Rattle.std.proofs.lemmas.Option.{slice_get_past, same_Some}
+use Rattle.model.specs.Names.{Name, Member}
+use Rattle.model.specs.Tree.{FileTree, MethodTree, CodeTree}
+use Rattle.model.specs.Spelling.{entry_at}
 use Rattle.model.specs.Conditions.{text_at}
 use Rattle.model.specs.Classes.{Program, Body, with_pool, name_of, classes_of, is_named, class_of, is_method, declared_in, code_in, body_in, body_of}
 use Rattle.model.specs.Typing.{HasTyping, AreTyped}
@@ -15,6 +14,7 @@ use Rattle.laws.proofs.Classes.{names_same}
 use Rattle.hierarchy.specs.Places.{class_at}
 use Rattle.method_code.specs.View.{member_named, shown_in, shown_at}
 use Rattle.verifier.specs.Places.{IsTypedAt, AreTypedIn}
+use Rattle.laws.proofs.Homes.{spelled}
 
 -- where what is found stands
 pub record FoundAt {A : Type 0} (p : A → Bool) (xs : List A) (x : A) : Type 0 where
@@ -22,30 +22,13 @@ pub record FoundAt {A : Type 0} (p : A → Bool) (xs : List A) (x : A) : Type 0 
   pub there : slice_get xs place ≡ Some x
   pub passes : p x ≡ true
 
-some_same : {A : Type 0} (a b : A) → Some a ≡ Some b → a ≡ b
-some_same a b q = cc
-
 found_at : {A : Type 0} (p : A → Bool) (xs : List A) (x : A) → find p xs ≡ Some x → FoundAt p xs x
 found_at p [] x e = absurd cc
 found_at p (y ∷ ys) x e = by (p y) refl e (λ q. found_at p ys x q)
   where
     by : (b : Bool) → p y ≡ b → cond b (Some y) (find p ys) ≡ Some x → (find p ys ≡ Some x → FoundAt p ys x) → FoundAt p (y ∷ ys) x
-    by true t q rest = let same = some_same y x q in record { place = 0; there = q; passes = ap p (sym same) ∙ t }
+    by true t q rest = let same = same_Some y x q in record { place = 0; there = q; passes = ap p (sym same) ∙ t }
     by false t q rest = let r = rest q in record { place = suc r.place; there = r.there; passes = r.passes }
-
-text_is : (e : Entry) (name : Name) → spells (utf8_of e) name ≡ true → text_of e ≡ name
-text_is (Utf8 text) name h = names_same text name h
-text_is (Integer bits) name h = absurd (false≢true h)
-text_is (Float bits) name h = absurd (false≢true h)
-text_is (Long bits) name h = absurd (false≢true h)
-text_is (Double bits) name h = absurd (false≢true h)
-text_is (Class index) name h = absurd (false≢true h)
-text_is (String index) name h = absurd (false≢true h)
-text_is (Field class name_and_type) name h = absurd (false≢true h)
-text_is (Method class name_and_type) name h = absurd (false≢true h)
-text_is (InterfaceMethod class name_and_type) name h = absurd (false≢true h)
-text_is (NameAndType index descriptor) name h = absurd (false≢true h)
-text_is Unusable name h = absurd (false≢true h)
 
 member_is : (member : Member) (class name descriptor : Name) → class ≡ member.class → name ≡ member.name → descriptor ≡ member.descriptor → record { class = class; name = name; descriptor = descriptor } ≡ member
 member_is member class name descriptor p q r =
@@ -68,13 +51,13 @@ module _ (files : Program) (member : Member) (body : Body) where
   by_code file c m f (Some code) q e =
       let named = and_parts _ _ f.passes in
       let class = names_same (name_of file) member.class c.passes in
-      let name = text_is (entry_at file.pool m.name) member.name named.0 in
-      let descriptor = text_is (entry_at file.pool m.descriptor) member.descriptor named.1 in
+      let name = spelled (entry_at file.pool m.name) member.name named.0 in
+      let descriptor = spelled (entry_at file.pool m.descriptor) member.descriptor named.1 in
       let same = member_is member (name_of file) (text_at file.pool m.name) (text_at file.pool m.descriptor) class name descriptor in
       record {
         class = c.place;
         method = f.place;
-        there = ap (option_and_then (λ (k : FileTree). option_and_then (shown_in k) (slice_get k.methods f.place))) c.there ∙ (ap (option_and_then (shown_in file)) f.there ∙ (ap (option_map (λ (code : CodeTree). (member_named (name_of file) file.pool m.name m.descriptor, with_pool file.pool code))) q ∙ (ap (λ x. Some (x, with_pool file.pool code)) same ∙ ap (λ b. Some (member, b)) (some_same (with_pool file.pool code) body e))));
+        there = ap (option_and_then (λ (k : FileTree). option_and_then (shown_in k) (slice_get k.methods f.place))) c.there ∙ (ap (option_and_then (shown_in file)) f.there ∙ (ap (option_map (λ (code : CodeTree). (member_named (name_of file) file.pool m.name m.descriptor, with_pool file.pool code))) q ∙ (ap (λ x. Some (x, with_pool file.pool code)) same ∙ ap (λ b. Some (member, b)) (same_Some (with_pool file.pool code) body e))));
       }
 
   by_method : (file : FileTree) (c : FoundAt (is_named member.class) (classes_of files) file) (o : Option MethodTree) → declared_in file member.name member.descriptor ≡ o → option_map (with_pool file.pool) (option_and_then (λ (m : MethodTree). code_in m.parts) o) ≡ Some body → StandsAt files member body

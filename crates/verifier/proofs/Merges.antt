@@ -4,6 +4,7 @@ use Rattle.std.specs.Prelude.{slice_get}
 use Rattle.std.specs.List.{AllByRecursion}
 use Rattle.std.proofs.lemmas.Bool.{cases_eq}
 use Rattle.std.proofs.lemmas.List.{length-set}
+use Rattle.std.proofs.lemmas.Option.{same_Some}
 use Rattle.model.specs.Names.{Member}
 use Rattle.model.specs.InstructionStarts.{is_start}
 use Rattle.model.specs.Classes.{Program, Body}
@@ -19,9 +20,6 @@ use Rattle.typing_search.proofs.Merging.{get_set_here, get_set_other, merged_sam
 use Rattle.typing_search.proofs.Weights.{raised_lighter, first_lighter, work_merged}
 use Rattle.verifier.specs.Found.{Tables, AreOver, AreLow, HasMerged}
 use Rattle.verifier.proofs.Entries.{tables_same}
-
-some_same : {A : Type 0} (x y : A) → Some x ≡ Some y → x ≡ y
-some_same x y e = cc
 
 pub low_parts : (files : Program) (limit : ℕ) (xs ys : List (ℕ × FrameType)) → AllByRecursion (λ lead. IsLowFrame files limit lead.1) (xs ++ ys) → AllByRecursion (λ lead. IsLowFrame files limit lead.1) xs × AllByRecursion (λ lead. IsLowFrame files limit lead.1) ys
 low_parts files limit [] ys l = (tt, l)
@@ -43,7 +41,7 @@ module _ (files : Program) (ordered : IsOrdered files) (body : Body) where
 
     low_put : (limit : ℕ) (entry : Option FrameType) (next : FrameType) → slice_get before.types to ≡ Some entry → AreLow files limit before → IsLowFrame files limit next → AreLow files limit (put_at next)
     low_put limit entry next at low l k u e =
-        ⊎_elim (λ q. subst (IsLowFrame files limit) (some_same next u (sym (ap entry_of (get_set_here before.types to (Some next) entry at)) ∙ subst (λ j. typing_of (found_at before.types to next) j ≡ Some u) q e)) l) (λ n. low k u (sym (ap entry_of (get_set_other before.types to k (Some next) n)) ∙ e)) (cases_eq k to)
+        ⊎_elim (λ q. subst (IsLowFrame files limit) (same_Some next u (sym (ap entry_of (get_set_here before.types to (Some next) entry at)) ∙ subst (λ j. typing_of (found_at before.types to next) j ≡ Some u) q e)) l) (λ n. low k u (sym (ap entry_of (get_set_other before.types to k (Some next) n)) ∙ e)) (cases_eq k to)
 
     first_put : slice_get before.types to ≡ Some None → is_start body.code.code to ≡ true → IsSized body t → HasMerged files body before ((to, t) ∷ []) (put_at t)
     first_put at start size =
