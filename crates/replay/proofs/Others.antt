@@ -1,7 +1,8 @@
 -- System.out, println and return in main.
-use Rattle.std.proofs.Common.{◌≡◌, ℕ, zero, suc, List, [], ◌∷◌, ◌++◌, map, Option, Some, None, Bool, true, false, ◌&&◌, refl, sym, ap, subst, ◌∙◌, arith}
+use Rattle.std.proofs.Common.{◌≡◌, ℕ, zero, suc, List, [], ◌∷◌, ◌++◌, map, Option, Some, None, Bool, true, false, refl, sym, ap, subst, ◌∙◌, arith}
 use Rattle.std.proofs.lemmas.Bool.{ne_eqb, eqb-true}
 use Rattle.std.specs.Prelude.{ℤ, slice_get, codes}
+use mathlib.Core.Bool.{and-false}
 use Rattle.model.specs.declared.value.Value.{Value}
 use Rattle.model.specs.declared.value.Value.TheVariants as value
 use Rattle.model.specs.Tree.{FileTree}
@@ -39,10 +40,6 @@ built_in_system = refl
 pub main_returns : is_nothing (returned_of (codes "([Ljava/lang/String;)V")) ≡ true
 unfolding element_at field_at field_type parameters_at method_type
 main_returns = refl
-
-and_false : (a : Bool) → (a && false) ≡ false
-and_false true = refl
-and_false false = refl
 
 -- a String object is no PrintStream, nor is a Class object
 string_objects : (files : Program) (texts : List (List ℕ)) (n : ℕ) → is_object_below files (ClassType java_io_print_stream) (slice_get (types_of {A = Value} (map (λ text. Instance java_lang_string []) texts)) n) ≡ false
@@ -145,7 +142,7 @@ module _ (file : FileTree) (frames : ℕ) (printed : List ℤ) (place : Place) w
   no_receiver (value.Reference r ∷ rest) bits i h = refl
 
   println_full : (next : ℕ) → has_room 2 0 (main_code file).max_stack place.slots.stack ≡ false → with_meaning file frames printed place (Some (println_meaning values next)) ≡ WrongKind
-  println_full next h = rw (h, and_false (finds_println place.slots.stack)) refl
+  println_full next h = rw (h, and-false (finds_println place.slots.stack)) refl
 
   -- ---- return
 

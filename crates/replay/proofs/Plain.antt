@@ -3,6 +3,7 @@ use Rattle.std.proofs.Common.{◌≡◌, ℕ, ◌+◌, List, ◌∷◌, length, 
 use Rattle.std.specs.Prelude.{IfSome, slice_index_or}
 use Rattle.std.specs.Option.{option_map, option_and_then, is_none}
 use Rattle.std.proofs.Math.ListN.{get_or-map}
+use Rattle.std.proofs.lemmas.Bool.{or_parts}
 use Rattle.model.specs.declared.instr.Returned.TheVariants as returned
 use Rattle.model.specs.declared.instr.FieldAccess.TheVariants as access
 use Rattle.model.specs.declared.instr.Invocation.TheVariants as invocation
@@ -26,7 +27,6 @@ use Rattle.replay.specs.Taking.{program_of, main_in, main_body, main_code, Suits
 use Rattle.replay.specs.Placed.{IsPlaced, JumpsFit}
 use Rattle.replay.specs.Profile.{is_outside_instruction, is_other_than}
 use Rattle.replay.specs.Machine.{meaning_at, other_of}
-use Rattle.replay.proofs.Inside.{left_false, right_false}
 use Rattle.replay.proofs.Alone.{taken, jumps_fit}
 use Rattle.replay.proofs.Placed.{next_placed}
 
@@ -86,7 +86,7 @@ module _ (file : FileTree) (pc next : ℕ) where
   other_is (instr.Const value) h n = absurd cc
   other_is (instr.LoadConstant index) h n =
       let other = is_none (integer_of (entry_at file.pool index)) in
-      absurd (some_int (integer_of (entry_at file.pool index)) (right_false false other (left_false (false || other) false (left_false (false || other || false) false h))) (sym (integer_at file.pool index) ∙ no_row next (slice_index_or (integers_of file.pool) index None) n))
+      absurd (some_int (integer_of (entry_at file.pool index)) (or_parts false other (or_parts (false || other) false (or_parts (false || other || false) false h).0).0).1 (sym (integer_at file.pool index) ∙ no_row next (slice_index_or (integers_of file.pool) index None) n))
   other_is (instr.Load kind local) h n = absurd cc
   other_is (instr.Store kind local) h n = absurd cc
   other_is (instr.LoadElement kind) h n = absurd cc
@@ -107,11 +107,11 @@ module _ (file : FileTree) (pc next : ℕ) where
   other_is (instr.Return returned.Int) h n = absurd cc
   other_is (instr.Return returned.Reference) h n = absurd cc
   other_is (instr.Field access.GetStatic index) h n =
-      gets index (right_false false (is_other_than system_out (field_at file.pool index)) (left_false (false || is_other_than system_out (field_at file.pool index)) false h))
+      gets index (or_parts false (is_other_than system_out (field_at file.pool index)) (or_parts (false || is_other_than system_out (field_at file.pool index)) false h).0).1
   other_is (instr.Field access.PutStatic index) h n = absurd cc
   other_is (instr.Field access.GetField index) h n = absurd cc
   other_is (instr.Field access.PutField index) h n = absurd cc
-  other_is (instr.Invoke invocation.Virtual index) h n = prints index (right_false false (is_other_than println_int (method_at file.pool index)) h)
+  other_is (instr.Invoke invocation.Virtual index) h n = prints index (or_parts false (is_other_than println_int (method_at file.pool index)) h).1
   other_is (instr.Invoke invocation.Special index) h n = absurd cc
   other_is (instr.Invoke invocation.Static index) h n = absurd cc
   other_is (instr.InvokeInterface index count last) h n = absurd cc

@@ -1,26 +1,25 @@
 -- What accepted files give to the machine, where the one file is not outside.
-use Rattle.std.proofs.Common.{◌≡◌, ℕ, ◌+◌, ◌<◌, ◌≤◌, ◌^◌, List, [], ◌∷◌, length, Option, Some, None, Bool, true, false, not, ◌&&◌, cond, refl, sym, ap, subst, ◌∙◌, length-append, arith}
+use Rattle.std.proofs.Common.{◌≡◌, ℕ, ◌<◌, ◌≤◌, ◌^◌, List, [], ◌∷◌, length, Option, Some, None, Bool, true, false, not, ◌&&◌, cond, refl, sym, ap, subst, ◌∙◌, arith}
 use Rattle.std.specs.Prelude.{codes, MatchBool, MatchOption, nat_lt, find}
 use Rattle.std.specs.Option.{option_and_then, option_map}
 use Rattle.std.specs.List.{AllByRecursion, list_any}
 use Rattle.std.proofs.lemmas.Bool.{true≢false, ltb-true, or_parts, and_parts}
-use Rattle.std.proofs.lemmas.Slice.Eq.{bytes_eq-Decides}
 use Rattle.model.specs.Names.{spells, name_eq, main_of, initialiser_name}
-use Rattle.model.specs.Tree.{Entry, Utf8, Integer, Float, Long, Double, Class, String, Field, Method, InterfaceMethod, NameAndType, Unusable, FileTree, MethodTree, MethodPart, CodeTree, CodeOf, SkippedOfMethod}
+use Rattle.model.specs.Tree.{Entry, FileTree, MethodTree, MethodPart, CodeTree, CodeOf, SkippedOfMethod}
 use Rattle.model.specs.BuiltIn.{built_in_classes}
-use Rattle.model.specs.Pool.{utf8_of, utf8_at, integers_of}
+use Rattle.model.specs.Pool.{utf8_at, integers_of}
 use Rattle.model.specs.Conditions.{text_at}
-use Rattle.model.specs.Spelling.{CodeFits, MethodPartFits, MethodFits, FileFits, is_code, is_code_length, entry_at, text_of}
+use Rattle.model.specs.Spelling.{CodeFits, MethodPartFits, MethodFits, FileFits, is_code, is_code_length, entry_at}
 use Rattle.model.specs.AccessFlags.{is_interface_class, is_abstract_method, is_public_method, is_private_method}
-use Rattle.model.specs.Classes.{Program, with_pool, is_named, name_of, body_of, code_in, classes_of, class_of, declared_in, is_built_in}
+use Rattle.model.specs.Classes.{Program, with_pool, is_named, name_of, body_of, code_in, class_of, declared_in, is_built_in}
 use Rattle.hierarchy.specs.Places.{class_at}
-use Rattle.model.specs.Linkable.{TooLarge, DuplicateClass, OutsideProfile, MalformedCode, BadHierarchy, Unresolved, TooManyFields, NoMain, stands, some_stands, two_of_one_name, has_built_in_name, AreSpelled, IsLinkable}
+use Rattle.model.specs.Linkable.{some_stands, two_of_one_name, has_built_in_name, AreSpelled, IsLinkable}
 use Rattle.model.specs.Profile.{is_initialiser, method_outside_profile, is_outside_profile, method_of_left_out_type, native_method, initialiser_of_other_descriptor, abstract_initialiser, constructor_with_result, contradictory_abstract_method, contradictory_constructor, field_outside_profile}
 use Rattle.laws.proofs.Found.{found_passes}
 use Rattle.laws.proofs.Linked.{Main}
 use Rattle.laws.proofs.LinkedMain.{main}
 use Rattle.laws.proofs.LinkedMethods.{static_is_concrete}
-use Rattle.laws.proofs.Unrefused.{Unrefused, unrefused_of}
+use Rattle.laws.proofs.Unrefused.{Unrefused, unrefused_of, names_differ}
 use Rattle.replay.specs.Profile.{is_outside, is_main}
 use Rattle.model.specs.Typing.{AreTyped}
 use Rattle.frames.specs.Places.{LocalCode}
@@ -30,6 +29,7 @@ use Rattle.replay.proofs.Finds.{find_second}
 use Rattle.replay.proofs.Inside.{none_found}
 use Rattle.replay.proofs.Stages.{same_name}
 use Rattle.replay.proofs.Alone.{main_declared}
+use Rattle.laws.proofs.Homes.{spelled}
 
 -- ---- the length of the code
 
@@ -66,16 +66,7 @@ file_fits (bytes ∷ other ∷ files) file h = absurd h.1
 -- the name of what is linked is none of a built-in class
 pub other_name : (file : FileTree) → some_stands (program_of file) ≡ false → is_built_in (name_of file) ≡ false
 other_name file h =
-    let files = program_of file in
-    let main = or_parts (stands files NoMain) _ h in
-    let fields = or_parts (stands files TooManyFields) _ main.1 in
-    let names = or_parts (stands files Unresolved) _ fields.1 in
-    let above = or_parts (stands files BadHierarchy) _ names.1 in
-    let profile = or_parts (stands files OutsideProfile) _ above.1 in
-    let code = or_parts (stands files MalformedCode) _ profile.1 in
-    let large = or_parts (stands files TooLarge) _ code.1 in
-    let last = or_parts (stands files DuplicateClass) _ large.1 in
-    let twice = or_parts (two_of_one_name files) _ last.0 in
+    let twice = or_parts (two_of_one_name (program_of file)) _ (names_differ (program_of file) h) in
     (or_parts (has_built_in_name file) _ twice.1).0
 
 -- it is found by its name
@@ -90,21 +81,6 @@ unfolding main_code
 main_code_is file code h d = rw (body_found file code h d) refl
 
 -- ---- main
-
--- a text by its entry
-text_spelled : (e : Entry) (name : List ℕ) → spells (utf8_of e) name ≡ true → text_of e ≡ name
-text_spelled (Utf8 text) name h = (bytes_eq-Decides text name).0 h
-text_spelled (Integer bits) name h = absurd cc
-text_spelled (Float bits) name h = absurd cc
-text_spelled (Long bits) name h = absurd cc
-text_spelled (Double bits) name h = absurd cc
-text_spelled (Class n) name h = absurd cc
-text_spelled (String text) name h = absurd cc
-text_spelled (Field class member) name h = absurd cc
-text_spelled (Method class member) name h = absurd cc
-text_spelled (InterfaceMethod class member) name h = absurd cc
-text_spelled (NameAndType n descriptor) name h = absurd cc
-text_spelled Unusable name h = absurd cc
 
 -- where a method is neither an initialiser nor abstract, it is none of an interface
 of_no_interface : (interface initialiser public private abstract : Bool) → (interface && (not initialiser && not (public && (not private && abstract)))) ≡ false → initialiser ≡ false → abstract ≡ false → interface ≡ false
@@ -149,7 +125,7 @@ module _ (files : List (List ℕ)) (file : FileTree) (linkable : IsLinkable file
       let m = its_main.method in
       let concrete : is_abstract_method m ≡ false = static_is_concrete (program_of file) ok (main_of (name_of file)) m its_main.is_method its_main.is_static in
       let named = and_parts (spells (utf8_at file.pool m.name) (codes "main")) _ (found_passes (is_main file.pool) file.methods m main_there) in
-      let text : text_at file.pool m.name ≡ codes "main" = text_spelled (entry_at file.pool m.name) (codes "main") named.0 in
+      let text : text_at file.pool m.name ≡ codes "main" = spelled (entry_at file.pool m.name) (codes "main") named.0 in
       let other : is_initialiser file m ≡ false = ap (λ name. name_eq name initialiser_name) text in
       let profile : is_outside_profile file ≡ false = ok.profile.0 in
       let a = or_parts (list_any (field_outside_profile file) file.fields) _ profile in
@@ -191,13 +167,6 @@ suits_of files file taken = suits files file taken.accepted.linkable taken.insid
 first_class : (file : FileTree) (files : Program) → class_at (file ∷ files) 30 ≡ Some file
 unfolding built_in_classes
 first_class file files = refl
-
-built_in_count : length built_in_classes ≡ 30
-unfolding built_in_classes
-built_in_count = refl
-
-pub class_count : (files : Program) → length (classes_of files) ≡ 30 + length files
-class_count files = length-append built_in_classes files ∙ ap (λ n. n + length files) built_in_count
 
 -- what links has a file
 some_file : (files : List (List ℕ)) → IsLinkable files [] → ⊥

@@ -1,8 +1,8 @@
 use Rattle.std.proofs.Common.{rules, arith, ◌≡◌, get_or, true, false, below_more}
 use Rattle.replay.specs.Outside.{is_outside_at}
-use Rattle.profile.proofs.Marks.{none_of_marks, any_of_starts, start_of_mark}
 use Rattle.replay.proofs.instruction.first_outside.Goals as goal
 use Rattle.replay.proofs.instruction.first_outside.Goals.{else-is_start-via-then-is_start+else-is_outside_at, else-is_start-via-else-is_start}
+use Rattle.opcodes.proofs.Marked.{none_of_marks, any_of_starts, start_of_mark}
 
 pub returns-then-is_outside_at : goal.returns-then-is_outside_at
 returns-then-is_outside_at c =
