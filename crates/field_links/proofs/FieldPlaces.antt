@@ -1,5 +1,5 @@
 -- The slot of the field at a place.
-use Rattle.std.proofs.Common.{◌≡◌, ℕ, zero, suc, ◌+◌, ◌-◌, ◌<◌, ◌≤◌, Bool, true, false, not, cond, List, [], ◌∷◌, ◌++◌, length, map, drop, find, refl, sym, ap, subst, ⊎_elim, ◌∙◌, length-append, arith, Option, Some, None}
+use Rattle.std.proofs.Common.{◌≡◌, ℕ, ◌+◌, ◌-◌, ◌<◌, ◌≤◌, Bool, true, false, not, cond, [], length, map, drop, find, refl, sym, ap, subst, ⊎_elim, ◌∙◌, length-append, arith, Option, Some, None}
 use Rattle.std.specs.Prelude.{position, slice_get, nat_lt, option_map}
 use Rattle.std.specs.Option.{option_and_then, option_map_or}
 use Rattle.std.specs.List.{filter}
@@ -13,7 +13,7 @@ use Rattle.model.specs.BuiltIn.{built_in_classes}
 use Rattle.model.specs.Classes.{Program, name_of, super_name_of, is_named, class_of, classes_of, superclass_of}
 use Rattle.model.specs.Lookup.{is_field, in_class, field_of, field_member, own_instance_fields, instance_fields}
 use Rattle.model.specs.Opening.{static_fields_in, static_fields}
-use Rattle.laws.proofs.Lists.{every_at}
+use Rattle.laws.proofs.Lists.{every_at, get_map}
 use Rattle.hierarchy.specs.declared.place.MemberPlace.{MemberPlace}
 use Rattle.hierarchy.specs.Places.{class_at, place_of, name_at, member_in, IsFieldAt}
 use Rattle.hierarchy.proofs.Finding.{passes_at, position_within}
@@ -26,17 +26,9 @@ use Rattle.field_links.specs.Slots.{sizes, static_ends, AreEnds, static_slot, in
 use Rattle.field_links.proofs.Lineages.{fields_below, fields_top, slot_below}
 use Rattle.field_links.proofs.Members.{HaveTexts, all_texts, IsAmong, stands_among}
 use Rattle.field_links.proofs.StaticSlots as statics
-use Rattle.field_links.proofs.Sums.{get_map}
-use Rattle.field_links.proofs.OwnNames.{file_behind, unrefused, files_differ, no_built_in_name, place_is, class_is}
-
-get_front : {A : Type 0} (xs ys : List A) (k : ℕ) → k < length xs → slice_get (xs ++ ys) k ≡ slice_get xs k
-get_front [] ys k lt = absurd (omega arith)
-get_front (x ∷ xs) ys zero lt = refl
-get_front (x ∷ xs) ys (suc k) lt = get_front xs ys k (omega arith)
-
-built_in_count : length built_in_classes ≡ 30
-unfolding built_in_classes
-built_in_count = refl
+use Rattle.field_links.proofs.OwnNames.{unrefused, files_differ, no_built_in_name, place_is, class_is}
+use Rattle.hierarchy.proofs.Indices.{built_in_count, file_behind, get_front}
+use Rattle.hierarchy.proofs.SetLaws.{no_item}
 
 lower : (m n : ℕ) → m < n → nat_lt m n ≡ true
 lower m n h = grind (arith, nat_tests)
@@ -149,11 +141,6 @@ pub link_is : (files : Program) (linked : IsLinked files) (ends : Ends) (are : A
 link_is files linked ends are m place file f at here h =
     named_is files linked ends are m place.class place.member file f at here (stands_in files m place file at h)
     ∙ ap (λ (o : Option FileTree). link_of files (in_class (option_map_or name_of o []) m)) (sym at)
-
-no_item : {A : Type 0} (xs : List A) (i : ℕ) → i < length xs → slice_get xs i ≡ None → ⊥
-no_item [] i lt e = omega arith
-no_item (x ∷ xs) zero lt e = cc
-no_item (x ∷ xs) (suc i) lt e = no_item xs i (omega arith) e
 
 -- a class and a field stand where a field does
 pub no_class_there : (files : Program) (m : Member) (place : MemberPlace) → class_at files place.class ≡ None → IsFieldAt files m place → ⊥

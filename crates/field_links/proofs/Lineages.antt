@@ -14,17 +14,14 @@ use Rattle.model.specs.AccessFlags.{is_instance_field}
 use Rattle.model.specs.Lookup.{own_instance_fields, instance_fields, field_member}
 use Rattle.laws.specs.Steps.{ends, Rooted}
 use Rattle.laws.proofs.Classes.{names_same}
-use Rattle.laws.proofs.RootedOf.{ends_above, lineage_within}
+use Rattle.laws.proofs.RootedOf.{ends_above, lineage_within, within_ends, on_super_of}
 use Rattle.laws.proofs.Homes.{class_named}
 use Rattle.laws.proofs.LinkedClasses as linked_classes
 use Rattle.laws.proofs.Unrefused.{Unrefused}
 use Rattle.field_links.proofs.Positions.{position_before, position_behind}
+use Rattle.laws.proofs.Lists.{every_append}
 
 -- ---- lists
-
-pub every_append : {A : Type 0} (P : A → Type 0) (xs ys : List A) → AllByRecursion P xs → AllByRecursion P ys → AllByRecursion P (xs ++ ys)
-every_append P [] ys h k = k
-every_append P (x ∷ xs) ys h k = (h.0, every_append P xs ys h.1 k)
 
 pub every_flat : {A B : Type 0} (P : A → Type 0) (Q : B → Type 0) (f : A → List B) → ((x : A) → P x → AllByRecursion Q (f x)) → (xs : List A) → AllByRecursion P xs → AllByRecursion Q (flat_map f xs)
 every_flat P Q f h [] k = tt
@@ -64,30 +61,10 @@ module _ (files : Program) where
 
   -- ---- who is above
 
-  kept_true : (P Q : Name → Bool) (o : Option Name) → ((x : Name) → P x ≡ true → Q x ≡ true) → option_map_or P o true ≡ true → option_map_or Q o true ≡ true
-  kept_true P Q None f h = h
-  kept_true P Q (Some x) f h = f x h
-
-  ends_later : (k : ℕ) (d : Name) → ends files k d ≡ true → ends files (suc k) d ≡ true
-  ends_later zero d e = absurd (false≢true e)
-  ends_later (suc k) d e = kept_true (λ x. ends files k x) (λ x. ends files (suc k) x) (superclass_of files d) (λ x h. ends_later k x h) e
-
-  on_super : (P : Name → Bool) (s : Name) (Q : Type 0) → ((x : Name) → superclass_of files s ≡ Some x → P x ≡ true → Q) → (o : Option Name) → superclass_of files s ≡ o → option_map_or P o false ≡ true → Q
-  on_super P s Q f None q w = absurd (false≢true w)
-  on_super P s Q f (Some x) q w = f x q w
-
-  within_ends : (m k : ℕ) (s d : Name) → is_within files m s d ≡ true → ends files k s ≡ true → ends files k d ≡ true
-  within_ends zero k s d w e = subst (λ n. ends files k n ≡ true) (names_same s d w) e
-  within_ends (suc m) zero s d w e = absurd (false≢true e)
-  within_ends (suc m) (suc k) s d w e =
-      ⊎_elim (λ h. subst (λ n. ends files (suc k) n ≡ true) (names_same s d h) e)
-      (λ h. on_super (λ x. is_within files m x d) s (ends files (suc k) d ≡ true) (λ x p v. ends_later k d (within_ends m k x d v (ends_above files k s x p e))) (superclass_of files s) refl h)
-      (or_cases (name_eq s d) _ w)
-
   -- no superclass leads back
   no_way_back : (k : ℕ) (d : Name) → ends files k d ≡ true → (m : ℕ) (s : Name) → superclass_of files d ≡ Some s → is_within files m s d ≡ true → ⊥
   no_way_back zero d e m s q w = false≢true e
-  no_way_back (suc k) d e m s q w = no_way_back k d (within_ends m k s d w (ends_above files k d s q e)) m s q w
+  no_way_back (suc k) d e m s q w = no_way_back k d (within_ends files m k s d w (ends_above files k d s q e)) m s q w
 
   module _ (ok : Unrefused files) where
     rooted : Rooted files
@@ -144,7 +121,7 @@ module _ (files : Program) where
     kept_within p zero c d k w e = ap (λ x. position p (instance_fields files x)) (names_same c d w) ∙ e
     kept_within p (suc n) c d k w e =
         ⊎_elim (λ h. ap (λ x. position p (instance_fields files x)) (names_same c d h) ∙ e)
-        (λ h. on_super (λ x. is_within files n x d) c (position p (instance_fields files c) ≡ Some k)
+        (λ h. on_super_of files (λ x. is_within files n x d) c (position p (instance_fields files c) ≡ Some k)
         (λ s q v. ap (position p) (fields_below c s q) ∙ position_before p (instance_fields files s) (own c) k (kept_within p n s d k v e))
         (superclass_of files c) refl h)
         (or_cases (name_eq c d) _ w)

@@ -16,11 +16,7 @@ use Rattle.field_links.specs.Slots.{static_ends}
 use Rattle.field_links.proofs.Sums.{sum_of}
 use Rattle.field_links.proofs.OwnNames.{class_is}
 use Rattle.field_links.proofs.Bounds.{instances_fit}
-
-pub drop_at : {A : Type 0} (xs : List A) (i : ℕ) (x : A) → slice_get xs i ≡ Some x → drop i xs ≡ x ∷ drop (i + 1) xs
-drop_at [] i x e = absurd cc
-drop_at (y ∷ xs) zero x e = let same : y ≡ x = cc in ap (λ z. z ∷ xs) same
-drop_at (y ∷ xs) (suc i) x e = let more : suc i + 1 ≡ suc (i + 1) = omega arith in rw more (drop_at xs i x e)
+use Rattle.hierarchy.proofs.RowLaws.{drop_at}
 
 -- there is an item below the length
 pub item_at : {A : Type 0} (xs : List A) (i : ℕ) → i < length xs → (x : A) × (slice_get xs i ≡ Some x)

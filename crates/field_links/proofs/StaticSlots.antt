@@ -17,6 +17,7 @@ use Rattle.laws.proofs.RootedOf.{name_turned}
 use Rattle.field_links.specs.Slots.{static_ends}
 use Rattle.field_links.proofs.Positions.{position_before, position_behind, position_nowhere}
 use Rattle.field_links.proofs.Lineages.{every_flat, every_map}
+use Rattle.hierarchy.proofs.Finding.{none_at}
 
 -- the fields of another class differ
 others : (field : Member) (file : FileTree) → name_eq (name_of file) field.class ≡ false → AllByRecursion (λ (f : Member). member_eq f field ≡ false) (static_fields_in file)
@@ -26,11 +27,6 @@ others field file h =
 
 turned_false : (a b : Name) → name_eq a b ≡ false → name_eq b a ≡ false
 turned_false a b h = false_from_ne_true (name_eq b a) (λ t. false≢true (sym h ∙ name_turned b a t))
-
-pub never : (test : FileTree → Bool) (files : List FileTree) (i : ℕ) (file : FileTree) → list_any test files ≡ false → slice_get files i ≡ Some file → test file ≡ false
-never test [] i file h e = absurd cc
-never test (x ∷ files) zero file h e = let same : x ≡ file = cc in ap test (sym same) ∙ (or_parts (test x) _ h).0
-never test (x ∷ files) (suc i) file h e = never test files i file (or_parts (test x) _ h).1 e
 
 -- its slot, and so many as stand from it on, and where those of its file end
 abbrev pub IsStaticSlot : ℕ → List FileTree → ℕ → FileTree → Member → ℕ → Type 0
@@ -51,7 +47,7 @@ static_slot n (x ∷ files) zero file field k differ at is e =
     )
 static_slot n (x ∷ files) (suc i) file field k differ at is e =
     let parts = or_parts (list_any (is_named (name_of x)) files) _ differ in
-    let other : name_eq (name_of x) field.class ≡ false = ap (name_eq (name_of x)) is ∙ turned_false (name_of file) (name_of x) (never (is_named (name_of x)) files i file parts.0 at) in
+    let other : name_eq (name_of x) field.class ≡ false = ap (name_eq (name_of x)) is ∙ turned_false (name_of file) (name_of x) (none_at (is_named (name_of x)) files i file parts.0 at) in
     let rest = static_slot (n + length (static_fields_in x)) files i file field k parts.1 at is e in
     (length (static_fields_in x) + rest.0, rest.1, position_behind (λ (f : Member). member_eq f field) (static_fields_in x) (flat_map static_fields_in files) rest.0 (others field x other) rest.2, rest.3, omega (arith, rest.4))
 

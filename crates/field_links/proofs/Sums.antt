@@ -13,11 +13,7 @@ use Rattle.laws.proofs.Homes.{class_named}
 use Rattle.field_links.specs.declared.chain.Shape.{Shape}
 use Rattle.field_links.specs.Chains.{shape_of, shapes, chain_sum}
 use Rattle.field_links.proofs.Lineages.{fields_to, next_fields, top_fields}
-
-pub get_map : {A B : Type 0} (f : A → B) (xs : List A) (i : ℕ) (x : A) → slice_get xs i ≡ Some x → slice_get (map f xs) i ≡ Some (f x)
-get_map f [] i x e = absurd cc
-get_map f (y ∷ xs) zero x e = let same : y ≡ x = cc in ap (λ z. Some (f z)) same
-get_map f (y ∷ xs) (suc i) x e = get_map f xs i x e
+use Rattle.laws.proofs.Lists.{get_map}
 
 pub get_no_map : {A B : Type 0} (f : A → B) (xs : List A) (i : ℕ) → slice_get xs i ≡ None → slice_get (map f xs) i ≡ None
 get_no_map f [] i e = refl

@@ -15,9 +15,10 @@ use Rattle.field_links.specs.Links.{named_link, field_link, slot_count, KeepsSlo
 use Rattle.field_links.specs.Slots.{sizes}
 use Rattle.field_links.specs.Tables.{in_row, in_rows, IsRow, AreRows}
 use Rattle.field_links.proofs.Lineages.{kept}
-use Rattle.field_links.proofs.Sums.{get_map, get_no_map}
+use Rattle.field_links.proofs.Sums.{get_no_map}
 use Rattle.field_links.proofs.OwnNames.{unrefused}
 use Rattle.field_links.proofs.RowLaws.{Pairs, pair_pushed, all_paired, pair_at, no_pair}
+use Rattle.laws.proofs.Lists.{get_map}
 
 pub rows_say : (files : Program) (rows : List (List (Option FieldLink))) → Pairs (IsRow files) (classes_of files) rows → AreRows files rows
 rows_say files rows h class index fits = by (slice_get (classes_of files) class) refl

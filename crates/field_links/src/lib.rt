@@ -14,7 +14,6 @@ mod sizes;
 mod slots;
 mod statics;
 mod string_numbers;
-mod texts;
 
 pub use class_numbers::ClassNumbers;
 pub use link::FieldLink;

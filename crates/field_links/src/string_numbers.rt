@@ -1,19 +1,17 @@
 //! The texts of string constants, by their numbers.
 
-ghost use Rattle.std.specs.Prelude.{◌≡◌, length, map, option_map, position, IfOk, OnOk};
-ghost use Rattle.std.specs.Option.{option_and_then, option_to_list};
+ghost use Rattle.std.specs.Prelude.{◌≡◌, length, map, IfOk};
+ghost use Rattle.std.specs.Option.{option_and_then};
 ghost use Rattle.model.specs.Classes.{Program};
-ghost use Rattle.model.specs.Pool.{string_of, string_at};
-ghost use Rattle.model.specs.StringConstants.{texts_in, string_texts};
-ghost use Rattle.constant_pool.specs.View.{entry_of};
+ghost use Rattle.model.specs.Pool.{string_at};
+ghost use Rattle.model.specs.StringConstants.{string_texts};
 ghost use Rattle.classfile.specs.View.{file_of};
-ghost use Rattle.limits_of_linking.specs.Texts.{with_texts};
 ghost use Rattle.field_links.specs.Numbers.{number_in, text_number, string_number, IsStringRow, SayNumbers, AreStringNumbers};
 
 use crate::place::{file_at, file_count};
-use crate::texts::Texts;
-use classfile::{ClassFile, Constant};
+use classfile::ClassFile;
 use hierarchy::ClassSet;
+use limits_of_linking::{TextSet, add_texts};
 use std::alloc::{AllocError, Global};
 use std::marker::Model;
 
@@ -35,42 +33,11 @@ impl Model for StringNumbers {
     ghost view = { λ s. record { rows = map (λ row. row.items) s.rows.items; count = s.count } };
 }
 
-/// The text of a String, where the entry is one.
-fn string_text<'a>(file: &'a ClassFile, constant: &Constant) -> Option<&'a [u8]>
-    ensures { option_map (λ t. t.now) result ≡ string_of file.now.pool (entry_of constant.now) }
-{
-    match constant {
-        Constant::String { text } => file.utf8(*text),
-        _ => None,
-    }
-}
-
-/// Adds a text that is there.
-fn add_text(alloc: Global, texts: &mut Texts, text: Option<&[u8]>) -> Result<(), AllocError>
-    ensures { OnOk result (texts.new ≡ with_texts texts.old (option_to_list (option_map (λ t. t.now) text.entry))) }
-{
-    match text {
-        Some(text) => texts.add(alloc, text),
-        None => Ok(()),
-    }
-}
-
-/// Adds the texts of a file's string constants.
-fn add_texts(alloc: Global, texts: &mut Texts, file: &ClassFile) -> Result<(), AllocError>
-    ensures { OnOk result (texts.new ≡ with_texts texts.old (texts_in (file_of file.now))) }
-{
-    let constants = file.pool.constants();
-    for constant in constants {
-        add_text(alloc, texts, string_text(file, constant))?;
-    }
-    Ok(())
-}
-
 /// The texts of the string constants of files.
-fn all_texts(alloc: Global, set: &ClassSet) -> Result<Texts, AllocError>
+fn all_texts(alloc: Global, set: &ClassSet) -> Result<TextSet, AllocError>
     ensures { IfOk result (λ texts. texts ≡ string_texts set.now) }
 {
-    let mut texts = Texts::new(alloc);
+    let mut texts = TextSet::new(alloc);
     for number in 0..file_count(set) {
         let Some(file) = file_at(set, number) else {
             return Ok(texts);
@@ -81,7 +48,7 @@ fn all_texts(alloc: Global, set: &ClassSet) -> Result<Texts, AllocError>
 }
 
 /// The number of the text of the String of an index.
-fn number_of(texts: &Texts, file: &ClassFile, index: u16) -> Option<usize>
+fn number_of(texts: &TextSet, file: &ClassFile, index: u16) -> Option<usize>
     ensures { result ≡ option_and_then (text_number texts.now) (string_at file.now.pool index) }
 {
     match file.pool.string(index) {
@@ -93,7 +60,7 @@ fn number_of(texts: &Texts, file: &ClassFile, index: u16) -> Option<usize>
 /// Those of a file, by their index.
 fn number_row(
     alloc: Global,
-    texts: &Texts,
+    texts: &TextSet,
     file: &ClassFile,
 ) -> Result<Vec<Option<usize>>, AllocError>
     ensures { IfOk result (λ row. IsStringRow texts.now (file_of file.now) row.items) }
@@ -110,7 +77,7 @@ fn number_row(
 fn number_rows(
     alloc: Global,
     set: &ClassSet,
-    texts: &Texts,
+    texts: &TextSet,
 ) -> Result<Vec<Vec<Option<usize>>>, AllocError>
     requires { texts.now ≡ string_texts set.now }
     ensures { IfOk result (λ rows. SayNumbers set.now (map (λ row. row.items) rows.items)) }

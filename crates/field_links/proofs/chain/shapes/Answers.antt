@@ -1,10 +1,10 @@
 use Rattle.std.proofs.Common.{◌++◌, map, List, sym, ap}
 use Rattle.classfile.specs.View.{file_of}
 use Rattle.model.specs.Classes.{classes_of}
-use Rattle.limits_of_linking.proofs.ClimbLaws.{drop_past, row_pushed, all_pushed}
 use Rattle.field_links.specs.declared.chain.Shape.{Shape}
 use Rattle.field_links.specs.Chains.{shape_of, shapes}
 use Rattle.field_links.proofs.chain.shapes.Goals as goal
+use Rattle.hierarchy.proofs.RowLaws.{drop_past, row_pushed, all_pushed}
 
 pub loop-place-init : goal.loop-place-init
 unfolding shapes

@@ -1,6 +1,6 @@
 use Rattle.std.proofs.Common.{arith}
-use Rattle.field_links.proofs.OwnNames.{class_count}
 use Rattle.field_links.proofs.place.file_count.Goals as goal
+use Rattle.hierarchy.proofs.Indices.{count_behind}
 
 pub returns-clause-count : goal.returns-clause-count
-returns-clause-count c = omega (arith, c.count.ensures, class_count c.args.set.now)
+returns-clause-count c = omega (arith, c.count.ensures, count_behind c.args.set.now)

@@ -2,11 +2,11 @@ use Rattle.std.proofs.Common.{rules, arith, ◌≡◌, ◌<◌, ◌≤◌, ◌++
 use Rattle.model.specs.Tree.{FileTree}
 use Rattle.model.specs.Classes.{classes_of, name_of}
 use Rattle.model.specs.Lookup.{instance_fields}
-use Rattle.limits_of_linking.proofs.ClimbLaws.{row_pushed, all_pushed}
 use Rattle.field_links.specs.Chains.{shapes, chain_sum}
 use Rattle.field_links.specs.Slots.{sizes}
 use Rattle.field_links.proofs.Loops.{size_is, size_fits, class_below, all_classes}
 use Rattle.field_links.proofs.sizes.sizes.Goals as goal
+use Rattle.hierarchy.proofs.RowLaws.{row_pushed, all_pushed}
 
 pub loop-place-init : goal.loop-place-init
 unfolding sizes

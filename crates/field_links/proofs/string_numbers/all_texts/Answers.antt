@@ -4,15 +4,15 @@ use Rattle.classfile.specs.View.{file_of}
 use Rattle.model.specs.StringConstants.{string_texts, texts_in}
 use Rattle.limits_of_linking.specs.Texts.{with_texts}
 use Rattle.limits_of_linking.proofs.TextLaws.{string_texts_more}
-use Rattle.field_links.proofs.RowLaws.{take_more, take_whole}
 use Rattle.field_links.proofs.string_numbers.all_texts.Goals as goal
+use Rattle.hierarchy.proofs.Indices.{take_one_more, take_whole}
 
 pub loop-number-preserved : goal.loop-number-preserved
 loop-number-preserved c =
     let files = c.args.set.now in
     let i = c.loop-number.number in
     let file = file_of c.in-Some.file.now in
-    c.in_ok-add_texts.ensures ∙ ap (λ l. with_texts l (texts_in file)) c.loop-number.invariant ∙ sym (string_texts_more (take i files) file) ∙ ap string_texts (sym (take_more files i file (sym c.in-Some.ensures)))
+    c.in_ok-add_texts.ensures ∙ ap (λ l. with_texts l (texts_in file)) c.loop-number.invariant ∙ sym (string_texts_more (take i files) file) ∙ ap string_texts (sym (take_one_more files i file (sym c.in-Some.ensures)))
 
 pub returns-in_default : goal.returns-in_default
 returns-in_default c = c.loop-number.invariant ∙ ap string_texts (take_whole c.args.set.now c.loop-number.number (sym c.in_default.ensures))
