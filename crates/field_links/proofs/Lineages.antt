@@ -14,7 +14,7 @@ use Rattle.model.specs.AccessFlags.{is_instance_field}
 use Rattle.model.specs.Lookup.{own_instance_fields, instance_fields, field_member}
 use Rattle.laws.specs.Steps.{ends, Rooted}
 use Rattle.laws.proofs.Classes.{names_same}
-use Rattle.laws.proofs.RootedOf.{ends_above, lineage_within, within_ends}
+use Rattle.laws.proofs.RootedOf.{ends_above, lineage_within, within_ends, on_super_of}
 use Rattle.laws.proofs.Homes.{class_named}
 use Rattle.laws.proofs.LinkedClasses as linked_classes
 use Rattle.laws.proofs.Unrefused.{Unrefused}
@@ -121,7 +121,7 @@ module _ (files : Program) where
     kept_within p zero c d k w e = ap (λ x. position p (instance_fields files x)) (names_same c d w) ∙ e
     kept_within p (suc n) c d k w e =
         ⊎_elim (λ h. ap (λ x. position p (instance_fields files x)) (names_same c d h) ∙ e)
-        (λ h. on_super (λ x. is_within files n x d) c (position p (instance_fields files c) ≡ Some k)
+        (λ h. on_super_of files (λ x. is_within files n x d) c (position p (instance_fields files c) ≡ Some k)
         (λ s q v. ap (position p) (fields_below c s q) ∙ position_before p (instance_fields files s) (own c) k (kept_within p n s d k v e))
         (superclass_of files c) refl h)
         (or_cases (name_eq c d) _ w)

@@ -47,7 +47,7 @@ module _ (files : Program) where
       (or_left (name_eq s e || is_above files n s e) _ h)
 
   -- on to the superclass, where there is one
-  on_super_of : (P : Name → Bool) (s : Name) (Q : Type 0) → ((x : Name) → superclass_of files s ≡ Some x → P x ≡ true → Q) → (o : Option Name) → superclass_of files s ≡ o → option_map_or P o false ≡ true → Q
+  pub on_super_of : (P : Name → Bool) (s : Name) (Q : Type 0) → ((x : Name) → superclass_of files s ≡ Some x → P x ≡ true → Q) → (o : Option Name) → superclass_of files s ≡ o → option_map_or P o false ≡ true → Q
   on_super_of P s Q f None q w = absurd (false≢true w)
   on_super_of P s Q f (Some x) q w = f x q w
 
