@@ -1,9 +1,11 @@
 //! Which classes, interfaces and arrays stand below which, and which methods classes have.
 
-use crate::program::{Class, Method, Row, linked};
+use crate::program::{Answers, Class, Method, Row, asked};
 use class_builder::CodeParts;
 use class_tree::Reference;
-use hierarchy::{Innermost, MemberPlace, Primitive, ReferenceType};
+use hierarchy::{ClassSet, Hierarchy, Innermost, MemberPlace, Primitive, ReferenceType};
+use linker::Linked;
+use std::alloc::{AllocError, Global};
 use std::test::Fail;
 
 const OBJECT: &[u8] = b"java/lang/Object";
@@ -100,22 +102,61 @@ const TYPES: [(Named, Named, bool); 8] = [
     ((1, Some(b"I")), (1, Some(b"A")), false),
 ];
 
+/// The place of the first row of `INTERFACES` that isn't so.
+fn wrong_interface(hierarchy: &Hierarchy) -> Option<usize> {
+    for (place, (class, interface, wanted)) in INTERFACES.iter().enumerate() {
+        if hierarchy.implements(class, interface) != *wanted {
+            return Some(place);
+        }
+    }
+    None
+}
+
+/// The place of the first row of `CLASSES_ABOVE` that isn't so.
+fn wrong_class_above(hierarchy: &Hierarchy) -> Option<usize> {
+    for (place, (class, other, wanted)) in CLASSES_ABOVE.iter().enumerate() {
+        if hierarchy.is_subclass_or_implements(class, other) != *wanted {
+            return Some(place);
+        }
+    }
+    None
+}
+
+/// The place of the first row of `TYPES` that isn't so.
+fn wrong_type(hierarchy: &Hierarchy) -> Option<usize> {
+    for (place, (below, above, wanted)) in TYPES.iter().enumerate() {
+        if hierarchy.is_subtype(reference_type(*below), reference_type(*above)) != *wanted {
+            return Some(place);
+        }
+    }
+    None
+}
+
+/// The places of the first rows of the three tables that aren't so.
+#[derive(Drop)]
+struct BelowAnswers {
+    wrong_interface: Option<usize>,
+    wrong_class_above: Option<usize>,
+    wrong_type: Option<usize>,
+}
+
+impl Answers for BelowAnswers {
+    fn of(_alloc: Global, linked: &Linked, _indices: &[u16]) -> Result<BelowAnswers, AllocError> {
+        let hierarchy = linked.hierarchy();
+        Ok(BelowAnswers {
+            wrong_interface: wrong_interface(hierarchy),
+            wrong_class_above: wrong_class_above(hierarchy),
+            wrong_type: wrong_type(hierarchy),
+        })
+    }
+}
+
 #[test]
 fn classes_stand_below_others(rt: HostRuntime) -> Result<(), Fail> {
-    let (linked, _) = linked(rt.alloc(), &CLASSES, &NO_ROWS)?;
-    let hierarchy = linked.hierarchy();
-    for (class, interface, wanted) in INTERFACES {
-        let found = hierarchy.implements(class, interface);
-        assert_eq!(rt; found, wanted, "{class:?} {interface:?}");
-    }
-    for (class, other, wanted) in CLASSES_ABOVE {
-        let found = hierarchy.is_subclass_or_implements(class, other);
-        assert_eq!(rt; found, wanted, "{class:?} {other:?}");
-    }
-    for (below, above, wanted) in TYPES {
-        let found = hierarchy.is_subtype(reference_type(below), reference_type(above));
-        assert_eq!(rt; found, wanted, "{below:?} {above:?}");
-    }
+    let found: BelowAnswers = asked(rt.alloc(), &CLASSES, &NO_ROWS, &mut [])?;
+    assert_eq!(rt; found.wrong_interface, None);
+    assert_eq!(rt; found.wrong_class_above, None);
+    assert_eq!(rt; found.wrong_type, None);
     Ok(())
 }
 
@@ -129,18 +170,43 @@ const SELECTED: [(&[u8], &[u8], Option<(usize, usize)>); 4] = [
     (b"A", b"run", None),
 ];
 
-#[test]
-fn classes_have_methods(rt: HostRuntime) -> Result<(), Fail> {
-    let (linked, _) = linked(rt.alloc(), &CLASSES, &NO_ROWS)?;
-    for (class, name, wanted) in SELECTED {
+/// The place of the first row of `SELECTED` that isn't so.
+fn wrong_selection(set: &ClassSet) -> Option<usize> {
+    for (place, (class, name, wanted)) in SELECTED.iter().enumerate() {
         let method = Reference {
             class: OBJECT,
             name,
             descriptor: b"()V",
         };
-        let wanted = wanted.map(|(class, member)| MemberPlace { class, member });
-        let found = linked.set().select(class, method);
-        assert_eq!(rt; found, wanted, "{class:?} {name:?}");
+        if set.select(class, method)
+            != wanted.map(|(class, member)| MemberPlace { class, member })
+        {
+            return Some(place);
+        }
     }
+    None
+}
+
+#[derive(Drop)]
+struct SelectionAnswers {
+    wrong: Option<usize>,
+}
+
+impl Answers for SelectionAnswers {
+    fn of(
+        _alloc: Global,
+        linked: &Linked,
+        _indices: &[u16],
+    ) -> Result<SelectionAnswers, AllocError> {
+        Ok(SelectionAnswers {
+            wrong: wrong_selection(linked.set()),
+        })
+    }
+}
+
+#[test]
+fn classes_have_methods(rt: HostRuntime) -> Result<(), Fail> {
+    let found: SelectionAnswers = asked(rt.alloc(), &CLASSES, &NO_ROWS, &mut [])?;
+    assert_eq!(rt; found.wrong, None);
     Ok(())
 }

@@ -1,9 +1,10 @@
 //! Links of fields, and numbers of classes and of texts.
 
-use crate::program::{Class, Entry, Method, Row, linked};
+use crate::program::{Answers, Class, Entry, Method, Row, asked};
 use class_builder::CodeParts;
 use field_links::{ClassNumbers, FieldLink, FieldLinks, StringNumbers};
-use std::alloc::Global;
+use linker::Linked;
+use std::alloc::{AllocError, Global};
 use std::test::Fail;
 
 const INSTANCE: u16 = 0x0000;
@@ -112,30 +113,62 @@ const FIELDS: [Row<Option<FieldLink>>; 15] = [
     (34, Entry::At(10), None),
 ];
 
-/// The links of fields, and the indices of the rows' entries.
-fn field_links(alloc: Global) -> Result<(FieldLinks, Vec<u16>), Fail> {
-    let (linked, indices) = linked(alloc, &CLASSES, &FIELDS)?;
-    Ok((FieldLinks::new(alloc, &linked)?, indices))
+/// Classes by their numbers, and how many slots their objects have.
+const SLOT_COUNTS: [(usize, Option<usize>); 7] = [
+    (0, Some(0)),
+    (2, Some(1)),
+    (30, Some(0)),
+    (31, Some(5)),
+    (32, Some(4)),
+    (33, Some(2)),
+    (34, None),
+];
+
+/// The place of the first row of `FIELDS` that isn't so.
+fn wrong_field(links: &FieldLinks, indices: &[u16]) -> Option<usize> {
+    for (place, ((class, _entry, wanted), index)) in FIELDS.iter().zip(indices).enumerate() {
+        if links.field(*class, *index) != *wanted {
+            return Some(place);
+        }
+    }
+    None
+}
+
+/// The place of the first row of `SLOT_COUNTS` that isn't so.
+fn wrong_slot_count(links: &FieldLinks) -> Option<usize> {
+    for (place, (class, wanted)) in SLOT_COUNTS.iter().enumerate() {
+        if links.slot_count(*class) != *wanted {
+            return Some(place);
+        }
+    }
+    None
+}
+
+#[derive(Drop)]
+struct FieldAnswers {
+    wrong_field: Option<usize>,
+    wrong_slot_count: Option<usize>,
+    static_count: usize,
+}
+
+impl Answers for FieldAnswers {
+    fn of(alloc: Global, linked: &Linked, indices: &[u16]) -> Result<FieldAnswers, AllocError> {
+        let links = FieldLinks::new(alloc, linked)?;
+        Ok(FieldAnswers {
+            wrong_field: wrong_field(&links, indices),
+            wrong_slot_count: wrong_slot_count(&links),
+            static_count: links.static_count(),
+        })
+    }
 }
 
 #[test]
 fn fields_have_slots(rt: HostRuntime) -> Result<(), Fail> {
-    let (links, indices) = field_links(rt.alloc())?;
-    for ((class, entry, wanted), index) in FIELDS.iter().zip(&indices) {
-        assert_eq!(rt; links.field(*class, *index), *wanted, "{entry:?}");
-    }
-    for (class, count) in [
-        (0, Some(0)),
-        (2, Some(1)),
-        (30, Some(0)),
-        (31, Some(5)),
-        (32, Some(4)),
-        (33, Some(2)),
-        (34, None),
-    ] {
-        assert_eq!(rt; links.slot_count(class), count, "class {class}");
-    }
-    assert_eq!(rt; links.static_count(), 3);
+    let mut indices = [0; FIELDS.len()];
+    let found: FieldAnswers = asked(rt.alloc(), &CLASSES, &FIELDS, &mut indices)?;
+    assert_eq!(rt; found.wrong_field, None);
+    assert_eq!(rt; found.wrong_slot_count, None);
+    assert_eq!(rt; found.static_count, 3);
     Ok(())
 }
 
@@ -151,10 +184,36 @@ const NUMBERS: [Row<Option<usize>>; 9] = [
     (34, Entry::At(2), None),
 ];
 
-/// The numbers of classes, and the indices of the rows' entries.
-fn class_numbers(alloc: Global) -> Result<(ClassNumbers, Vec<u16>), Fail> {
-    let (linked, indices) = linked(alloc, &CLASSES, &NUMBERS)?;
-    Ok((ClassNumbers::new(alloc, linked.set())?, indices))
+/// The place of the first row of `NUMBERS` that isn't so.
+#[derive(Drop)]
+struct NumberAnswers {
+    wrong: Option<usize>,
+}
+
+fn wrong_number(numbers: &ClassNumbers, indices: &[u16]) -> Option<usize> {
+    for (place, ((class, _entry, wanted), index)) in NUMBERS.iter().zip(indices).enumerate() {
+        if numbers.class_number(*class, *index) != *wanted {
+            return Some(place);
+        }
+    }
+    None
+}
+
+impl Answers for NumberAnswers {
+    fn of(alloc: Global, linked: &Linked, indices: &[u16]) -> Result<NumberAnswers, AllocError> {
+        let numbers = ClassNumbers::new(alloc, linked.set())?;
+        Ok(NumberAnswers {
+            wrong: wrong_number(&numbers, indices),
+        })
+    }
+}
+
+#[test]
+fn classes_have_numbers(rt: HostRuntime) -> Result<(), Fail> {
+    let mut indices = [0; NUMBERS.len()];
+    let found: NumberAnswers = asked(rt.alloc(), &CLASSES, &NUMBERS, &mut indices)?;
+    assert_eq!(rt; found.wrong, None);
+    Ok(())
 }
 
 const STRINGS: [Row<Option<usize>>; 7] = [
@@ -167,23 +226,38 @@ const STRINGS: [Row<Option<usize>>; 7] = [
     (34, Entry::At(6), None),
 ];
 
-/// The numbers of texts, and the indices of the rows' entries.
-fn string_numbers(alloc: Global) -> Result<(StringNumbers, Vec<u16>), Fail> {
-    let (linked, indices) = linked(alloc, &CLASSES, &STRINGS)?;
-    Ok((StringNumbers::new(alloc, linked.set())?, indices))
+/// The place of the first row of `STRINGS` that isn't so, and how many texts have numbers.
+#[derive(Drop)]
+struct StringAnswers {
+    wrong: Option<usize>,
+    count: usize,
+}
+
+fn wrong_string(numbers: &StringNumbers, indices: &[u16]) -> Option<usize> {
+    for (place, ((class, _entry, wanted), index)) in STRINGS.iter().zip(indices).enumerate() {
+        if numbers.string(*class, *index) != *wanted {
+            return Some(place);
+        }
+    }
+    None
+}
+
+impl Answers for StringAnswers {
+    fn of(alloc: Global, linked: &Linked, indices: &[u16]) -> Result<StringAnswers, AllocError> {
+        let numbers = StringNumbers::new(alloc, linked.set())?;
+        Ok(StringAnswers {
+            wrong: wrong_string(&numbers, indices),
+            count: numbers.count(),
+        })
+    }
 }
 
 #[test]
-fn classes_and_texts_have_numbers(rt: HostRuntime) -> Result<(), Fail> {
-    let (numbers, indices) = class_numbers(rt.alloc())?;
-    for ((class, entry, wanted), index) in NUMBERS.iter().zip(&indices) {
-        assert_eq!(rt; numbers.class_number(*class, *index), *wanted, "{entry:?}");
-    }
-    let (numbers, indices) = string_numbers(rt.alloc())?;
-    for ((class, entry, wanted), index) in STRINGS.iter().zip(&indices) {
-        assert_eq!(rt; numbers.string(*class, *index), *wanted, "{entry:?}");
-    }
+fn texts_have_numbers(rt: HostRuntime) -> Result<(), Fail> {
+    let mut indices = [0; STRINGS.len()];
+    let found: StringAnswers = asked(rt.alloc(), &CLASSES, &STRINGS, &mut indices)?;
+    assert_eq!(rt; found.wrong, None);
     // equal texts have one number
-    assert_eq!(rt; numbers.count(), 3);
+    assert_eq!(rt; found.count, 3);
     Ok(())
 }

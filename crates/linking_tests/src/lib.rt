@@ -9,6 +9,8 @@ mod fields;
 #[cfg(test)]
 mod limits;
 #[cfg(test)]
+mod method_calls;
+#[cfg(test)]
 mod methods;
 #[cfg(test)]
 mod program;

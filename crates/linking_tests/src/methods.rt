@@ -1,10 +1,11 @@
-//! Numbers, calls, references and selections of methods.
+//! Numbers, references and selections of methods.
 
-use crate::program::{Class, Entry, Method, Row, linked};
+use crate::program::{Answers, Class, Entry, Method, Row, asked};
 use class_builder::CodeParts;
 use hierarchy::MemberPlace;
-use method_links::{MethodCall, MethodCalls, MethodNumbers, NamedMethods, SelectedMethods};
-use std::alloc::Global;
+use linker::Linked;
+use method_links::{MethodNumbers, NamedMethods, SelectedMethods};
+use std::alloc::{AllocError, Global};
 use std::test::Fail;
 
 const OBJECT: &[u8] = b"java/lang/Object";
@@ -32,7 +33,7 @@ const ABSTRACT: Method = Method {
 };
 
 /// The code of main: iconst_0, istore_1 and return.
-const MAIN: CodeParts<'static> = CodeParts {
+pub(crate) const MAIN: CodeParts<'static> = CodeParts {
     max_stack: 3,
     max_locals: 2,
     bytes: &[0x03, 0x3c, 0xb1],
@@ -40,7 +41,7 @@ const MAIN: CodeParts<'static> = CodeParts {
 };
 
 /// The code of P.n: iload_1 and ireturn.
-const GIVES: CodeParts<'static> = CodeParts {
+pub(crate) const GIVES: CodeParts<'static> = CodeParts {
     max_stack: 1,
     max_locals: 4,
     bytes: &[0x1b, 0xac],
@@ -164,7 +165,7 @@ const J: Class = Class {
 
 /// The classes with the numbers from 30 on, behind the built-in ones. Their methods have the numbers from 40 on: A's 40, R's 41,
 /// Q's 42 to 45, P's 46 to 50, I's 51 and J's 52.
-const CLASSES: [Class; 6] = [A, R, Q, P, I, J];
+pub(crate) const CLASSES: [Class; 6] = [A, R, Q, P, I, J];
 
 const NAMED: [Row<Option<usize>>; 21] = [
     // R.s, which P declares; R.m, which Q declares nearest; Q.n, which P declares; and J.i, which I declares
@@ -201,34 +202,7 @@ const NAMED: [Row<Option<usize>>; 21] = [
     (36, Entry::At(14), None),
 ];
 
-const NO_ROWS: [Row<()>; 0] = [];
-
-fn method_numbers(alloc: Global) -> Result<MethodNumbers, Fail> {
-    let (linked, _) = linked(alloc, &CLASSES, &NO_ROWS)?;
-    Ok(MethodNumbers::new(alloc, linked.set())?)
-}
-
-/// What the entries of `NAMED` name, and their indices.
-fn named_methods(alloc: Global) -> Result<(NamedMethods, Vec<u16>), Fail> {
-    let (linked, indices) = linked(alloc, &CLASSES, &NAMED)?;
-    let numbers = MethodNumbers::new(alloc, linked.set())?;
-    Ok((
-        NamedMethods::new(alloc, linked.hierarchy(), &numbers)?,
-        indices,
-    ))
-}
-
-fn selected_methods(alloc: Global) -> Result<SelectedMethods, Fail> {
-    let (linked, _) = linked(alloc, &CLASSES, &NO_ROWS)?;
-    let numbers = MethodNumbers::new(alloc, linked.set())?;
-    Ok(SelectedMethods::new(alloc, linked.set(), &numbers)?)
-}
-
-fn method_calls(alloc: Global) -> Result<MethodCalls, Fail> {
-    let (linked, _) = linked(alloc, &CLASSES, &NO_ROWS)?;
-    let numbers = MethodNumbers::new(alloc, linked.set())?;
-    Ok(MethodCalls::new(alloc, linked.set(), &numbers)?)
-}
+pub(crate) const NO_ROWS: [Row<()>; 0] = [];
 
 /// Numbers of methods, each with the class and the place among its methods. Object declares four methods, Runnable one, Thread
 /// eleven; String, Class and System none; PrintStream one; and each of the 23 classes from Throwable on one. Then come the files, in their
@@ -252,140 +226,178 @@ const PLACES: [(usize, usize, usize); 16] = [
     (41, 31, 0),
 ];
 
+/// Places at which no method stands: behind the last of Thread, in String, behind the last of all, and in one more class.
+const NO_PLACES: [(usize, usize); 5] = [
+    (2, 11),
+    (3, 0),
+    (35, 1),
+    (36, 0),
+    (usize::MAX, usize::MAX),
+];
+
+/// The place of the first row of `PLACES` that isn't so.
+fn wrong_place(numbers: &MethodNumbers) -> Option<usize> {
+    for (row, (number, class, member)) in PLACES.iter().enumerate() {
+        let place = MemberPlace {
+            class: *class,
+            member: *member,
+        };
+        if numbers.place(*number) != Some(place) || numbers.number_of(place) != Some(*number) {
+            return Some(row);
+        }
+    }
+    None
+}
+
+/// The place of the first row of `NO_PLACES` at which a method stands.
+fn wrong_no_place(numbers: &MethodNumbers) -> Option<usize> {
+    for (row, (class, member)) in NO_PLACES.iter().enumerate() {
+        let place = MemberPlace {
+            class: *class,
+            member: *member,
+        };
+        if numbers.number_of(place).is_some() {
+            return Some(row);
+        }
+    }
+    None
+}
+
+#[derive(Drop)]
+struct PlaceAnswers {
+    wrong_place: Option<usize>,
+    wrong_no_place: Option<usize>,
+    count: usize,
+    behind_the_last: Option<MemberPlace>,
+}
+
+impl Answers for PlaceAnswers {
+    fn of(alloc: Global, linked: &Linked, _indices: &[u16]) -> Result<PlaceAnswers, AllocError> {
+        let numbers = MethodNumbers::new(alloc, linked.set())?;
+        Ok(PlaceAnswers {
+            wrong_place: wrong_place(&numbers),
+            wrong_no_place: wrong_no_place(&numbers),
+            count: numbers.count(),
+            behind_the_last: numbers.place(53),
+        })
+    }
+}
+
 #[test]
 fn methods_have_numbers(rt: HostRuntime) -> Result<(), Fail> {
-    let numbers = method_numbers(rt.alloc())?;
-    for (number, class, member) in PLACES {
-        let place = MemberPlace { class, member };
-        assert_eq!(rt; numbers.place(number), Some(place));
-        assert_eq!(rt; numbers.number_of(place), Some(number));
-    }
-    // no method stands behind the last of Thread, in String, behind the last of all, and in one more class
-    for (class, member) in [(2, 11), (3, 0), (35, 1), (36, 0), (usize::MAX, usize::MAX)] {
-        assert_eq!(rt; numbers.number_of(MemberPlace { class, member }), None);
-    }
-    assert!(rt; numbers.count() == 53 && numbers.place(53).is_none());
+    let found: PlaceAnswers = asked(rt.alloc(), &CLASSES, &NO_ROWS, &mut [])?;
+    assert_eq!(rt; found.wrong_place, None);
+    assert_eq!(rt; found.wrong_no_place, None);
+    assert!(rt; found.count == 53 && found.behind_the_last.is_none());
     Ok(())
+}
+
+/// The place of the first row of `NAMED` that isn't so.
+#[derive(Drop)]
+struct NamedAnswers {
+    wrong: Option<usize>,
+}
+
+fn wrong_named(named: &NamedMethods, indices: &[u16]) -> Option<usize> {
+    for (place, ((class, _entry, wanted), index)) in NAMED.iter().zip(indices).enumerate() {
+        if named.named(*class, *index) != *wanted {
+            return Some(place);
+        }
+    }
+    None
+}
+
+fn named_of(alloc: Global, linked: &Linked) -> Result<NamedMethods, AllocError> {
+    let numbers = MethodNumbers::new(alloc, linked.set())?;
+    NamedMethods::new(alloc, linked.hierarchy(), &numbers)
+}
+
+impl Answers for NamedAnswers {
+    fn of(alloc: Global, linked: &Linked, indices: &[u16]) -> Result<NamedAnswers, AllocError> {
+        let named = named_of(alloc, linked)?;
+        Ok(NamedAnswers {
+            wrong: wrong_named(&named, indices),
+        })
+    }
 }
 
 #[test]
 fn entries_name_what_is_found(rt: HostRuntime) -> Result<(), Fail> {
-    let (named, indices) = named_methods(rt.alloc())?;
-    for ((class, entry, wanted), index) in NAMED.iter().zip(&indices) {
-        assert_eq!(rt; named.named(*class, *index), *wanted, "{entry:?}");
-    }
+    let mut indices = [0; NAMED.len()];
+    let found: NamedAnswers = asked(rt.alloc(), &CLASSES, &NAMED, &mut indices)?;
+    assert_eq!(rt; found.wrong, None);
     Ok(())
+}
+
+/// A class, a method, and the method that receivers of the class have in its place.
+const SELECTED: [(usize, usize, Option<usize>); 24] = [
+    // P.m is overridden in Q, from which A and R have it
+    (33, 46, Some(46)),
+    (32, 46, Some(42)),
+    (31, 46, Some(42)),
+    (30, 46, Some(42)),
+    // a class above the one that declares the method has one of its own, too
+    (33, 42, Some(46)),
+    // the m with a parameter is another one
+    (30, 45, Some(45)),
+    (33, 45, None),
+    // P.n is inherited by Q, and so is Object's notify
+    (32, 47, Some(47)),
+    (30, 47, Some(47)),
+    (32, 2, Some(2)),
+    // Thread declares Runnable's run
+    (2, 4, Some(5)),
+    // p is private in P, and public in Q
+    (33, 48, None),
+    (33, 43, None),
+    (32, 48, Some(43)),
+    (30, 48, Some(43)),
+    // P.s and main are static
+    (33, 49, None),
+    (32, 49, None),
+    (30, 40, None),
+    // R declares P.n again as an abstract one, and nothing below P declares a
+    (31, 47, Some(41)),
+    (33, 50, Some(50)),
+    (30, 50, Some(50)),
+    // I.i is declared by Q, and by no class above it; methods of interfaces aren't selected
+    (30, 51, Some(44)),
+    (33, 51, None),
+    (30, 52, None),
+];
+
+/// The place of the first row of `SELECTED` that isn't so.
+#[derive(Drop)]
+struct SelectedAnswers {
+    wrong: Option<usize>,
+}
+
+fn wrong_selected(methods: &SelectedMethods) -> Option<usize> {
+    for (place, (class, method, wanted)) in SELECTED.iter().enumerate() {
+        if methods.selected(*class, *method) != *wanted {
+            return Some(place);
+        }
+    }
+    None
+}
+
+fn selected_of(alloc: Global, linked: &Linked) -> Result<SelectedMethods, AllocError> {
+    let numbers = MethodNumbers::new(alloc, linked.set())?;
+    SelectedMethods::new(alloc, linked.set(), &numbers)
+}
+
+impl Answers for SelectedAnswers {
+    fn of(alloc: Global, linked: &Linked, _indices: &[u16]) -> Result<SelectedAnswers, AllocError> {
+        let selected = selected_of(alloc, linked)?;
+        Ok(SelectedAnswers {
+            wrong: wrong_selected(&selected),
+        })
+    }
 }
 
 #[test]
 fn the_nearest_method_is_selected(rt: HostRuntime) -> Result<(), Fail> {
-    let selected = selected_methods(rt.alloc())?;
-    for (class, method, found) in [
-        // P.m is overridden in Q, from which A and R have it
-        (33, 46, Some(46)),
-        (32, 46, Some(42)),
-        (31, 46, Some(42)),
-        (30, 46, Some(42)),
-        // a class above the one that declares the method has one of its own, too
-        (33, 42, Some(46)),
-        // the m with a parameter is another one
-        (30, 45, Some(45)),
-        (33, 45, None),
-        // P.n is inherited by Q, and so is Object's notify
-        (32, 47, Some(47)),
-        (30, 47, Some(47)),
-        (32, 2, Some(2)),
-        // Thread declares Runnable's run
-        (2, 4, Some(5)),
-        // p is private in P, and public in Q
-        (33, 48, None),
-        (33, 43, None),
-        (32, 48, Some(43)),
-        (30, 48, Some(43)),
-        // P.s and main are static
-        (33, 49, None),
-        (32, 49, None),
-        (30, 40, None),
-        // R declares P.n again as an abstract one, and nothing below P declares a
-        (31, 47, Some(41)),
-        (33, 50, Some(50)),
-        (30, 50, Some(50)),
-        // I.i is declared by Q, and by no class above it; methods of interfaces aren't selected
-        (30, 51, Some(44)),
-        (33, 51, None),
-        (30, 52, None),
-    ] {
-        assert_eq!(rt; selected.selected(class, method), found, "{class} {method}");
-    }
-    Ok(())
-}
-
-fn flags_of(call: &MethodCall) -> [bool; 5] {
-    [
-        call.is_static,
-        call.is_private,
-        call.is_synchronized,
-        call.is_native,
-        call.is_abstract,
-    ]
-}
-
-/// Numbers of methods, with the class that declares each, and how many operands a call takes: one for each argument and one for a
-/// receiver. They are main, P.m, P.n, P.s, J.j, and of Thread the second constructor and currentThread.
-const OPERANDS: [(usize, usize, usize); 7] = [
-    (40, 30, 1),
-    (46, 33, 1),
-    (47, 33, 2),
-    (49, 33, 3),
-    (52, 35, 3),
-    (7, 2, 2),
-    (13, 2, 0),
-];
-
-/// Numbers of methods, and whether each is static, private, synchronized, native and abstract: P.m, P.s, P.p, Q.m, P.a, R.n, and
-/// Thread's start and yield.
-const FLAGS: [(usize, [bool; 5]); 8] = [
-    (46, [false, false, false, false, false]),
-    (49, [true, false, false, false, false]),
-    (48, [false, true, false, false, false]),
-    (42, [false, false, true, false, false]),
-    (50, [false, false, false, false, true]),
-    (41, [false, false, false, false, true]),
-    (8, [false, false, false, true, false]),
-    (12, [true, false, false, true, false]),
-];
-
-#[test]
-fn calls_are_told(rt: HostRuntime) -> Result<(), Fail> {
-    let calls = method_calls(rt.alloc())?;
-    for (number, class, operands) in OPERANDS {
-        let call = calls.call(number).ok_or("no method")?;
-        assert!(rt;
-            call.class == class && call.operands == operands,
-            "{number}"
-        );
-    }
-    for (number, flags) in FLAGS {
-        let call = calls.call(number).ok_or("no method")?;
-        assert!(rt; flags_of(call) == flags, "{number}");
-        assert!(rt;
-            call.code.is_none() == (call.is_native || call.is_abstract),
-            "{number}"
-        );
-    }
-    for (number, parts) in [(40, MAIN), (47, GIVES)] {
-        let frame = calls
-            .call(number)
-            .and_then(|call| call.code.as_ref())
-            .ok_or("no code")?;
-        assert!(rt; frame.max_stack == parts.max_stack && frame.max_locals == parts.max_locals);
-        assert!(rt; frame.code.as_slice() == parts.bytes);
-    }
-    // Thread.run
-    let frame = calls
-        .call(5)
-        .and_then(|call| call.code.as_ref())
-        .ok_or("no code")?;
-    assert!(rt; frame.code.len() == 17 && calls.call(53).is_none());
+    let found: SelectedAnswers = asked(rt.alloc(), &CLASSES, &NO_ROWS, &mut [])?;
+    assert_eq!(rt; found.wrong, None);
     Ok(())
 }

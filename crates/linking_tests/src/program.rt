@@ -28,7 +28,7 @@ pub(crate) struct Method {
 }
 
 /// The index of a constant pool, or an entry that is to be there.
-#[derive(Clone, Copy, Debug)]
+#[derive(Clone, Copy)]
 pub(crate) enum Entry {
     At(u16),
     Text(&'static [u8]),
@@ -81,28 +81,70 @@ fn builder_of(alloc: Global, class: Class) -> Result<ClassBuilder, AllocError> {
     Ok(builder)
 }
 
-/// The linked classes, and the indices of the rows' entries.
-pub(crate) fn linked<T>(
+/// The class file of the class with a number. Writes the indices of the rows' entries of this class.
+fn file_of<T>(
+    alloc: Global,
+    number: usize,
+    class: Class,
+    rows: &[Row<T>],
+    indices: &mut [u16],
+) -> Result<Vec<u8>, AllocError> {
+    let mut builder = builder_of(alloc, class)?;
+    for ((of, entry, _wanted), index) in rows.iter().zip(indices) {
+        if *of == number {
+            *index = index_of(&mut builder.pool, *entry)?;
+        }
+    }
+    builder.bytes()
+}
+
+/// The class files of the classes. Writes the indices of the rows' entries of these classes.
+fn files_of<T>(
     alloc: Global,
     classes: &[Class],
     rows: &[Row<T>],
-) -> Result<(Linked, Vec<u16>), Fail> {
-    let mut builders = Vec::new(alloc);
-    for class in classes {
-        builders.push(builder_of(alloc, *class)?)?;
-    }
-    let mut indices = Vec::new(alloc);
-    for (class, entry, _wanted) in rows {
-        let builder = builders.get_mut(class.wrapping_sub(FIRST_FILE));
-        indices.push(match (entry, builder) {
-            (Entry::At(index), _) => *index,
-            (entry, Some(builder)) => index_of(&mut builder.pool, *entry)?,
-            (_, None) => return Err("no such file".into()),
-        })?;
-    }
+    indices: &mut [u16],
+) -> Result<Vec<Vec<u8>>, AllocError> {
     let mut files = Vec::new(alloc);
-    for builder in builders {
-        files.push(builder.bytes()?)?;
+    let mut number = FIRST_FILE;
+    for class in classes {
+        files.push(file_of(alloc, number, *class, rows, indices)?)?;
+        number = number.wrapping_add(1);
     }
-    Ok((link(alloc, &files).ok().ok_or("refused")?, indices))
+    Ok(files)
+}
+
+/// Writes the indices that rows have themselves. Says whether all other rows are those of files, which are so many.
+fn have_files<T>(count: usize, rows: &[Row<T>], indices: &mut [u16]) -> bool {
+    for ((class, entry, _wanted), index) in rows.iter().zip(indices) {
+        match entry {
+            Entry::At(given) => *index = *given,
+            _ if class.wrapping_sub(FIRST_FILE) < count => {}
+            _ => return false,
+        }
+    }
+    true
+}
+
+/// What linked classes answer to questions.
+pub(crate) trait Answers: Sized {
+    /// Asks the linked classes, with the indices of the rows' entries.
+    fn of(alloc: Global, linked: &Linked, indices: &[u16]) -> Result<Self, AllocError>;
+}
+
+/// What the classes answer once they are linked. Writes the indices of the rows' entries.
+pub(crate) fn asked<A: Answers, T>(
+    alloc: Global,
+    classes: &[Class],
+    rows: &[Row<T>],
+    indices: &mut [u16],
+) -> Result<A, Fail> {
+    if !have_files(classes.len(), rows, indices) {
+        return Err("no such file".into());
+    }
+    let files = files_of(alloc, classes, rows, indices)?;
+    match link(alloc, &files) {
+        Ok(linked) => A::of(alloc, &linked, indices).map_err(Fail::from),
+        Err(_) => Err("refused".into()),
+    }
 }
