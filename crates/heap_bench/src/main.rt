@@ -2,10 +2,11 @@
 //! a thread wait for as many of them as the second says. `bench/heap.sh` times it and reads its memory.
 #![tactic(auto)]
 
-use anyhow::{Context, Result, ensure};
+use anyhow::{Context, Error, Result, ensure};
 use heap::Heap;
 use model::{Limits, MonitorAnswer};
 use monitor::Call;
+use std::alloc::Global;
 use std::env;
 
 /// Whether one more object was made, whose field holds its reference and which thread 0 has entered.
@@ -43,19 +44,36 @@ fn awaited(heap: &mut Heap, objects: u32) -> u32 {
     objects
 }
 
-fn main(rt: HostRuntime) -> Result<()> {
-    let mut args = env::args(&rt)?;
-    let objects = args.nth(1).context("how many objects")?;
-    let objects = objects.as_str().parse::<u32>()?;
-    let waiters = args.next().context("how many waiters")?;
-    let waiters = waiters.as_str().parse::<u32>()?;
-    let limits = Limits::new(objects, objects, 8_388_608, 1, 1).context("the limits")?;
-    let mut heap = Heap::new(rt.alloc(), limits);
+/// The number that a word spells.
+fn number(word: Option<String>, what: &'static str) -> Result<u32> {
+    let word = word.context(what)?;
+    word.as_str().parse::<u32>().map_err(Error::from)
+}
+
+/// How many objects the arguments ask for, and how many waiters.
+fn asked(rt: &HostRuntime) -> Result<(u32, u32)> {
+    let mut args = env::args(rt)?;
+    let objects = number(args.nth(1), "how many objects")?;
+    let waiters = number(args.next(), "how many waiters")?;
+    Ok((objects, waiters))
+}
+
+/// How many of the objects were made, for how many of the waiters thread 0 waits, and the field of the last object.
+fn done(alloc: Global, limits: Limits, objects: u32, waiters: u32) -> (u32, u32, u32) {
+    let mut heap = Heap::new(alloc, limits);
     let there = made(&mut heap, objects);
-    ensure!(there == objects, "{there} objects");
     let waits = awaited(&mut heap, waiters);
-    ensure!(waits == waiters, "{waits} waiters");
-    let last = heap.get_field(objects.saturating_sub(1), 0);
+    (there, waits, heap.get_field(objects.saturating_sub(1), 0))
+}
+
+fn main(rt: HostRuntime) -> Result<()> {
+    let (objects, waiters) = asked(&rt)?;
+    let limits = Limits::new(objects, objects, 8_388_608, 1, 1).context("the limits")?;
+    let (there, waits, last) = done(rt.alloc(), limits, objects, waiters);
+    ensure!(
+        there == objects && waits == waiters,
+        "{there} objects, {waits} waiters"
+    );
     println!(rt; "{there} objects, {waits} waiters, the last field is {last}")?;
     Ok(())
 }
