@@ -54,12 +54,12 @@ const I: Class = Class {
 };
 
 /// A stands below B, B below the interface J, and J below the interface I.
-const CLASSES: [Class; 4] = [A, B, J, I];
+static CLASSES: [Class; 4] = [A, B, J, I];
 
 const NO_ROWS: [Row<()>; 0] = [];
 
 /// A class, an interface, and whether the class is it or has it above itself.
-const INTERFACES: [(&[u8], &[u8], bool); 7] = [
+static INTERFACES: [(&[u8], &[u8], bool); 7] = [
     (b"A", b"I", true),
     (b"B", b"J", true),
     (b"J", b"I", true),
@@ -70,7 +70,7 @@ const INTERFACES: [(&[u8], &[u8], bool); 7] = [
 ];
 
 /// A class, another class or interface, and whether the first is it or has it above itself.
-const CLASSES_ABOVE: [(&[u8], &[u8], bool); 6] = [
+static CLASSES_ABOVE: [(&[u8], &[u8], bool); 6] = [
     (b"A", b"B", true),
     (b"A", b"J", true),
     (b"A", OBJECT, true),
@@ -91,7 +91,7 @@ fn reference_type((arrays, class): Named) -> ReferenceType<'static> {
 }
 
 /// Two types, and whether the first is a subtype of the second (JVMS 4.10).
-const TYPES: [(Named, Named, bool); 8] = [
+static TYPES: [(Named, Named, bool); 8] = [
     ((1, Some(b"A")), (1, Some(b"I")), true),
     ((2, Some(b"A")), (1, Some(OBJECT)), true),
     ((0, None), (0, Some(OBJECT)), true),
@@ -153,7 +153,7 @@ impl Answers for BelowAnswers {
 
 #[test]
 fn classes_stand_below_others(rt: HostRuntime) -> Result<(), Fail> {
-    let found: BelowAnswers = asked(rt.alloc(), &CLASSES, &NO_ROWS, &mut [])?;
+    let found: BelowAnswers = asked(rt.alloc(), &CLASSES, &NO_ROWS)?;
     assert_eq!(rt; found.wrong_interface, None);
     assert_eq!(rt; found.wrong_class_above, None);
     assert_eq!(rt; found.wrong_type, None);
@@ -162,7 +162,7 @@ fn classes_stand_below_others(rt: HostRuntime) -> Result<(), Fail> {
 
 /// A class, the name of a method with no parameters and no result, and the places of the class that declares it and of the
 /// method there, where a receiver of the class has such a method.
-const SELECTED: [(&[u8], &[u8], Option<(usize, usize)>); 4] = [
+static SELECTED: [(&[u8], &[u8], Option<(usize, usize)>); 4] = [
     (b"A", b"wait", Some((0, 1))),
     (b"java/lang/Thread", b"run", Some((2, 0))),
     // it is static
@@ -206,7 +206,7 @@ impl Answers for SelectionAnswers {
 
 #[test]
 fn classes_have_methods(rt: HostRuntime) -> Result<(), Fail> {
-    let found: SelectionAnswers = asked(rt.alloc(), &CLASSES, &NO_ROWS, &mut [])?;
+    let found: SelectionAnswers = asked(rt.alloc(), &CLASSES, &NO_ROWS)?;
     assert_eq!(rt; found.wrong, None);
     Ok(())
 }

@@ -61,14 +61,14 @@ const P: Class = Class {
 };
 
 /// P declares x, and Q below it one of its own; R is below Q. The files stand in another order, with the numbers 30 to 33.
-const CLASSES: [Class; 4] = [A, R, Q, P];
+static CLASSES: [Class; 4] = [A, R, Q, P];
 
 /// The fields x of P and of Q.
 const X_OF_P: Option<FieldLink> = Some(FieldLink::Instance { class: 33, slot: 0 });
 
 const X_OF_Q: Option<FieldLink> = Some(FieldLink::Instance { class: 32, slot: 3 });
 
-const FIELDS: [Row<Option<FieldLink>>; 15] = [
+static FIELDS: [Row<Option<FieldLink>>; 15] = [
     (30, Entry::Field(b"P", b"x", b"I"), X_OF_P),
     (30, Entry::Field(b"Q", b"x", b"I"), X_OF_Q),
     (30, Entry::Field(b"R", b"x", b"I"), X_OF_Q),
@@ -164,15 +164,14 @@ impl Answers for FieldAnswers {
 
 #[test]
 fn fields_have_slots(rt: HostRuntime) -> Result<(), Fail> {
-    let mut indices = [0; FIELDS.len()];
-    let found: FieldAnswers = asked(rt.alloc(), &CLASSES, &FIELDS, &mut indices)?;
+    let found: FieldAnswers = asked(rt.alloc(), &CLASSES, &FIELDS)?;
     assert_eq!(rt; found.wrong_field, None);
     assert_eq!(rt; found.wrong_slot_count, None);
     assert_eq!(rt; found.static_count, 3);
     Ok(())
 }
 
-const NUMBERS: [Row<Option<usize>>; 9] = [
+static NUMBERS: [Row<Option<usize>>; 9] = [
     (30, Entry::Class(b"A"), Some(30)),
     (30, Entry::Class(OBJECT), Some(0)),
     (30, Entry::Class(b"P"), Some(33)),
@@ -210,13 +209,12 @@ impl Answers for NumberAnswers {
 
 #[test]
 fn classes_have_numbers(rt: HostRuntime) -> Result<(), Fail> {
-    let mut indices = [0; NUMBERS.len()];
-    let found: NumberAnswers = asked(rt.alloc(), &CLASSES, &NUMBERS, &mut indices)?;
+    let found: NumberAnswers = asked(rt.alloc(), &CLASSES, &NUMBERS)?;
     assert_eq!(rt; found.wrong, None);
     Ok(())
 }
 
-const STRINGS: [Row<Option<usize>>; 7] = [
+static STRINGS: [Row<Option<usize>>; 7] = [
     (30, Entry::String(b"one"), Some(0)),
     (31, Entry::String(b"two"), Some(1)),
     (32, Entry::String(b"one"), Some(0)),
@@ -254,8 +252,7 @@ impl Answers for StringAnswers {
 
 #[test]
 fn texts_have_numbers(rt: HostRuntime) -> Result<(), Fail> {
-    let mut indices = [0; STRINGS.len()];
-    let found: StringAnswers = asked(rt.alloc(), &CLASSES, &STRINGS, &mut indices)?;
+    let found: StringAnswers = asked(rt.alloc(), &CLASSES, &STRINGS)?;
     assert_eq!(rt; found.wrong, None);
     // equal texts have one number
     assert_eq!(rt; found.count, 3);

@@ -123,7 +123,7 @@ impl Answers for CallAnswers {
 
 #[test]
 fn calls_are_told(rt: HostRuntime) -> Result<(), Fail> {
-    let found: CallAnswers = asked(rt.alloc(), &CLASSES, &NO_ROWS, &mut [])?;
+    let found: CallAnswers = asked(rt.alloc(), &CLASSES, &NO_ROWS)?;
     assert_eq!(rt; found.wrong_operands, None);
     assert_eq!(rt; found.wrong_flags, None);
     assert!(rt; found.have_parts == [Some(true), Some(true)]);

@@ -165,9 +165,9 @@ const J: Class = Class {
 
 /// The classes with the numbers from 30 on, behind the built-in ones. Their methods have the numbers from 40 on: A's 40, R's 41,
 /// Q's 42 to 45, P's 46 to 50, I's 51 and J's 52.
-pub(crate) const CLASSES: [Class; 6] = [A, R, Q, P, I, J];
+pub(crate) static CLASSES: [Class; 6] = [A, R, Q, P, I, J];
 
-const NAMED: [Row<Option<usize>>; 21] = [
+static NAMED: [Row<Option<usize>>; 21] = [
     // R.s, which P declares; R.m, which Q declares nearest; Q.n, which P declares; and J.i, which I declares
     (
         30,
@@ -285,7 +285,7 @@ impl Answers for PlaceAnswers {
 
 #[test]
 fn methods_have_numbers(rt: HostRuntime) -> Result<(), Fail> {
-    let found: PlaceAnswers = asked(rt.alloc(), &CLASSES, &NO_ROWS, &mut [])?;
+    let found: PlaceAnswers = asked(rt.alloc(), &CLASSES, &NO_ROWS)?;
     assert_eq!(rt; found.wrong_place, None);
     assert_eq!(rt; found.wrong_no_place, None);
     assert!(rt; found.count == 53 && found.behind_the_last.is_none());
@@ -323,8 +323,7 @@ impl Answers for NamedAnswers {
 
 #[test]
 fn entries_name_what_is_found(rt: HostRuntime) -> Result<(), Fail> {
-    let mut indices = [0; NAMED.len()];
-    let found: NamedAnswers = asked(rt.alloc(), &CLASSES, &NAMED, &mut indices)?;
+    let found: NamedAnswers = asked(rt.alloc(), &CLASSES, &NAMED)?;
     assert_eq!(rt; found.wrong, None);
     Ok(())
 }
@@ -397,7 +396,7 @@ impl Answers for SelectedAnswers {
 
 #[test]
 fn the_nearest_method_is_selected(rt: HostRuntime) -> Result<(), Fail> {
-    let found: SelectedAnswers = asked(rt.alloc(), &CLASSES, &NO_ROWS, &mut [])?;
+    let found: SelectedAnswers = asked(rt.alloc(), &CLASSES, &NO_ROWS)?;
     assert_eq!(rt; found.wrong, None);
     Ok(())
 }

@@ -132,19 +132,19 @@ pub(crate) trait Answers: Sized {
     fn of(alloc: Global, linked: &Linked, indices: &[u16]) -> Result<Self, AllocError>;
 }
 
-/// What the classes answer once they are linked. Writes the indices of the rows' entries.
+/// What the classes answer once they are linked.
 pub(crate) fn asked<A: Answers, T>(
     alloc: Global,
     classes: &[Class],
     rows: &[Row<T>],
-    indices: &mut [u16],
 ) -> Result<A, Fail> {
-    if !have_files(classes.len(), rows, indices) {
+    let mut indices = vec![in alloc; 0u16; rows.len()]?;
+    if !have_files(classes.len(), rows, &mut indices) {
         return Err("no such file".into());
     }
-    let files = files_of(alloc, classes, rows, indices)?;
+    let files = files_of(alloc, classes, rows, &mut indices)?;
     match link(alloc, &files) {
-        Ok(linked) => A::of(alloc, &linked, indices).map_err(Fail::from),
+        Ok(linked) => A::of(alloc, &linked, &indices).map_err(Fail::from),
         Err(_) => Err("refused".into()),
     }
 }
