@@ -5,7 +5,7 @@ ghost use Rattle.std.specs.List.{list_all, count_by};
 ghost use Rattle.reading.specs.declared.fault.Cause.TheVariants as causes;
 ghost use Rattle.model.specs.Tree.{Entry, FieldPart, FieldTree, MethodPart, MethodTree};
 ghost use Rattle.model.specs.Spelling.{entry_at, text_of};
-ghost use Rattle.model.specs.Conditions.{has_code, is_code_part, is_constant_part, method_code, is_constant_of, constant_fits, field_constants, file_attributes};
+ghost use Rattle.model.specs.Conditions.{has_code, is_code_part, is_constant_part, has_code_by_flags, is_constant_of, constant_fits, field_constants, file_attributes};
 ghost use Rattle.class_tree.specs.View.{field_part_of, field_of, method_part_of, method_of, file_of};
 ghost use Rattle.constant_pool.specs.Checking.{Checks};
 ghost use Rattle.constant_pool.specs.View.{entry_of};
@@ -65,7 +65,7 @@ impl Checked<Attributes> for Method {
 
     ghost cause = { causes.Attribute };
 
-    ghost is_met = { λ _ m. method_code m };
+    ghost is_met = { λ _ m. has_code_by_flags m };
 
     /// A Code that is missing is a fault of the method, one too many a fault at its name.
     fn check(&self, _texts: &Texts<'_>, at: usize) -> Result<(), Malformed> {

@@ -4,7 +4,7 @@ ghost use Rattle.std.specs.Prelude.{◌≡◌, ℕ, ◌==◌, ◌&&◌, ◌||◌
 ghost use Rattle.std.specs.List.{list_all};
 ghost use Rattle.reading.specs.declared.fault.Cause.TheVariants as causes;
 ghost use Rattle.model.specs.Tree.{Entry, FieldTree, MethodTree};
-ghost use Rattle.model.specs.Conditions.{field_descriptor, slots_fit, method_descriptor, member_descriptors, file_descriptors};
+ghost use Rattle.model.specs.Conditions.{is_field_described, slots_fit, is_method_described, member_descriptors, file_descriptors};
 ghost use Rattle.class_tree.specs.View.{field_of, method_of, file_of};
 ghost use Rattle.constant_pool.specs.Checking.{Checks};
 
@@ -24,7 +24,7 @@ impl Checked<Descriptors> for Field {
 
     ghost cause = { causes.Descriptor };
 
-    ghost is_met = { λ pool f. field_descriptor pool f };
+    ghost is_met = { λ pool f. is_field_described pool f };
 
     fn check(&self, texts: &Texts<'_>, at: usize) -> Result<(), Malformed> {
         let is_met = texts.kind(self.descriptor).is_field_descriptor;
@@ -49,7 +49,7 @@ impl Checked<Descriptors> for Method {
 
     ghost cause = { causes.Descriptor };
 
-    ghost is_met = { λ pool m. method_descriptor pool m };
+    ghost is_met = { λ pool m. is_method_described pool m };
 
     fn check(&self, texts: &Texts<'_>, at: usize) -> Result<(), Malformed> {
         let is_met = slots_fit(self.flags, texts.kind(self.descriptor).method_slots);

@@ -5,7 +5,7 @@ ghost use Rattle.std.specs.List.{list_all};
 ghost use Rattle.reading.specs.declared.fault.Cause.TheVariants as causes;
 ghost use Rattle.model.specs.Tree.{Entry, FieldTree, MethodTree};
 ghost use Rattle.model.specs.Spelling.{entry_at};
-ghost use Rattle.model.specs.Conditions.{names_no_array, field_name, method_name, member_names, file_names};
+ghost use Rattle.model.specs.Conditions.{names_no_array, is_field_named, is_method_named, member_names, file_names};
 ghost use Rattle.class_tree.specs.View.{field_of, method_of, file_of};
 ghost use Rattle.constant_pool.specs.Checking.{Checks};
 
@@ -56,7 +56,7 @@ impl Checked<Names> for Field {
 
     ghost cause = { causes.Name };
 
-    ghost is_met = { λ pool f. field_name pool f };
+    ghost is_met = { λ pool f. is_field_named pool f };
 
     fn check(&self, texts: &Texts<'_>, at: usize) -> Result<(), Malformed> {
         let is_met = texts.kind(self.name).is_unqualified;
@@ -71,7 +71,7 @@ impl Checked<Names> for Method {
 
     ghost cause = { causes.Name };
 
-    ghost is_met = { λ pool m. method_name pool m };
+    ghost is_met = { λ pool m. is_method_named pool m };
 
     fn check(&self, texts: &Texts<'_>, at: usize) -> Result<(), Malformed> {
         let is_met = texts.kind(self.name).is_method_name;

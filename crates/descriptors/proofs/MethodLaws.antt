@@ -6,7 +6,7 @@ use Rattle.std.proofs.lemmas.Bool.{eqb-true, ne_eqb, leb-true, le-leb}
 use Rattle.std.proofs.lemmas.List.{append-nil, nil_from_length}
 use Rattle.std.proofs.lemmas.List.Concat.{flat_map-cons}
 use Rattle.std.proofs.lemmas.List.Sums.{sum_by-cons}
-use Rattle.model.specs.Descriptors.{ElementType, Byte, Char, Double, Float, Int, Long, Object, Short, Boolean, FieldType, element, field, FieldTypeFits, MethodType, returned, method, ReturnFits, element_slots, slots, parameter_slots, IsMethod}
+use Rattle.model.specs.Descriptors.{ElementType, Byte, Char, Double, Float, Int, Long, Object, Short, Boolean, FieldType, element, field, FieldTypeFits, MethodType, return_descriptor, method, ReturnFits, element_slots, slots, parameter_slots, IsMethod}
 use Rattle.model.specs.DescriptorScan.{◌>>=◌, field_at, field_type, parameters_at, return_type, method_type, method_slots}
 use Rattle.descriptors.specs.Scan.{slots_at, scan}
 use Rattle.descriptors.proofs.FieldLaws.{field_again, field_takes, parse_takes, parse_again, chosen, none_some}
@@ -164,23 +164,23 @@ few_parameters (f ∷ ps) =
 
 -- ---- returns
 
-return_takes : (bytes : List ℕ) (r : Option FieldType) → return_type bytes ≡ Some r → (bytes ≡ returned r) × ReturnFits r
+return_takes : (bytes : List ℕ) (r : Option FieldType) → return_type bytes ≡ Some r → (bytes ≡ return_descriptor r) × ReturnFits r
 return_takes [] r = λ e. none_some r e
 return_takes (b ∷ bytes) r =
     chosen (λ void. chosen
     (λ last e.
     (let whole : b ∷ bytes ≡ 86 ∷ [] = ap (λ (k : ℕ). k ∷ bytes) (eqb-true b 86 void) ∙ ap (λ (l : List ℕ). 86 ∷ l) (nil_from_length bytes (eqb-true _ _ last)) in
-    subst (λ (x : Option FieldType). (b ∷ bytes ≡ returned x) × ReturnFits x) (some_is None r e) (whole, tt)))
+    subst (λ (x : Option FieldType). (b ∷ bytes ≡ return_descriptor x) × ReturnFits x) (some_is None r e) (whole, tt)))
     (λ _ e. none_some r e))
     (λ _ e.
     (let s = some_step (field_type (b ∷ bytes)) (λ f. given (given f)) r e in
     let h = parse_takes (b ∷ bytes) s.0 s.1 in
-    subst (λ (x : Option FieldType). (b ∷ bytes ≡ returned x) × ReturnFits x) (some_is (Some s.0) r s.2) (h.spelled, h.fits)))
+    subst (λ (x : Option FieldType). (b ∷ bytes ≡ return_descriptor x) × ReturnFits x) (some_is (Some s.0) r s.2) (h.spelled, h.fits)))
 
 return_step : (bytes : List ℕ) → Begins bytes → return_type bytes ≡ (field_type bytes >>= λ f. given (given f))
 return_step bytes h = subst (λ (l : List ℕ). return_type l ≡ (field_type l >>= λ f. given (given f))) (sym h.is) (rw h.returns refl)
 
-return_again : (r : Option FieldType) → ReturnFits r → return_type (returned r) ≡ Some r
+return_again : (r : Option FieldType) → ReturnFits r → return_type (return_descriptor r) ≡ Some r
 return_again None fits = refl
 return_again (Some f) fits =
     let starts : Begins (field f) = subst Begins (append-nil (field f)) (begins f []) in
@@ -207,7 +207,7 @@ method_again : (text : List ℕ) (m : MethodType) → IsMethod text m → method
 unfolding method_type
 method_again text m h =
     let few : length m.parameters ≤ 255 = omega (arith, few_parameters m.parameters, h.fits.slots) in
-    let read = parameters_again 255 m.parameters (returned m.returns) few h.fits.parameters in
+    let read = parameters_again 255 m.parameters (return_descriptor m.returns) few h.fits.parameters in
     let fits : leb (sum_by slots m.parameters) 255 ≡ true = le-leb _ _ h.fits.slots in
     ap method_type h.spelled ∙ rw (read, return_again m.returns h.fits.returns, fits) refl
 

@@ -2,7 +2,7 @@
 
 ghost use Rattle.std.specs.Prelude.{◌≡◌, ◌++◌, IfOk, OnOk};
 ghost use Rattle.std.specs.List.{flat_map};
-ghost use Rattle.model.specs.Listing.{catch_line, caught, class_line, class_word, field_line, flags_word, implements, kind_word, method_head, operand, sizes};
+ghost use Rattle.model.specs.Listing.{catch_line, caught, class_line, class_word, field_line, flags_word, implements_words, kind_word, method_head, operand, sizes};
 ghost use Rattle.model.specs.Report.{line, number};
 ghost use Rattle.classfile.specs.View.{code_of, field_of, file_of, method_of};
 
@@ -44,12 +44,12 @@ fn push_implements(
     file: &ClassFile,
     interfaces: &[u16],
 ) -> Result<(), AllocError>
-    ensures { OnOk result (text.new.items ≡ text.old.items ++ implements file.now.pool interfaces.now) }
+    ensures { OnOk result (text.new.items ≡ text.old.items ++ implements_words file.now.pool interfaces.now) }
 {
     if interfaces.is_empty() {
         return Ok(());
     }
-    text.extend_from_slice(b" implements")?;
+    text.extend_from_slice(b" implements_words")?;
     push_classes(text, file, interfaces)
 }
 

@@ -8,7 +8,7 @@ use Rattle.model.specs.BuiltIn.{built_in_classes, object_class}
 use Rattle.model.specs.Names.{Name, name_eq, Member, java_lang_object}
 use Rattle.model.specs.Tree.{FileTree}
 use Rattle.model.specs.Classes.{Program, class_of, classes_of, superclass_of, superinterfaces_of, interface_names, interfaces_above, lineage_of, is_named}
-use Rattle.model.specs.Lookup.{first_found, field_from, field_declared, find_field}
+use Rattle.model.specs.Lookup.{first_found, field_from, field_in_class, find_field}
 use Rattle.hierarchy.specs.declared.rows.Above.TheVariants as above
 use Rattle.hierarchy.specs.Above.{directly_above, names_above, rows_of}
 use Rattle.hierarchy.specs.Fields.{is_below_other, has_interface_below_other, FieldsAlongSuperclasses, HasSupertypes}
@@ -55,30 +55,30 @@ interfaces_flat files class flat = by (class_of files class) refl
     by (Some file) e = ap (λ (o : Option FileTree). list_any (is_below_other files) (option_map_or interface_names o [])) e ∙ not_found (is_named class) (has_interface_below_other files) (classes_of files) file e flat
 
 from_interface : (files : Program) (rank : Name → ℕ) → Ranked files rank → list_any (has_interface_below_other files) (classes_of files) ≡ false → (m : Member) (n : ℕ) (i : Name) → rank i ≤ n → is_below_other files i ≡ false
-    → field_from files n m i ≡ first_found (field_declared files m) (i ∷ names_above (directly_above files above.Interfaces) n i)
+    → field_from files n m i ≡ first_found (field_in_class files m) (i ∷ names_above (directly_above files above.Interfaces) n i)
 from_interface files rank r flat m zero i low here = sym (ap (λ o. option_or o None) (field_of_none files m i (r.none i low)))
 from_interface files rank r flat m (suc n) i low here =
-    ap (λ o. option_or (field_declared files m i) (option_or (first_found (λ j. field_from files n m j) (superinterfaces_of files i)) o)) (nothing_above files m n (superclass_of files i) here)
-    ∙ ap (option_or (field_declared files m i)) (or_else_none _
-    ∙ each_found (field_declared files m) (λ j. field_from files n m j) (names_above (directly_above files above.Interfaces) n) (λ s. nat_le (rank i) (rank s)) (is_below_other files) (superinterfaces_of files i) (r.interfaces i) (interfaces_flat files i flat)
+    ap (λ o. option_or (field_in_class files m i) (option_or (first_found (λ j. field_from files n m j) (superinterfaces_of files i)) o)) (nothing_above files m n (superclass_of files i) here)
+    ∙ ap (option_or (field_in_class files m i)) (or_else_none _
+    ∙ each_found (field_in_class files m) (λ j. field_from files n m j) (names_above (directly_above files above.Interfaces) n) (λ s. nat_le (rank i) (rank s)) (is_below_other files) (superinterfaces_of files i) (r.interfaces i) (interfaces_flat files i flat)
     (λ j below near. let less : rank j < rank i = leb-false (rank i) (rank j) below in from_interface files rank r flat m n j (omega arith) near))
 
 -- ---- along superclasses
 
 from_class : (files : Program) (rank : Name → ℕ) → Ranked files rank → list_any (has_interface_below_other files) (classes_of files) ≡ false → (m : Member) (n : ℕ) (class : Name) → rank class ≤ n
-    → field_from files n m class ≡ first_found (field_declared files m) (flat_map (λ c. c ∷ interfaces_above files c) (lineage_of files n class))
+    → field_from files n m class ≡ first_found (field_in_class files m) (flat_map (λ c. c ∷ interfaces_above files c) (lineage_of files n class))
 from_class files rank r flat m zero class low = refl
 from_class files rank r flat m (suc n) class low =
     let count = length (classes_of files) in
     let few : rank class ≤ suc count = at_most (rank class) count (r.few class) in
-    let inside : first_found (λ i. field_from files n m i) (superinterfaces_of files class) ≡ first_found (field_declared files m) (interfaces_above files class) =
-    each_found (field_declared files m) (λ i. field_from files n m i) (names_above (directly_above files above.Interfaces) n) (λ s. nat_le (rank class) (rank s)) (is_below_other files) (superinterfaces_of files class) (r.interfaces class) (interfaces_flat files class flat)
+    let inside : first_found (λ i. field_from files n m i) (superinterfaces_of files class) ≡ first_found (field_in_class files m) (interfaces_above files class) =
+    each_found (field_in_class files m) (λ i. field_from files n m i) (names_above (directly_above files above.Interfaces) n) (λ s. nat_le (rank class) (rank s)) (is_below_other files) (superinterfaces_of files class) (r.interfaces class) (interfaces_flat files class flat)
     (λ i below near. from_interface files rank r flat m n i (one_less (rank i) (rank class) n (leb-false (rank class) (rank i) below) low) near)
-    ∙ ap (first_found (field_declared files m)) (steady files rank r (suc n) (suc count) class low few ∙ above_is files class) in
-    ap (λ o. option_or (field_declared files m class) (option_or o (option_and_then (λ s. field_from files n m s) (superclass_of files class)))) inside
-    ∙ sym (or_else_assoc (field_declared files m class) (first_found (field_declared files m) (interfaces_above files class)) (option_and_then (λ s. field_from files n m s) (superclass_of files class)))
-    ∙ ap (option_or (first_found (field_declared files m) (class ∷ interfaces_above files class))) (super (superclass_of files class) (r.superclass class) (λ s less. from_class files rank r flat m n s less))
-    ∙ sym (found-append (field_declared files m) (class ∷ interfaces_above files class) (flat_map (λ c. c ∷ interfaces_above files c) (option_map_or (λ s. lineage_of files n s) (superclass_of files class) [])))
+    ∙ ap (first_found (field_in_class files m)) (steady files rank r (suc n) (suc count) class low few ∙ above_is files class) in
+    ap (λ o. option_or (field_in_class files m class) (option_or o (option_and_then (λ s. field_from files n m s) (superclass_of files class)))) inside
+    ∙ sym (or_else_assoc (field_in_class files m class) (first_found (field_in_class files m) (interfaces_above files class)) (option_and_then (λ s. field_from files n m s) (superclass_of files class)))
+    ∙ ap (option_or (first_found (field_in_class files m) (class ∷ interfaces_above files class))) (super (superclass_of files class) (r.superclass class) (λ s less. from_class files rank r flat m n s less))
+    ∙ sym (found-append (field_in_class files m) (class ∷ interfaces_above files class) (flat_map (λ c. c ∷ interfaces_above files c) (option_map_or (λ s. lineage_of files n s) (superclass_of files class) [])))
   where
     at_most : (a b : ℕ) → a ≤ b → a ≤ suc b
     at_most a b h = omega arith
@@ -90,15 +90,15 @@ from_class files rank r flat m (suc n) class low =
     near = λ c. c ∷ interfaces_above files c
 
     super : (o : Option Name) → list_any (λ s. nat_le (rank class) (rank s)) (option_to_list o) ≡ false
-        → ((s : Name) → rank s ≤ n → field_from files n m s ≡ first_found (field_declared files m) (flat_map near (lineage_of files n s)))
-        → option_and_then (λ s. field_from files n m s) o ≡ first_found (field_declared files m) (flat_map near (option_map_or (λ s. lineage_of files n s) o []))
+        → ((s : Name) → rank s ≤ n → field_from files n m s ≡ first_found (field_in_class files m) (flat_map near (lineage_of files n s)))
+        → option_and_then (λ s. field_from files n m s) o ≡ first_found (field_in_class files m) (flat_map near (option_map_or (λ s. lineage_of files n s) o []))
     super None h same = refl
     super (Some s) h same = same s (one_less (rank s) (rank class) n (leb-false (rank class) (rank s) (or_parts (nat_le (rank class) (rank s)) false h).0) low)
 
-pub along_superclasses : (files : Program) → FieldsAlongSuperclasses files → (m : Member) → first_found (field_declared files m) (flat_map (λ c. c ∷ interfaces_above files c) (lineage_of files (length (classes_of files) - 0) m.class)) ≡ find_field files m
+pub along_superclasses : (files : Program) → FieldsAlongSuperclasses files → (m : Member) → first_found (field_in_class files m) (flat_map (λ c. c ∷ interfaces_above files c) (lineage_of files (length (classes_of files) - 0) m.class)) ≡ find_field files m
 along_superclasses files h m =
     let r = ranked_by files h.ranked in
-    ap (λ n. first_found (field_declared files m) (flat_map (λ c. c ∷ interfaces_above files c) (lineage_of files n m.class))) (all (length (classes_of files)))
+    ap (λ n. first_found (field_in_class files m) (flat_map (λ c. c ∷ interfaces_above files c) (lineage_of files n m.class))) (all (length (classes_of files)))
     ∙ sym (from_class files (rank_of files h.ranked.ranks) r h.flat m (length (classes_of files)) m.class (r.few m.class))
   where
     all : (n : ℕ) → n - 0 ≡ n

@@ -15,7 +15,7 @@ use Rattle.model.specs.Names.{Name, name_eq, Member}
 use Rattle.model.specs.Tree.{FileTree, FieldTree, MethodTree}
 use Rattle.model.specs.BuiltIn.{built_in_classes}
 use Rattle.model.specs.Classes.{Program, name_of, classes_of, class_of, is_named, is_method}
-use Rattle.model.specs.Lookup.{is_field, in_class, where_so, field_declared, method_declared}
+use Rattle.model.specs.Lookup.{is_field, in_class, where_so, field_in_class, method_in_class}
 use Rattle.model.specs.Linkable.{stands, DuplicateClass, two_of_one_name, has_built_in_name}
 use Rattle.hierarchy.specs.Set.{files_of, IsAgain}
 use Rattle.hierarchy.proofs.Names.{name_eq_sym, again, built_in_differ, found_any}
@@ -113,24 +113,24 @@ no_class files name e = nowhere (is_named name) (classes_of files) e
 
 -- the field that a class declares
 pub field_found : (files : Program) (m : Member) (class : Name) (file : FileTree) (f : FieldTree) (i : ℕ) → class_of files class ≡ Some file → position (is_field file.pool m.name m.descriptor) file.fields ≡ Some i → slice_get file.fields i ≡ Some f
-    → field_declared files m class ≡ Some (in_class class m)
+    → field_in_class files m class ≡ Some (in_class class m)
 field_found files m class file f i c e at = rw (c, passes_at (is_field file.pool m.name m.descriptor) file.fields i f e at) refl
 
-pub no_field : (files : Program) (m : Member) (class : Name) (file : FileTree) → class_of files class ≡ Some file → position (is_field file.pool m.name m.descriptor) file.fields ≡ None → field_declared files m class ≡ None
+pub no_field : (files : Program) (m : Member) (class : Name) (file : FileTree) → class_of files class ≡ Some file → position (is_field file.pool m.name m.descriptor) file.fields ≡ None → field_in_class files m class ≡ None
 no_field files m class file c e = rw (c, nowhere (is_field file.pool m.name m.descriptor) file.fields e) refl
 
-pub field_of_none : (files : Program) (m : Member) (class : Name) → class_of files class ≡ None → field_declared files m class ≡ None
+pub field_of_none : (files : Program) (m : Member) (class : Name) → class_of files class ≡ None → field_in_class files m class ≡ None
 field_of_none files m class c = rw c refl
 
 -- the method that a class declares
 pub method_found : (files : Program) (wanted : MethodTree → Bool) (m : Member) (class : Name) (file : FileTree) (f : MethodTree) (i : ℕ) → class_of files class ≡ Some file → position (is_method file.pool m.name m.descriptor) file.methods ≡ Some i → slice_get file.methods i ≡ Some f
-    → method_declared files wanted m class ≡ where_so (wanted f) (in_class class m)
+    → method_in_class files wanted m class ≡ where_so (wanted f) (in_class class m)
 method_found files wanted m class file f i c e at = rw (c, passes_at (is_method file.pool m.name m.descriptor) file.methods i f e at) refl
 
-pub no_method : (files : Program) (wanted : MethodTree → Bool) (m : Member) (class : Name) (file : FileTree) → class_of files class ≡ Some file → position (is_method file.pool m.name m.descriptor) file.methods ≡ None → method_declared files wanted m class ≡ None
+pub no_method : (files : Program) (wanted : MethodTree → Bool) (m : Member) (class : Name) (file : FileTree) → class_of files class ≡ Some file → position (is_method file.pool m.name m.descriptor) file.methods ≡ None → method_in_class files wanted m class ≡ None
 no_method files wanted m class file c e = rw (c, nowhere (is_method file.pool m.name m.descriptor) file.methods e) refl
 
-pub method_of_none : (files : Program) (wanted : MethodTree → Bool) (m : Member) (class : Name) → class_of files class ≡ None → method_declared files wanted m class ≡ None
+pub method_of_none : (files : Program) (wanted : MethodTree → Bool) (m : Member) (class : Name) → class_of files class ≡ None → method_in_class files wanted m class ≡ None
 method_of_none files wanted m class c = rw c refl
 
 pub class_at_place : (files : Program) (name : Name) (k : ℕ) → position (is_named name) (classes_of files) ≡ Some k → class_of files name ≡ slice_get (classes_of files) k
@@ -143,10 +143,10 @@ no_item (x ∷ xs) zero lt e = cc
 no_item (x ∷ xs) (suc i) lt e = no_item xs i (omega arith) e
 
 -- a field at a position is declared
-pub field_at : (files : Program) (m : Member) (class : Name) (file : FileTree) (i : ℕ) → class_of files class ≡ Some file → position (is_field file.pool m.name m.descriptor) file.fields ≡ Some i → field_declared files m class ≡ Some (in_class class m)
+pub field_at : (files : Program) (m : Member) (class : Name) (file : FileTree) (i : ℕ) → class_of files class ≡ Some file → position (is_field file.pool m.name m.descriptor) file.fields ≡ Some i → field_in_class files m class ≡ Some (in_class class m)
 field_at files m class file i c e =
     by (slice_get file.fields i) refl
   where
-    by : (o : Option FieldTree) → slice_get file.fields i ≡ o → field_declared files m class ≡ Some (in_class class m)
+    by : (o : Option FieldTree) → slice_get file.fields i ≡ o → field_in_class files m class ≡ Some (in_class class m)
     by (Some f) at = field_found files m class file f i c e at
     by None at = absurd (no_item file.fields i (position_within (is_field file.pool m.name m.descriptor) file.fields i e) at)

@@ -9,7 +9,7 @@ use Rattle.model.specs.Tree.{FileTree}
 use Rattle.model.specs.Classes.{Program, class_of, super_name_of, interface_names, classes_of, superclass_of, superinterfaces_of, interfaces_from, interfaces_above, lineage_of}
 use Rattle.model.specs.Hierarchy.{is_above, direct_supertypes}
 use Rattle.model.specs.BuiltIn.{built_in_classes}
-use Rattle.model.specs.Lookup.{first_found, field_from, field_declared, find_field}
+use Rattle.model.specs.Lookup.{first_found, field_from, field_in_class, find_field}
 use Rattle.std.specs.Prelude.{slice_get}
 use Rattle.std.proofs.lemmas.Bool.{or_cases}
 use mathlib.Core.Bool.{or-false, or_comm}
@@ -145,24 +145,24 @@ row_next f names i x all at is e = ap (λ o. option_or o (first_found f (drop (i
 -- ---- fields
 
 -- what is found from a class on is found in the class, or in what is above it
-pub field_above : (files : Program) (n : ℕ) (m : Member) (class : Name) → field_from files (suc n) m class ≡ option_or (field_declared files m class) (first_found (field_declared files m) (names_above (directly_above files above.Supertypes) n class))
-field_above files zero m class = ap (option_or (field_declared files m class)) (nothing (superinterfaces_of files class) (superclass_of files class))
+pub field_above : (files : Program) (n : ℕ) (m : Member) (class : Name) → field_from files (suc n) m class ≡ option_or (field_in_class files m class) (first_found (field_in_class files m) (names_above (directly_above files above.Supertypes) n class))
+field_above files zero m class = ap (option_or (field_in_class files m class)) (nothing (superinterfaces_of files class) (superclass_of files class))
   where
     nothing : (names : List Name) (o : Option Name) → option_or (first_found (λ i. None) names) (option_and_then (λ s. None) o) ≡ None
     nothing [] None = refl
     nothing [] (Some s) = refl
     nothing (x ∷ names) o = nothing names o
-field_above files (suc n) m class = ap (option_or (field_declared files m class)) (each (superinterfaces_of files class) (superclass_of files class) (field_above files n m))
+field_above files (suc n) m class = ap (option_or (field_in_class files m class)) (each (superinterfaces_of files class) (superclass_of files class) (field_above files n m))
   where
-    each : (names : List Name) (o : Option Name) → ((c : Name) → field_from files (suc n) m c ≡ option_or (field_declared files m c) (first_found (field_declared files m) (names_above (directly_above files above.Supertypes) n c)))
-        → option_or (first_found (λ i. field_from files (suc n) m i) names) (option_and_then (λ s. field_from files (suc n) m s) o) ≡ first_found (field_declared files m) (flat_map (λ i. i ∷ names_above (directly_above files above.Supertypes) n i) (names ++ option_to_list o))
+    each : (names : List Name) (o : Option Name) → ((c : Name) → field_from files (suc n) m c ≡ option_or (field_in_class files m c) (first_found (field_in_class files m) (names_above (directly_above files above.Supertypes) n c)))
+        → option_or (first_found (λ i. field_from files (suc n) m i) names) (option_and_then (λ s. field_from files (suc n) m s) o) ≡ first_found (field_in_class files m) (flat_map (λ i. i ∷ names_above (directly_above files above.Supertypes) n i) (names ++ option_to_list o))
     each [] None h = refl
-    each [] (Some s) h = h s ∙ ap (first_found (field_declared files m)) (sym (append-nil (s ∷ names_above (directly_above files above.Supertypes) n s)))
+    each [] (Some s) h = h s ∙ ap (first_found (field_in_class files m)) (sym (append-nil (s ∷ names_above (directly_above files above.Supertypes) n s)))
     each (x ∷ names) o h =
         or_else_assoc (field_from files (suc n) m x) (first_found (λ i. field_from files (suc n) m i) names) (option_and_then (λ s. field_from files (suc n) m s) o)
         ∙ ap (option_or (field_from files (suc n) m x)) (each names o h)
-        ∙ ap (λ a. option_or a (first_found (field_declared files m) (flat_map (λ i. i ∷ names_above (directly_above files above.Supertypes) n i) (names ++ option_to_list o)))) (h x)
-        ∙ sym (found-append (field_declared files m) (x ∷ names_above (directly_above files above.Supertypes) n x) (flat_map (λ i. i ∷ names_above (directly_above files above.Supertypes) n i) (names ++ option_to_list o)))
+        ∙ ap (λ a. option_or a (first_found (field_in_class files m) (flat_map (λ i. i ∷ names_above (directly_above files above.Supertypes) n i) (names ++ option_to_list o)))) (h x)
+        ∙ sym (found-append (field_in_class files m) (x ∷ names_above (directly_above files above.Supertypes) n x) (flat_map (λ i. i ∷ names_above (directly_above files above.Supertypes) n i) (names ++ option_to_list o)))
 
 one_and_rest : (n : ℕ) → 0 < n → n ≡ suc (n - 1)
 one_and_rest n h = omega arith
@@ -175,7 +175,7 @@ some_class files = omega arith
 pub class_count : (files : Program) → length (classes_of files) ≡ suc (length (classes_of files) - 1)
 class_count files = one_and_rest (length (classes_of files)) (some_class files)
 
-pub find_field_is : (files : Program) (m : Member) → find_field files m ≡ option_or (field_declared files m m.class) (first_found (field_declared files m) (names_above (directly_above files above.Supertypes) (length (classes_of files) - 1) m.class))
+pub find_field_is : (files : Program) (m : Member) → find_field files m ≡ option_or (field_in_class files m m.class) (first_found (field_in_class files m) (names_above (directly_above files above.Supertypes) (length (classes_of files) - 1) m.class))
 find_field_is files m = ap (λ n. field_from files n m m.class) (class_count files) ∙ field_above files (length (classes_of files) - 1) m m.class
 
 -- ---- what is above a class

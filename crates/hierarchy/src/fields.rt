@@ -6,7 +6,7 @@ ghost use Rattle.std.specs.List.{list_any};
 ghost use Rattle.constant_pool.specs.View.{reference_of};
 ghost use Rattle.classfile.specs.View.{file_of};
 ghost use Rattle.model.specs.Classes.{classes_of, interfaces_above};
-ghost use Rattle.model.specs.Lookup.{first_found, field_declared, find_field};
+ghost use Rattle.model.specs.Lookup.{first_found, field_in_class, find_field};
 ghost use Rattle.hierarchy.specs.declared.rows.Above.TheVariants as above;
 ghost use Rattle.hierarchy.specs.Above.{rows_of};
 ghost use Rattle.hierarchy.specs.Fields.{is_below_other, has_interface_below_other, FieldsAlongSuperclasses, HasSupertypes};
@@ -74,7 +74,7 @@ pub(crate) fn rows_for_fields(alloc: Global, set: &ClassSet) -> Result<Vec<NameS
 
 /// The first of the names of a row whose class declares the field.
 fn field_among(set: &ClassSet, row: &NameSet, field: Reference<'_>) -> Option<MemberPlace>
-    ensures found { option_map (λ p. member_in set.now (reference_of field.entry) p) result ≡ first_found (field_declared set.now (reference_of field.entry)) row.now }
+    ensures found { option_map (λ p. member_in set.now (reference_of field.entry) p) result ≡ first_found (field_in_class set.now (reference_of field.entry)) row.now }
     ensures place { IfSome result (IsFieldAt set.now (reference_of field.entry)) }
 {
     for place in 0..row.count() {
@@ -96,7 +96,7 @@ fn field_near(
     field: Reference<'_>,
 ) -> Option<MemberPlace>
     requires { interfaces.now ≡ rows_of set.now above.Interfaces (suc (length (classes_of set.now))) }
-    ensures found { option_map (λ p. member_in set.now (reference_of field.entry) p) result ≡ first_found (field_declared set.now (reference_of field.entry)) (class.now ∷ interfaces_above set.now class.now) }
+    ensures found { option_map (λ p. member_in set.now (reference_of field.entry) p) result ≡ first_found (field_in_class set.now (reference_of field.entry)) (class.now ∷ interfaces_above set.now class.now) }
     ensures place { IfSome result (IsFieldAt set.now (reference_of field.entry)) }
 {
     if let Some(found) = set.field_in(class, field) {

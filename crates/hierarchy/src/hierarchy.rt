@@ -7,7 +7,7 @@ ghost use Rattle.model.specs.Names.{name_eq};
 ghost use Rattle.constant_pool.specs.View.{reference_of};
 ghost use Rattle.model.specs.ReferenceTypes.{is_subclass_or_implements};
 ghost use Rattle.model.specs.Classes.{interfaces_above, all_superinterfaces, implements};
-ghost use Rattle.model.specs.Lookup.{method_declared, any_method, first_found, find_field, find_method, find_interface_method};
+ghost use Rattle.model.specs.Lookup.{method_in_class, any_method, first_found, find_field, find_method, find_interface_method};
 ghost use Rattle.hierarchy.specs.Above.{each_once};
 ghost use Rattle.hierarchy.specs.Places.{member_in, IsFieldAt, IsMethodAt};
 
@@ -46,7 +46,7 @@ impl Model for Hierarchy {
 
 /// The first of the names of a row whose class declares the method.
 fn method_among(set: &ClassSet, row: &NameSet, method: Reference<'_>) -> Option<MemberPlace>
-    ensures found { option_map (λ p. member_in set.now (reference_of method.entry) p) result ≡ first_found (method_declared set.now any_method (reference_of method.entry)) row.now }
+    ensures found { option_map (λ p. member_in set.now (reference_of method.entry) p) result ≡ first_found (method_in_class set.now any_method (reference_of method.entry)) row.now }
     ensures place { IfSome result (IsMethodAt set.now (reference_of method.entry)) }
 {
     for place in 0..row.count() {
@@ -134,7 +134,7 @@ impl Hierarchy {
     }
 
     fn method_in_interfaces_above(&self, class: &[u8], method: Reference<'_>) -> Option<MemberPlace>
-        ensures found { option_map (λ p. member_in self.now (reference_of method.entry) p) result ≡ first_found (method_declared self.now any_method (reference_of method.entry)) (interfaces_above self.now class.now) }
+        ensures found { option_map (λ p. member_in self.now (reference_of method.entry) p) result ≡ first_found (method_in_class self.now any_method (reference_of method.entry)) (interfaces_above self.now class.now) }
         ensures place { IfSome result (IsMethodAt self.now (reference_of method.entry)) }
     {
         match self.interfaces_above(class) {
@@ -145,7 +145,7 @@ impl Hierarchy {
 
     /// The method that one of all superinterfaces of a class declares, the first of several.
     fn method_in_superinterfaces(&self, class: &[u8], method: Reference<'_>) -> Option<MemberPlace>
-        ensures found { option_map (λ p. member_in self.now (reference_of method.entry) p) result ≡ first_found (method_declared self.now any_method (reference_of method.entry)) (all_superinterfaces self.now class.now) }
+        ensures found { option_map (λ p. member_in self.now (reference_of method.entry) p) result ≡ first_found (method_in_class self.now any_method (reference_of method.entry)) (all_superinterfaces self.now class.now) }
         ensures place { IfSome result (IsMethodAt self.now (reference_of method.entry)) }
     {
         let mut class = class;

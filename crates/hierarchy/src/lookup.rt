@@ -4,7 +4,7 @@ ghost use Rattle.std.specs.Prelude.{◌≡◌, ◌/◌, ◌%◌, ◌<◌, ◌==�
 ghost use Rattle.constant_pool.specs.View.{reference_of};
 ghost use Rattle.classfile.specs.View.{method_of};
 ghost use Rattle.model.specs.Classes.{lineage};
-ghost use Rattle.model.specs.Lookup.{method_declared, first_found, select, any_method, field_declared};
+ghost use Rattle.model.specs.Lookup.{method_in_class, first_found, select, any_method, field_in_class};
 ghost use Rattle.hierarchy.specs.Places.{member_in, IsFieldAt, IsMethodAt};
 ghost use Rattle.hierarchy.specs.Wanted.{wants};
 
@@ -55,7 +55,7 @@ impl ClassSet {
         method: Reference<'_>,
         wanted: Wanted,
     ) -> Option<MemberPlace>
-        ensures found { option_map (λ p. member_in self.now (reference_of method.entry) p) result ≡ method_declared self.now (wants wanted) (reference_of method.entry) class.now }
+        ensures found { option_map (λ p. member_in self.now (reference_of method.entry) p) result ≡ method_in_class self.now (wants wanted) (reference_of method.entry) class.now }
         ensures place { IfSome result (IsMethodAt self.now (reference_of method.entry)) }
     {
         let Some(place) = self.place_of(class) else {
@@ -86,7 +86,7 @@ impl ClassSet {
         method: Reference<'_>,
         wanted: Wanted,
     ) -> Option<MemberPlace>
-        ensures found { option_map (λ p. member_in self.now (reference_of method.entry) p) result ≡ first_found (method_declared self.now (wants wanted) (reference_of method.entry)) (lineage self.now class.now) }
+        ensures found { option_map (λ p. member_in self.now (reference_of method.entry) p) result ≡ first_found (method_in_class self.now (wants wanted) (reference_of method.entry)) (lineage self.now class.now) }
         ensures place { IfSome result (IsMethodAt self.now (reference_of method.entry)) }
     {
         let mut class = class;
@@ -113,7 +113,7 @@ impl ClassSet {
 
     /// The method of this name and descriptor that the class of a reference itself declares (JVMS 4.6). Takes no memory.
     pub fn declared_method(&self, method: Reference<'_>) -> Option<MemberPlace>
-        ensures found { option_map (λ p. member_in self.now (reference_of method.entry) p) result ≡ method_declared self.now any_method (reference_of method.entry) method.entry.class.now }
+        ensures found { option_map (λ p. member_in self.now (reference_of method.entry) p) result ≡ method_in_class self.now any_method (reference_of method.entry) method.entry.class.now }
         ensures place { IfSome result (IsMethodAt self.now (reference_of method.entry)) }
     {
         self.method_in(method.class, method, Wanted::Any)
@@ -121,7 +121,7 @@ impl ClassSet {
 
     /// The field of this name and descriptor that the class of a reference itself declares (JVMS 4.5). Takes no memory.
     pub fn declared_field(&self, field: Reference<'_>) -> Option<MemberPlace>
-        ensures found { option_map (λ p. member_in self.now (reference_of field.entry) p) result ≡ field_declared self.now (reference_of field.entry) field.entry.class.now }
+        ensures found { option_map (λ p. member_in self.now (reference_of field.entry) p) result ≡ field_in_class self.now (reference_of field.entry) field.entry.class.now }
         ensures place { IfSome result (IsFieldAt self.now (reference_of field.entry)) }
     {
         self.field_in(field.class, field)
@@ -129,7 +129,7 @@ impl ClassSet {
 
     /// The field that a class itself declares.
     pub(crate) fn field_in(&self, class: &[u8], field: Reference<'_>) -> Option<MemberPlace>
-        ensures found { option_map (λ p. member_in self.now (reference_of field.entry) p) result ≡ field_declared self.now (reference_of field.entry) class.now }
+        ensures found { option_map (λ p. member_in self.now (reference_of field.entry) p) result ≡ field_in_class self.now (reference_of field.entry) class.now }
         ensures place { IfSome result (IsFieldAt self.now (reference_of field.entry)) }
     {
         let Some(place) = self.place_of(class) else {

@@ -22,7 +22,7 @@ use Rattle.model.specs.Lookup.{select}
 use Rattle.model.specs.ClassInitialisation.{with_class_status, Look, IsReady, IsNew, IsHeld, HasFailed, look_by, status_of}
 use Rattle.model.specs.Sites.{MeaningOf, site_at}
 use Rattle.model.specs.Meanings.{meaning_of}
-use Rattle.model.specs.Step.{SteppedOf, NotEnabled, WrongKind, Next, PartOf, enabled_if, unpicked, settled, raised, needing, needing_class, entering, pushed, leaving, become, part, on_to, before, handler_in, returned, ops_of, done, bytecode_by, bytecode_in, initialiser_event, initialisation_event, initial_class, main_frame, main_event, run_frame, run_of, begin_event, unwound, failed, pending_event, after_wait, relock_event, running_event, going_event, thread_event, put_back, event_of, stepped}
+use Rattle.model.specs.Step.{SteppedOf, NotEnabled, WrongKind, Next, PartOf, enabled_if, unpicked, settled, raised, needing, needing_class, entering, pushed, leaving, become, part, on_to, before, handler_in, returned, ops_of, done, bytecode_by, bytecode_in, initialiser_event, initialisation_event, initial_class, main_frame, main_event, run_frame, run_of, begin_event, unwound, failed, pending_event, after_wait, relock_event, running_event, going_event, thread_event, with_part, event_of, stepped}
 use Rattle.model.specs.WrongKind.{finds_operands, finds_in}
 use Rattle.model.specs.WellTyped.{IsRunning, IsStackTyped, IsThreadTyped, AreThreadsTyped, IsWellTyped}
 use Rattle.laws.specs.Steps.{Rooted, HasMain, is_wrong}
@@ -39,7 +39,7 @@ settled_same t NotEnabled h = refl
 settled_same t WrongKind h = h
 settled_same t (Next cost p) h = refl
 
-put_same : (s : State) (t : ℕ) (x : Part) → Right x → is_wrong (put_back s t x) ≡ false
+put_same : (s : State) (t : ℕ) (x : Part) → Right x → is_wrong (with_part s t x) ≡ false
 put_same s t NotEnabled h = refl
 put_same s t WrongKind h = h
 put_same s t (Next cost p) h = refl

@@ -13,7 +13,7 @@ use Rattle.model.specs.Classes.{Program, Body, super_name_of, classes_of, class_
 use Rattle.model.specs.ReferenceTypes.{ClassType, is_subclass_or_implements, is_assignable}
 use Rattle.model.specs.DescribedTypes.{made_type}
 use Rattle.model.specs.DescriptorParts.{is_array_class}
-use Rattle.model.specs.Lookup.{method_of, where_so, in_class, first_found, method_declared, any_method, find_method, is_public_instance_method, find_interface_method}
+use Rattle.model.specs.Lookup.{method_of, where_so, in_class, first_found, method_in_class, any_method, find_method, is_public_instance_method, find_interface_method}
 use Rattle.model.specs.Hierarchy.{catch_class, is_no_throwable}
 use Rattle.laws.proofs.Lists.{every_weaken}
 use Rattle.laws.proofs.Found.{found_has, none_any, every_all, map_or_at, option_cases}
@@ -74,7 +74,7 @@ module _ (files : Program) where
 
     -- ---- methods that a reference finds
 
-    declared_there : (wanted : MethodTree → Bool) (m : Member) (class : Name) (found : Member) → method_declared files wanted m class ≡ Some found → found ≡ in_class class m
+    declared_there : (wanted : MethodTree → Bool) (m : Member) (class : Name) (found : Member) → method_in_class files wanted m class ≡ Some found → found ≡ in_class class m
     declared_there wanted m class found e = of_where (option_map_or wanted (method_of files (in_class class m)) false) (in_class class m) found e
       where
         of_where : (b : Bool) (x found : Member) → where_so b x ≡ Some found → found ≡ x
@@ -85,11 +85,11 @@ module _ (files : Program) where
     or_some None p a e = inr e
     or_some (Some b) p a e = inl e
 
-    found_first : (P : Name → Type 0) (wanted : MethodTree → Bool) (m : Member) (xs : List Name) (found : Member) → AllByRecursion P xs → first_found (method_declared files wanted m) xs ≡ Some found → (class : Name) × (P class) × (found ≡ in_class class m)
+    found_first : (P : Name → Type 0) (wanted : MethodTree → Bool) (m : Member) (xs : List Name) (found : Member) → AllByRecursion P xs → first_found (method_in_class files wanted m) xs ≡ Some found → (class : Name) × (P class) × (found ≡ in_class class m)
     found_first P wanted m [] found a e = absurd cc
     found_first P wanted m (x ∷ xs) found a e =
         ⊎_elim (λ own. (x, a.0, declared_there wanted m x found own)) (λ later. found_first P wanted m xs found a.1 later)
-        (or_some (method_declared files wanted m x) (first_found (method_declared files wanted m) xs) found e)
+        (or_some (method_in_class files wanted m x) (first_found (method_in_class files wanted m) xs) found e)
 
     -- in an interface above, no private method is found
     not_private : (named found : Member) (m : MethodTree) (class : Name) → IsCallable named → is_interface files class ≡ true → found ≡ in_class class named → method_of files found ≡ Some m → is_private_method m ≡ false
@@ -106,7 +106,7 @@ module _ (files : Program) where
         (λ aside.
         let f = found_first (λ y. is_interface files y ≡ true) any_method named (all_superinterfaces files named.class) found (all_interfaces files ok named.class) aside in
         absurd (false≢true (sym (not_private named found m f.0 callable f.1 f.2 q) ∙ private)))
-        (or_some (first_found (method_declared files any_method named) (lineage files named.class)) _ found e)
+        (or_some (first_found (method_in_class files any_method named) (lineage files named.class)) _ found e)
 
     object_public : (m : MethodTree) (name descriptor : Name) → method_of files (record { class = java_lang_object; name = name; descriptor = descriptor }) ≡ Some m → is_private_method m ≡ false
     unfolding built_in_classes
@@ -122,8 +122,8 @@ module _ (files : Program) where
         (λ above.
         let f = found_first (λ y. is_interface files y ≡ true) any_method named (all_superinterfaces files named.class) found (all_interfaces files ok named.class) above in
         not_private named found m f.0 callable f.1 f.2 q)
-        (or_some (method_declared files is_public_instance_method named java_lang_object) _ found other))
-        (or_some (method_declared files any_method named named.class) _ found e)
+        (or_some (method_in_class files is_public_instance_method named java_lang_object) _ found other))
+        (or_some (method_in_class files any_method named named.class) _ found e)
 
     -- ---- handlers
 

@@ -5,7 +5,7 @@ use Rattle.std.specs.List.{AllByRecursion, list_all}
 use Rattle.std.proofs.lemmas.Bool.{false≢true, true≢false, and_parts, and_from, or_parts, eqb-true}
 use Rattle.model.specs.Names.{Name, name_eq, Member, constructor_name, initialiser_name}
 use Rattle.model.specs.Tree.{MethodPart, CodeOf, SkippedOfMethod, CodeTree, MethodTree, FileTree}
-use Rattle.model.specs.Conditions.{is_code_part, method_code, file_attributes}
+use Rattle.model.specs.Conditions.{is_code_part, has_code_by_flags, file_attributes}
 use Rattle.model.specs.AccessFlags.{is_interface_class, is_public_method, is_private_method, is_static_method, is_final_method, is_native_method, is_abstract_method}
 use Rattle.model.specs.Descriptors.{FieldType, MethodType}
 use Rattle.model.specs.DescriptorScan.{element_at, field_at, field_type, parameters_at, method_type}
@@ -109,7 +109,7 @@ public_abstract true false false p a h = absurd (true≢false h)
 public_abstract true false true true a h = absurd (true≢false h)
 public_abstract true false true false a h = refl
 
-regular_in : (file : FileTree) (m : MethodTree) → method_outside_profile file m ≡ false → method_code m ≡ true → is_regular file m ≡ true
+regular_in : (file : FileTree) (m : MethodTree) → method_outside_profile file m ≡ false → has_code_by_flags m ≡ true → is_regular file m ≡ true
 regular_in file m h code =
     let a = or_parts _ _ h in
     let b = or_parts _ _ a.1 in
@@ -139,9 +139,9 @@ regular_methods : (file : FileTree) → is_outside_profile file ≡ false → fi
 regular_methods file h a =
     let methods = (or_parts _ _ (or_parts _ _ h).1).0 in
     let codes = (and_parts _ _ a).1 in
-    every_weaken (λ m. (method_outside_profile file m ≡ false) × (method_code m ≡ true)) (λ m. is_regular file m ≡ true) file.methods
+    every_weaken (λ m. (method_outside_profile file m ≡ false) × (has_code_by_flags m ≡ true)) (λ m. is_regular file m ≡ true) file.methods
     (λ m p. regular_in file m p.0 p.1)
-    (every_both _ _ file.methods (none_any (method_outside_profile file) file.methods methods) (every_all method_code file.methods codes))
+    (every_both _ _ file.methods (none_any (method_outside_profile file) file.methods methods) (every_all has_code_by_flags file.methods codes))
 
 -- ---- the facts
 

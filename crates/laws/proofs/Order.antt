@@ -8,7 +8,7 @@ use Rattle.model.specs.declared.value.Value.TheVariants as value
 use Rattle.model.specs.Names.{Name, name_eq, spells, java_lang_object}
 use Rattle.model.specs.Classes.{Program, superclass_of, is_within, is_subclass}
 use Rattle.model.specs.ReferenceTypes.{Primitive, Boolean, Char, Byte, Short, Int, primitive_number, ReferenceType, ClassType, PrimitiveArray, ReferenceArray, is_assignable}
-use Rattle.model.specs.Types.{VerificationType, Unusable, IntType, NullType, OfType, Uninitialised, UninitialisedThis, Want, AnyWord, AnInt, AnyReference, AReference, AReceiver, AnOwner, AnArray, AByteArray, is_array_type, is_byte_or_boolean, is_byte_array_type, has_type_with, is_value_with, is_int, is_reference, is_of, is_receiver, is_owner, type_meets, is_int_value, is_reference_value, is_object_below, is_value_below, value_meets}
+use Rattle.model.specs.Types.{VerificationType, Unusable, IntType, NullType, OfType, Uninitialised, UninitialisedThis, Want, AnyWord, AnInt, AnyReference, AReference, AReceiver, AnOwner, AnArray, AByteArray, is_array_type, is_byte_or_boolean, is_byte_array_type, has_type_with, is_value_with, is_int, is_reference, is_of, is_receiver, is_instance_or_this, type_meets, is_int_value, is_reference_value, is_object_below, is_value_below, value_meets}
 use Rattle.model.specs.InitialisedTypes.{is_made_at, is_uninitialised, is_uninitialised_this, forgotten, initialised}
 use Rattle.model.specs.TypeOrder.{is_null, is_stack_below, is_local_below}
 use Rattle.model.specs.WellTyped.{is_null_value, has_type}
@@ -210,7 +210,7 @@ module _ (files : Program) where
       receiver_from class (UninitialisedThis c) v p q =
           ⊎_elim (λ e. of_class c class v e q) (λ e. below_on (ClassType c) (ClassType class) v (super_above (superclass_of files c) c class refl e) q) (or_cases _ _ p)
 
-      owner_from : (class : Name) (s : VerificationType) (v : Value) → is_owner files class s ≡ true → has_type files objects s v ≡ true → is_value_below files objects (ClassType class) v ≡ true
+      owner_from : (class : Name) (s : VerificationType) (v : Value) → is_instance_or_this files class s ≡ true → has_type files objects s v ≡ true → is_value_below files objects (ClassType class) v ≡ true
       owner_from class Unusable v p q = absurd (false≢true p)
       owner_from class IntType v p q = absurd (false≢true p)
       owner_from class NullType v p q = null_below (ClassType class) v q

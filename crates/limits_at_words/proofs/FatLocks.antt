@@ -8,7 +8,7 @@ use Rattle.model.specs.declared.end.RunCause.TheVariants as cause
 use Rattle.model.specs.declared.monitor_answer.MonitorAnswer.TheVariants.{Done, Held}
 use Rattle.model.specs.State.{Monitor}
 use Rattle.model.specs.Outcomes.{Cost, Free, Makes, Starts, Enters, Joins}
-use Rattle.model.specs.Monitors.{Answered, done, owned, owns, as_entrant, monitor_at}
+use Rattle.model.specs.Monitors.{Answered, answers_done, owned, owns, as_entrant, monitor_at}
 use Rattle.model.specs.LimitStands.{is_inflating_entry, with_inflated, inflated_by, is_crowded}
 use Rattle.monitor.specs.declared.call.Call.{Call}
 use Rattle.monitor.specs.declared.call.Call.TheVariants as calls
@@ -87,12 +87,12 @@ crowd locks objects object flags =
     let count = flags.count in
     λ i. not (fat i) && nat_le locks.limit (count i)
 
-may : (b : Bool) (m after : Monitor) → (if b then done after else record { answer = Held; after = m }).answer ≡ Done → b ≡ true
+may : (b : Bool) (m after : Monitor) → (if b then answers_done after else record { answer = Held; after = m }).answer ≡ Done → b ≡ true
 may true m after e = refl
 may false m after e = absurd cc
 
 -- a thread that may enter with some entries is the owner
-owner_may : (thread count most : ℕ) (m again : Monitor) (o : Option ℕ) (free : Answered Monitor) → (0 == most) ≡ false → IsOwnerCounted o count → (as_entrant thread o m free (done again)).answer ≡ Done
+owner_may : (thread count most : ℕ) (m again : Monitor) (o : Option ℕ) (free : Answered Monitor) → (0 == most) ≡ false → IsOwnerCounted o count → (as_entrant thread o m free (answers_done again)).answer ≡ Done
     → (owns thread o && (count == most)) ≡ (count == most)
 owner_may thread count most m again None free some none e = sym (ap (λ n. n == most) none ∙ some)
 owner_may thread count most m again (Some owner) free some entries e = ap (λ b. b && (count == most)) (may (owner == thread) m again e)
@@ -100,8 +100,8 @@ owner_may thread count most m again (Some owner) free some entries e = ap (λ b.
 entries_as_taken : AreEntriesAsTaken
 entries_as_taken locks objects object thread h e =
     let m = monitor_at locks.monitors object in
-    let inflating = owner_may thread m.count 256 m (owned m thread (m.count + 1)) m.owner (done (owned m thread 1)) refl h.counted.owner e in
-    let full = owner_may thread m.count 4294967295 m (owned m thread (m.count + 1)) m.owner (done (owned m thread 1)) refl h.counted.owner e in
+    let inflating = owner_may thread m.count 256 m (owned m thread (m.count + 1)) m.owner (answers_done (owned m thread 1)) refl h.counted.owner e in
+    let full = owner_may thread m.count 4294967295 m (owned m thread (m.count + 1)) m.owner (answers_done (owned m thread 1)) refl h.counted.owner e in
     let crowded = crowd locks objects object h.flags in
     record {
       flags = ap (λ b. if b then slice_set locks.fat object true else locks.fat) inflating;

@@ -11,7 +11,7 @@ use Rattle.constant_pool.proofs.TextLaws.{no_later, stands_there}
 use Rattle.model.specs.Names.{Name, Member}
 use Rattle.model.specs.Tree.{FileTree, MethodTree}
 use Rattle.model.specs.Classes.{Program, name_of, declared_in, is_method}
-use Rattle.model.specs.Lookup.{method_of, method_declared, is_selectable, in_class, where_so}
+use Rattle.model.specs.Lookup.{method_of, method_in_class, is_selectable, in_class, where_so}
 use Rattle.hierarchy.specs.Places.{class_at}
 use Rattle.hierarchy.specs.declared.place.MemberPlace.{MemberPlace}
 use Rattle.hierarchy.proofs.Finding.{find_passes}
@@ -192,7 +192,7 @@ module _ (files : Program) (table : NumberTable) (names descriptors : List ℕ) 
       same_descriptors : (j : ℕ) (o : Member) → slice_get (methods_of files) j ≡ Some o → get_or descriptors j 0 ≡ get_or descriptors number 0 → o.descriptor ≡ m.descriptor
       same_descriptors j o s h = same_text files part.Descriptor j number o m s e (ap (λ (l : List ℕ). get_or l j 0) (sym described) ∙ h ∙ ap (λ (l : List ℕ). get_or l number 0) described)
 
-      found : (j : ℕ) → IsEntry (key class number) j → Names files (Some j) (method_declared files is_selectable m (name_of file))
+      found : (j : ℕ) → IsEntry (key class number) j → Names files (Some j) (method_in_class files is_selectable m (name_of file))
       found j entry =
           let place = entry.place in
           let st = entry.stands in
@@ -207,7 +207,7 @@ module _ (files : Program) (table : NumberTable) (names descriptors : List ℕ) 
           let descriptor : o.descriptor ≡ m.descriptor = same_descriptors j o stands ((Decides-eqb (get_or descriptors j 0) (get_or descriptors number 0)).0 texts.1) in
           let same : o ≡ its = member_same o (name_of file) m (ap name_of file_same) name descriptor in
           let tree : method_of files its ≡ Some st.tree = ap (method_of files) (sym same) ∙ method_found files linked place.class place.member st.file st.tree st.class st.method in
-          let declared : method_declared files is_selectable m (name_of file) ≡ Some its = ap (λ b. where_so b its) (ap (λ o. option_map_or is_selectable o false) tree ∙ st.selectable) in
+          let declared : method_in_class files is_selectable m (name_of file) ≡ Some its = ap (λ b. where_so b its) (ap (λ o. option_map_or is_selectable o false) tree ∙ st.selectable) in
           ap (λ x. Some x) stands ∙ ap (λ z. Some (Some z)) same ∙ sym (ap (option_map (λ m. Some m)) declared)
 
       module _ (declared : List (Declaration × ℕ)) (complete : Complete declared (length table.places)) (none : lookup (is_declaration (key class number)) declared ≡ None) where
@@ -236,13 +236,13 @@ module _ (files : Program) (table : NumberTable) (names descriptors : List ℕ) 
             by true h = absurd (lost tree is h)
             by false h = refl
 
-        missing : Names files None (method_declared files is_selectable m (name_of file))
+        missing : Names files None (method_in_class files is_selectable m (name_of file))
         missing = sym (ap (option_map (λ m. Some m)) (none_declared (method_of files its) refl))
 
     pub are_declared : (declared : List (Declaration × ℕ)) → Sound declared → Complete declared (length table.places) → AreDeclared files names descriptors declared
     are_declared declared sound complete class number file m c e = by (lookup (is_declaration (key class number)) declared) refl
       where
-        by : (o : Option ℕ) → lookup (is_declaration (key class number)) declared ≡ o → Names files o (method_declared files is_selectable m (name_of file))
+        by : (o : Option ℕ) → lookup (is_declaration (key class number)) declared ≡ o → Names files o (method_in_class files is_selectable m (name_of file))
         by (Some j) h = found class number file m c e j (sound (key class number) j h)
         by None h = missing class number file m c e declared complete h
 

@@ -7,7 +7,7 @@ use Rattle.std.proofs.lemmas.Option.{get_or_from_slice_get}
 use Rattle.model.specs.Names.{Name, Member}
 use Rattle.model.specs.Tree.{FileTree}
 use Rattle.model.specs.Classes.{Program, name_of, class_of, classes_of, is_named, superclass_of, super_name_of, lineage_of}
-use Rattle.model.specs.Lookup.{method_declared, is_selectable, first_found, select}
+use Rattle.model.specs.Lookup.{method_in_class, is_selectable, first_found, select}
 use Rattle.hierarchy.specs.Places.{class_at, place_of}
 use Rattle.hierarchy.proofs.Chains.{lineage_step, next_step}
 use Rattle.hierarchy.proofs.Finding.{position_within}
@@ -83,7 +83,7 @@ module _ (table : SelectionTable) (first number : ℕ) where
   abbrev pub Walked : ℕ → ℕ → Type 0
   Walked class step =
       (files : Program) → AreSelectionsOf files table → (file : FileTree) → class_at files first ≡ Some file → (m : Member) → slice_get (methods_of files) number ≡ Some m
-      → (now : FileTree) × (class_at files class ≡ Some now) × (first_found (method_declared files is_selectable m) (lineage_of files (length table.superclasses - step) (name_of now)) ≡ select files (name_of file) m)
+      → (now : FileTree) × (class_at files class ≡ Some now) × (first_found (method_in_class files is_selectable m) (lineage_of files (length table.superclasses - step) (name_of now)) ≡ select files (name_of file) m)
 
   count_is : (files : Program) → table.superclasses ≡ superclass_places files → length table.superclasses ≡ length (classes_of files)
   unfolding superclass_places
@@ -98,19 +98,19 @@ module _ (table : SelectionTable) (first number : ℕ) where
   pub walk_begins : Walked first 0
   walk_begins files sel file c m e =
       let whole : length table.superclasses - 0 ≡ length (classes_of files) = omega (arith, count_is files sel.superclasses) in
-      (file, c, ap (λ n. first_found (method_declared files is_selectable m) (lineage_of files n (name_of file))) whole)
+      (file, c, ap (λ n. first_found (method_in_class files is_selectable m) (lineage_of files n (name_of file))) whole)
 
   pub walk_finds : (class step j : ℕ) → Walked class step → step < length table.superclasses → declared_number table class number ≡ Some j → Selects table first number (Some j)
   walk_finds class step j walked lt h files sel file c m e =
       let now = walked files sel file c m e in
-      let f = method_declared files is_selectable m in
+      let f = method_in_class files is_selectable m in
       let named : Names files (Some j) (f (name_of now.0)) = subst (λ o. Names files o (f (name_of now.0))) h (sel.declared class number now.0 m now.1 e) in
       subst (Names files (Some j)) now.2 (named_here files f (length table.superclasses) step j now.0 lt named)
 
   pub walk_ends : (class step : ℕ) → Walked class step → step < length table.superclasses → declared_number table class number ≡ None → get_or table.superclasses class None ≡ None → Selects table first number None
   walk_ends class step walked lt h over files sel file c m e =
       let now = walked files sel file c m e in
-      let f = method_declared files is_selectable m in
+      let f = method_in_class files is_selectable m in
       let none = none_here files f now.0 (subst (λ o. Names files o (f (name_of now.0))) h (sel.declared class number now.0 m now.1 e)) in
       let lost = lost_above files f (λ name no. method_of_none files is_selectable m name no) (length table.superclasses) step now.0 lt none (sym (place_is files sel.superclasses class now.0 now.1) ∙ over) in
       subst (Names files None) (sym lost ∙ now.2) refl
@@ -118,7 +118,7 @@ module _ (table : SelectionTable) (first number : ℕ) where
   pub walk_past : (class step : ℕ) → Walked class step → length table.superclasses ≡ step → Selects table first number None
   walk_past class step walked past files sel file c m e =
       let now = walked files sel file c m e in
-      let f = method_declared files is_selectable m in
+      let f = method_in_class files is_selectable m in
       let nothing_left : length table.superclasses - step ≡ 0 = omega (arith, past) in
       let none : first_found f (lineage_of files (length table.superclasses - step) (name_of now.0)) ≡ None = ap (λ n. first_found f (lineage_of files n (name_of now.0))) nothing_left in
       subst (Names files None) (sym none ∙ now.2) refl
@@ -126,7 +126,7 @@ module _ (table : SelectionTable) (first number : ℕ) where
   pub walk_goes_on : (class step next : ℕ) → Walked class step → step < length table.superclasses → declared_number table class number ≡ None → get_or table.superclasses class None ≡ Some next → Walked next (step + 1)
   walk_goes_on class step next walked lt h over files sel file c m e =
       let now = walked files sel file c m e in
-      let f = method_declared files is_selectable m in
+      let f = method_in_class files is_selectable m in
       let none = none_here files f now.0 (subst (λ o. Names files o (f (name_of now.0))) h (sel.declared class number now.0 m now.1 e)) in
       let up = above_at files now.0 next (sym (place_is files sel.superclasses class now.0 now.1) ∙ over) in
       (up.0, up.1, sym (next_step files (length table.superclasses) step (name_of now.0) (name_of up.0) f lt none up.2) ∙ now.2)

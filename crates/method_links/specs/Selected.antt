@@ -5,7 +5,7 @@ use Rattle.std.specs.Map.{lookup}
 use Rattle.model.specs.Names.{Name, Member}
 use Rattle.model.specs.Tree.{FileTree}
 use Rattle.model.specs.Classes.{Program, name_of, classes_of, superclass_of}
-use Rattle.model.specs.Lookup.{method_declared, is_selectable}
+use Rattle.model.specs.Lookup.{method_in_class, is_selectable}
 use Rattle.hierarchy.specs.Places.{class_at, place_of}
 use Rattle.constant_pool.specs.Texts.{first_place}
 use Rattle.hierarchy.specs.declared.place.MemberPlace.{MemberPlace}
@@ -65,7 +65,7 @@ declared_number table class number = lookup (is_declaration (key_of table.names 
 abbrev pub AreDeclared : Program → List ℕ → List ℕ → List (Declaration × ℕ) → Type 0
 AreDeclared files names descriptors declared =
     (class number : ℕ) (file : FileTree) (m : Member) → class_at files class ≡ Some file → slice_get (methods_of files) number ≡ Some m
-    → Names files (lookup (is_declaration (key_of names descriptors class number)) declared) (method_declared files is_selectable m (name_of file))
+    → Names files (lookup (is_declaration (key_of names descriptors class number)) declared) (method_in_class files is_selectable m (name_of file))
 
 pub record AreSelectionsOf (files : Program) (table : SelectionTable) : Type 0 where
   pub superclasses : table.superclasses ≡ superclass_places files

@@ -16,7 +16,7 @@ use Rattle.model.specs.InitialisedTypes.{initialised}
 use Rattle.model.specs.Operands.{Slots, Wants, Carrier}
 use Rattle.model.specs.State.{type_of, WorldOf}
 use Rattle.model.specs.Opening.{class_reference}
-use Rattle.model.specs.Outcomes.{Fault, NullPointer, IncompatibleClassChange, AbstractMethod, OutcomeOf, Raises, Calls, Returns}
+use Rattle.model.specs.Outcomes.{MachineException, NullPointer, IncompatibleClassChange, AbstractMethod, OutcomeOf, Raises, Calls, Returns}
 use Rattle.model.specs.Worlds.{object_at, class_of_object}
 use Rattle.model.specs.Frames.{frame_with, entered_by}
 use Rattle.model.specs.Sites.{MeaningOf, Site, picks_none, wants_of, to_next, nowhere, operand}
@@ -42,7 +42,7 @@ call_wants files method receiver = wants_of (argument_wants files method receive
 
 -- an exception, or a method that is not abstract
 pub data Chosen : Type 0 where
-  Fails : (fault : Fault) → Chosen
+  Fails : (fault : MachineException) → Chosen
   Runs : (method : Member) → Chosen
 
 abbrev pub is_one : (MethodTree → Bool) → Program → Member → Bool

@@ -18,7 +18,7 @@ use Rattle.model.specs.DescriptorParts.{argument_slots, is_array_class}
 use Rattle.model.specs.Instruction.{word_at, signed_at, sized_at, operands_of, lookup_pair}
 use Rattle.model.specs.InstructionStarts.{is_start}
 use Rattle.model.specs.Classes.{Program, name_of, is_subclass}
-use Rattle.model.specs.CodeParts.{boundaries, any_code, any_instruction, count_from, jumps_of, method_operand}
+use Rattle.model.specs.CodeParts.{end_of_decoding, decodes, any_code, any_decoded, count_from, jumps_of, method_operand}
 use Rattle.model.specs.Profile.{opcode_at, is_known_opcode, is_initialiser, method_descriptor}
 
 -- ---- instructions that are not whole
@@ -177,12 +177,20 @@ malformed_instruction files file c pc i =
 abbrev pub malformed_exception : CodeTree → ExceptionEntry → Bool
 malformed_exception c e = empty_range c e || (range_off_boundary c e || handler_off_boundary c e)
 
+-- decoding ends at an instruction that is not whole
+abbrev pub ends_in_instruction : CodeTree → Bool
+ends_in_instruction c = option_map_or (malformed_offset c) (end_of_decoding c.code) false
+
+-- of a code that decodes; else its exception entries are not looked at (own)
+abbrev pub malformed_exceptions : CodeTree → Bool
+malformed_exceptions c = decodes c.code && list_any (malformed_exception c) c.exceptions
+
 abbrev pub malformed_code : Program → FileTree → MethodTree → CodeTree → Bool
 malformed_code files file m c =
     too_few_locals file m c
-    || (list_any (malformed_offset c) (boundaries c.code)
-    || (any_instruction (malformed_instruction files file c) c
-    || list_any (malformed_exception c) c.exceptions))
+    || (ends_in_instruction c
+    || (any_decoded (malformed_instruction files file c) c
+    || malformed_exceptions c))
 
 -- Malformed, cause Code: one of the conditions stands in the file
 abbrev pub has_malformed_code : Program → FileTree → Bool

@@ -1,5 +1,5 @@
 -- The instructions of a method's code, and what their operands name (JVMS 4.7.3, 4.9.1).
-use Rattle.std.specs.Prelude.{ℕ, zero, suc, ℤ, List, [], ◌∷◌, Option, Some, None, Bool, true, false, map, if◌then◌else◌}
+use Rattle.std.specs.Prelude.{ℕ, zero, suc, ℤ, List, [], ◌∷◌, Option, Some, None, Bool, true, false, not, ◌&&◌, map, if◌then◌else◌, find, is_some}
 use Rattle.std.specs.Option.{option_map_or}
 use Rattle.std.specs.List.{list_any}
 use Rattle.model.specs.declared.instr.Instr.{Instr}
@@ -7,7 +7,7 @@ use Rattle.model.specs.declared.instr.Instr.TheVariants.{LoadConstant, If, IfInt
 use Rattle.model.specs.Names.{Name, Member}
 use Rattle.model.specs.Tree.{Entry, CodeTree, MethodTree, FileTree}
 use Rattle.model.specs.Pool.{class_name_at, field_at, method_at, interface_method_at}
-use Rattle.model.specs.Instruction.{instr_at, jump_count, table_jump, lookup_pair}
+use Rattle.model.specs.Instruction.{sized_at, instr_at, jump_count, table_jump, lookup_pair}
 use Rattle.model.specs.InstructionStarts.{starts}
 use Rattle.model.specs.Classes.{code_in}
 use Rattle.model.specs.DescriptorParts.{is_array_class}
@@ -24,6 +24,18 @@ marked_from pc (false ∷ marks) = marked_from (suc pc) marks
 abbrev pub boundaries : List ℕ → List ℕ
 boundaries code = marked_from 0 (starts code)
 
+-- no whole instruction of the table begins at an offset
+abbrev pub begins_none : List ℕ → ℕ → Bool
+begins_none code pc = not (is_some (sized_at code pc))
+
+-- Where decoding ends, from offset 0 on: at the first boundary at which none begins. What stands behind it is not looked at (own)
+abbrev pub end_of_decoding : List ℕ → Option ℕ
+end_of_decoding code = find (begins_none code) (boundaries code)
+
+-- all of a code decodes: an instruction begins at each boundary
+abbrev pub decodes : List ℕ → Bool
+decodes code = not (is_some (end_of_decoding code))
+
 -- a method of the file has code, and a test holds of both
 abbrev pub any_code : (MethodTree → CodeTree → Bool) → FileTree → Bool
 any_code test file = list_any (λ (m : MethodTree). option_map_or (test m) (code_in m.parts) false) file.methods
@@ -31,6 +43,13 @@ any_code test file = list_any (λ (m : MethodTree). option_map_or (test m) (code
 -- a test holds of an instruction of a code, and of its offset
 abbrev pub any_instruction : (ℕ → Instr → Bool) → CodeTree → Bool
 any_instruction test c = list_any (λ pc. option_map_or (test pc) (instr_at c.code pc) false) (boundaries c.code)
+
+-- the same of a code that decodes; the operands of another are not looked at (own)
+abbrev pub any_decoded : (ℕ → Instr → Bool) → CodeTree → Bool
+any_decoded test c = decodes c.code && any_instruction test c
+
+abbrev pub any_decoded_in : (Instr → Bool) → FileTree → Bool
+any_decoded_in test file = any_code (λ m c. any_decoded (λ pc i. test i) c) file
 
 -- a test holds of an instruction of the file
 abbrev pub any_instruction_in : (Instr → Bool) → FileTree → Bool

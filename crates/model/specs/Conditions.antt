@@ -108,8 +108,8 @@ abbrev pub has_code : ℕ → Bool
 has_code flags = not (is_native flags || is_abstract flags)
 
 -- a method has one Code, and a native or abstract one has none (JVMS 4.7.3)
-abbrev pub method_code : MethodTree → Bool
-method_code m = count_by is_code_part m.parts == (if has_code m.flags then 1 else 0)
+abbrev pub has_code_by_flags : MethodTree → Bool
+has_code_by_flags m = count_by is_code_part m.parts == (if has_code m.flags then 1 else 0)
 
 abbrev pub is_constant_part : FieldPart → Bool
 is_constant_part (ConstantOf name index) = true
@@ -134,7 +134,7 @@ abbrev pub field_constants : List Entry → FieldTree → Bool
 field_constants pool f = nat_le (count_by is_constant_part f.parts) 1 && list_all (constant_fits pool (text_of (entry_at pool f.descriptor))) f.parts
 
 abbrev pub file_attributes : FileTree → Bool
-file_attributes c = list_all (field_constants c.pool) c.fields && list_all method_code c.methods
+file_attributes c = list_all (field_constants c.pool) c.fields && list_all has_code_by_flags c.methods
 
 -- ---- Duplicate: no two fields, and no two methods, have one name and one descriptor (JVMS 4.5, 4.6)
 
@@ -197,14 +197,14 @@ class_text pool e = []
 abbrev pub names_no_array : List Entry → ℕ → Bool
 names_no_array pool index = is_class_name (class_text pool (entry_at pool index))
 
-abbrev pub field_name : List Entry → FieldTree → Bool
-field_name pool f = is_unqualified (text_at pool f.name)
+abbrev pub is_field_named : List Entry → FieldTree → Bool
+is_field_named pool f = is_unqualified (text_at pool f.name)
 
-abbrev pub method_name : List Entry → MethodTree → Bool
-method_name pool m = is_method_name (text_at pool m.name)
+abbrev pub is_method_named : List Entry → MethodTree → Bool
+is_method_named pool m = is_method_name (text_at pool m.name)
 
 abbrev pub member_names : FileTree → Bool
-member_names c = list_all (field_name c.pool) c.fields && list_all (method_name c.pool) c.methods
+member_names c = list_all (is_field_named c.pool) c.fields && list_all (is_method_named c.pool) c.methods
 
 abbrev pub file_names : FileTree → Bool
 file_names c =
@@ -232,19 +232,19 @@ entry_descriptors pool (Method class name_and_type) = not (is_field_descriptor (
 entry_descriptors pool (InterfaceMethod class name_and_type) = not (is_field_descriptor (descriptor_text pool (entry_at pool name_and_type)))
 entry_descriptors pool e = true
 
-abbrev pub field_descriptor : List Entry → FieldTree → Bool
-field_descriptor pool f = is_field_descriptor (text_at pool f.descriptor)
+abbrev pub is_field_described : List Entry → FieldTree → Bool
+is_field_described pool f = is_field_descriptor (text_at pool f.descriptor)
 
 -- at most 255 slots, that of a receiver included (JVMS 4.3.3)
 abbrev pub slots_fit : ℕ → Option ℕ → Bool
 slots_fit flags None = false
 slots_fit flags (Some slots) = nat_le (if is_static flags then slots else slots + 1) 255
 
-abbrev pub method_descriptor : List Entry → MethodTree → Bool
-method_descriptor pool m = slots_fit m.flags (method_slots (text_at pool m.descriptor))
+abbrev pub is_method_described : List Entry → MethodTree → Bool
+is_method_described pool m = slots_fit m.flags (method_slots (text_at pool m.descriptor))
 
 abbrev pub member_descriptors : FileTree → Bool
-member_descriptors c = list_all (field_descriptor c.pool) c.fields && list_all (method_descriptor c.pool) c.methods
+member_descriptors c = list_all (is_field_described c.pool) c.fields && list_all (is_method_described c.pool) c.methods
 
 abbrev pub file_descriptors : FileTree → Bool
 file_descriptors c = list_all (entry_descriptors c.pool) c.pool && member_descriptors c

@@ -77,12 +77,12 @@ pub record MethodType : Type 0 where
   pub parameters : List FieldType
   pub returns : Option FieldType
 
-abbrev pub returned : Option FieldType → List ℕ
-returned None = codes "V"
-returned (Some f) = field f
+abbrev pub return_descriptor : Option FieldType → List ℕ
+return_descriptor None = codes "V"
+return_descriptor (Some f) = field f
 
 abbrev pub method : MethodType → List ℕ
-method m = codes "(" ++ (flat_map field m.parameters ++ (codes ")" ++ returned m.returns))
+method m = codes "(" ++ (flat_map field m.parameters ++ (codes ")" ++ return_descriptor m.returns))
 
 abbrev pub ReturnFits : Option FieldType → Type 0
 ReturnFits None = Unit {0}

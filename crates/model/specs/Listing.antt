@@ -202,12 +202,12 @@ is_interface flags = flags / 0x0200 % 2 == 1
 abbrev pub kind_word : ℕ → List ℕ
 kind_word flags = if is_interface flags then codes "interface" else codes "class"
 
-abbrev pub implements : List Entry → List ℕ → List ℕ
-implements pool [] = []
-implements pool (first ∷ interfaces) = codes " implements" ++ flat_map (λ i. operand (class_word pool i)) (first ∷ interfaces)
+abbrev pub implements_words : List Entry → List ℕ → List ℕ
+implements_words pool [] = []
+implements_words pool (first ∷ interfaces) = codes " implements_words" ++ flat_map (λ i. operand (class_word pool i)) (first ∷ interfaces)
 
 abbrev pub class_line : FileTree → List ℕ
-class_line c = line (kind_word c.flags ++ (operand (class_word c.pool c.this_class) ++ (codes " extends" ++ (operand (class_word c.pool c.super_class) ++ implements c.pool c.interfaces))))
+class_line c = line (kind_word c.flags ++ (operand (class_word c.pool c.this_class) ++ (codes " extends" ++ (operand (class_word c.pool c.super_class) ++ implements_words c.pool c.interfaces))))
 
 abbrev pub listing : FileTree → List ℕ
 listing c = class_line c ++ (flat_map (field_line c.pool) c.fields ++ flat_map (method_lines c.pool) c.methods)

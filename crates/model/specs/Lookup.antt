@@ -44,14 +44,14 @@ first_found found (class ∷ classes) = option_or (found class) (first_found fou
 
 -- ---- fields (JVMS 5.4.3.2)
 
-abbrev pub field_declared : Program → Member → Name → Option Member
-field_declared files m class = where_so (option_map_or (λ (f : FieldTree). true) (field_of files (in_class class m)) false) (in_class class m)
+abbrev pub field_in_class : Program → Member → Name → Option Member
+field_in_class files m class = where_so (option_map_or (λ (f : FieldTree). true) (field_of files (in_class class m)) false) (in_class class m)
 
 -- in the class, then in its superinterfaces, then in its superclass, each in the same way, by at most so many steps
 abbrev pub field_from : Program → ℕ → Member → Name → Option Member
 field_from files zero m class = None
 field_from files (suc n) m class =
-    option_or (field_declared files m class)
+    option_or (field_in_class files m class)
     (option_or (first_found (λ i. field_from files n m i) (superinterfaces_of files class))
     (option_and_then (λ s. field_from files n m s) (superclass_of files class)))
 
@@ -62,8 +62,8 @@ find_field files m = field_from files (length (classes_of files)) m m.class
 -- ---- methods (JVMS 5.4.3.3, 5.4.3.4)
 
 -- the class declares the method, and as is wanted
-abbrev pub method_declared : Program → (MethodTree → Bool) → Member → Name → Option Member
-method_declared files wanted m class = where_so (option_map_or wanted (method_of files (in_class class m)) false) (in_class class m)
+abbrev pub method_in_class : Program → (MethodTree → Bool) → Member → Name → Option Member
+method_in_class files wanted m class = where_so (option_map_or wanted (method_of files (in_class class m)) false) (in_class class m)
 
 abbrev pub any_method : MethodTree → Bool
 any_method m = true
@@ -72,8 +72,8 @@ any_method m = true
 -- first, else one of all their superinterfaces; of several of these the first (own: all are abstract)
 abbrev pub find_method : Program → Member → Option Member
 find_method files m =
-    option_or (first_found (method_declared files any_method m) (lineage files m.class))
-    (first_found (method_declared files any_method m) (all_superinterfaces files m.class))
+    option_or (first_found (method_in_class files any_method m) (lineage files m.class))
+    (first_found (method_in_class files any_method m) (all_superinterfaces files m.class))
 
 abbrev pub is_public_instance_method : MethodTree → Bool
 is_public_instance_method m = is_public_method m && is_instance_method m
@@ -82,9 +82,9 @@ is_public_instance_method m = is_public_method m && is_instance_method m
 -- method of Object, else one of its superinterfaces
 abbrev pub find_interface_method : Program → Member → Option Member
 find_interface_method files m =
-    option_or (method_declared files any_method m m.class)
-    (option_or (method_declared files is_public_instance_method m java_lang_object)
-    (first_found (method_declared files any_method m) (all_superinterfaces files m.class)))
+    option_or (method_in_class files any_method m m.class)
+    (option_or (method_in_class files is_public_instance_method m java_lang_object)
+    (first_found (method_in_class files any_method m) (all_superinterfaces files m.class)))
 
 -- ---- selection (JVMS 6.5 invokevirtual, invokespecial, invokeinterface)
 
@@ -95,7 +95,7 @@ is_selectable m = is_instance_method m && not (is_private_method m)
 -- the method of this name and descriptor that a receiver of a class has: the nearest declaration from the class upwards,
 -- abstract or not
 abbrev pub select : Program → Name → Member → Option Member
-select files class m = first_found (method_declared files is_selectable m) (lineage files class)
+select files class m = first_found (method_in_class files is_selectable m) (lineage files class)
 
 -- ---- the fields of an object
 

@@ -10,8 +10,8 @@ pub record Answered (A : Type 0) : Type 0 where
   pub answer : MonitorAnswer
   pub after : A
 
-abbrev pub done : {A : Type 0} → A → Answered A
-done after = record { answer = Done; after = after }
+abbrev pub answers_done : {A : Type 0} → A → Answered A
+answers_done after = record { answer = Done; after = after }
 
 -- ---- one monitor
 
@@ -33,7 +33,7 @@ owns thread (Some owner) = owner == thread
 
 -- what only the owner may do
 abbrev pub as_owner : ℕ → Monitor → Monitor → Answered Monitor
-as_owner thread monitor after = if owns thread monitor.owner then done after else record { answer = NotOwner; after = monitor }
+as_owner thread monitor after = if owns thread monitor.owner then answers_done after else record { answer = NotOwner; after = monitor }
 
 -- what becomes of a monitor that a thread enters where there is no owner, and where it is the owner
 abbrev pub as_entrant : ℕ → Option ℕ → Monitor → (free again : Answered Monitor) → Answered Monitor
@@ -42,7 +42,7 @@ as_entrant thread (Some owner) monitor free again = if owner == thread then agai
 
 abbrev pub monitor_enter : ℕ → Monitor → Answered Monitor
 monitor_enter thread monitor =
-    as_entrant thread monitor.owner monitor (done (owned monitor thread 1)) (done (owned monitor thread (monitor.count + 1)))
+    as_entrant thread monitor.owner monitor (answers_done (owned monitor thread 1)) (answers_done (owned monitor thread (monitor.count + 1)))
 
 abbrev pub monitor_exit : ℕ → Monitor → Answered Monitor
 monitor_exit thread monitor = as_owner thread monitor (released monitor (monitor.count - 1))
@@ -61,7 +61,7 @@ monitor_notify_all thread monitor = as_owner thread monitor (record monitor { wa
 
 -- every member leaves, whoever the owner is
 abbrev pub monitor_wake_all : Monitor → Answered Monitor
-monitor_wake_all monitor = done (record monitor { waiters = [] })
+monitor_wake_all monitor = answers_done (record monitor { waiters = [] })
 
 -- a thread waits at most once in a wait set
 abbrev pub without : ℕ → List Waiter → List Waiter
@@ -70,7 +70,7 @@ without thread (waiter ∷ waiters) = if waiter.thread == thread then waiters el
 
 -- JLS 17.2.3: the thread leaves the wait set, if it is a member
 abbrev pub monitor_interrupt : ℕ → Monitor → Answered Monitor
-monitor_interrupt thread monitor = done (record monitor { waiters = without thread monitor.waiters })
+monitor_interrupt thread monitor = answers_done (record monitor { waiters = without thread monitor.waiters })
 
 abbrev pub relock_from : Option ℕ → Monitor → (free : Answered Monitor) → Answered Monitor
 relock_from None monitor free = free
@@ -78,7 +78,7 @@ relock_from (Some owner) monitor free = record { answer = Held; after = monitor 
 
 -- JLS 17.2.1: a thread that left the wait set enters as often as it had entered
 abbrev pub monitor_relock : (thread count : ℕ) → Monitor → Answered Monitor
-monitor_relock thread count monitor = relock_from monitor.owner monitor (done (owned monitor thread count))
+monitor_relock thread count monitor = relock_from monitor.owner monitor (answers_done (owned monitor thread count))
 
 -- ---- the monitors of objects, by their references
 
@@ -86,12 +86,12 @@ abbrev pub monitor_at : List Monitor → ℕ → Monitor
 monitor_at monitors object = slice_index_or monitors object unlocked
 
 -- the others stay
-abbrev pub put_back : ℕ → List Monitor → Answered Monitor → Answered (List Monitor)
-put_back object monitors answered = record { answer = answered.answer; after = slice_set monitors object answered.after }
+abbrev pub with_answered : ℕ → List Monitor → Answered Monitor → Answered (List Monitor)
+with_answered object monitors answered = record { answer = answered.answer; after = slice_set monitors object answered.after }
 
 -- what the monitor of one object answers
 abbrev pub at_object : ℕ → (Monitor → Answered Monitor) → List Monitor → Answered (List Monitor)
-at_object object call monitors = put_back object monitors (call (monitor_at monitors object))
+at_object object call monitors = with_answered object monitors (call (monitor_at monitors object))
 
 abbrev pub enter : (object thread : ℕ) → List Monitor → Answered (List Monitor)
 enter object thread = at_object object (monitor_enter thread)

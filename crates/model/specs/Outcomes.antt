@@ -5,37 +5,37 @@ use Rattle.model.specs.Operands.{Slots}
 use Rattle.model.specs.State.{WorldOf, FrameOf}
 
 -- an exception that the machine makes (JVMS 2.10)
-pub data Fault : Type 0 where
-  NullPointer : Fault
-  Arithmetic : Fault
-  ArrayIndexOutOfBounds : Fault
-  NegativeArraySize : Fault
-  ArrayStore : Fault
-  ClassCast : Fault
-  IllegalMonitorState : Fault
-  IllegalThreadState : Fault
-  InterruptedWait : Fault
-  IncompatibleClassChange : Fault
-  AbstractMethod : Fault
-  StackOverflow : Fault
-  NoClassDefFound : Fault
-  ExceptionInInitializer : Fault
+pub data MachineException : Type 0 where
+  NullPointer : MachineException
+  Arithmetic : MachineException
+  ArrayIndexOutOfBounds : MachineException
+  NegativeArraySize : MachineException
+  ArrayStore : MachineException
+  ClassCast : MachineException
+  IllegalMonitorState : MachineException
+  IllegalThreadState : MachineException
+  InterruptedWait : MachineException
+  IncompatibleClassChange : MachineException
+  AbstractMethod : MachineException
+  StackOverflow : MachineException
+  NoClassDefFound : MachineException
+  ExceptionInInitializer : MachineException
 
-abbrev pub fault_class : Fault → Name
-fault_class NullPointer = codes "java/lang/NullPointerException"
-fault_class Arithmetic = codes "java/lang/ArithmeticException"
-fault_class ArrayIndexOutOfBounds = codes "java/lang/ArrayIndexOutOfBoundsException"
-fault_class NegativeArraySize = codes "java/lang/NegativeArraySizeException"
-fault_class ArrayStore = codes "java/lang/ArrayStoreException"
-fault_class ClassCast = codes "java/lang/ClassCastException"
-fault_class IllegalMonitorState = codes "java/lang/IllegalMonitorStateException"
-fault_class IllegalThreadState = codes "java/lang/IllegalThreadStateException"
-fault_class InterruptedWait = codes "java/lang/InterruptedException"
-fault_class IncompatibleClassChange = codes "java/lang/IncompatibleClassChangeError"
-fault_class AbstractMethod = codes "java/lang/AbstractMethodError"
-fault_class StackOverflow = codes "java/lang/StackOverflowError"
-fault_class NoClassDefFound = codes "java/lang/NoClassDefFoundError"
-fault_class ExceptionInInitializer = codes "java/lang/ExceptionInInitializerError"
+abbrev pub exception_class : MachineException → Name
+exception_class NullPointer = codes "java/lang/NullPointerException"
+exception_class Arithmetic = codes "java/lang/ArithmeticException"
+exception_class ArrayIndexOutOfBounds = codes "java/lang/ArrayIndexOutOfBoundsException"
+exception_class NegativeArraySize = codes "java/lang/NegativeArraySizeException"
+exception_class ArrayStore = codes "java/lang/ArrayStoreException"
+exception_class ClassCast = codes "java/lang/ClassCastException"
+exception_class IllegalMonitorState = codes "java/lang/IllegalMonitorStateException"
+exception_class IllegalThreadState = codes "java/lang/IllegalThreadStateException"
+exception_class InterruptedWait = codes "java/lang/InterruptedException"
+exception_class IncompatibleClassChange = codes "java/lang/IncompatibleClassChangeError"
+exception_class AbstractMethod = codes "java/lang/AbstractMethodError"
+exception_class StackOverflow = codes "java/lang/StackOverflowError"
+exception_class NoClassDefFound = codes "java/lang/NoClassDefFoundError"
+exception_class ExceptionInInitializer = codes "java/lang/ExceptionInInitializerError"
 
 -- what an event takes that a limit may forbid (own): an object of so many cells, a thread, one more entry of
 -- the monitor of an object by an owner with so many, or a place in the wait set of an object
@@ -50,7 +50,7 @@ pub data OutcomeOf (A : Type 0) : Type 0 where
   -- on to an offset
   Goes : (cost : Cost) (world : WorldOf A) (slots : Slots A) (to : ℕ) → OutcomeOf A
   -- an exception that the machine makes
-  Raises : (fault : Fault) → OutcomeOf A
+  Raises : (fault : MachineException) → OutcomeOf A
   -- an exception that is there
   Throws : (exception : ℕ) → OutcomeOf A
   -- an InterruptedException, by which the thread's interrupt status is cleared (JLS 17.2.1, 17.2.3)

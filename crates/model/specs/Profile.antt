@@ -15,7 +15,7 @@ use Rattle.model.specs.Descriptors as element
 use Rattle.model.specs.DescriptorParts.{types_in, returns_void, is_array_class}
 use Rattle.model.specs.OpcodeTable.{Form, NoForm, Widened, form_of}
 use Rattle.model.specs.Instruction.{word_at}
-use Rattle.model.specs.CodeParts.{boundaries, any_code, any_instruction_in, method_operand, operand_descriptors}
+use Rattle.model.specs.CodeParts.{end_of_decoding, any_code, any_decoded_in, method_operand, operand_descriptors}
 
 -- ---- descriptors
 
@@ -129,9 +129,9 @@ is_known_form other code pc = true
 abbrev pub is_known_opcode : List ℕ → ℕ → Bool
 is_known_opcode code pc = is_known_form (form_of (opcode_at code pc)) code pc
 
--- an instruction boundary (JVMS 4.9.1) where another opcode stands
+-- decoding ends where another opcode stands
 abbrev pub unknown_opcode : MethodTree → CodeTree → Bool
-unknown_opcode m c = list_any (λ pc. not (is_known_opcode c.code pc)) (boundaries c.code)
+unknown_opcode m c = option_map_or (λ pc. not (is_known_opcode c.code pc)) (end_of_decoding c.code) false
 
 -- ---- operands
 
@@ -197,4 +197,4 @@ is_outside_profile file =
     list_any (field_outside_profile file) file.fields
     || (list_any (method_outside_profile file) file.methods
     || (any_code unknown_opcode file
-    || any_instruction_in (instruction_outside_profile file.pool) file))
+    || any_decoded_in (instruction_outside_profile file.pool) file))

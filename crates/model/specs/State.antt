@@ -77,13 +77,13 @@ pub data Phase : Type 0 where
   End : Phase
 
 -- what stands on a thread's stack: a frame, or a class that it initialises
-pub data EntryOf (A : Type 0) : Type 0 where
-  Invocation : (frame : FrameOf A) → EntryOf A
-  Initialisation : (class : Name) (phase : Phase) → EntryOf A
+pub data StackEntryOf (A : Type 0) : Type 0 where
+  Invocation : (frame : FrameOf A) → StackEntryOf A
+  Initialisation : (class : Name) (phase : Phase) → StackEntryOf A
 
 -- the stack of a thread (JVMS 2.5.2), the top first
 abbrev pub StackOf : Type 0 → Type 0
-StackOf A = List (EntryOf A)
+StackOf A = List (StackEntryOf A)
 
 -- what the threads share: objects by their references, the static fields of the files, the classes of the files, monitors
 -- by the references of their objects, the threads in starting order, and the numbers printed

@@ -13,7 +13,7 @@ use Rattle.model.specs.Types.{is_object_of}
 use Rattle.model.specs.Operands.{Slots, Carrier, values, operands, under}
 use Rattle.model.specs.State.{Instance, types_of, Initialised, Erroneous, WakeCause, Notified, Interrupted, ThreadStatus, Running, Waiting, Relock, Ended, Thread, FrameOf, Phase, Super, End, Invocation, Initialisation, StackOf, WorldOf, StateOf, State}
 use Rattle.model.specs.Opening.{arguments_reference, class_reference}
-use Rattle.model.specs.Outcomes.{Fault, fault_class, NoClassDefFound, StackOverflow, IllegalMonitorState, InterruptedWait, AbstractMethod, ExceptionInInitializer, Cost, Free, Makes, OutcomeOf, Goes, Raises, Throws, Interrupts, Calls, Returns, Waits}
+use Rattle.model.specs.Outcomes.{MachineException, exception_class, NoClassDefFound, StackOverflow, IllegalMonitorState, InterruptedWait, AbstractMethod, ExceptionInInitializer, Cost, Free, Makes, OutcomeOf, Goes, Raises, Throws, Interrupts, Calls, Returns, Waits}
 use Rattle.model.specs.Monitors as monitors
 pub use Rattle.model.specs.Worlds.{thread_at}
 use Rattle.model.specs.Worlds.{with_thread, with_begun, with_pending, with_caught, with_status, with_interrupted, allocated, object_at, class_of_object, is_owner, may_enter, with_entry, entry_cost, with_exit, with_monitors, is_done, waiters_of, all_woken}
@@ -81,12 +81,12 @@ settled t (Next cost p) = Next cost (part (end_of t p.world p.stack) p.stack)
 -- ---- exceptions
 
 -- the machine makes an exception, with no call of a constructor (own), and it is pending
-abbrev pub raised : {A : Type 0} → ℕ → Fault → WorldOf A → StackOf A → SteppedOf (PartOf A)
-raised t fault world stack = Next (Makes 0) (part (with_pending (allocated world (Instance (fault_class fault) [])) t (length world.heap)) stack)
+abbrev pub raised : {A : Type 0} → ℕ → MachineException → WorldOf A → StackOf A → SteppedOf (PartOf A)
+raised t fault world stack = Next (Makes 0) (part (with_pending (allocated world (Instance (exception_class fault) [])) t (length world.heap)) stack)
 
 -- a thread that waits or joins was interrupted (JLS 17.2.1, 17.2.3)
-abbrev pub interrupted : {A : Type 0} → ℕ → WorldOf A → StackOf A → SteppedOf (PartOf A)
-interrupted t world stack = raised t InterruptedWait (with_interrupted world t false) stack
+abbrev pub raised_by_interrupt : {A : Type 0} → ℕ → WorldOf A → StackOf A → SteppedOf (PartOf A)
+raised_by_interrupt t world stack = raised t InterruptedWait (with_interrupted world t false) stack
 
 -- ---- what an event needs of a class first (JVMS 5.5)
 
@@ -142,7 +142,7 @@ abbrev pub become : {A : Type 0} → Program → ℕ → ℕ → WorldOf A → F
 become files frames t world frame stack (Goes cost after slots to) = Next cost (part after (Invocation (at_offset frame to slots) ∷ stack))
 become files frames t world frame stack (Raises fault) = raised t fault world (Invocation frame ∷ stack)
 become files frames t world frame stack (Throws exception) = on_to (with_pending world t exception) (Invocation frame ∷ stack)
-become files frames t world frame stack Interrupts = interrupted t world (Invocation frame ∷ stack)
+become files frames t world frame stack Interrupts = raised_by_interrupt t world (Invocation frame ∷ stack)
 become files frames t world frame stack (Calls callee rest) =
     pushed frames t world world (Invocation frame ∷ stack) (Invocation (at_call frame rest) ∷ stack) callee
 become files frames t world frame stack (Returns after results) = leaving t frame.entered after (returned files results stack) (Invocation frame ∷ stack)
@@ -272,7 +272,7 @@ pending_event C files t exception thrown world (Initialisation class phase ∷ s
 -- notified, the call of wait returns; interrupted, it throws
 abbrev pub after_wait : {A : Type 0} → Program → ℕ → WakeCause → WorldOf A → StackOf A → SteppedOf (PartOf A)
 after_wait files t Notified world stack = on_to world (returned files [] stack)
-after_wait files t Interrupted world stack = interrupted t world stack
+after_wait files t Interrupted world stack = raised_by_interrupt t world stack
 
 abbrev pub relock_event : {A : Type 0} → Program → ℕ → ℕ → ℕ → WakeCause → WorldOf A → StackOf A → SteppedOf (PartOf A)
 relock_event files t object count cause world stack =
@@ -299,16 +299,16 @@ thread_event C files frames event world stack (Relock object count cause) = unpi
 thread_event C files frames event world stack (Ended exception) = NotEnabled
 
 -- the stacks after a step of a thread; a thread that it started has an empty one
-abbrev pub put_back : {A : Type 0} → StateOf A → ℕ → SteppedOf (PartOf A) → SteppedOf (StateOf A)
-put_back state t NotEnabled = NotEnabled
-put_back state t WrongKind = WrongKind
-put_back state t (Next cost p) =
+abbrev pub with_part : {A : Type 0} → StateOf A → ℕ → SteppedOf (PartOf A) → SteppedOf (StateOf A)
+with_part state t NotEnabled = NotEnabled
+with_part state t WrongKind = WrongKind
+with_part state t (Next cost p) =
     Next cost (record { world = p.world; stacks = slice_set state.stacks t p.stack ++ replicate (length p.world.threads - length state.stacks) [] })
 
 abbrev pub event_of : {A : Type 0} → Carrier A → Program → ℕ → StateOf A → Event → Option (StackOf A) → SteppedOf (StateOf A)
 event_of C files frames state event None = NotEnabled
 event_of C files frames state event (Some stack) =
-    put_back state event.thread (settled event.thread (thread_event C files frames event state.world stack (thread_at state.world event.thread).status))
+    with_part state event.thread (settled event.thread (thread_event C files frames event state.world stack (thread_at state.world event.thread).status))
 
 -- what becomes of an event
 abbrev pub stepped : {A : Type 0} → Carrier A → Program → ℕ → StateOf A → Event → SteppedOf (StateOf A)

@@ -81,13 +81,13 @@ is_receiver files class (Uninitialised at c) = name_eq c class
 is_receiver files class (UninitialisedThis c) = name_eq c class || spells (superclass_of files c) class
 
 -- an object of the class, or `this` in a constructor of the class (JVMS 4.10.1.9, putfield)
-abbrev pub is_owner : Program → Name → VerificationType → Bool
-is_owner files class Unusable = false
-is_owner files class IntType = false
-is_owner files class NullType = true
-is_owner files class (OfType t) = is_assignable files t (ClassType class)
-is_owner files class (Uninitialised at c) = false
-is_owner files class (UninitialisedThis c) = name_eq c class
+abbrev pub is_instance_or_this : Program → Name → VerificationType → Bool
+is_instance_or_this files class Unusable = false
+is_instance_or_this files class IntType = false
+is_instance_or_this files class NullType = true
+is_instance_or_this files class (OfType t) = is_assignable files t (ClassType class)
+is_instance_or_this files class (Uninitialised at c) = false
+is_instance_or_this files class (UninitialisedThis c) = name_eq c class
 
 abbrev pub is_array_type : ReferenceType → Bool
 is_array_type (ClassType c) = false
@@ -122,7 +122,7 @@ type_meets files AnInt t = is_int t
 type_meets files AnyReference t = is_reference t
 type_meets files (AReference want) t = is_of files want t
 type_meets files (AReceiver class) t = is_receiver files class t
-type_meets files (AnOwner class) t = is_owner files class t
+type_meets files (AnOwner class) t = is_instance_or_this files class t
 type_meets files AnArray t = has_type_with is_array_type t
 type_meets files AByteArray t = has_type_with is_byte_array_type t
 

@@ -4,7 +4,7 @@ use Rattle.model.specs.declared.value.Value.{Value}
 use Rattle.model.specs.Names.{Member}
 use Rattle.model.specs.Classes.{Program}
 use Rattle.model.specs.Operands.{Slots, word_of}
-use Rattle.model.specs.State.{ObjectOf, Instance, Primitives, References, PlaceOf, FrameOf, EntryOf, Invocation, Initialisation, StackOf, WorldOf, StateOf, State}
+use Rattle.model.specs.State.{ObjectOf, Instance, Primitives, References, PlaceOf, FrameOf, StackEntryOf, Invocation, Initialisation, StackOf, WorldOf, StateOf, State}
 use Rattle.model.specs.WellTyped.{IsWellTyped}
 
 -- ---- what a function on values makes of a state
@@ -28,7 +28,7 @@ map_frame f frame =
       entered = frame.entered;
     }
 
-abbrev pub map_entry : {A B : Type 0} → (A → B) → EntryOf A → EntryOf B
+abbrev pub map_entry : {A B : Type 0} → (A → B) → StackEntryOf A → StackEntryOf B
 map_entry f (Invocation frame) = Invocation (map_frame f frame)
 map_entry f (Initialisation class phase) = Initialisation class phase
 

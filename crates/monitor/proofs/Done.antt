@@ -10,7 +10,7 @@ use Rattle.lock_word.specs.Words.{Word}
 use Rattle.model.specs.State.{Monitor}
 use Rattle.model.specs.declared.monitor_answer.MonitorAnswer.{MonitorAnswer}
 use Rattle.model.specs.declared.monitor_answer.MonitorAnswer.TheVariants.{Done, Held, NotOwner}
-use Rattle.model.specs.Monitors.{Answered, done, owned, owns, released, unlocked, monitor_at, put_back, as_entrant, relock_from, monitor_enter}
+use Rattle.model.specs.Monitors.{Answered, answers_done, owned, owns, released, unlocked, monitor_at, with_answered, as_entrant, relock_from, monitor_enter}
 use Rattle.monitor.specs.declared.call.Call.{Call}
 use Rattle.monitor.specs.declared.call.Call.TheVariants.{Enter, Exit, Wait, Notify, NotifyAll, WakeAll, Interrupt, Relock}
 use Rattle.monitor.specs.Locks.{Locks, object_of, answered, answered_by, KeptUnlessDone, is_count_full_by, inflates, inflates_in, is_table_full, is_count_full, is_at_most_entries, fat_count, is_fat_at, IsDone, Answers}
@@ -19,7 +19,7 @@ use Rattle.monitor.specs.declared.refusal.Refusal.TheVariants.{LockCount}
 use Rattle.monitor.specs.Words.{monitor_of, monitors_of, is_fat_lock, is_fat_word, lock_at, AreSound, locks_of}
 use Rattle.monitor.proofs.Sound.{monitor_at-monitors_of, is_fat_at-map, count_by-map, locks_thin, locks_record, locks_inflated, sound_inflated}
 
-pub answered_is : (call : Call) (ms : List Monitor) → answered call ms ≡ put_back (object_of call) ms (answered_by call (monitor_at ms (object_of call)))
+pub answered_is : (call : Call) (ms : List Monitor) → answered call ms ≡ with_answered (object_of call) ms (answered_by call (monitor_at ms (object_of call)))
 answered_is (Enter object thread) ms = refl
 answered_is (Exit object thread) ms = refl
 answered_is (Wait object thread) ms = refl
@@ -39,9 +39,9 @@ inflates_is call t ws n h = ap (inflates call) (monitor_at-monitors_of t ws (obj
 pub full_is : (call : Call) (t : List Monitor) (ws : List Word) (n : ℕ) → object_of call < length ws → is_count_full call (locks_of t ws n) ≡ is_count_full_by call (named call t ws)
 full_is call t ws n h = ap (is_count_full_by call) (monitor_at-monitors_of t ws (object_of call) h)
 
-pub answers_is : (call : Call) (t : List Monitor) (ws : List Word) → object_of call < length ws → answered call (monitors_of t ws) ≡ put_back (object_of call) (monitors_of t ws) (answered_by call (named call t ws))
+pub answers_is : (call : Call) (t : List Monitor) (ws : List Word) → object_of call < length ws → answered call (monitors_of t ws) ≡ with_answered (object_of call) (monitors_of t ws) (answered_by call (named call t ws))
 answers_is call t ws h =
-    answered_is call (monitors_of t ws) ∙ ap (λ (m : Monitor). put_back (object_of call) (monitors_of t ws) (answered_by call m)) (monitor_at-monitors_of t ws (object_of call) h)
+    answered_is call (monitors_of t ws) ∙ ap (λ (m : Monitor). with_answered (object_of call) (monitors_of t ws) (answered_by call m)) (monitor_at-monitors_of t ws (object_of call) h)
 
 pub fat_count_is : (t : List Monitor) (ws : List Word) (n : ℕ) → AreSound t ws n → fat_count (locks_of t ws n) ≡ length t
 fat_count_is t ws n s = count_by-map ws ∙ s.counted
@@ -53,7 +53,7 @@ pub done_thin : (call : Call) (t : List Monitor) (ws : List Word) (n : ℕ) (w :
     → inflates call (named call t ws) ≡ false → is_count_full_by call (named call t ws) ≡ false
     → IsDone Done call (locks_of t ws n) (locks_of t (set ws (object_of call) w) n)
 done_thin call t ws n w h was is ans after small few =
-    let e : answered call (monitors_of t ws) ≡ put_back (object_of call) (monitors_of t ws) (answered_by call (named call t ws)) = answers_is call t ws h in
+    let e : answered call (monitors_of t ws) ≡ with_answered (object_of call) (monitors_of t ws) (answered_by call (named call t ws)) = answers_is call t ws h in
     let calm : inflates_in call (locks_of t ws n) ≡ false = inflates_is call t ws n h ∙ small in
     rw (locks_thin t ws n (object_of call) w was is) (record {
       answers = ans ∙ sym (ap (λ (x : Answered (List Monitor)). x.answer) e);
@@ -109,19 +109,19 @@ abbrev pub MonitorKept : MonitorAnswer → Monitor → Monitor → Type 0
 MonitorKept Done old new = Unit {0}
 MonitorKept answer old new = new ≡ old
 
-pub as_owner_kept : (b : Bool) (m after : Monitor) → MonitorKept (if b then done after else record { answer = NotOwner; after = m }).answer m (if b then done after else record { answer = NotOwner; after = m }).after
+pub as_owner_kept : (b : Bool) (m after : Monitor) → MonitorKept (if b then answers_done after else record { answer = NotOwner; after = m }).answer m (if b then answers_done after else record { answer = NotOwner; after = m }).after
 as_owner_kept true m after = tt
 as_owner_kept false m after = refl
 
-pub entrant_kept : (thread : ℕ) (owner : Option ℕ) (m free again : Monitor) → MonitorKept (as_entrant thread owner m (done free) (done again)).answer m (as_entrant thread owner m (done free) (done again)).after
+pub entrant_kept : (thread : ℕ) (owner : Option ℕ) (m free again : Monitor) → MonitorKept (as_entrant thread owner m (answers_done free) (answers_done again)).answer m (as_entrant thread owner m (answers_done free) (answers_done again)).after
 entrant_kept thread None m free again = tt
 entrant_kept thread (Some owner) m free again = by_test (owner == thread)
   where
-    by_test : (b : Bool) → MonitorKept (if b then done again else record { answer = Held; after = m }).answer m (if b then done again else record { answer = Held; after = m }).after
+    by_test : (b : Bool) → MonitorKept (if b then answers_done again else record { answer = Held; after = m }).answer m (if b then answers_done again else record { answer = Held; after = m }).after
     by_test true = tt
     by_test false = refl
 
-pub relock_kept : (owner : Option ℕ) (m free : Monitor) → MonitorKept (relock_from owner m (done free)).answer m (relock_from owner m (done free)).after
+pub relock_kept : (owner : Option ℕ) (m free : Monitor) → MonitorKept (relock_from owner m (answers_done free)).answer m (relock_from owner m (answers_done free)).after
 relock_kept None m free = tt
 relock_kept (Some owner) m free = refl
 
@@ -151,8 +151,8 @@ pub done_record : (call : Call) (answer : MonitorAnswer) (t : List Monitor) (ws 
     → IsDone answer call (locks_of t ws n) (locks_of (set t i (answered_by call (monitor_at t i)).after) ws n)
 done_record call answer t ws n i s h e ans few =
     let it : named call t ws ≡ monitor_at t i = ap (monitor_of t) e in
-    let all : answered call (monitors_of t ws) ≡ put_back (object_of call) (monitors_of t ws) (answered_by call (monitor_at t i)) =
-    answers_is call t ws h ∙ ap (λ (m : Monitor). put_back (object_of call) (monitors_of t ws) (answered_by call m)) it in
+    let all : answered call (monitors_of t ws) ≡ with_answered (object_of call) (monitors_of t ws) (answered_by call (monitor_at t i)) =
+    answers_is call t ws h ∙ ap (λ (m : Monitor). with_answered (object_of call) (monitors_of t ws) (answered_by call m)) it in
     let same : KeptUnlessDone answer (locks_of t ws n) (locks_of (set t i (answered_by call (monitor_at t i)).after) ws n) =
     record_kept answer t ws n i (answered_by call (monitor_at t i)).after
     (subst (λ (a : MonitorAnswer). MonitorKept a (monitor_at t i) (answered_by call (monitor_at t i)).after) (sym ans) (monitor_kept call (monitor_at t i))) in
@@ -174,7 +174,7 @@ pub done_inflated : (call : Call) (t : List Monitor) (ws : List Word) (n : ℕ) 
     → inflates call (named call t ws) ≡ true → is_count_full_by call (named call t ws) ≡ false
     → IsDone Done call (locks_of t ws n) (locks_of (t ++ (answered_by call (named call t ws)).after ∷ []) (set ws (object_of call) w) n)
 done_inflated call t ws n w s h is room ans joins few =
-    let e : answered call (monitors_of t ws) ≡ put_back (object_of call) (monitors_of t ws) (answered_by call (named call t ws)) = answers_is call t ws h in
+    let e : answered call (monitors_of t ws) ≡ with_answered (object_of call) (monitors_of t ws) (answered_by call (named call t ws)) = answers_is call t ws h in
     let grows : inflates_in call (locks_of t ws n) ≡ true = inflates_is call t ws n h ∙ joins in
     rw (locks_inflated t ws n (object_of call) w (answered_by call (named call t ws)).after s is) (record {
       answers = ans ∙ sym (ap (λ (x : Answered (List Monitor)). x.answer) e);

@@ -5,7 +5,7 @@ use Rattle.std.specs.List.{remove}
 use Rattle.std.proofs.lemmas.Bool.{false≢true, cond_both, eq-eqb, or_left, or_right}
 use Rattle.model.specs.State.{Monitor, Waiter, ThreadStatus, Running, Waiting, Relock, Ended, Thread, new_thread}
 use Rattle.model.specs.Outcomes.{Cost, Free, Makes, Starts, Enters, Joins}
-use Rattle.model.specs.Monitors.{Answered, done, unlocked, owned, released, owns, as_owner, as_entrant, monitor_enter, monitor_exit, monitor_wait, monitor_notify, monitor_interrupt, monitor_relock, without, relock_from, monitor_at, at_object}
+use Rattle.model.specs.Monitors.{Answered, answers_done, unlocked, owned, released, owns, as_owner, as_entrant, monitor_enter, monitor_exit, monitor_wait, monitor_notify, monitor_interrupt, monitor_relock, without, relock_from, monitor_at, at_object}
 use Rattle.model.specs.Worlds.{no_thread}
 use Rattle.monitor_counts.specs.Counts.{is_fat_after, Returns, IsStatusCounted, IsOwnerCounted, IsMonitorCounted, AreCounted}
 
@@ -101,7 +101,7 @@ module _ (fat : ℕ → Bool) (object : ℕ) where
   pub enter_counted : (t : ℕ) (m : Monitor) → IsMonitorCounted fat object m → IsMonitorCounted fat object (monitor_enter t m).after
   enter_counted t m h = by m.owner
     where
-      by : (o : Option ℕ) → IsMonitorCounted fat object (as_entrant t o m (done (owned m t 1)) (done (owned m t (m.count + 1)))).after
+      by : (o : Option ℕ) → IsMonitorCounted fat object (as_entrant t o m (answers_done (owned m t 1)) (answers_done (owned m t (m.count + 1)))).after
       by None = owned_counted m t 1 (omega arith) h
       by (Some owner) =
           cond_both (owner == t) _ _ (λ (a : Answered Monitor). IsMonitorCounted fat object a.after) (λ e. owned_counted m t (m.count + 1) (omega arith) h) (λ e. h)
@@ -144,7 +144,7 @@ module _ (fat : ℕ → Bool) (object : ℕ) where
   pub relock_counted : (t count : ℕ) (m : Monitor) → 0 < count → IsMonitorCounted fat object m → IsMonitorCounted fat object (monitor_relock t count m).after
   relock_counted t count m p h = by m.owner
     where
-      by : (o : Option ℕ) → IsMonitorCounted fat object (relock_from o m (done (owned m t count))).after
+      by : (o : Option ℕ) → IsMonitorCounted fat object (relock_from o m (answers_done (owned m t count))).after
       by None = owned_counted m t count p h
       by (Some owner) = h
 

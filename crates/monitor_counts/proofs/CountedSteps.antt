@@ -13,14 +13,14 @@ use Rattle.model.specs.Operands.{Carrier, words, values, under}
 use Rattle.model.specs.Lookup.{select, field_member}
 use Rattle.model.specs.Opening.{arguments_reference, class_reference}
 use Rattle.model.specs.State.{Instance, types_of, InProgress, Erroneous, WakeCause, Notified, Interrupted, ThreadStatus, Running, Waiting, Relock, Ended, FrameOf, Phase, Super, End, Invocation, Initialisation, StackOf, WorldOf, StateOf}
-use Rattle.model.specs.Outcomes.{Fault, fault_class, OutcomeOf, Goes, Raises, Throws, Interrupts, Calls, Returns, Waits, NoClassDefFound, StackOverflow, IllegalMonitorState, InterruptedWait, AbstractMethod, ExceptionInInitializer}
+use Rattle.model.specs.Outcomes.{MachineException, exception_class, OutcomeOf, Goes, Raises, Throws, Interrupts, Calls, Returns, Waits, NoClassDefFound, StackOverflow, IllegalMonitorState, InterruptedWait, AbstractMethod, ExceptionInInitializer}
 use Rattle.model.specs.Monitors as monitors
 use Rattle.model.specs.Worlds.{thread_at, with_thread, with_begun, with_pending, with_caught, with_status, with_interrupted, with_static, put_value, allocated, object_at, class_of_object, is_owner, may_enter, with_entry, entry_cost, with_exit, with_monitors, is_done}
 use Rattle.model.specs.ClassInitialisation.{status_of, with_class_status, constant_value, with_constant, with_constants, Look, IsReady, IsNew, IsHeld, HasFailed, look_by}
 use Rattle.model.specs.Frames.{frame_with, entered_by, frame_count, at_call}
 use Rattle.model.specs.Sites.{MeaningOf, Site, site_at}
 use Rattle.model.specs.Meanings.{meaning_of}
-use Rattle.model.specs.Step.{SteppedOf, NotEnabled, WrongKind, Next, PartOf, part, on_to, enabled_if, unpicked, is_over, ended, with_end, end_of, settled, raised, needing, needing_class, entering, pushed, leaving, returned, become, ops_of, done, bytecode_by, bytecode_in, initialiser_event, before, initialisation_event, initial_class, main_frame, run_frame, run_of, begin_event, handler_in, unwound, failed, pending_event, after_wait, relock_event, running_event, going_event, thread_event, put_back, event_of, stepped}
+use Rattle.model.specs.Step.{SteppedOf, NotEnabled, WrongKind, Next, PartOf, part, on_to, enabled_if, unpicked, is_over, ended, with_end, end_of, settled, raised, needing, needing_class, entering, pushed, leaving, returned, become, ops_of, done, bytecode_by, bytecode_in, initialiser_event, before, initialisation_event, initial_class, main_frame, run_frame, run_of, begin_event, handler_in, unwound, failed, pending_event, after_wait, relock_event, running_event, going_event, thread_event, with_part, event_of, stepped}
 use Rattle.laws.proofs.Operations.{OfMeaning}
 use Rattle.monitor_counts.specs.Counts.{is_fat_after, IsStatusCounted, AreMonitorsCounted, IsCountKept, AreCountsKept}
 use Rattle.monitor_counts.proofs.Counted.{more_monitors, with_one, with_same}
@@ -56,9 +56,9 @@ module _ {A : Type 0} where
 
     -- ---- exceptions, calls and returns
 
-    raised_counted : (t : ℕ) (fault : Fault) (world : WorldOf A) (stack : StackOf A) → AreMonitorsCounted fat world → Counted fat (raised t fault world stack)
+    raised_counted : (t : ℕ) (fault : MachineException) (world : WorldOf A) (stack : StackOf A) → AreMonitorsCounted fat world → Counted fat (raised t fault world stack)
     raised_counted t fault world stack h =
-        pending_keeps (allocated world (Instance (fault_class fault) [])) t _ (more_monitors fat world.monitors world.threads h)
+        pending_keeps (allocated world (Instance (exception_class fault) [])) t _ (more_monitors fat world.monitors world.threads h)
 
     entering_counted : (t : ℕ) (world : WorldOf A) (rest : StackOf A) (frame : FrameOf A) (o : Option ℕ) → AreMonitorsCounted fat world → Counted fat (entering t world rest frame o)
     entering_counted t world rest frame None h = h
@@ -242,7 +242,7 @@ module _ {A : Type 0} where
   StateCounted fat WrongKind = Unit {0}
   StateCounted fat (Next cost next) = AreMonitorsCounted (is_fat_after cost fat) next.world
 
-  put_counted : (fat : ℕ → Bool) (state : StateOf A) (t : ℕ) (x : SteppedOf (PartOf A)) → Counted fat x → StateCounted fat (put_back state t x)
+  put_counted : (fat : ℕ → Bool) (state : StateOf A) (t : ℕ) (x : SteppedOf (PartOf A)) → Counted fat x → StateCounted fat (with_part state t x)
   put_counted fat state t NotEnabled h = tt
   put_counted fat state t WrongKind h = tt
   put_counted fat state t (Next cost p) h = h

@@ -14,14 +14,14 @@ use Rattle.model.specs.Operands.{Carrier, words, values, under}
 use Rattle.model.specs.Lookup.{select, field_member}
 use Rattle.model.specs.Opening.{arguments_reference, class_reference}
 use Rattle.model.specs.State.{Instance, types_of, InProgress, Erroneous, WakeCause, Notified, Interrupted, ThreadStatus, Running, Waiting, Relock, Ended, FrameOf, Phase, Super, End, Invocation, Initialisation, StackOf, WorldOf, StateOf}
-use Rattle.model.specs.Outcomes.{Fault, fault_class, OutcomeOf, Goes, Raises, Throws, Interrupts, Calls, Returns, Waits, NoClassDefFound, StackOverflow, IllegalMonitorState, InterruptedWait, AbstractMethod, ExceptionInInitializer}
+use Rattle.model.specs.Outcomes.{MachineException, exception_class, OutcomeOf, Goes, Raises, Throws, Interrupts, Calls, Returns, Waits, NoClassDefFound, StackOverflow, IllegalMonitorState, InterruptedWait, AbstractMethod, ExceptionInInitializer}
 use Rattle.model.specs.Monitors as monitors
 use Rattle.model.specs.Worlds.{thread_at, with_thread, with_begun, with_status, with_interrupted, with_static, put_value, object_at, class_of_object, is_owner, may_enter, with_entry, entry_cost, with_exit, with_monitors, is_done, waiters_of}
 use Rattle.model.specs.ClassInitialisation.{status_of, with_class_status, constant_value, with_constant, with_constants, with_class_begun, Look, IsReady, IsNew, IsHeld, HasFailed, look_by}
 use Rattle.model.specs.Frames.{frame_with, entered_by, frame_count, at_call}
 use Rattle.model.specs.Sites.{MeaningOf, Site, site_at}
 use Rattle.model.specs.Meanings.{meaning_of}
-use Rattle.model.specs.Step.{SteppedOf, NotEnabled, WrongKind, Next, PartOf, part, on_to, enabled_if, unpicked, is_over, ended, with_end, end_of, settled, raised, needing, needing_class, entering, pushed, leaving, returned, become, ops_of, done, bytecode_by, bytecode_in, initialiser_event, before, initialisation_event, initial_class, main_frame, run_frame, run_of, begin_event, handler_in, unwound, failed, pending_event, after_wait, relock_event, running_event, going_event, thread_event, put_back, event_of, stepped}
+use Rattle.model.specs.Step.{SteppedOf, NotEnabled, WrongKind, Next, PartOf, part, on_to, enabled_if, unpicked, is_over, ended, with_end, end_of, settled, raised, needing, needing_class, entering, pushed, leaving, returned, become, ops_of, done, bytecode_by, bytecode_in, initialiser_event, before, initialisation_event, initial_class, main_frame, run_frame, run_of, begin_event, handler_in, unwound, failed, pending_event, after_wait, relock_event, running_event, going_event, thread_event, with_part, event_of, stepped}
 use Rattle.object_counts.specs.Bounds.{made, IsCounted, AreObjectsCounted}
 use Rattle.object_counts.proofs.Counted.{same_count, OutcomeCounted, woken_count}
 use Rattle.laws.proofs.Operations.{OfMeaning}
@@ -44,8 +44,8 @@ module _ {A : Type 0} where
 
   -- ---- exceptions, calls and returns
 
-  raised_counted : (t : ℕ) (fault : Fault) (world : WorldOf A) (stack : StackOf A) → Counted (length world.heap) (raised t fault world stack)
-  raised_counted t fault world stack = length_push world.heap (Instance (fault_class fault) [])
+  raised_counted : (t : ℕ) (fault : MachineException) (world : WorldOf A) (stack : StackOf A) → Counted (length world.heap) (raised t fault world stack)
+  raised_counted t fault world stack = length_push world.heap (Instance (exception_class fault) [])
 
   on_counted : (n : ℕ) (world : WorldOf A) (stack : StackOf A) → length world.heap ≡ n → Counted n (on_to world stack)
   on_counted n world stack e = same_count (length world.heap) n e
@@ -235,7 +235,7 @@ module _ {A : Type 0} where
   StateCounted n WrongKind = Unit {0}
   StateCounted n (Next cost next) = length next.world.heap ≡ n + made cost
 
-  put_counted : (n : ℕ) (state : StateOf A) (t : ℕ) (x : SteppedOf (PartOf A)) → Counted n x → StateCounted n (put_back state t x)
+  put_counted : (n : ℕ) (state : StateOf A) (t : ℕ) (x : SteppedOf (PartOf A)) → Counted n x → StateCounted n (with_part state t x)
   put_counted n state t NotEnabled h = tt
   put_counted n state t WrongKind h = tt
   put_counted n state t (Next cost p) h = h

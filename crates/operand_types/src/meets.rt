@@ -2,7 +2,7 @@
 
 ghost use Rattle.std.specs.Prelude.{◌≡◌};
 ghost use Rattle.model.specs.ReferenceTypes.{ClassType};
-ghost use Rattle.model.specs.Types.{is_of, is_receiver, is_owner, is_array_type, is_byte_array_type, has_type_with, is_byte_or_boolean, type_meets};
+ghost use Rattle.model.specs.Types.{is_of, is_receiver, is_instance_or_this, is_array_type, is_byte_array_type, has_type_with, is_byte_or_boolean, type_meets};
 ghost use Rattle.hierarchy.specs.Places.{name_at};
 ghost use Rattle.types.specs.View.{primitive_of, reference_in, type_in};
 ghost use Rattle.operand_types.specs.View.{want_in};
@@ -44,7 +44,7 @@ fn is_receiver(set: &ClassSet, class: usize, t: VerificationType) -> bool
 
 /// Whether a type is of a class, or null, or `this` in a constructor of the class.
 fn is_owner(set: &ClassSet, class: usize, t: VerificationType) -> bool
-    ensures { result ≡ is_owner set.now (name_at set.now class) (type_in set.now t) }
+    ensures { result ≡ is_instance_or_this set.now (name_at set.now class) (type_in set.now t) }
 {
     match t {
         VerificationType::Unusable => false,

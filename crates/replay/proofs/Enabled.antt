@@ -12,7 +12,7 @@ use Rattle.model.specs.Opening.{opening_heap}
 use Rattle.model.specs.Outcomes.{OutcomeOf, Goes, Raises, Arithmetic, Free, not_null}
 use Rattle.model.specs.Sites.{referent}
 use Rattle.model.specs.Meanings.{MeaningOf, local_meaning, system_out_meaning, println_meaning, return_meaning}
-use Rattle.model.specs.Step.{SteppedOf, NotEnabled, WrongKind, Next, PartOf, is_enabled_by, put_back, settled, stepped, become, ops_of, bytecode_in, enabled_if, unpicked}
+use Rattle.model.specs.Step.{SteppedOf, NotEnabled, WrongKind, Next, PartOf, is_enabled_by, with_part, settled, stepped, become, ops_of, bytecode_in, enabled_if, unpicked}
 use Rattle.replay.specs.declared.bytecode.Other.{Other}
 use Rattle.replay.specs.declared.bytecode.Other.TheVariants as others
 use Rattle.replay.specs.declared.machine.Stage.{Stage}
@@ -28,7 +28,7 @@ use Rattle.replay.proofs.Others.{built_in_system}
 use Rattle.replay.proofs.Plain.{meaning_by, of_meaning}
 use Rattle.replay.proofs.Stages.{at_stage, new_step, super_step, end_step, ready_step, runs_step, ended_step}
 
-settled_enabled : (out : SteppedOf (PartOf Value)) (s : State) → is_enabled_by out ≡ true → is_enabled_by (put_back s 0 (settled 0 out)) ≡ true
+settled_enabled : (out : SteppedOf (PartOf Value)) (s : State) → is_enabled_by out ≡ true → is_enabled_by (with_part s 0 (settled 0 out)) ≡ true
 settled_enabled NotEnabled s h = absurd cc
 settled_enabled WrongKind s h = refl
 settled_enabled (Next cost p) s h = refl
@@ -112,7 +112,7 @@ pick_not_enabled file frames printed place pick suits placed picks stages.Super 
 pick_not_enabled file frames printed place pick suits placed picks stages.End = rw picks refl
 pick_not_enabled file frames printed place pick suits placed picks stages.Ready = rw picks refl
 pick_not_enabled file frames printed place pick suits placed picks stages.Runs =
-    let back : SteppedOf (PartOf Value) → SteppedOf State = λ out. put_back (state_of file stages.Runs place printed) 0 (settled 0 out) in
+    let back : SteppedOf (PartOf Value) → SteppedOf State = λ out. with_part (state_of file stages.Runs place printed) 0 (settled 0 out) in
     ap (λ body. back (bytecode_in values (program_of file) frames (picking pick) (world_of file stages.Runs printed) (frame_of file place) [] body)) suits.body
     ∙ ap back (frame_not_enabled file frames printed place (picking pick) picks suits placed)
 pick_not_enabled file frames printed place pick suits placed picks stages.Ended = refl

@@ -20,7 +20,7 @@ use Rattle.replay.proofs.Alone.{no_fields, none_initialises, methods_inside, bel
 use Rattle.model.specs.Operands.{values}
 use Rattle.model.specs.State.{Place, State, World, StackOf, NotInitialised, InProgress, Super, Initialisation}
 use Rattle.model.specs.Outcomes.{Free}
-use Rattle.model.specs.Step.{on_to, SteppedOf, NotEnabled, WrongKind, Next, PartOf, put_back, settled, end_of, stepped}
+use Rattle.model.specs.Step.{on_to, SteppedOf, NotEnabled, WrongKind, Next, PartOf, with_part, settled, end_of, stepped}
 use Rattle.replay.specs.declared.machine.Stage.{Stage}
 use Rattle.replay.specs.declared.machine.Stage.TheVariants as stages
 use Rattle.replay.specs.Taking.{program_of, main_code, Suits}
@@ -71,11 +71,11 @@ module _ (file : FileTree) (frames : ℕ) (printed : List ℤ) (place : Place) (
   is_new : status_of (world_of file stages.New printed) (name_of file) ≡ NotInitialised
   is_new = rw (suits.not_built_in, same_name (name_of file)) refl
 
-  new_begins : at_stage stages.New ≡ put_back (state_of file stages.New place printed) 0 (settled 0 (on_to (with_class_begun values (program_of file) 0 (name_of file) (world_of file stages.New printed)) (Initialisation (name_of file) Super ∷ [])))
+  new_begins : at_stage stages.New ≡ with_part (state_of file stages.New place printed) 0 (settled 0 (on_to (with_class_begun values (program_of file) 0 (name_of file) (world_of file stages.New printed)) (Initialisation (name_of file) Super ∷ [])))
   new_begins = rw is_new refl
 
   pub new_step : at_stage stages.New ≡ Next Free (state_of file stages.Super place printed)
-  new_step = new_begins ∙ ap (λ w. put_back (state_of file stages.New place printed) 0 (settled 0 (on_to w (Initialisation (name_of file) Super ∷ [])))) begun
+  new_step = new_begins ∙ ap (λ w. with_part (state_of file stages.New place printed) 0 (settled 0 (on_to w (Initialisation (name_of file) Super ∷ [])))) begun
 
   pub super_step : at_stage stages.Super ≡ Next Free (state_of file stages.End place printed)
   super_step = rw (class_found file suits, super_found file suits, built_in_object, no_initialiser_found file suits) refl
@@ -90,7 +90,7 @@ module _ (file : FileTree) (frames : ℕ) (printed : List ℤ) (place : Place) (
   pub ready_step : 1 ≤ frames → at_stage stages.Ready ≡ Next Free (state_of file stages.Runs first_place printed)
   ready_step h = rw (suits.not_built_in, same_name (name_of file), suits.body, suits.enters, lt-ltb 0 frames (omega arith)) refl
 
-  pub runs_step : at_stage stages.Runs ≡ put_back (state_of file stages.Runs place printed) 0 (settled 0 (frame_event file frames printed place))
+  pub runs_step : at_stage stages.Runs ≡ with_part (state_of file stages.Runs place printed) 0 (settled 0 (frame_event file frames printed place))
   runs_step = rw suits.body refl
 
   pub ended_step : at_stage stages.Ended ≡ NotEnabled
@@ -110,12 +110,12 @@ end_thrown : (w : World) (stack : StackOf Value) → length stack ≡ 1 → end_
 end_thrown w [] h = absurd cc
 end_thrown w (e ∷ es) h = refl
 
-throws_back : (state : State) (out : SteppedOf (PartOf Value)) → PartThrows out → Throws 0 (put_back state 0 (settled 0 out))
+throws_back : (state : State) (out : SteppedOf (PartOf Value)) → PartThrows out → Throws 0 (with_part state 0 (settled 0 out))
 throws_back state NotEnabled h = h
 throws_back state WrongKind h = h
 throws_back state (Next cost p) h = rw (end_thrown p.world p.stack h.1) h.0
 
-goes_back : (state : State) (out : SteppedOf (PartOf Value)) → PartGoesOn out → GoesOn 0 (put_back state 0 (settled 0 out)) (λ next. Unit {0})
+goes_back : (state : State) (out : SteppedOf (PartOf Value)) → PartGoesOn out → GoesOn 0 (with_part state 0 (settled 0 out)) (λ next. Unit {0})
 goes_back state NotEnabled h = h
 goes_back state WrongKind h = h
 goes_back state (Next cost p) h = (h.0, rw (end_thrown p.world p.stack h.2) h.1, tt)
@@ -146,7 +146,7 @@ module _ (file : FileTree) (limits : Limits) (printed now : List ℤ) (place new
   abbrev out_of : SteppedOf State
   out_of = stepped values (program_of file) limits.frames old_state main_step
 
-  runs : out_of ≡ put_back old_state 0 (settled 0 (frame_event file limits.frames printed place))
+  runs : out_of ≡ with_part old_state 0 (settled 0 (frame_event file limits.frames printed place))
   runs = runs_step file limits.frames printed place suits
 
   pub bytecode_says : (answer : FrameStep) → FrameSays answer (frame_event file limits.frames printed place) file printed now place new → SaysOf (stepped_of answer) 0 out_of (machine_at stages.Runs place printed) (machine_at (stage_after answer) new now)

@@ -11,7 +11,7 @@ use Rattle.model.specs.Operands.{values}
 use Rattle.model.specs.State.{types_of, ThreadStatus, Running, Waiting, Relock, Ended, Thread, Invocation, Initialisation, StackOf, World, State}
 use Rattle.model.specs.Worlds.{no_thread, thread_at}
 use Rattle.model.specs.Opening.{opening}
-use Rattle.model.specs.Step.{SteppedOf, NotEnabled, WrongKind, Next, PartOf, settled, running_event, going_event, thread_event, begin_event, initialisation_event, pending_event, relock_event, put_back, event_of, stepped, next_by, step}
+use Rattle.model.specs.Step.{SteppedOf, NotEnabled, WrongKind, Next, PartOf, settled, running_event, going_event, thread_event, begin_event, initialisation_event, pending_event, relock_event, with_part, event_of, stepped, next_by, step}
 use Rattle.model.specs.Run.{run_from, run}
 use Rattle.model.specs.Typing.{AreTyped}
 use Rattle.model.specs.Accepted.{IsAccepted}
@@ -82,7 +82,7 @@ module _ (files : Program) (linked : Linked files) (accepted : AreTyped files) (
   OnState (Next cost state) = IsWellTyped files state
 
   module _ (state : State) (h : IsWellTyped files state) (event : Event) where
-    put_back_typed : (stack : StackOf Value) → slice_get state.stacks event.thread ≡ Some stack → (x : SteppedOf (PartOf Value)) → OnPart files event.thread state.world x → OnState (put_back state event.thread x)
+    put_back_typed : (stack : StackOf Value) → slice_get state.stacks event.thread ≡ Some stack → (x : SteppedOf (PartOf Value)) → OnPart files event.thread state.world x → OnState (with_part state event.thread x)
     put_back_typed stack e NotEnabled x = tt
     put_back_typed stack e WrongKind x = tt
     put_back_typed stack e (Next cost p) x = put_typed files state h event.thread stack e p x

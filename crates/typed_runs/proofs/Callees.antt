@@ -11,7 +11,7 @@ use Rattle.model.specs.Names.{Name, name_eq, Member, initialiser_name, java_lang
 use Rattle.model.specs.Tree.{MethodTree}
 use Rattle.model.specs.AccessFlags.{is_abstract_method}
 use Rattle.model.specs.Classes.{Program, superclass_of, is_within, is_subclass, is_interface, lineage}
-use Rattle.model.specs.Lookup.{method_of, first_found, method_declared, in_class, where_so, find_method, find_interface_method, all_superinterfaces, any_method, is_public_instance_method}
+use Rattle.model.specs.Lookup.{method_of, first_found, method_in_class, in_class, where_so, find_method, find_interface_method, all_superinterfaces, any_method, is_public_instance_method}
 use Rattle.model.specs.ReferenceTypes.{ReferenceType, ClassType, is_assignable}
 use Rattle.model.specs.Types.{OfType, UninitialisedThis, Want, value_meets, is_value_below}
 use Rattle.model.specs.DescribedTypes.{DeclaredType, parameters_declared, declared_want, verification_type, made_type}
@@ -171,24 +171,24 @@ where_same true m x e = cc
 where_same false m x e = absurd cc
 
 module _ (files : Program) (m : Member) where
-  declared_same : (test : MethodTree → Bool) (class : Name) (x : Member) → method_declared files test m class ≡ Some x → x.name ≡ m.name
+  declared_same : (test : MethodTree → Bool) (class : Name) (x : Member) → method_in_class files test m class ≡ Some x → x.name ≡ m.name
   declared_same test class x e = sym (ap (λ (y : Member). y.name) (where_same (option_map_or test (method_of files (in_class class m)) false) (in_class class m) x e))
 
   either_same : (a b : Option Member) (x : Member) → ((y : Member) → a ≡ Some y → y.name ≡ m.name) → ((y : Member) → b ≡ Some y → y.name ≡ m.name) → option_or a b ≡ Some x → x.name ≡ m.name
   either_same None b x p q e = q x e
   either_same (Some y) b x p q e = p x e
 
-  first_same : (test : MethodTree → Bool) (classes : List Name) (x : Member) → first_found (method_declared files test m) classes ≡ Some x → x.name ≡ m.name
+  first_same : (test : MethodTree → Bool) (classes : List Name) (x : Member) → first_found (method_in_class files test m) classes ≡ Some x → x.name ≡ m.name
   first_same test [] x e = absurd cc
-  first_same test (c ∷ cs) x e = either_same (method_declared files test m c) (first_found (method_declared files test m) cs) x (declared_same test c) (first_same test cs) e
+  first_same test (c ∷ cs) x e = either_same (method_in_class files test m c) (first_found (method_in_class files test m) cs) x (declared_same test c) (first_same test cs) e
 
   pub found_name : (x : Member) → find_method files m ≡ Some x → x.name ≡ m.name
   found_name x e =
-      either_same (first_found (method_declared files any_method m) (lineage files m.class)) (first_found (method_declared files any_method m) (all_superinterfaces files m.class)) x
+      either_same (first_found (method_in_class files any_method m) (lineage files m.class)) (first_found (method_in_class files any_method m) (all_superinterfaces files m.class)) x
       (first_same any_method (lineage files m.class)) (first_same any_method (all_superinterfaces files m.class)) e
 
   pub interface_found_name : (x : Member) → find_interface_method files m ≡ Some x → x.name ≡ m.name
   interface_found_name x e =
-      either_same (method_declared files any_method m m.class) (option_or (method_declared files is_public_instance_method m java_lang_object) (first_found (method_declared files any_method m) (all_superinterfaces files m.class))) x
+      either_same (method_in_class files any_method m m.class) (option_or (method_in_class files is_public_instance_method m java_lang_object) (first_found (method_in_class files any_method m) (all_superinterfaces files m.class))) x
       (declared_same any_method m.class)
-      (λ y q. either_same (method_declared files is_public_instance_method m java_lang_object) (first_found (method_declared files any_method m) (all_superinterfaces files m.class)) y (declared_same is_public_instance_method java_lang_object) (first_same any_method (all_superinterfaces files m.class)) q) e
+      (λ y q. either_same (method_in_class files is_public_instance_method m java_lang_object) (first_found (method_in_class files any_method m) (all_superinterfaces files m.class)) y (declared_same is_public_instance_method java_lang_object) (first_same any_method (all_superinterfaces files m.class)) q) e

@@ -12,7 +12,7 @@ use Rattle.model.specs.AccessFlags.{is_static_method, is_instance_method, is_pri
 use Rattle.model.specs.DescriptorScan.{method_type, parameters_at, field_at, element_at}
 use Rattle.model.specs.BuiltIn.{built_in_classes}
 use Rattle.model.specs.Classes.{Program, Body, body_of, classes_of, superclass_of, is_within, is_subclass, lineage_of, lineage}
-use Rattle.model.specs.Lookup.{method_of, in_class, where_so, first_found, method_declared, is_selectable, select}
+use Rattle.model.specs.Lookup.{method_of, in_class, where_so, first_found, method_in_class, is_selectable, select}
 use Rattle.model.specs.ReferenceTypes.{ReferenceType, ClassType, ReferenceArray}
 use Rattle.model.specs.Types.{VerificationType, Unusable, is_value_below, is_object_below}
 use Rattle.model.specs.Operands.{values}
@@ -78,7 +78,7 @@ module _ (files : Program) where
 
   pub selected : (class : Name) (m found : Member) → select files class m ≡ Some found → Selected files class m found
   selected class m found e =
-      let at = found_in (λ d. is_subclass files class d ≡ true) (method_declared files is_selectable m) (lineage files class) found (in_lineage (length (classes_of files)) class) e in
+      let at = found_in (λ d. is_subclass files class d ≡ true) (method_in_class files is_selectable m) (lineage files class) found (in_lineage (length (classes_of files)) class) e in
       let as_said = declared_as (option_map_or is_selectable (method_of files (in_class at.0 m)) false) (in_class at.0 m) found at.1.1 in
       let named : found.class ≡ at.0 = ap (λ (x : Member). x.class) as_said.1 in
       record {

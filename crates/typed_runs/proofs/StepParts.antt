@@ -11,9 +11,9 @@ use Rattle.model.specs.Classes.{Program, is_within}
 use Rattle.model.specs.ReferenceTypes.{ClassType}
 use Rattle.model.specs.Types.{OfType}
 use Rattle.model.specs.State.{Instance, types_of, ThreadStatus, Running, Relock, Thread, StackOf, World}
-use Rattle.model.specs.Outcomes.{Fault, fault_class, NullPointer, Arithmetic, ArrayIndexOutOfBounds, NegativeArraySize, ArrayStore, ClassCast, IllegalMonitorState, IllegalThreadState, InterruptedWait, IncompatibleClassChange, AbstractMethod, StackOverflow, NoClassDefFound, ExceptionInInitializer}
+use Rattle.model.specs.Outcomes.{MachineException, exception_class, NullPointer, Arithmetic, ArrayIndexOutOfBounds, NegativeArraySize, ArrayStore, ClassCast, IllegalMonitorState, IllegalThreadState, InterruptedWait, IncompatibleClassChange, AbstractMethod, StackOverflow, NoClassDefFound, ExceptionInInitializer}
 use Rattle.model.specs.Worlds.{no_thread, thread_at, with_thread, with_pending, with_interrupted, allocated}
-use Rattle.model.specs.Step.{SteppedOf, NotEnabled, WrongKind, Next, PartOf, part, raised, interrupted}
+use Rattle.model.specs.Step.{SteppedOf, NotEnabled, WrongKind, Next, PartOf, part, raised, raised_by_interrupt}
 use Rattle.model.specs.WellTyped.{is_object_in, is_waiting_for, Failing, IsRunning, IsStackTyped}
 use Rattle.laws.specs.Steps.{Rooted}
 use Rattle.laws.proofs.Classes.{within_subclass}
@@ -55,7 +55,7 @@ pub idle_relock : (thread : Thread) (object count : ℕ) (cause : _) → thread.
 idle_relock thread object count cause e other = ap (is_waiting_for other) e
 
 -- what an exception of the machine is below (JVMS 2.10)
-fault_within : (files : Program) (fault : Fault) → is_within files 5 (fault_class fault) java_lang_throwable ≡ true
+fault_within : (files : Program) (fault : MachineException) → is_within files 5 (exception_class fault) java_lang_throwable ≡ true
 unfolding built_in_classes
 fault_within files NullPointer = refl
 fault_within files Arithmetic = refl
@@ -142,18 +142,18 @@ module _ (files : Program) (t : ℕ) (before : World) (first : Thread) (was : sl
         let status = ap (λ (th : Thread). th.status) (get_or_from_slice_get world.threads t thread no_thread at.there) ∙ runs in
         on_typed (with_thread world t new) new stack (own_at world thread new at refl (idle_running new status)) status (h, failing)
 
-    fault_typed : (fault : Fault) (world : World) (fits : Fits files world) → is_object_in files (types_of (world.heap ++ Instance (fault_class fault) [] ∷ [])) java_lang_throwable (length world.heap) ≡ true
+    fault_typed : (fault : MachineException) (world : World) (fits : Fits files world) → is_object_in files (types_of (world.heap ++ Instance (exception_class fault) [] ∷ [])) java_lang_throwable (length world.heap) ≡ true
     fault_typed fault world fits =
-        stack_above files rooted (types_of (world.heap ++ Instance (fault_class fault) [] ∷ [])) (OfType (ClassType (fault_class fault))) (OfType (ClassType java_lang_throwable)) (value.Reference (length world.heap)) (within_subclass files rooted 5 (fault_class fault) java_lang_throwable (fault_within files fault)) (added_below files world.heap fits.heap (Instance (fault_class fault) []))
+        stack_above files rooted (types_of (world.heap ++ Instance (exception_class fault) [] ∷ [])) (OfType (ClassType (exception_class fault))) (OfType (ClassType java_lang_throwable)) (value.Reference (length world.heap)) (within_subclass files rooted 5 (exception_class fault) java_lang_throwable (fault_within files fault)) (added_below files world.heap fits.heap (Instance (exception_class fault) []))
 
     -- the machine makes an exception
-    pub raised_typed : (fault : Fault) (world : World) (thread : Thread) (stack : StackOf Value) → At files t before world thread → thread.status ≡ Running → Failing files (types_of world.heap) stack → OnPart files t before (raised t fault world stack)
+    pub raised_typed : (fault : MachineException) (world : World) (thread : Thread) (stack : StackOf Value) → At files t before world thread → thread.status ≡ Running → Failing files (types_of world.heap) stack → OnPart files t before (raised t fault world stack)
     raised_typed fault world thread stack at runs failing =
-        let o = Instance (fault_class fault) [] in
+        let o = Instance (exception_class fault) [] in
         let x = allocated_keeps files world at.changes.fits o refl in
         pending_typed (allocated world o) thread (length world.heap) stack (at_same world (allocated world o) thread at x refl) runs (fault_typed fault world at.changes.fits) (failing_more files _ _ x.extends stack failing)
 
-    pub interrupted_typed : (world : World) (thread : Thread) (stack : StackOf Value) → At files t before world thread → thread.status ≡ Running → Failing files (types_of world.heap) stack → OnPart files t before (interrupted t world stack)
+    pub interrupted_typed : (world : World) (thread : Thread) (stack : StackOf Value) → At files t before world thread → thread.status ≡ Running → Failing files (types_of world.heap) stack → OnPart files t before (raised_by_interrupt t world stack)
     interrupted_typed world thread stack at runs failing =
         let new = record (thread_at world t) { interrupted = false } in
         let status = ap (λ (th : Thread). th.status) (get_or_from_slice_get world.threads t thread no_thread at.there) ∙ runs in

@@ -13,7 +13,7 @@ use Rattle.model.specs.State.{ObjectOf, type_of, types_of, ClassStatus, Monitor,
 use Rattle.model.specs.Outcomes.{Cost, Goes, Returns}
 use Rattle.model.specs.Frames.{at_offset}
 use Rattle.model.specs.Calls.{result_types}
-use Rattle.model.specs.Monitors.{Answered, unlocked, owns, monitor_at, monitor_enter, monitor_exit, monitor_relock, as_entrant, as_owner, relock_from, owned, released, done}
+use Rattle.model.specs.Monitors.{Answered, unlocked, owns, monitor_at, monitor_enter, monitor_exit, monitor_relock, as_entrant, as_owner, relock_from, owned, released, answers_done}
 use Rattle.model.specs.Worlds.{no_thread, thread_at, with_thread, with_begun, with_interrupted, allocated, with_object, with_static, with_entry, with_exit, with_monitors}
 use Rattle.model.specs.Monitors as monitors
 use Rattle.model.specs.BuiltInMethods.{with_printed}
@@ -86,7 +86,7 @@ changes_trans files t a b c thread there x y =
 
 -- ---- monitors that keep their waiters
 
-enter_waiters : (t : ℕ) (m : Monitor) (o : Option ℕ) (x y : Monitor) → x.waiters ≡ m.waiters → y.waiters ≡ m.waiters → (as_entrant t o m (done x) (done y)).after.waiters ≡ m.waiters
+enter_waiters : (t : ℕ) (m : Monitor) (o : Option ℕ) (x y : Monitor) → x.waiters ≡ m.waiters → y.waiters ≡ m.waiters → (as_entrant t o m (answers_done x) (answers_done y)).after.waiters ≡ m.waiters
 enter_waiters t m None x y p q = p
 enter_waiters t m (Some owner) x y p q = cond_both (owner == t) _ _ (λ (a : Answered Monitor). a.after.waiters ≡ m.waiters) (λ e. q) (λ e. refl)
 
@@ -96,7 +96,7 @@ owner_waiters t m x p = cond_both (owns t m.owner) _ _ (λ (a : Answered Monitor
 released_waiters : (m : Monitor) (count : ℕ) → (released m count).waiters ≡ m.waiters
 released_waiters m count = cond_both (count == 0) _ _ (λ (n : Monitor). n.waiters ≡ m.waiters) (λ e. refl) (λ e. refl)
 
-relock_waiters : (m : Monitor) (o : Option ℕ) (x : Monitor) → x.waiters ≡ m.waiters → (relock_from o m (done x)).after.waiters ≡ m.waiters
+relock_waiters : (m : Monitor) (o : Option ℕ) (x : Monitor) → x.waiters ≡ m.waiters → (relock_from o m (answers_done x)).after.waiters ≡ m.waiters
 relock_waiters m None x p = p
 relock_waiters m (Some owner) x p = refl
 

@@ -5,7 +5,7 @@ use Rattle.std.proofs.lemmas.Bool.{false≢true, and_parts, and_from}
 use Rattle.model.specs.Names.{Name}
 use Rattle.model.specs.Classes.{Program}
 use Rattle.model.specs.ReferenceTypes.{ReferenceType, ClassType, is_assignable}
-use Rattle.model.specs.Types.{VerificationType, Unusable, IntType, NullType, OfType, Uninitialised, UninitialisedThis, Want, AnyWord, AnInt, AnyReference, AReference, AReceiver, AnOwner, AnArray, AByteArray, is_usable, is_int, is_reference, is_of, is_receiver, is_owner, has_type_with, is_array_type, is_byte_array_type, type_meets}
+use Rattle.model.specs.Types.{VerificationType, Unusable, IntType, NullType, OfType, Uninitialised, UninitialisedThis, Want, AnyWord, AnInt, AnyReference, AReference, AReceiver, AnOwner, AnArray, AByteArray, is_usable, is_int, is_reference, is_of, is_receiver, is_instance_or_this, has_type_with, is_array_type, is_byte_array_type, type_meets}
 use Rattle.model.specs.Operands.{Slots, over_types, Wants, reads_meet, pops_meet, is_ready, operands, under}
 use Rattle.model.specs.Rows.{Out, Copy, Number, Null, Row, out, written, row_wants, after_row}
 use Rattle.model.specs.TypeOrder.{is_stack_below, is_local_below}
@@ -57,7 +57,7 @@ module _ (files : Program) (rooted : Rooted files) where
   receiver_down class s (Uninitialised at c) p q = subst (λ x. is_receiver files class x ≡ true) (sym (new_same at c s p)) q
   receiver_down class s (UninitialisedThis c) p q = subst (λ x. is_receiver files class x ≡ true) (sym (this_same c s p)) q
 
-  owner_of : (class : Name) (s : VerificationType) (r : ReferenceType) → is_of files r s ≡ true → is_assignable files r (ClassType class) ≡ true → is_owner files class s ≡ true
+  owner_of : (class : Name) (s : VerificationType) (r : ReferenceType) → is_of files r s ≡ true → is_assignable files r (ClassType class) ≡ true → is_instance_or_this files class s ≡ true
   owner_of class Unusable r p q = p
   owner_of class IntType r p q = p
   owner_of class NullType r p q = refl
@@ -65,13 +65,13 @@ module _ (files : Program) (rooted : Rooted files) where
   owner_of class (Uninitialised at c) r p q = p
   owner_of class (UninitialisedThis c) r p q = absurd (false≢true p)
 
-  owner_down : (class : Name) (s t : VerificationType) → is_stack_below files s t ≡ true → is_owner files class t ≡ true → is_owner files class s ≡ true
+  owner_down : (class : Name) (s t : VerificationType) → is_stack_below files s t ≡ true → is_instance_or_this files class t ≡ true → is_instance_or_this files class s ≡ true
   owner_down class s Unusable p q = absurd (false≢true q)
   owner_down class s IntType p q = absurd (false≢true q)
-  owner_down class s NullType p q = subst (λ x. is_owner files class x ≡ true) (sym (null_same s p)) refl
+  owner_down class s NullType p q = subst (λ x. is_instance_or_this files class x ≡ true) (sym (null_same s p)) refl
   owner_down class s (OfType r) p q = owner_of class s r p q
   owner_down class s (Uninitialised at c) p q = absurd (false≢true q)
-  owner_down class s (UninitialisedThis c) p q = subst (λ x. is_owner files class x ≡ true) (sym (this_same c s p)) q
+  owner_down class s (UninitialisedThis c) p q = subst (λ x. is_instance_or_this files class x ≡ true) (sym (this_same c s p)) q
 
   module _ (test : ReferenceType → Bool) (down : (u t : ReferenceType) → is_assignable files u t ≡ true → test t ≡ true → test u ≡ true) where
     with_of : (s : VerificationType) (r : ReferenceType) → is_of files r s ≡ true → test r ≡ true → has_type_with test s ≡ true

@@ -8,7 +8,7 @@ use Rattle.model.specs.Tree.{FieldTree, FileTree}
 use Rattle.model.specs.AccessFlags.{is_interface_class}
 use Rattle.model.specs.BuiltIn.{built_in_classes}
 use Rattle.model.specs.Classes.{Program, classes_of, class_of, superclass_of, is_within, is_subclass, interface_names, superinterfaces_of, is_interface}
-use Rattle.model.specs.Lookup.{is_field, field_in, field_of, in_class, where_so, first_found, field_declared, field_from, find_field, is_instance_field}
+use Rattle.model.specs.Lookup.{is_field, field_in, field_of, in_class, where_so, first_found, field_in_class, field_from, find_field, is_instance_field}
 use Rattle.model.specs.Hierarchy.{is_found_class}
 use Rattle.model.specs.Resolution.{is_missing}
 use Rattle.model.specs.Profile.{field_of_left_out_type, left_out_constant, instance_field_of_interface, field_outside_profile, is_outside_profile}
@@ -52,7 +52,7 @@ module _ (files : Program) where
       (none_any (field_outside_profile file) file.fields (or_parts _ _ h).0)
 
   -- Object has no field
-  object_declares_none : (m : Member) → field_declared files m java_lang_object ≡ None
+  object_declares_none : (m : Member) → field_in_class files m java_lang_object ≡ None
   unfolding built_in_classes
   object_declares_none m = refl
 
@@ -65,8 +65,8 @@ module _ (files : Program) where
   none_of_object (suc n) m found e =
       no_more
       (subst (λ o. option_or o (option_or (first_found (λ i. field_from files n m i) []) (option_and_then (λ s. field_from files n m s) None)) ≡ Some found) (object_declares_none m)
-      (subst (λ l. option_or (field_declared files m java_lang_object) (option_or (first_found (λ i. field_from files n m i) l) (option_and_then (λ s. field_from files n m s) None)) ≡ Some found) object_implements_none
-      (subst (λ o. option_or (field_declared files m java_lang_object) (option_or (first_found (λ i. field_from files n m i) (superinterfaces_of files java_lang_object)) (option_and_then (λ s. field_from files n m s) o)) ≡ Some found) (object_is_top files) e)))
+      (subst (λ l. option_or (field_in_class files m java_lang_object) (option_or (first_found (λ i. field_from files n m i) l) (option_and_then (λ s. field_from files n m s) None)) ≡ Some found) object_implements_none
+      (subst (λ o. option_or (field_in_class files m java_lang_object) (option_or (first_found (λ i. field_from files n m i) (superinterfaces_of files java_lang_object)) (option_and_then (λ s. field_from files n m s) o)) ≡ Some found) (object_is_top files) e)))
     where
       no_more : None ≡ Some found → ⊥
       no_more q = absurd cc
@@ -130,12 +130,12 @@ module _ (files : Program) where
 
     -- ---- where a field is found
 
-    declared_at : (m : Member) (c : Name) (found : Member) → field_declared files m c ≡ Some found → found ≡ in_class c m
+    declared_at : (m : Member) (c : Name) (found : Member) → field_in_class files m c ≡ Some found → found ≡ in_class c m
     declared_at m c found e = where_is (option_map_or (λ (f : FieldTree). true) (field_of files (in_class c m)) false) (in_class c m) found e
 
     -- the three places
     places : (n : ℕ) (m : Member) (c : Name) (found : Member) (Q : Type 0)
-        → (field_declared files m c ≡ Some found → Q)
+        → (field_in_class files m c ≡ Some found → Q)
         → (first_found (λ i. field_from files n m i) (superinterfaces_of files c) ≡ Some found → Q)
         → ((s : Name) → superclass_of files c ≡ Some s → field_from files n m s ≡ Some found → Q)
         → field_from files (suc n) m c ≡ Some found → Q
@@ -144,7 +144,7 @@ module _ (files : Program) where
         (λ other. ⊎_elim aside
         (λ super. let s = some_from (λ x. field_from files n m x) (superclass_of files c) found super in above s.0 s.1 s.2)
         (or_some (first_found (λ i. field_from files n m i) (superinterfaces_of files c)) (option_and_then (λ s. field_from files n m s) (superclass_of files c)) found other))
-        (or_some (field_declared files m c) (option_or (first_found (λ i. field_from files n m i) (superinterfaces_of files c)) (option_and_then (λ s. field_from files n m s) (superclass_of files c))) found e)
+        (or_some (field_in_class files m c) (option_or (first_found (λ i. field_from files n m i) (superinterfaces_of files c)) (option_and_then (λ s. field_from files n m s) (superclass_of files c))) found e)
 
     none_of_interface : (n : ℕ) (m found : Member) (i : Name) → is_interface files i ≡ true → IsOfInstances found → field_from files n m i ≡ Some found → ⊥
     none_of_interface zero m found i h instance e = absurd cc

@@ -17,7 +17,7 @@ use Rattle.model.specs.Pool.{class_name_at, field_at, method_at, interface_metho
 use Rattle.model.specs.Classes.{Program, Body, body_of, classes_of, is_within, is_subclass, is_interface, lineage, all_superinterfaces}
 use Rattle.model.specs.Instruction.{Sized, sized_at}
 use Rattle.model.specs.InstructionStarts.{is_start}
-use Rattle.model.specs.Lookup.{find_field, field_of, is_instance_field, method_of, in_class, first_found, method_declared, any_method, find_method, is_public_instance_method, find_interface_method}
+use Rattle.model.specs.Lookup.{find_field, field_of, is_instance_field, method_of, in_class, first_found, method_in_class, any_method, find_method, is_public_instance_method, find_interface_method}
 use Rattle.model.specs.ReferenceTypes.{Char, Short, Int, ReferenceType, ClassType, PrimitiveArray, ReferenceArray, is_assignable}
 use Rattle.model.specs.DescribedTypes.{parameters_declared, declared_want, type_named, made_type}
 use Rattle.model.specs.Types.{Want, AReference, AReceiver, AnOwner, AnArray, AByteArray, is_array_type, is_byte_array_type}
@@ -76,19 +76,19 @@ module _ (files : Program) where
 
   -- ---- what is found has the descriptor that is named
 
-  declared_same : (wanted : MethodTree → Bool) (m : Member) (class : Name) (found : Member) → method_declared files wanted m class ≡ Some found → found.descriptor ≡ m.descriptor
+  declared_same : (wanted : MethodTree → Bool) (m : Member) (class : Name) (found : Member) → method_in_class files wanted m class ≡ Some found → found.descriptor ≡ m.descriptor
   declared_same wanted m class found e = ap (λ (x : Member). x.descriptor) (where_is (option_map_or wanted (method_of files (in_class class m)) false) (in_class class m) found e)
 
-  first_same : (wanted : MethodTree → Bool) (m : Member) (names : List Name) (found : Member) → first_found (method_declared files wanted m) names ≡ Some found → found.descriptor ≡ m.descriptor
+  first_same : (wanted : MethodTree → Bool) (m : Member) (names : List Name) (found : Member) → first_found (method_in_class files wanted m) names ≡ Some found → found.descriptor ≡ m.descriptor
   first_same wanted m [] found e = absurd cc
   first_same wanted m (x ∷ xs) found e =
       ⊎_elim (λ here. declared_same wanted m x found here) (λ later. first_same wanted m xs found later)
-      (or_some (method_declared files wanted m x) (first_found (method_declared files wanted m) xs) found e)
+      (or_some (method_in_class files wanted m x) (first_found (method_in_class files wanted m) xs) found e)
 
   method_same : (named found : Member) → find_method files named ≡ Some found → found.descriptor ≡ named.descriptor
   method_same named found e =
       ⊎_elim (λ above. first_same any_method named (lineage files named.class) found above) (λ aside. first_same any_method named (all_superinterfaces files named.class) found aside)
-      (or_some (first_found (method_declared files any_method named) (lineage files named.class)) _ found e)
+      (or_some (first_found (method_in_class files any_method named) (lineage files named.class)) _ found e)
 
   interface_method_same : (named found : Member) → find_interface_method files named ≡ Some found → found.descriptor ≡ named.descriptor
   interface_method_same named found e =
@@ -96,8 +96,8 @@ module _ (files : Program) where
       (λ other. ⊎_elim
       (λ object. declared_same is_public_instance_method named java_lang_object found object)
       (λ above. first_same any_method named (all_superinterfaces files named.class) found above)
-      (or_some (method_declared files is_public_instance_method named java_lang_object) _ found other))
-      (or_some (method_declared files any_method named named.class) _ found e)
+      (or_some (method_in_class files is_public_instance_method named java_lang_object) _ found other))
+      (or_some (method_in_class files any_method named named.class) _ found e)
 
   -- ---- from wants to objects
 

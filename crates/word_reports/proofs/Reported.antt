@@ -17,7 +17,7 @@ use Rattle.model.specs.State as state
 use Rattle.model.specs.State.{ObjectOf, Instance, Primitives, References, types_of, Frame, Invocation, Initialisation, StackOf, Thread, ThreadStatus, World, State, StateOf}
 use Rattle.model.specs.Worlds.{no_thread, thread_at, is_owner, with_exit}
 use Rattle.model.specs.Sites.{Site, site_at}
-use Rattle.model.specs.Step.{SteppedOf, NotEnabled, WrongKind, Next, PartOf, on_to, raised, settled, leaving, handler_in, unwound, going_event, thread_event, put_back, event_of, stepped, is_enabled_by, is_enabled}
+use Rattle.model.specs.Step.{SteppedOf, NotEnabled, WrongKind, Next, PartOf, on_to, raised, settled, leaving, handler_in, unwound, going_event, thread_event, with_part, event_of, stepped, is_enabled_by, is_enabled}
 use Rattle.model.specs.Outcomes.{IllegalMonitorState}
 use Rattle.model.specs.Report.{ThreadEnd, Threw, Blocked, Runnable, report_text}
 use Rattle.model.specs.Run.{run, may_step, is_quiet}
@@ -77,7 +77,7 @@ values_reported files frames s =
 
 -- ---- an exception over a frame
 
-back_enabled : (s : State) (t : ℕ) (x : SteppedOf (PartOf Value)) → is_enabled_by (put_back s t x) ≡ is_enabled_by x
+back_enabled : (s : State) (t : ℕ) (x : SteppedOf (PartOf Value)) → is_enabled_by (with_part s t x) ≡ is_enabled_by x
 back_enabled s t NotEnabled = refl
 back_enabled s t WrongKind = refl
 back_enabled s t (Next cost p) = refl

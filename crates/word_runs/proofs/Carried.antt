@@ -22,7 +22,7 @@ use Rattle.model.specs.ClassInitialisation.{with_class_status}
 use Rattle.model.specs.Frames.{frame_with, entered_by}
 use Rattle.model.specs.Sites.{MeaningOf, Site, site_at}
 use Rattle.model.specs.Meanings.{meaning_of}
-use Rattle.model.specs.Step.{SteppedOf, NotEnabled, WrongKind, Next, PartOf, part, enabled_if, unpicked, is_over, ended, with_end, end_of, settled, needing_class, pushed, become, ops_of, done, bytecode_by, bytecode_in, before, initialiser_event, initialisation_event, initial_class, main_frame, run_frame, run_of, begin_event, handler_in, pending_event, after_wait, relock_event, running_event, going_event, thread_event, put_back, event_of}
+use Rattle.model.specs.Step.{SteppedOf, NotEnabled, WrongKind, Next, PartOf, part, enabled_if, unpicked, is_over, ended, with_end, end_of, settled, needing_class, pushed, become, ops_of, done, bytecode_by, bytecode_in, before, initialiser_event, initialisation_event, initial_class, main_frame, run_frame, run_of, begin_event, handler_in, pending_event, after_wait, relock_event, running_event, going_event, thread_event, with_part, event_of}
 use Rattle.model.specs.WrongKind.{finds_operands, finds_in}
 use Rattle.model.specs.WellTyped.{IsRunning, IsStackTyped}
 use Rattle.model.specs.Words.{map_frame, map_slots, words_of}
@@ -191,7 +191,7 @@ settled_words t NotEnabled = refl
 settled_words t WrongKind = refl
 settled_words t (Next cost p) = ap (λ w. Next cost (part w (stack_words p.stack))) (end_words t p.world p.stack)
 
-back_words : (state : State) (t : ℕ) (y : SteppedOf (PartOf Value)) → put_back (words_of state) t (map_stepped (map_part word_of) y) ≡ map_stepped words_of (put_back state t y)
+back_words : (state : State) (t : ℕ) (y : SteppedOf (PartOf Value)) → with_part (words_of state) t (map_stepped (map_part word_of) y) ≡ map_stepped words_of (with_part state t y)
 back_words state t NotEnabled = refl
 back_words state t WrongKind = refl
 back_words state t (Next cost p) =
@@ -213,5 +213,5 @@ carried files rooted frames state event h =
         let thread = thread_at state.world event.thread in
         let typed = thread_of_stack files (types_of state.world.heap) state.world.threads state.stacks event.thread stack h.threads e in
         let y = thread_event values files frames event state.world stack thread.status in
-        ap (λ x. put_back (words_of state) event.thread (settled event.thread x)) (thread_words files rooted frames event state.world stack thread thread.status refl typed.stack_typed)
-        ∙ (ap (put_back (words_of state) event.thread) (settled_words event.thread y) ∙ back_words state event.thread (settled event.thread y))
+        ap (λ x. with_part (words_of state) event.thread (settled event.thread x)) (thread_words files rooted frames event state.world stack thread thread.status refl typed.stack_typed)
+        ∙ (ap (with_part (words_of state) event.thread) (settled_words event.thread y) ∙ back_words state event.thread (settled event.thread y))

@@ -16,7 +16,7 @@ use Rattle.model.specs.Classes.{Program, Body, body_of}
 use Rattle.model.specs.ReferenceTypes.{ReferenceType, ClassType, is_subtype}
 use Rattle.model.specs.DescribedTypes.{declared_want, parameters_declared}
 use Rattle.model.specs.Types.{VerificationType, Want, value_meets}
-use Rattle.model.specs.Lookup.{method_of, where_so, in_class, first_found, method_declared, select}
+use Rattle.model.specs.Lookup.{method_of, where_so, in_class, first_found, method_in_class, select}
 use Rattle.model.specs.Operands.{Slots, words, values, word_of}
 use Rattle.model.specs.State.{types_of, type_of, World, WorldOf}
 use Rattle.model.specs.Outcomes.{Calls, Returns}
@@ -146,10 +146,10 @@ module _ (files : Program) where
   found_or n None p f g = g
   found_or n (Some m) p f g = f
 
-  found_first : (wanted : MethodTree → Bool) (m : Member) (classes : List Name) → Found (parameter_count m) (first_found (method_declared files wanted m) classes)
+  found_first : (wanted : MethodTree → Bool) (m : Member) (classes : List Name) → Found (parameter_count m) (first_found (method_in_class files wanted m) classes)
   found_first wanted m [] = tt
   found_first wanted m (c ∷ cs) =
-      found_or (parameter_count m) (method_declared files wanted m c) (first_found (method_declared files wanted m) cs) (found_where (option_map_or wanted (method_of files (in_class c m)) false) (in_class c m)) (found_first wanted m cs)
+      found_or (parameter_count m) (method_in_class files wanted m c) (first_found (method_in_class files wanted m) cs) (found_where (option_map_or wanted (method_of files (in_class c m)) false) (in_class c m)) (found_first wanted m cs)
 
   counts_if : (n : ℕ) (b : Bool) (x y : Chosen) → Counts n x → Counts n y → Counts n (if b then x else y)
   counts_if n true x y f g = f

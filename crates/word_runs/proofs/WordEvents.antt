@@ -7,11 +7,11 @@ use Rattle.model.specs.Names.{Name, Member}
 use Rattle.model.specs.Classes.{Program, Body}
 use Rattle.model.specs.Operands.{words, values, word_of}
 use Rattle.model.specs.State.{Instance, Frame, Invocation, Initialisation, StackOf, Super, World, WakeCause, Notified, Interrupted}
-use Rattle.model.specs.Outcomes.{Fault, fault_class, NoClassDefFound, StackOverflow, IllegalMonitorState, ExceptionInInitializer, InterruptedWait, Makes, OutcomeOf, Goes, Raises, Throws, Interrupts, Calls, Returns, Waits}
+use Rattle.model.specs.Outcomes.{MachineException, exception_class, NoClassDefFound, StackOverflow, IllegalMonitorState, ExceptionInInitializer, InterruptedWait, Makes, OutcomeOf, Goes, Raises, Throws, Interrupts, Calls, Returns, Waits}
 use Rattle.model.specs.Worlds.{with_pending, with_interrupted, may_enter, entry_cost, with_entry, is_owner, with_exit}
 use Rattle.model.specs.ClassInitialisation.{Look, IsReady, IsNew, IsHeld, HasFailed, look_by, status_of}
 use Rattle.model.specs.Frames.{frame_with, frame_count, at_call}
-use Rattle.model.specs.Step.{SteppedOf, Next, PartOf, part, on_to, enabled_if, raised, interrupted, needing, needing_class, entering, pushed, leaving, next_of, returned, become, initialiser_event, unwound, failed, after_wait}
+use Rattle.model.specs.Step.{SteppedOf, Next, PartOf, part, on_to, enabled_if, raised, raised_by_interrupt, needing, needing_class, entering, pushed, leaving, next_of, returned, become, initialiser_event, unwound, failed, after_wait}
 use Rattle.model.specs.Words.{map_frame, map_stack}
 use Rattle.word_runs.specs.Words.{map_outcome, map_part, map_stepped}
 use Rattle.word_runs.proofs.WordWorlds.{world_words, object_words, allocated_words, begun_words}
@@ -34,13 +34,13 @@ either_words false x u y v e f = f
 
 -- ---- exceptions
 
-pub raised_words : (t : ℕ) (fault : Fault) (world : World) (stack : StackOf Value) → Carries (raised t fault (world_words world) (stack_words stack)) (raised t fault world stack)
+pub raised_words : (t : ℕ) (fault : MachineException) (world : World) (stack : StackOf Value) → Carries (raised t fault (world_words world) (stack_words stack)) (raised t fault world stack)
 raised_words t fault world stack =
-    let e = allocated_words world (Instance (fault_class fault) []) in
+    let e = allocated_words world (Instance (exception_class fault) []) in
     let n = length-map world.heap object_words in
     λ i. Next (Makes 0) (part (with_pending (e i) t (n i)) (stack_words stack))
 
-pub interrupted_words : (t : ℕ) (world : World) (stack : StackOf Value) → Carries (interrupted t (world_words world) (stack_words stack)) (interrupted t world stack)
+pub interrupted_words : (t : ℕ) (world : World) (stack : StackOf Value) → Carries (raised_by_interrupt t (world_words world) (stack_words stack)) (raised_by_interrupt t world stack)
 interrupted_words t world stack = raised_words t InterruptedWait (with_interrupted world t false) stack
 
 pub failed_words : (t : ℕ) (b : Bool) (world : World) (stack : StackOf Value) → Carries (failed t b (world_words world) (stack_words stack)) (failed t b world stack)

@@ -3,7 +3,7 @@ use Rattle.std.specs.Option.{option_or}
 use Rattle.constant_pool.specs.View.{reference_of}
 use Rattle.model.specs.Names.{Name, Member}
 use Rattle.model.specs.Classes.{Program, classes_of}
-use Rattle.model.specs.Lookup.{field_declared, first_found, find_field}
+use Rattle.model.specs.Lookup.{field_in_class, first_found, find_field}
 use Rattle.hierarchy.specs.declared.rows.Above.TheVariants as above
 use Rattle.hierarchy.specs.Above.{names_above, directly_above, row_of, rows_of}
 use Rattle.hierarchy.proofs.RowLaws.{row_is}
@@ -11,13 +11,13 @@ use Rattle.hierarchy.proofs.Walks.{found_once, find_field_is}
 use Rattle.hierarchy.proofs.fields.field_among_supertypes.Goals as goal
 
 -- where the class declares none, the field is one of what is above it
-above_alone : (files : Program) (m : Member) (rows : List (List Name)) (row : List Name) → None ≡ field_declared files m m.class → rows ≡ rows_of files above.Supertypes (length (classes_of files) - 1) → row ≡ row_of files rows m.class
-    → first_found (field_declared files m) row ≡ find_field files m
+above_alone : (files : Program) (m : Member) (rows : List (List Name)) (row : List Name) → None ≡ field_in_class files m m.class → rows ≡ rows_of files above.Supertypes (length (classes_of files) - 1) → row ≡ row_of files rows m.class
+    → first_found (field_in_class files m) row ≡ find_field files m
 above_alone files m rows row none are is =
     let n = length (classes_of files) - 1 in
     let names = names_above (directly_above files above.Supertypes) n m.class in
-    ap (first_found (field_declared files m)) (is ∙ ap (λ r. row_of files r m.class) are ∙ row_is files above.Supertypes n m.class)
-    ∙ found_once (field_declared files m) names ∙ ap (λ o. option_or o (first_found (field_declared files m) names)) none ∙ sym (find_field_is files m)
+    ap (first_found (field_in_class files m)) (is ∙ ap (λ r. row_of files r m.class) are ∙ row_is files above.Supertypes n m.class)
+    ∙ found_once (field_in_class files m) names ∙ ap (λ o. option_or o (first_found (field_in_class files m) names)) none ∙ sym (find_field_is files m)
 
 pub returns-in-Some-row_of-clause-found : goal.returns-in-Some-row_of-clause-found
 returns-in-Some-row_of-clause-found c =
