@@ -9,6 +9,7 @@ pub mod Found
 pub mod RootedOf
 pub mod Homes
 pub mod LinkedMethods
+pub mod Decoding
 pub mod Unrefused
 pub mod LinkedMain
 pub mod LinkedCode

@@ -19,7 +19,8 @@ use Rattle.model.specs.DescriptorParts.{classes_named}
 use Rattle.model.specs.OpcodeTable.{low_form, high_form}
 use Rattle.model.specs.DescriptorScan.{element_at, field_at, field_type, parameters_at, method_type}
 use Rattle.model.specs.InstructionStarts.{starts_from, is_start}
-use Rattle.model.specs.CodeParts.{marked_from, any_code, any_instruction, any_instruction_in, class_operand, field_operand, method_operand}
+use Rattle.model.specs.Profile.{unknown_opcode}
+use Rattle.model.specs.CodeParts.{marked_from, decodes, any_code, any_instruction, any_instruction_in, class_operand, field_operand, method_operand}
 use Rattle.model.specs.CodeConditions.{jump_off_boundary, unsorted_matches, local_above_max, operand_of_wrong_kind, wrong_interface_count, wrong_interface_end, constructor_not_by_special, calls_initialiser, is_class_aside, special_of_class_aside, new_of_array, too_many_dimensions, malformed_instruction, malformed_code, has_malformed_code}
 use Rattle.model.specs.Resolution.{is_missing, differs, member_classes, operand_classes, superclass_missing, interface_missing, operand_class_missing, new_of_abstract, field_missing, field_of_other_kind, puts_system_out, names_thread_target, method_missing, method_of_other_kind, call_on_other_kind, unresolved_instruction, is_unresolved}
 use Rattle.laws.proofs.Lists.{every_weaken}
@@ -27,6 +28,7 @@ use Rattle.laws.proofs.Found.{found_has, none_any, every_all, map_or_at}
 use Rattle.laws.proofs.Homes.{Coded, class_has, coded_of}
 use Rattle.laws.proofs.Linked.{IsCallable}
 use Rattle.laws.proofs.Unrefused.{Unrefused}
+use Rattle.laws.proofs.Decoding.{not_false, of_decoded, undecoded, all_decode, IsWellFormed}
 
 -- ---- a condition that stands at no boundary
 
@@ -64,9 +66,14 @@ pub record Resolved (files : Program) (file : FileTree) : Type 0 where
   pub resolves : (i : Instr) → test i ≡ false → misnames files file i ≡ false
 
 module _ (files : Program) where
-  built_in_code : list_all (λ file. not (has_malformed_code files file)) built_in_classes ≡ true
+  built_in_code : list_all (λ file. not (any_code unknown_opcode file || has_malformed_code files file)) built_in_classes ≡ true
   unfolding built_in_classes low_form high_form wide_at table_switch_at lookup_switch_at starts_from element_at field_at field_type parameters_at method_type
   built_in_code = refl
+
+  formed_built_in : (file : FileTree) → not (any_code unknown_opcode file || has_malformed_code files file) ≡ true → IsWellFormed files file
+  formed_built_in file h =
+      let a = or_parts (any_code unknown_opcode file) _ (not-true _ h) in
+      record { none = a.1; decoded = all_decode files file a.0 a.1 }
 
   built_in_named : list_all (λ file. not (superclass_missing files file || (interface_missing files file || any_instruction_in (misnames files file) file))) built_in_classes ≡ true
   unfolding built_in_classes low_form high_form wide_at table_switch_at lookup_switch_at starts_from element_at field_at field_type parameters_at method_type
@@ -111,21 +118,23 @@ module _ (files : Program) where
         (every_weaken _ _ files (λ f h. resolved_file f h) ok.resolved)
         c file e
 
-    whole_code : (c : Name) (file : FileTree) → class_of files c ≡ Some file → has_malformed_code files file ≡ false
+    whole_code : (c : Name) (file : FileTree) → class_of files c ≡ Some file → IsWellFormed files file
     whole_code c file e =
-        class_has files (λ f. has_malformed_code files f ≡ false)
-        (every_weaken _ _ built_in_classes (λ f h. not-true (has_malformed_code files f) h) (every_all _ built_in_classes built_in_code))
+        class_has files (λ f. IsWellFormed files f)
+        (every_weaken _ _ built_in_classes (λ f h. formed_built_in f h) (every_all _ built_in_classes built_in_code))
         ok.code c file e
 
     -- ---- at an instruction of a method with code
 
     module _ (method : Member) (body : Body) (c : Coded files method body) (offset : ℕ) (i : Instr) (start : is_start c.code.code offset ≡ true) (is : instr_at c.code.code offset ≡ Some i) where
-      well_formed : malformed_instruction files c.home.file c.code offset i ≡ false
+      pub well_formed : malformed_instruction files c.home.file c.code offset i ≡ false
       well_formed =
-          let a = or_parts _ _ (no_code files method body (malformed_code files c.home.file) c (whole_code method.class c.home.file c.home.is_class)) in
+          let whole = whole_code method.class c.home.file c.home.is_class in
+          let decoded : decodes c.code.code ≡ true = not_false _ (no_code files method body undecoded c whole.decoded) in
+          let a = or_parts _ _ (no_code files method body (malformed_code files c.home.file) c whole.none) in
           let b = or_parts _ _ a.1 in
           let d = or_parts _ _ b.1 in
-          no_instruction (malformed_instruction files c.home.file c.code) c.code offset i d.0 start is
+          no_instruction (malformed_instruction files c.home.file c.code) c.code offset i (of_decoded (malformed_instruction files c.home.file c.code) c.code decoded d.0) start is
 
       well_named : misnames files c.home.file i ≡ false
       well_named =

@@ -5,16 +5,16 @@ use Rattle.std.proofs.lemmas.Bool.{or_parts}
 use Rattle.model.specs.Spells.{IsWhole}
 use Rattle.model.specs.Classes.{Program}
 use Rattle.model.specs.Profile.{is_outside_profile}
-use Rattle.model.specs.CodeConditions.{has_malformed_code}
 use Rattle.model.specs.Hierarchy.{has_bad_hierarchy}
 use Rattle.model.specs.Resolution.{is_unresolved}
 use Rattle.model.specs.Linkable.{too_many_files, too_many_strings, no_file, no_static_main, AreSpelled, stands, some_stands, TooLarge, DuplicateClass, OutsideProfile, MalformedCode, BadHierarchy, Unresolved, TooManyFields, NoMain}
 use Rattle.laws.proofs.Found.{none_any}
+use Rattle.laws.proofs.Decoding.{IsWellFormed, well_formed_all}
 
 pub record Unrefused (files : Program) : Type 0 where
   pub whole : AllByRecursion IsWhole files
   pub profile : AllByRecursion (λ file. is_outside_profile file ≡ false) files
-  pub code : AllByRecursion (λ file. has_malformed_code files file ≡ false) files
+  pub code : AllByRecursion (IsWellFormed files) files
   pub hierarchy : AllByRecursion (λ file. has_bad_hierarchy files file ≡ false) files
   pub resolved : AllByRecursion (λ file. is_unresolved files file ≡ false) files
   pub some_file : no_file files ≡ false
@@ -42,7 +42,7 @@ unrefused_of bytes files spelled h =
     record {
       whole = whole_files bytes files spelled;
       profile = none_any is_outside_profile files profile.0;
-      code = none_any (has_malformed_code files) files code.0;
+      code = well_formed_all files files profile.0 code.0;
       hierarchy = none_any (has_bad_hierarchy files) files above.0;
       resolved = none_any (is_unresolved files) files names.0;
       some_file = no_main.0;
