@@ -16,14 +16,14 @@ use Rattle.model.specs.Classes.{Program, class_of, is_method, declared_in, code_
 use Rattle.model.specs.Instruction.{instr_at, wide_at, table_switch_at, lookup_switch_at}
 use Rattle.model.specs.InstructionStarts.{starts_from, is_start}
 use Rattle.model.specs.OpcodeTable.{low_form, high_form}
-use Rattle.model.specs.CodeParts.{any_code, any_instruction, class_operand}
-use Rattle.model.specs.CodeConditions.{jump_off_boundary, unsorted_matches, local_above_max, operand_of_wrong_kind, wrong_interface_count, wrong_interface_end, constructor_not_by_special, calls_initialiser, special_of_class_aside, new_of_array, too_many_dimensions, too_few_locals, malformed_offset, malformed_instruction, malformed_code, has_malformed_code}
-use Rattle.model.specs.CodeParts.{boundaries}
+use Rattle.model.specs.CodeParts.{decodes, any_code, any_instruction, any_decoded, class_operand}
+use Rattle.model.specs.CodeConditions.{jump_off_boundary, unsorted_matches, local_above_max, operand_of_wrong_kind, wrong_interface_count, wrong_interface_end, constructor_not_by_special, calls_initialiser, special_of_class_aside, new_of_array, too_many_dimensions, too_few_locals, ends_in_instruction, malformed_instruction, malformed_code}
 use Rattle.model.specs.Resolution.{is_missing, operand_classes}
 use Rattle.laws.proofs.Lists.{every_weaken}
 use Rattle.laws.proofs.Found.{found_has, none_any, every_all, map_or_at}
 use Rattle.laws.proofs.Homes.{class_has, spelled}
 use Rattle.laws.proofs.Unrefused.{Unrefused}
+use Rattle.laws.proofs.Decoding.{not_false, of_decoded, undecoded, IsWellFormed}
 use Rattle.laws.proofs.LinkedCode.{resolved, no_instruction}
 use Rattle.laws.proofs.LinkedClasses.{entry_right}
 use Rattle.classfile.specs.View as view
@@ -101,12 +101,13 @@ module _ (files : Program) where
   few_built_in file h name descriptor m c pc i d q start is =
       no_instruction (λ pc i. too_many_dimensions file.pool i) c pc i (in_method (λ m c. any_instruction (λ pc i. too_many_dimensions file.pool i) c) file name descriptor m c h d q) start is
 
-  few_file : (file : FileTree) → has_malformed_code files file ≡ false → FewDimensions file
+  few_file : (file : FileTree) → IsWellFormed files file → FewDimensions file
   few_file file h name descriptor m c pc i d q start is =
-      let a = or_parts (too_few_locals file m c) _ (in_method (malformed_code files file) file name descriptor m c h d q) in
-      let b = or_parts (list_any (malformed_offset c) (boundaries c.code)) _ a.1 in
-      let e = or_parts (any_instruction (malformed_instruction files file c) c) _ b.1 in
-      last (no_instruction (malformed_instruction files file c) c pc i e.0 start is)
+      let a = or_parts (too_few_locals file m c) _ (in_method (malformed_code files file) file name descriptor m c h.none d q) in
+      let b = or_parts (ends_in_instruction c) _ a.1 in
+      let e = or_parts (any_decoded (malformed_instruction files file c) c) _ b.1 in
+      let decoded : decodes c.code ≡ true = not_false _ (in_method undecoded file name descriptor m c h.decoded d q) in
+      last (no_instruction (malformed_instruction files file c) c pc i (of_decoded (malformed_instruction files file c) c decoded e.0) start is)
     where
       last : malformed_instruction files file c pc i ≡ false → too_many_dimensions file.pool i ≡ false
       last h =

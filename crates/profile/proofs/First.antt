@@ -1,18 +1,18 @@
 -- The first fault.
-use Rattle.std.proofs.Common.{◌≡◌, ℕ, ◌<◌, List, length, take, Option, Some, None, Bool, true, false, not, ◌&&◌, ◌||◌, refl, sym, ap, subst, ◌∙◌, ⊎_elim}
-use Rattle.std.specs.Prelude.{Result, Ok, Err, IfOk, nat_lt, ◌==◌, is_some, option_map}
+use Rattle.std.proofs.Common.{◌≡◌, ℕ, zero, suc, ◌+◌, ◌<◌, List, [], ◌∷◌, length, take, find, Option, Some, None, Bool, true, false, not, ◌&&◌, ◌||◌, refl, sym, ap, subst, ◌∙◌, ⊎_elim, arith}
+use Rattle.std.specs.Prelude.{Result, Ok, Err, IfOk, nat_lt, ◌==◌, is_some, option_map, slice_index_or}
 use Rattle.std.specs.List.{list_any, slice_get}
 use Rattle.std.specs.Option.{option_map_or}
-use Rattle.std.proofs.lemmas.Bool.{ltb-true, eqb-true, or_from, or_left, or_right, and_parts, or_parts, or_cases}
+use Rattle.std.proofs.lemmas.Bool.{ltb-true, eqb-true, eq-eqb, ne_eqb, or_from, or_left, or_right, and_parts, or_parts, or_cases}
 use Rattle.model.specs.declared.class_file.ExceptionEntry.{ExceptionEntry}
 use Rattle.model.specs.declared.instr.Instr.{Instr}
 use Rattle.model.specs.Tree.{Entry, FieldTree, MethodTree, CodeTree, FileTree}
 use Rattle.model.specs.Instruction.{Sized, sized_at, instr_at}
 use Rattle.model.specs.InstructionStarts.{starts, is_start}
 use Rattle.model.specs.Classes.{code_in}
-use Rattle.model.specs.CodeParts.{boundaries}
+use Rattle.model.specs.CodeParts.{marked_from, boundaries, begins_none, end_of_decoding, decodes, any_instruction}
 use Rattle.model.specs.Profile.{is_known_opcode, field_outside_profile, method_outside_profile, instruction_outside_profile}
-use Rattle.model.specs.CodeConditions.{too_few_locals, malformed_offset, malformed_exception}
+use Rattle.model.specs.CodeConditions.{too_few_locals, malformed_offset, malformed_exception, malformed_exceptions}
 use Rattle.profile.specs.declared.fault.Flaw.{Flaw}
 use Rattle.profile.specs.declared.fault.Flaw.TheVariants.{OutsideProfile, MalformedCode}
 use Rattle.profile.specs.declared.fault.ExceptionField.{ExceptionField}
@@ -22,9 +22,8 @@ use Rattle.profile.specs.declared.fault.Spot.TheVariants.{Declaration, MaxLocals
 use Rattle.profile.specs.declared.fault.Place.{Place}
 use Rattle.profile.specs.declared.fault.Place.TheVariants as places
 use Rattle.profile.specs.declared.fault.MethodFault.{MethodFault}
-use Rattle.profile.specs.Faults.{malformed_instruction_by, malformed_code_by, instruction_outside_at, instruction_malformed_at, malformed_method_by, code_outside_profile, whole_method_outside_profile, outside_at, malformed_at, exception_stands, is_first_field, code_stands, declaration_stands, method_stands, field_stands, place_stands, field_before, spot_before, place_before, IsFirstBy, IsFirstInMethod, FindsInMethod, IsFirstInCode, FindsInCode, Says, NothingAt, FindsAmong, FindsEntry}
+use Rattle.profile.specs.Faults.{malformed_instruction_by, malformed_code_by, instruction_outside_at, instruction_malformed_at, malformed_method_by, code_outside_profile, whole_method_outside_profile, ends_at, outside_at, malformed_at, exception_stands, is_first_field, code_stands, declaration_stands, method_stands, field_stands, place_stands, field_before, spot_before, place_before, IsFirstBy, IsFirstInMethod, FindsInMethod, IsFirstInCode, FindsInCode, Says, NothingAt, FindsAmong, FindsBoundary, FindsEntry}
 use Rattle.profile.proofs.Walks.{some_exception, method_is_outside, method_is_malformed}
-use Rattle.profile.proofs.Sized.{known_there, formed_there}
 use Rattle.constant_pool.proofs.Passing.{none_at, none_before}
 use Rattle.opcodes.proofs.Marked.{none_of_marks}
 
@@ -48,22 +47,34 @@ pub no_instr : (o : Option Sized) → option_map (λ (s : Sized). s.0) o ≡ Non
 no_instr None h = refl
 no_instr (Some s) h = absurd cc
 
-some_instr : (o : Option Sized) (i : Instr) → option_map (λ (s : Sized). s.0) o ≡ Some i → is_some o ≡ true
-some_instr None i h = absurd cc
-some_instr (Some s) i h = refl
-
--- where a whole instruction is, only the instruction counts
-pub of_instr : (aside : ℕ → Bool) (pool : List Entry) (c : CodeTree) (pc : ℕ) (i : Instr) → pc < length c.code → instr_at c.code pc ≡ Some i → (a b : Bool) → instruction_outside_profile pool i ≡ a → malformed_instruction_by aside pool c pc i ≡ b
-    → (outside_at pool c pc ≡ a) × (malformed_at aside pool c pc ≡ b)
-of_instr aside pool c pc i here is a b outside malformed =
-    let whole : is_some (sized_at c.code pc) ≡ true = some_instr (sized_at c.code pc) i is in (
-      ap (λ (x : Bool). x || instruction_outside_at pool c pc) (known_there c.code pc here whole) ∙ ap (λ (o : Option Instr). option_map_or (instruction_outside_profile pool) o false) is ∙ outside,
-      ap (λ (x : Bool). x || instruction_malformed_at aside pool c pc) (formed_there c.code pc here whole) ∙ ap (λ (o : Option Instr). option_map_or (malformed_instruction_by aside pool c pc) o false) is ∙ malformed,
-    )
-
 -- what is so of each start is so of each boundary
 none_of_boundaries : (p : ℕ → Bool) (code : List ℕ) → ((k : ℕ) → is_start code k ≡ true → p k ≡ false) → list_any p (boundaries code) ≡ false
 none_of_boundaries p code h = none_of_marks p code (starts code) refl (λ k below m. h k m)
+
+-- the first mark that passes a test
+none_found : (p : ℕ → Bool) (xs : List ℕ) → list_any p xs ≡ false → find p xs ≡ None
+none_found p [] h = refl
+none_found p (x ∷ xs) h = let parts = or_parts (p x) _ h in rw parts.0 (none_found p xs parts.1)
+
+first_marked : (p : ℕ → Bool) (n k place : ℕ) (marks : List Bool) → place ≡ n + k → slice_index_or marks k false ≡ true → p place ≡ true
+    → ((j other : ℕ) → other ≡ n + j → j < k → slice_index_or marks j false ≡ true → p other ≡ false) → find p (marked_from n marks) ≡ Some place
+first_marked p n k place [] e m h before = absurd cc
+first_marked p n zero place (true ∷ marks) e m h before =
+    let same : place ≡ n = omega (arith, e) in
+    let here : p n ≡ true = subst (λ (q : ℕ). p q ≡ true) same h in
+    rw here (ap (λ (q : ℕ). Some q) (sym same))
+first_marked p n zero place (false ∷ marks) e m h before = absurd cc
+first_marked p n (suc k) place (true ∷ marks) e m h before =
+    let not_here : p n ≡ false = before 0 n (omega arith) (omega arith) refl in
+    rw not_here (first_marked p (suc n) k place marks (omega (arith, e)) m h (λ j other q l i. before (suc j) other (omega (arith, q)) (omega (arith, l)) i))
+first_marked p n (suc k) place (false ∷ marks) e m h before =
+    first_marked p (suc n) k place marks (omega (arith, e)) m h (λ j other q l i. before (suc j) other (omega (arith, q)) (omega (arith, l)) i)
+
+pub boundary_found : (p : ℕ → Bool) (code : List ℕ) (o : Option ℕ) → FindsBoundary code p o → find p (boundaries code) ≡ o
+boundary_found p code None h = none_found p (boundaries code) (none_of_boundaries p code h)
+boundary_found p code (Some pc) h =
+    first_marked p 0 pc pc (starts code) (omega arith) h.0 h.1.0
+    (λ j other q l m. let same : j ≡ other = omega (arith, q) in subst (λ (k : ℕ). p k ≡ false) same (h.1.1 j l m))
 
 -- ---- exception entries
 
@@ -102,17 +113,29 @@ module _ (aside : ℕ → Bool) (file : FileTree) (m : MethodTree) where
   no_locals c OutsideProfile h = refl
   no_locals c MalformedCode h = h
 
-  no_instruction : (c : CodeTree) (pc : ℕ) (flaw : Flaw) → NothingAt c.code (outside_at file.pool c) (malformed_at aside file.pool c) pc → code_stands aside file m flaw (Instruction pc) c ≡ false
-  no_instruction c pc OutsideProfile h = guarded (is_start c.code pc) _ (λ s. (h s).0)
-  no_instruction c pc MalformedCode h = guarded (is_start c.code pc) _ (λ s. (h s).1)
+  -- in a code that decodes only instructions count
+  no_instruction : (c : CodeTree) (pc : ℕ) (flaw : Flaw) → end_of_decoding c.code ≡ None → NothingAt c.code (instruction_outside_at file.pool c) (instruction_malformed_at aside file.pool c) pc → code_stands aside file m flaw (Instruction pc) c ≡ false
+  no_instruction c pc OutsideProfile e h = guarded (is_start c.code pc) _ (λ s. rw e (h s).0)
+  no_instruction c pc MalformedCode e h = guarded (is_start c.code pc) _ (λ s. rw e (h s).1)
+
+  -- before the end of decoding nothing counts
+  none_earlier_than : (c : CodeTree) (end pc : ℕ) (flaw : Flaw) → end_of_decoding c.code ≡ Some end → pc < end → code_stands aside file m flaw (Instruction pc) c ≡ false
+  none_earlier_than c end pc flaw e lt = by flaw
+    where
+      apart : (end == pc) ≡ false
+      apart = ne_eqb end pc (λ q. omega (arith, lt, q))
+
+      by : (flaw : Flaw) → code_stands aside file m flaw (Instruction pc) c ≡ false
+      by OutsideProfile = guarded (is_start c.code pc) _ (λ s. rw (e, apart) refl)
+      by MalformedCode = guarded (is_start c.code pc) _ (λ s. rw (e, apart) refl)
 
   no_exception : (c : CodeTree) (entry : ℕ) (field : ExceptionField) (flaw : Flaw) → option_map_or (malformed_exception c) (slice_get c.exceptions entry) false ≡ false → code_stands aside file m flaw (Exception entry field) c ≡ false
   no_exception c entry field OutsideProfile h = refl
-  no_exception c entry field MalformedCode h = not_so _ _ (some_exception aside file m c field (slice_get c.exceptions entry)) h
+  no_exception c entry field MalformedCode h = guarded (decodes c.code) _ (λ s. not_so _ _ (some_exception aside file m c field (slice_get c.exceptions entry)) h)
 
   no_field_of : (c : CodeTree) (entry : ℕ) (other field : ExceptionField) (flaw : Flaw) → field_before other field ≡ true → option_map_or (is_first_field c field) (slice_get c.exceptions entry) false ≡ true → code_stands aside file m flaw (Exception entry other) c ≡ false
   no_field_of c entry other field OutsideProfile lt h = refl
-  no_field_of c entry other field MalformedCode lt h = no_earlier_field c other field (slice_get c.exceptions entry) lt h
+  no_field_of c entry other field MalformedCode lt h = guarded (decodes c.code) _ (λ s. no_earlier_field c other field (slice_get c.exceptions entry) lt h)
 
   pub locals_first : (c : CodeTree) → too_few_locals file m c ≡ true → IsFirstInCode aside file m c (record { flaw = MalformedCode; spot = MaxLocals })
   locals_first c few = record { stands = few; none_before = before; outside_told = λ e. refl }
@@ -123,33 +146,58 @@ module _ (aside : ℕ → Bool) (file : FileTree) (m : MethodTree) where
       before flaw (Instruction pc) e = absurd cc
       before flaw (Exception entry field) e = absurd cc
 
-  pub instruction_first : (c : CodeTree) (pc : ℕ) (flaw : Flaw) → too_few_locals file m c ≡ false → FindsAmong c.code (outside_at file.pool c) (malformed_at aside file.pool c) (Some (pc, flaw))
-      → IsFirstInCode aside file m c (record { flaw = flaw; spot = Instruction pc })
-  instruction_first c pc flaw enough found = record { stands = so flaw found.1; none_before = before; outside_told = told flaw found.1 }
+  pub end_first : (c : CodeTree) (pc : ℕ) (flaw : Flaw) → too_few_locals file m c ≡ false → FindsBoundary c.code (begins_none c.code) (Some pc)
+      → Says (Some flaw) (not (is_known_opcode c.code pc)) (malformed_offset c pc) → IsFirstInCode aside file m c (record { flaw = flaw; spot = Instruction pc })
+  end_first c pc flaw enough found says = record { stands = so flaw says; none_before = before; outside_told = told flaw says }
     where
-      so : (flaw : Flaw) → Says (Some flaw) (outside_at file.pool c pc) (malformed_at aside file.pool c pc) → code_stands aside file m flaw (Instruction pc) c ≡ true
-      so OutsideProfile h = rw found.0 h
-      so MalformedCode h = rw found.0 h.1
+      ends : end_of_decoding c.code ≡ Some pc
+      ends = boundary_found (begins_none c.code) c.code (Some pc) found
 
-      told : (flaw : Flaw) → Says (Some flaw) (outside_at file.pool c pc) (malformed_at aside file.pool c pc) → flaw ≡ MalformedCode → code_stands aside file m OutsideProfile (Instruction pc) c ≡ false
+      same : (pc == pc) ≡ true
+      same = eq-eqb pc pc refl
+
+      so : (flaw : Flaw) → Says (Some flaw) (not (is_known_opcode c.code pc)) (malformed_offset c pc) → code_stands aside file m flaw (Instruction pc) c ≡ true
+      so OutsideProfile h = rw (found.0, ends, same, h) refl
+      so MalformedCode h = rw (found.0, ends, same, h.1) refl
+
+      told : (flaw : Flaw) → Says (Some flaw) (not (is_known_opcode c.code pc)) (malformed_offset c pc) → flaw ≡ MalformedCode → code_stands aside file m OutsideProfile (Instruction pc) c ≡ false
       told OutsideProfile h e = absurd cc
-      told MalformedCode h e = guarded (is_start c.code pc) _ (λ s. h.0)
+      told MalformedCode h e = guarded (is_start c.code pc) _ (λ s. rw (ends, same, h.0) refl)
 
       before : (flaw : Flaw) (spot : Spot) → spot_before spot (Instruction pc) ≡ true → code_stands aside file m flaw spot c ≡ false
       before flaw Declaration e = no_declaration c flaw
       before flaw MaxLocals e = no_locals c flaw enough
-      before flaw (Instruction j) e = no_instruction c j flaw (found.2 j (ltb-true _ _ e))
+      before flaw (Instruction j) e = none_earlier_than c pc j flaw ends (ltb-true _ _ e)
       before flaw (Exception entry field) e = absurd cc
 
-  pub exception_first : (c : CodeTree) (entry : ℕ) (field : ExceptionField) → too_few_locals file m c ≡ false → FindsAmong c.code (outside_at file.pool c) (malformed_at aside file.pool c) None → FindsEntry c (Some (entry, field))
+  pub instruction_first : (c : CodeTree) (pc : ℕ) (flaw : Flaw) → too_few_locals file m c ≡ false → end_of_decoding c.code ≡ None
+      → FindsAmong c.code (instruction_outside_at file.pool c) (instruction_malformed_at aside file.pool c) (Some (pc, flaw)) → IsFirstInCode aside file m c (record { flaw = flaw; spot = Instruction pc })
+  instruction_first c pc flaw enough ends found = record { stands = so flaw found.1; none_before = before; outside_told = told flaw found.1 }
+    where
+      so : (flaw : Flaw) → Says (Some flaw) (instruction_outside_at file.pool c pc) (instruction_malformed_at aside file.pool c pc) → code_stands aside file m flaw (Instruction pc) c ≡ true
+      so OutsideProfile h = rw (found.0, ends) h
+      so MalformedCode h = rw (found.0, ends) h.1
+
+      told : (flaw : Flaw) → Says (Some flaw) (instruction_outside_at file.pool c pc) (instruction_malformed_at aside file.pool c pc) → flaw ≡ MalformedCode → code_stands aside file m OutsideProfile (Instruction pc) c ≡ false
+      told OutsideProfile h e = absurd cc
+      told MalformedCode h e = guarded (is_start c.code pc) _ (λ s. rw ends h.0)
+
+      before : (flaw : Flaw) (spot : Spot) → spot_before spot (Instruction pc) ≡ true → code_stands aside file m flaw spot c ≡ false
+      before flaw Declaration e = no_declaration c flaw
+      before flaw MaxLocals e = no_locals c flaw enough
+      before flaw (Instruction j) e = no_instruction c j flaw ends (found.2 j (ltb-true _ _ e))
+      before flaw (Exception entry field) e = absurd cc
+
+  pub exception_first : (c : CodeTree) (entry : ℕ) (field : ExceptionField) → too_few_locals file m c ≡ false → end_of_decoding c.code ≡ None
+      → FindsAmong c.code (instruction_outside_at file.pool c) (instruction_malformed_at aside file.pool c) None → FindsEntry c (Some (entry, field))
       → IsFirstInCode aside file m c (record { flaw = MalformedCode; spot = Exception entry field })
-  exception_first c entry field enough instructions found =
-      record { stands = entry_stands c field (slice_get c.exceptions entry) found.1; none_before = before; outside_told = λ e. refl }
+  exception_first c entry field enough ends instructions found =
+      record { stands = rw ends (entry_stands c field (slice_get c.exceptions entry) found.1); none_before = before; outside_told = λ e. refl }
     where
       before : (flaw : Flaw) (spot : Spot) → spot_before spot (Exception entry field) ≡ true → code_stands aside file m flaw spot c ≡ false
       before flaw Declaration e = no_declaration c flaw
       before flaw MaxLocals e = no_locals c flaw enough
-      before flaw (Instruction j) e = no_instruction c j flaw (instructions j)
+      before flaw (Instruction j) e = no_instruction c j flaw ends (instructions j)
       before flaw (Exception j other) e =
           ⊎_elim
           (λ lt. no_exception c j other flaw (none_before (malformed_exception c) c.exceptions entry j (ltb-true _ _ lt) found.0))
@@ -159,13 +207,13 @@ module _ (aside : ℕ → Bool) (file : FileTree) (m : MethodTree) where
           (no_field_of c entry other field flaw (and_parts (j == entry) _ later).1 found.1))
           (or_cases (nat_lt j entry) (j == entry && field_before other field) e)
 
-  pub code_none : (c : CodeTree) → too_few_locals file m c ≡ false → FindsAmong c.code (outside_at file.pool c) (malformed_at aside file.pool c) None → FindsEntry c None → FindsInCode aside file m c None
-  code_none c enough found exceptions = (
-    or_from _ _ (none_of_boundaries (λ pc. not (is_known_opcode c.code pc)) c.code (λ k s. (or_parts _ _ (found k s).0).0))
-        (none_of_boundaries (instruction_outside_at file.pool c) c.code (λ k s. (or_parts _ _ (found k s).0).1)),
+  pub code_none : (c : CodeTree) → too_few_locals file m c ≡ false → end_of_decoding c.code ≡ None → FindsAmong c.code (instruction_outside_at file.pool c) (instruction_malformed_at aside file.pool c) None → FindsEntry c None
+      → FindsInCode aside file m c None
+  code_none c enough ends found exceptions = (
+    rw ends (none_of_boundaries (instruction_outside_at file.pool c) c.code (λ k s. (found k s).0)),
     or_from _ _ enough
-        (or_from _ _ (none_of_boundaries (malformed_offset c) c.code (λ k s. (or_parts _ _ (found k s).1).0))
-        (or_from _ _ (none_of_boundaries (instruction_malformed_at aside file.pool c) c.code (λ k s. (or_parts _ _ (found k s).1).1)) exceptions)),
+        (or_from _ _ (rw ends refl)
+        (or_from _ _ (rw ends (none_of_boundaries (instruction_malformed_at aside file.pool c) c.code (λ k s. (found k s).1))) (rw ends exceptions))),
   )
 
 -- ---- a method

@@ -1,11 +1,11 @@
 -- From the parts of a class file to the whole.
-use Rattle.std.proofs.Common.{◌≡◌, ℕ, ◌<◌, List, [], ◌∷◌, length, map, get_or, Option, Some, None, Bool, true, false, not, ◌||◌, refl, sym, ap, subst, ◌∙◌, ⊎_elim}
+use Rattle.std.proofs.Common.{◌≡◌, ℕ, ◌<◌, List, [], ◌∷◌, length, map, get_or, Option, Some, None, Bool, true, false, not, ◌&&◌, ◌||◌, refl, sym, ap, subst, ◌∙◌, ⊎_elim}
 use Rattle.std.proofs.Math.Path.{fun_ext}
-use Rattle.std.specs.Prelude.{Result, Ok, Err, IfOk}
+use Rattle.std.specs.Prelude.{Result, Ok, Err, IfOk, ◌==◌}
 use Rattle.std.specs.List.{list_any, slice_get}
 use Rattle.std.specs.Option.{option_map_or}
 use Rattle.std.proofs.lemmas.Option.{slice_get-map, slice_get_read}
-use Rattle.std.proofs.lemmas.Bool.{or_left, or_right, and_parts, or_parts, or_cases}
+use Rattle.std.proofs.lemmas.Bool.{eqb-true, or_left, or_right, and_parts, or_parts, or_cases}
 use Rattle.model.specs.declared.class_file.ExceptionEntry.{ExceptionEntry}
 use Rattle.model.specs.declared.instr.Instr.{Instr}
 use Rattle.model.specs.declared.instr.Instr.TheVariants as instrs
@@ -13,9 +13,9 @@ use Rattle.model.specs.declared.instr.Invocation.TheVariants as invocations
 use Rattle.model.specs.Tree.{FieldTree, MethodTree, CodeTree, FileTree}
 use Rattle.model.specs.InstructionStarts.{is_start}
 use Rattle.model.specs.Classes.{Program, code_in}
-use Rattle.model.specs.CodeParts.{boundaries, any_code, any_instruction}
+use Rattle.model.specs.CodeParts.{boundaries, end_of_decoding, decodes, any_code, any_decoded}
 use Rattle.model.specs.Profile.{is_known_opcode, unknown_opcode, field_outside_profile, method_outside_profile, instruction_outside_profile, is_outside_profile}
-use Rattle.model.specs.CodeConditions.{too_few_locals, malformed_offset, malformed_instruction, malformed_exception, malformed_code, has_malformed_code, special_of_class_aside, range_off_boundary, empty_range}
+use Rattle.model.specs.CodeConditions.{too_few_locals, malformed_offset, ends_in_instruction, malformed_instruction, malformed_exception, malformed_exceptions, malformed_code, has_malformed_code, special_of_class_aside, range_off_boundary, empty_range}
 use Rattle.profile.specs.declared.fault.Flaw.{Flaw}
 use Rattle.profile.specs.declared.fault.Flaw.TheVariants.{OutsideProfile, MalformedCode}
 use Rattle.profile.specs.declared.fault.ExceptionField.{ExceptionField}
@@ -25,7 +25,7 @@ use Rattle.profile.specs.declared.fault.Spot.TheVariants.{Declaration, MaxLocals
 use Rattle.profile.specs.declared.fault.Place.{Place}
 use Rattle.profile.specs.declared.fault.Place.TheVariants as places
 use Rattle.profile.specs.declared.fault.Fault.{Fault}
-use Rattle.profile.specs.Faults.{names_class_aside, row_of, TellsClassAside, special_of, malformed_instruction_by, malformed_code_by, malformed_method_by, has_malformed_code_by, code_outside_profile, whole_method_outside_profile, instruction_outside_at, instruction_malformed_at, exception_stands, code_stands, declaration_stands, method_stands, field_stands, place_stands, has_flaw, Finds, FindsBy, FindsInMethods}
+use Rattle.profile.specs.Faults.{names_class_aside, row_of, TellsClassAside, special_of, malformed_instruction_by, malformed_code_by, malformed_method_by, has_malformed_code_by, code_outside_profile, whole_method_outside_profile, ends_at, instruction_outside_at, instruction_malformed_at, exception_stands, code_stands, declaration_stands, method_stands, field_stands, place_stands, has_flaw, Finds, FindsBy, FindsInMethods}
 use Rattle.constant_pool.proofs.Passing.{any_at}
 use Rattle.opcodes.proofs.Marked.{any_of_starts}
 
@@ -42,15 +42,15 @@ module _ (file : FileTree) where
   unknown m = option_map_or (unknown_opcode m) (code_in m.parts) false
 
   abbrev left_out : MethodTree → Bool
-  left_out m = option_map_or (λ c. any_instruction (λ pc i. instruction_outside_profile file.pool i) c) (code_in m.parts) false
+  left_out m = option_map_or (λ c. any_decoded (λ pc i. instruction_outside_profile file.pool i) c) (code_in m.parts) false
 
   no_unknown : (m : MethodTree) (o : Option CodeTree) → option_map_or (code_outside_profile file) o false ≡ false → option_map_or (unknown_opcode m) o false ≡ false
   no_unknown m None h = refl
   no_unknown m (Some c) h = (or_parts (unknown_opcode m c) _ h).0
 
-  no_left_out : (o : Option CodeTree) → option_map_or (code_outside_profile file) o false ≡ false → option_map_or (λ c. any_instruction (λ pc i. instruction_outside_profile file.pool i) c) o false ≡ false
+  no_left_out : (o : Option CodeTree) → option_map_or (code_outside_profile file) o false ≡ false → option_map_or (λ c. any_decoded (λ pc i. instruction_outside_profile file.pool i) c) o false ≡ false
   no_left_out None h = refl
-  no_left_out (Some c) h = (or_parts (list_any (λ pc. not (is_known_opcode c.code pc)) (boundaries c.code)) _ h).1
+  no_left_out (Some c) h = (or_parts (option_map_or (λ pc. not (is_known_opcode c.code pc)) (end_of_decoding c.code) false) _ h).1
 
   none_outside : (ms : List MethodTree) → list_any (whole_method_outside_profile file) ms ≡ false
       → (list_any (method_outside_profile file) ms ≡ false) × ((list_any unknown ms ≡ false) × (list_any left_out ms ≡ false))
@@ -70,6 +70,18 @@ module _ (file : FileTree) where
 
 -- ---- a fault that stands
 
+and_so : (a b : Bool) → a ≡ true → b ≡ true → (a && b) ≡ true
+and_so a b h e = rw h e
+
+-- what is so where decoding ends
+at_end : (test : ℕ → Bool) (pc : ℕ) (o : Option ℕ) → option_map_or (λ k. k == pc) o false ≡ true → test pc ≡ true → option_map_or test o false ≡ true
+at_end test pc None e h = absurd cc
+at_end test pc (Some k) e h = subst (λ (q : ℕ). test q ≡ true) (sym (eqb-true k pc e)) h
+
+-- what is so of an instruction of a code that decodes
+in_decoded : (c : CodeTree) (test : ℕ → Bool) (pc : ℕ) → is_start c.code pc ≡ true → decodes c.code ≡ true → test pc ≡ true → (decodes c.code && list_any test (boundaries c.code)) ≡ true
+in_decoded c test pc start d h = and_so (decodes c.code) _ d (any_of_starts test c.code pc start h)
+
 -- of a code
 module _ (aside : ℕ → Bool) (file : FileTree) (m : MethodTree) where
   pub code_is_outside : (spot : Spot) (c : CodeTree) → code_stands aside file m OutsideProfile spot c ≡ true → code_outside_profile file c ≡ true
@@ -79,9 +91,9 @@ module _ (aside : ℕ → Bool) (file : FileTree) (m : MethodTree) where
   code_is_outside (Instruction pc) c h =
       let start : is_start c.code pc ≡ true = (and_parts (is_start c.code pc) _ h).0 in
       ⊎_elim
-      (λ e. or_left _ _ (any_of_starts (λ q. not (is_known_opcode c.code q)) c.code pc start e))
-      (λ e. or_right _ _ (any_of_starts (instruction_outside_at file.pool c) c.code pc start e))
-      (or_cases (not (is_known_opcode c.code pc)) (instruction_outside_at file.pool c pc) (and_parts (is_start c.code pc) _ h).1)
+      (λ e. or_left _ _ (at_end (λ q. not (is_known_opcode c.code q)) pc (end_of_decoding c.code) (and_parts (ends_at c.code pc) _ e).0 (and_parts (ends_at c.code pc) _ e).1))
+      (λ e. or_right _ _ (in_decoded c (instruction_outside_at file.pool c) pc start (and_parts (decodes c.code) _ e).0 (and_parts (decodes c.code) _ e).1))
+      (or_cases (ends_at c.code pc && not (is_known_opcode c.code pc)) (decodes c.code && instruction_outside_at file.pool c pc) (and_parts (is_start c.code pc) _ h).1)
 
   exception_is_malformed : (c : CodeTree) (field : ExceptionField) (e : ExceptionEntry) → exception_stands c field e ≡ true → malformed_exception c e ≡ true
   exception_is_malformed c StartPc e h =
@@ -103,14 +115,17 @@ module _ (aside : ℕ → Bool) (file : FileTree) (m : MethodTree) where
       let start : is_start c.code pc ≡ true = (and_parts (is_start c.code pc) _ h).0 in
       or_right (too_few_locals file m c) _
       (⊎_elim
-      (λ e. or_left _ _ (any_of_starts (malformed_offset c) c.code pc start e))
-      (λ e. or_right (list_any (malformed_offset c) (boundaries c.code)) _ (or_left _ _ (any_of_starts (instruction_malformed_at aside file.pool c) c.code pc start e)))
-      (or_cases (malformed_offset c pc) (instruction_malformed_at aside file.pool c pc) (and_parts (is_start c.code pc) _ h).1))
+      (λ e. or_left _ _ (at_end (malformed_offset c) pc (end_of_decoding c.code) (and_parts (ends_at c.code pc) _ e).0 (and_parts (ends_at c.code pc) _ e).1))
+      (λ e.
+      or_right (ends_in_instruction c) _
+      (or_left _ _ (in_decoded c (instruction_malformed_at aside file.pool c) pc start (and_parts (decodes c.code) _ e).0 (and_parts (decodes c.code) _ e).1)))
+      (or_cases (ends_at c.code pc && malformed_offset c pc) (decodes c.code && instruction_malformed_at aside file.pool c pc) (and_parts (is_start c.code pc) _ h).1))
   code_is_malformed (Exception entry field) c h =
       or_right (too_few_locals file m c) _
-      (or_right (list_any (malformed_offset c) (boundaries c.code)) _
-      (or_right (any_instruction (malformed_instruction_by aside file.pool c) c) _
-      (any_at (malformed_exception c) c.exceptions entry (some_exception c field (slice_get c.exceptions entry) h))))
+      (or_right (ends_in_instruction c) _
+      (or_right (any_decoded (malformed_instruction_by aside file.pool c) c) _
+      (and_so (decodes c.code) _ (and_parts (decodes c.code) _ h).0
+      (any_at (malformed_exception c) c.exceptions entry (some_exception c field (slice_get c.exceptions entry) (and_parts (decodes c.code) _ h).1)))))
 
   some_code_outside : (spot : Spot) (o : Option CodeTree) → option_map_or (code_stands aside file m OutsideProfile spot) o false ≡ true → option_map_or (code_outside_profile file) o false ≡ true
   some_code_outside spot None h = absurd cc
@@ -150,7 +165,7 @@ module _ (aside : ℕ → Bool) (file : FileTree) where
           (coded m (code_in m.parts) (or_parts (unknown file m) _ b).0 (or_parts (left_out file m) _ c).0) in
           rw first (all_false ms (or_parts (method_outside_profile file m) _ a).1 (or_parts (unknown file m) _ b).1 (or_parts (left_out file m) _ c).1)
         where
-          coded : (m : MethodTree) (o : Option CodeTree) → option_map_or (unknown_opcode m) o false ≡ false → option_map_or (λ c. any_instruction (λ pc i. instruction_outside_profile file.pool i) c) o false ≡ false → option_map_or (code_outside_profile file) o false ≡ false
+          coded : (m : MethodTree) (o : Option CodeTree) → option_map_or (unknown_opcode m) o false ≡ false → option_map_or (λ c. any_decoded (λ pc i. instruction_outside_profile file.pool i) c) o false ≡ false → option_map_or (code_outside_profile file) o false ≡ false
           coded m None b c = refl
           coded m (Some code) b c = rw (b, c) refl
 
@@ -234,7 +249,7 @@ module _ (files : Program) (file : FileTree) where
 
   same_code : (m : MethodTree) (c : CodeTree) → malformed_code_by (names_class_aside files file) file m c ≡ malformed_code files file m c
   same_code m c =
-      ap (λ (test : ℕ → Instr → Bool). too_few_locals file m c || (list_any (malformed_offset c) (boundaries c.code) || (any_instruction test c || list_any (malformed_exception c) c.exceptions)))
+      ap (λ (test : ℕ → Instr → Bool). too_few_locals file m c || (ends_in_instruction c || (any_decoded test c || malformed_exceptions c)))
       (fun_ext (λ pc. fun_ext (λ i. same_instruction c pc i)))
 
   same_file : has_malformed_code_by (names_class_aside files file) file ≡ has_malformed_code files file

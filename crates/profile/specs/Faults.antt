@@ -11,9 +11,9 @@ use Rattle.model.specs.Pool.{method_at}
 use Rattle.model.specs.Instruction.{instr_at}
 use Rattle.model.specs.InstructionStarts.{is_start}
 use Rattle.model.specs.Classes.{Program, code_in}
-use Rattle.model.specs.CodeParts.{boundaries, any_code, any_instruction}
+use Rattle.model.specs.CodeParts.{end_of_decoding, decodes, any_code, any_decoded}
 use Rattle.model.specs.Profile.{is_known_opcode, field_outside_profile, method_outside_profile, instruction_outside_profile, is_outside_profile}
-use Rattle.model.specs.CodeConditions.{jump_off_boundary, unsorted_matches, local_above_max, operand_of_wrong_kind, wrong_interface_count, wrong_interface_end, constructor_not_by_special, calls_initialiser, is_class_aside, new_of_array, too_many_dimensions, too_few_locals, malformed_offset, empty_range, handler_off_boundary, malformed_exception, has_malformed_code}
+use Rattle.model.specs.CodeConditions.{jump_off_boundary, unsorted_matches, local_above_max, operand_of_wrong_kind, wrong_interface_count, wrong_interface_end, constructor_not_by_special, calls_initialiser, is_class_aside, new_of_array, too_many_dimensions, too_few_locals, malformed_offset, ends_in_instruction, empty_range, handler_off_boundary, malformed_exception, malformed_exceptions, has_malformed_code}
 use Rattle.profile.specs.declared.fault.Flaw.{Flaw}
 use Rattle.profile.specs.declared.fault.Flaw.TheVariants.{OutsideProfile, MalformedCode}
 use Rattle.profile.specs.declared.fault.ExceptionField.{ExceptionField}
@@ -65,9 +65,9 @@ malformed_instruction_by aside pool c pc i =
 abbrev pub malformed_code_by : (ℕ → Bool) → FileTree → MethodTree → CodeTree → Bool
 malformed_code_by aside file m c =
     too_few_locals file m c
-    || (list_any (malformed_offset c) (boundaries c.code)
-    || (any_instruction (malformed_instruction_by aside file.pool c) c
-    || list_any (malformed_exception c) c.exceptions))
+    || (ends_in_instruction c
+    || (any_decoded (malformed_instruction_by aside file.pool c) c
+    || malformed_exceptions c))
 
 abbrev pub malformed_method_by : (ℕ → Bool) → FileTree → MethodTree → Bool
 malformed_method_by aside file m = option_map_or (malformed_code_by aside file m) (code_in m.parts) false
@@ -78,8 +78,8 @@ has_malformed_code_by aside file = any_code (malformed_code_by aside file) file
 -- the conditions of OutsideProfile of a code, and of a method with its code
 abbrev pub code_outside_profile : FileTree → CodeTree → Bool
 code_outside_profile file c =
-    list_any (λ pc. not (is_known_opcode c.code pc)) (boundaries c.code)
-    || any_instruction (λ pc i. instruction_outside_profile file.pool i) c
+    option_map_or (λ pc. not (is_known_opcode c.code pc)) (end_of_decoding c.code) false
+    || any_decoded (λ pc i. instruction_outside_profile file.pool i) c
 
 abbrev pub whole_method_outside_profile : FileTree → MethodTree → Bool
 whole_method_outside_profile file m = method_outside_profile file m || option_map_or (code_outside_profile file) (code_in m.parts) false
@@ -93,12 +93,16 @@ instruction_outside_at pool c pc = option_map_or (instruction_outside_profile po
 abbrev pub instruction_malformed_at : (ℕ → Bool) → List Entry → CodeTree → ℕ → Bool
 instruction_malformed_at aside pool c pc = option_map_or (malformed_instruction_by aside pool c pc) (instr_at c.code pc) false
 
--- of an offset, and of the instruction there
+-- decoding ends at an offset
+abbrev pub ends_at : List ℕ → ℕ → Bool
+ends_at code pc = option_map_or (λ k. k == pc) (end_of_decoding code) false
+
+-- of an offset at which decoding ends; and of the instruction there, in a code that decodes
 abbrev pub outside_at : List Entry → CodeTree → ℕ → Bool
-outside_at pool c pc = not (is_known_opcode c.code pc) || instruction_outside_at pool c pc
+outside_at pool c pc = (ends_at c.code pc && not (is_known_opcode c.code pc)) || (decodes c.code && instruction_outside_at pool c pc)
 
 abbrev pub malformed_at : (ℕ → Bool) → List Entry → CodeTree → ℕ → Bool
-malformed_at aside pool c pc = malformed_offset c pc || instruction_malformed_at aside pool c pc
+malformed_at aside pool c pc = (ends_at c.code pc && malformed_offset c pc) || (decodes c.code && instruction_malformed_at aside pool c pc)
 
 -- of a field of an exception entry; an empty range is told of its start_pc
 abbrev pub exception_stands : CodeTree → ExceptionField → ExceptionEntry → Bool
@@ -121,7 +125,7 @@ code_stands aside file m OutsideProfile (Exception entry field) c = false
 code_stands aside file m MalformedCode Declaration c = false
 code_stands aside file m MalformedCode MaxLocals c = too_few_locals file m c
 code_stands aside file m MalformedCode (Instruction pc) c = is_start c.code pc && malformed_at aside file.pool c pc
-code_stands aside file m MalformedCode (Exception entry field) c = option_map_or (exception_stands c field) (slice_get c.exceptions entry) false
+code_stands aside file m MalformedCode (Exception entry field) c = decodes c.code && option_map_or (exception_stands c field) (slice_get c.exceptions entry) false
 
 abbrev pub declaration_stands : FileTree → Flaw → Spot → MethodTree → Bool
 declaration_stands file OutsideProfile Declaration m = method_outside_profile file m
@@ -240,6 +244,15 @@ FindsAmong code outside malformed (Some found) =
     (is_start code found.0 ≡ true)
     × Says (Some found.1) (outside found.0) (malformed found.0)
     × ((k : ℕ) → k < found.0 → NothingAt code outside malformed k)
+
+-- not of an instruction boundary
+abbrev pub NotAt : List ℕ → (ℕ → Bool) → ℕ → Type 0
+NotAt code test k = is_start code k ≡ true → test k ≡ false
+
+-- what is found of a test among the instruction boundaries: the first that passes it, or that none does
+abbrev pub FindsBoundary : List ℕ → (ℕ → Bool) → Option ℕ → Type 0
+FindsBoundary code test None = (k : ℕ) → NotAt code test k
+FindsBoundary code test (Some pc) = (is_start code pc ≡ true) × (test pc ≡ true) × ((k : ℕ) → k < pc → NotAt code test k)
 
 -- what is found among exception entries: nothing, or a field of one, and nothing of the entries before it
 abbrev pub FindsEntry : CodeTree → Option (ℕ × ExceptionField) → Type 0

@@ -9,7 +9,7 @@ ghost use Rattle.profile.specs.Faults.{row_of, FindsInCode, FindsEntry, FindsFie
 
 use crate::described::Described;
 use crate::fault::{ExceptionField, Flaw, MethodFault, Spot};
-use crate::instruction::first_flaw;
+use crate::instruction::{end_of_decoding, first_flaw, missing_flaw};
 use crate::method::entry_slots;
 use classfile::{ClassFile, Code, Method};
 use model::ExceptionEntry;
@@ -81,6 +81,9 @@ pub(crate) fn first_in_code(
         }));
     }
     let marks = starts(alloc, &code.code)?;
+    if let Some(pc) = end_of_decoding(&code.code, &marks) {
+        return Ok(Some(at_instruction(pc, missing_flaw(code, pc))));
+    }
     if let Some((pc, flaw)) = first_flaw(file, rows, aside, code, &marks) {
         return Ok(Some(at_instruction(pc, flaw)));
     }

@@ -3,12 +3,13 @@
 ghost use Rattle.std.specs.Prelude.{◌≡◌, ◌<◌, false, not, is_some, length};
 ghost use Rattle.model.specs.Instruction.{sized_at};
 ghost use Rattle.model.specs.InstructionStarts.{starts};
+ghost use Rattle.model.specs.CodeParts.{begins_none};
 ghost use Rattle.model.specs.Profile.{is_widened, is_known_opcode};
 ghost use Rattle.model.specs.CodeConditions.{local_above_max, malformed_offset};
 ghost use Rattle.classfile.specs.View.{code_of};
 ghost use Rattle.profile.specs.Descriptions.{rows_of};
 ghost use Rattle.profile.specs.Opcodes.{is_known, is_known_at};
-ghost use Rattle.profile.specs.Faults.{row_of, malformed_instruction_by, outside_at, malformed_at, Says, FindsAmong};
+ghost use Rattle.profile.specs.Faults.{row_of, malformed_instruction_by, instruction_outside_at, instruction_malformed_at, Says, FindsAmong, FindsBoundary};
 
 use crate::described::Described;
 use crate::fault::Flaw;
@@ -55,8 +56,21 @@ fn is_known_opcode(code: &[u8], pc: usize) -> bool
     is_known_at(code, pc)
 }
 
+/// The first instruction boundary at which no whole instruction of the table begins.
+pub(crate) fn end_of_decoding(code: &[u8], marks: &[bool]) -> Option<usize>
+    requires marked { marks.now ≡ starts code.now }
+    ensures { FindsBoundary code.now (begins_none code.now) result }
+{
+    for (pc, is_start) in marks.iter().enumerate() {
+        if *is_start && decode_at(code, pc).is_none() {
+            return Some(pc);
+        }
+    }
+    None
+}
+
 /// What is wrong where no whole instruction begins: its opcode is none of the table, or it is malformed.
-fn missing_flaw(code: &Code, pc: usize) -> Flaw
+pub(crate) fn missing_flaw(code: &Code, pc: usize) -> Flaw
     requires here { pc < length code.now.code.items }
     requires missing { is_some (sized_at code.now.code.items pc) ≡ false }
     ensures { Says (Some result) (not (is_known_opcode code.now.code.items pc)) (malformed_offset (code_of code.now) pc) }
@@ -68,7 +82,7 @@ fn missing_flaw(code: &Code, pc: usize) -> Flaw
     }
 }
 
-/// What is wrong at an offset: no whole instruction begins there, or the instruction has a flaw.
+/// What is wrong with the instruction at an offset, where one begins.
 fn flaw_at(
     file: &ClassFile,
     rows: &[Described],
@@ -79,12 +93,9 @@ fn flaw_at(
 ) -> Option<Flaw>
     requires described { rows.now ≡ rows_of file.now.pool }
     requires marked { marks.now ≡ starts code.now.code.items }
-    requires here { pc < length code.now.code.items }
-    ensures { Says result (outside_at file.now.pool (code_of code.now) pc) (malformed_at (row_of aside.now) file.now.pool (code_of code.now) pc) }
+    ensures { Says result (instruction_outside_at file.now.pool (code_of code.now) pc) (instruction_malformed_at (row_of aside.now) file.now.pool (code_of code.now) pc) }
 {
-    let Some(instr) = decode_at(&code.code, pc) else {
-        return Some(missing_flaw(code, pc));
-    };
+    let instr = decode_at(&code.code, pc)?;
     if is_outside(file, rows, instr) {
         Some(Flaw::OutsideProfile)
     } else if is_malformed(file, rows, aside, code, marks, pc, instr) {
@@ -94,7 +105,7 @@ fn flaw_at(
     }
 }
 
-/// The first instruction boundary with a flaw.
+/// The first instruction with a flaw.
 pub(crate) fn first_flaw(
     file: &ClassFile,
     rows: &[Described],
@@ -104,7 +115,7 @@ pub(crate) fn first_flaw(
 ) -> Option<(usize, Flaw)>
     requires described { rows.now ≡ rows_of file.now.pool }
     requires marked { marks.now ≡ starts code.now.code.items }
-    ensures { FindsAmong code.now.code.items (outside_at file.now.pool (code_of code.now)) (malformed_at (row_of aside.now) file.now.pool (code_of code.now)) result }
+    ensures { FindsAmong code.now.code.items (instruction_outside_at file.now.pool (code_of code.now)) (instruction_malformed_at (row_of aside.now) file.now.pool (code_of code.now)) result }
 {
     for (pc, is_start) in marks.iter().enumerate() {
         if *is_start {

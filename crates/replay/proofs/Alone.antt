@@ -11,14 +11,15 @@ use Rattle.model.specs.Tree.{Entry, CodeTree, MethodTree, FileTree}
 use Rattle.model.specs.Pool.{utf8_at}
 use Rattle.model.specs.AccessFlags.{is_synchronized_method}
 use Rattle.model.specs.Classes.{super_name_of, is_method, declared_in, code_in}
-use Rattle.model.specs.CodeParts.{boundaries, any_instruction}
-use Rattle.model.specs.CodeConditions.{too_few_locals, malformed_offset, malformed_instruction, malformed_code, has_malformed_code, jump_off_boundary}
+use Rattle.model.specs.CodeParts.{decodes, any_code, any_instruction, any_decoded}
+use Rattle.model.specs.CodeConditions.{too_few_locals, ends_in_instruction, malformed_instruction, malformed_code, has_malformed_code, jump_off_boundary}
 use Rattle.model.specs.Instruction.{instr_at}
 use Rattle.model.specs.InstructionStarts.{is_start}
 use Rattle.replay.specs.Placed.{JumpsFit}
 use Rattle.replay.specs.Taking.{program_of, declared_main}
 use Rattle.replay.specs.Profile.{is_outside, has_other_superclass, lists_interfaces, has_fields, is_main, is_outside_method, is_outside_code, is_outside_instruction, has_exception_entry}
 use Rattle.replay.proofs.Inside.{none_found, jumps_lead}
+use Rattle.laws.proofs.Decoding.{not_false, of_decoded, undecoded}
 use Rattle.laws.proofs.LinkedCode.{no_instruction}
 
 none_of : {A : Type 0} (xs : List A) → nat_lt 0 (length xs) ≡ false → xs ≡ []
@@ -99,18 +100,24 @@ module _ (file : FileTree) (code : CodeTree) (inside : is_outside file ≡ false
   pub taken : (pc : ℕ) (i : Instr) → is_start code.code pc ≡ true → instr_at code.code pc ≡ Some i → is_outside_instruction file.pool i ≡ false
   taken pc i start e = no_instruction (λ q j. is_outside_instruction file.pool j) code pc i outside_none start e
 
-  module _ (whole : has_malformed_code (program_of file) file ≡ false) where
+  module _ (whole : has_malformed_code (program_of file) file ≡ false) (all_decoded : any_code undecoded file ≡ false) where
     abbrev malformed : MethodTree → Bool
     malformed m = option_map_or (malformed_code (program_of file) file m) (code_in m.parts) false
 
     main_whole : malformed_code (program_of file) file here.0 code ≡ false
     main_whole = ap (λ o. option_map_or (malformed_code (program_of file) file here.0) o false) (sym here.2) ∙ none_found malformed (is_main file.pool) file.methods here.0 whole here.1
 
+    main_decodes : decodes code.code ≡ true
+    main_decodes =
+        let here_not : undecoded here.0 code ≡ false = ap (λ o. option_map_or (undecoded here.0) o false) (sym here.2) ∙ none_found (λ (m : MethodTree). option_map_or (undecoded m) (code_in m.parts) false) (is_main file.pool) file.methods here.0 all_decoded here.1 in
+        not_false (decodes code.code) here_not
+
     malformed_none : any_instruction (malformed_instruction (program_of file) file code) code ≡ false
     malformed_none =
         let a = or_parts (too_few_locals file here.0 code) _ main_whole in
-        let b = or_parts (list_any (malformed_offset code) (boundaries code.code)) _ a.1 in
-        (or_parts (any_instruction (malformed_instruction (program_of file) file code) code) _ b.1).0
+        let b = or_parts (ends_in_instruction code) _ a.1 in
+        let instructions = (or_parts (any_decoded (malformed_instruction (program_of file) file code) code) _ b.1).0 in
+        of_decoded (malformed_instruction (program_of file) file code) code main_decodes instructions
 
     pub jumps_fit : (pc : ℕ) (i : Instr) → is_start code.code pc ≡ true → instr_at code.code pc ≡ Some i → JumpsFit code.code pc i
     jumps_fit pc i start e =

@@ -151,7 +151,7 @@ module _ (file : FileTree) (suits : Suits file) (pc : ℕ) (placed : IsPlaced (m
     inside = taken file (main_code file) suits.inside suits.main pc s.0 start here
 
     pub jumps : JumpsFit (main_code file).code pc s.0
-    jumps = jumps_fit file (main_code file) suits.inside suits.main suits.whole pc s.0 start here
+    jumps = jumps_fit file (main_code file) suits.inside suits.main suits.whole suits.decoded pc s.0 start here
 
     pub next_is_placed : IsPlaced (main_code file).code (pc + s.1)
     next_is_placed = next_placed (main_code file).code pc s.1 start (ap (option_map (λ (x : Sized). x.1)) e)

@@ -151,7 +151,8 @@ module _ (files : List (List ℕ)) (file : FileTree) (linkable : IsLinkable file
         not_built_in = not_built_in;
         no_interface = no_interface;
         inside = inside;
-        whole = ok.code.0;
+        whole = ok.code.0.none;
+        decoded = ok.code.0.decoded;
         main = d ∙ ap (λ c. Some c) same;
         body = body_found file code not_built_in d ∙ ap (λ c. Some (with_pool file.pool c)) same;
         enters = let m = main_declared file code inside d in rw (found file not_built_in, m.1) m.2;

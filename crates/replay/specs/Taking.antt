@@ -1,9 +1,10 @@
 -- Which programs this machine takes, and what it needs of one: a class whose only method is main.
-use Rattle.std.specs.Prelude.{◌≡◌, ◌<◌, length, ℕ, List, [], ◌∷◌, Option, Some, None, true, false, unwrap_or, option_map, option_and_then, codes}
+use Rattle.std.specs.Prelude.{◌≡◌, ◌<◌, length, ℕ, List, [], ◌∷◌, Option, Some, None, true, false, not, unwrap_or, option_map, option_and_then, codes}
 use Rattle.model.specs.Names.{Member, main_of}
 use Rattle.model.specs.Pool.{integers_of}
 use Rattle.model.specs.Tree.{FileTree, MethodTree, CodeTree}
 use Rattle.model.specs.Classes.{Program, Body, declared_in, code_in, name_of, body_of, is_built_in}
+use Rattle.model.specs.CodeParts.{decodes, any_code}
 use Rattle.model.specs.CodeConditions.{has_malformed_code}
 use Rattle.model.specs.Accepted.{IsAccepted}
 use Rattle.model.specs.Frames.{is_synchronized_one}
@@ -75,6 +76,7 @@ pub record Suits (file : FileTree) : Type 0 where
   pub no_interface : is_interface_class file ≡ false
   pub inside : is_outside file ≡ false
   pub whole : has_malformed_code (program_of file) file ≡ false
+  pub decoded : any_code (λ m c. not (decodes c.code)) file ≡ false
   pub main : declared_main file ≡ Some (main_code file)
   pub some : 0 < length (main_code file).code
   pub body : body_of (program_of file) (main_in file) ≡ Some (main_body file)

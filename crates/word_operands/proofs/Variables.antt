@@ -26,7 +26,7 @@ use Rattle.laws.proofs.Lists.{every_weaken}
 use Rattle.laws.proofs.Found.{every_all, map_or_at}
 use Rattle.laws.proofs.Homes.{Coded, class_has, coded_of}
 use Rattle.laws.proofs.Unrefused.{Unrefused}
-use Rattle.laws.proofs.LinkedCode.{no_code}
+use Rattle.laws.proofs.LinkedCode.{well_formed}
 use Rattle.word_operands.specs.Operands.{IsInFrame}
 
 -- ---- by the instruction
@@ -93,24 +93,10 @@ no_instruction test c pc i h start is =
     sym (map_or_at (test pc) (instr_at c.code pc) false i is) ∙ here
 
 module _ (files : Program) where
-  built_in_code : list_all (λ file. not (has_malformed_code files file)) built_in_classes ≡ true
-  unfolding built_in_classes low_form high_form wide_at table_switch_at lookup_switch_at starts_from element_at field_at field_type parameters_at method_type
-  built_in_code = refl
-
   module _ (ok : Unrefused files) where
-    whole_code : (c : Name) (file : FileTree) → class_of files c ≡ Some file → has_malformed_code files file ≡ false
-    whole_code c file e =
-        class_has files (λ f. has_malformed_code files f ≡ false)
-        (every_weaken _ _ built_in_classes (λ f h. not-true (has_malformed_code files f) h) (every_all _ built_in_classes built_in_code))
-        ok.code c file e
-
     variables_in : (method : Member) (body : Body) (c : Coded files method body) (offset : ℕ) (i : Instr) → is_start c.code.code offset ≡ true → instr_at c.code.code offset ≡ Some i → local_above_max c.code i ≡ false
     variables_in method body c offset i start is =
-        let whole = no_code files method body (malformed_code files c.home.file) c (whole_code method.class c.home.file c.home.is_class) in
-        let a = or_parts _ _ whole in
-        let b = or_parts _ _ a.1 in
-        let d = or_parts _ _ b.1 in
-        let formed : malformed_instruction files c.home.file c.code offset i ≡ false = no_instruction (malformed_instruction files c.home.file c.code) c.code offset i d.0 start is in
+        let formed : malformed_instruction files c.home.file c.code offset i ≡ false = well_formed files ok method body c offset i start is in
         let e = or_parts (jump_off_boundary c.code offset i) _ formed in
         let f = or_parts (unsorted_matches c.code i) _ e.1 in
         (or_parts (local_above_max c.code i) _ f.1).0

@@ -1,11 +1,7 @@
 use Rattle.std.proofs.Common.{rules, arith, ◌≡◌, List, Bool, get_or, length, true, false, sym, ap, subst, below_more}
-use Rattle.model.proofs.StartLaws.{length-starts}
 use Rattle.profile.proofs.instruction.first_flaw.Goals as goal
 use Rattle.profile.proofs.instruction.first_flaw.Goals.{then-is_start+in_default, else-is_start}
 use Rattle.opcodes.proofs.Marked.{mark_within}
-
-pub flaw_at-requires-clause-here : goal.flaw_at-requires-clause-here
-flaw_at-requires-clause-here c = omega (arith, ap length c.requires.marked, length-starts c.args.code.now.code.items)
 
 pub loop-pc-preserved : goal.loop-pc-preserved
 loop-pc-preserved c =
