@@ -10,9 +10,9 @@ use Rattle.model.specs.Tree.{Entry, FieldTree, MethodTree, CodeTree, FileTree}
 use Rattle.model.specs.Instruction.{Sized, sized_at, instr_at}
 use Rattle.model.specs.InstructionStarts.{starts, is_start}
 use Rattle.model.specs.Classes.{code_in}
-use Rattle.model.specs.CodeParts.{marked_from, boundaries, begins_none, end_of_decoding, decodes, any_instruction}
+use Rattle.model.specs.CodeParts.{marked_from, boundaries, begins_none, end_of_decoding, decodes, any_decoded}
 use Rattle.model.specs.Profile.{is_known_opcode, field_outside_profile, method_outside_profile, instruction_outside_profile}
-use Rattle.model.specs.CodeConditions.{too_few_locals, malformed_offset, malformed_exception, malformed_exceptions}
+use Rattle.model.specs.CodeConditions.{too_few_locals, malformed_offset, malformed_exception, malformed_exceptions, ends_in_instruction}
 use Rattle.profile.specs.declared.fault.Flaw.{Flaw}
 use Rattle.profile.specs.declared.fault.Flaw.TheVariants.{OutsideProfile, MalformedCode}
 use Rattle.profile.specs.declared.fault.ExceptionField.{ExceptionField}
@@ -73,8 +73,8 @@ first_marked p n (suc k) place (false ∷ marks) e m h before =
 pub boundary_found : (p : ℕ → Bool) (code : List ℕ) (o : Option ℕ) → FindsBoundary code p o → find p (boundaries code) ≡ o
 boundary_found p code None h = none_found p (boundaries code) (none_of_boundaries p code h)
 boundary_found p code (Some pc) h =
-    first_marked p 0 pc pc (starts code) (omega arith) h.0 h.1.0
-    (λ j other q l m. let same : j ≡ other = omega (arith, q) in subst (λ (k : ℕ). p k ≡ false) same (h.1.1 j l m))
+    first_marked p 0 pc pc (starts code) (omega arith) h.0 h.1
+    (λ j other q l m. let same : j ≡ other = omega (arith, q) in subst (λ (k : ℕ). p k ≡ false) same (h.2 j l m))
 
 -- ---- exception entries
 
@@ -212,8 +212,8 @@ module _ (aside : ℕ → Bool) (file : FileTree) (m : MethodTree) where
   code_none c enough ends found exceptions = (
     rw ends (none_of_boundaries (instruction_outside_at file.pool c) c.code (λ k s. (found k s).0)),
     or_from _ _ enough
-        (or_from _ _ (rw ends refl)
-        (or_from _ _ (rw ends (none_of_boundaries (instruction_malformed_at aside file.pool c) c.code (λ k s. (found k s).1))) (rw ends exceptions))),
+        (or_from (ends_in_instruction c) _ (rw ends refl)
+        (or_from (any_decoded (malformed_instruction_by aside file.pool c) c) (malformed_exceptions c) (rw ends (none_of_boundaries (instruction_malformed_at aside file.pool c) c.code (λ k s. (found k s).1))) (rw ends exceptions))),
   )
 
 -- ---- a method

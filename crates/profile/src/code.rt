@@ -81,7 +81,7 @@ pub(crate) fn first_in_code(
         }));
     }
     let marks = starts(alloc, &code.code)?;
-    if let Some(pc) = end_of_decoding(&code.code, &marks) {
+    if let Some(pc) = end_of_decoding(code, &marks) {
         return Ok(Some(at_instruction(pc, missing_flaw(code, pc))));
     }
     if let Some((pc, flaw)) = first_flaw(file, rows, aside, code, &marks) {

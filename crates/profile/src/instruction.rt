@@ -57,12 +57,12 @@ fn is_known_opcode(code: &[u8], pc: usize) -> bool
 }
 
 /// The first instruction boundary at which no whole instruction of the table begins.
-pub(crate) fn end_of_decoding(code: &[u8], marks: &[bool]) -> Option<usize>
-    requires marked { marks.now ≡ starts code.now }
-    ensures { FindsBoundary code.now (begins_none code.now) result }
+pub(crate) fn end_of_decoding(code: &Code, marks: &[bool]) -> Option<usize>
+    requires marked { marks.now ≡ starts code.now.code.items }
+    ensures { FindsBoundary code.now.code.items (begins_none code.now.code.items) result }
 {
     for (pc, is_start) in marks.iter().enumerate() {
-        if *is_start && decode_at(code, pc).is_none() {
+        if *is_start && decode_at(&code.code, pc).is_none() {
             return Some(pc);
         }
     }
