@@ -49,7 +49,7 @@ fn push_implements(
     if interfaces.is_empty() {
         return Ok(());
     }
-    text.extend_from_slice(b" implements_words")?;
+    text.extend_from_slice(b" implements")?;
     push_classes(text, file, interfaces)
 }
 

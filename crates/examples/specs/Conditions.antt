@@ -1,5 +1,6 @@
 -- Which conditions of `model` stand in a program, each by its name.
-use Rattle.std.specs.Prelude.{ℕ, List, [], ◌∷◌, ◌++◌, Bool, not, codes, map}
+use Rattle.std.specs.Prelude.{ℕ, List, [], ◌∷◌, ◌++◌, Bool, false, not, ◌&&◌, codes, map}
+use Rattle.std.specs.Option.{option_map_or}
 use Rattle.std.specs.List.{filter, flat_map, list_any}
 use Rattle.model.specs.declared.instr.Instr.{Instr}
 use Rattle.model.specs.declared.class_file.ExceptionEntry.{ExceptionEntry}
@@ -7,7 +8,7 @@ use Rattle.model.specs.Names.{Name}
 use Rattle.model.specs.Tree.{Entry, CodeTree, FileTree}
 use Rattle.model.specs.Conditions.{file_indices, file_names, file_descriptors, file_attributes, members_differ}
 use Rattle.model.specs.Classes.{Program}
-use Rattle.model.specs.CodeParts.{boundaries, any_code, any_instruction, any_instruction_in}
+use Rattle.model.specs.CodeParts.{end_of_decoding, decodes, any_code, any_decoded, any_decoded_in, any_instruction_in}
 use Rattle.model.specs.Profile.{field_of_left_out_type, left_out_constant, instance_field_of_interface, method_of_left_out_type, native_method, initialiser_of_other_descriptor, abstract_initialiser, constructor_with_result, contradictory_abstract_method, contradictory_constructor, concrete_method_of_interface, unknown_opcode, operand_of_left_out_type, left_out_array, float_constant, array_class_constant, method_of_array_class}
 use Rattle.model.specs.CodeConditions.{low_above_high, negative_count, cut_instruction, jump_off_boundary, unsorted_matches, local_above_max, too_few_locals, operand_of_wrong_kind, wrong_interface_count, wrong_interface_end, constructor_not_by_special, calls_initialiser, special_of_class_aside, new_of_array, too_many_dimensions, empty_range, range_off_boundary, handler_off_boundary}
 use Rattle.model.specs.Hierarchy.{in_cycle, extends_interface, extends_final, implements_class, interface_below_other, redeclares, final_redeclared, static_redeclared, instance_redeclared, redeclared_in_other_package, redeclared_as_private, catches_no_throwable}
@@ -43,7 +44,7 @@ of_methods file =
     ∷ []
 
 abbrev pub in_code : (List Entry → Instr → Bool) → FileTree → Bool
-in_code test file = any_instruction_in (test file.pool) file
+in_code test file = any_decoded_in (test file.pool) file
 
 abbrev pub of_operands : FileTree → List Named
 of_operands file =
@@ -56,13 +57,13 @@ of_operands file =
     ∷ []
 
 abbrev pub at_offset : (List ℕ → ℕ → Bool) → FileTree → Bool
-at_offset test file = any_code (λ m c. list_any (test c.code) (boundaries c.code)) file
+at_offset test file = any_code (λ m c. option_map_or (test c.code) (end_of_decoding c.code) false) file
 
 abbrev pub at_instruction : (CodeTree → ℕ → Instr → Bool) → FileTree → Bool
-at_instruction test file = any_code (λ m c. any_instruction (test c) c) file
+at_instruction test file = any_code (λ m c. any_decoded (test c) c) file
 
 abbrev pub in_exceptions : (CodeTree → ExceptionEntry → Bool) → FileTree → Bool
-in_exceptions test file = any_code (λ m c. list_any (test c) c.exceptions) file
+in_exceptions test file = any_code (λ m c. decodes c.code && list_any (test c) c.exceptions) file
 
 abbrev pub of_code : Program → FileTree → List Named
 of_code files file =
@@ -78,7 +79,7 @@ of_code files file =
     ∷ (codes "wrong_interface_end", in_code (λ pool i. wrong_interface_end i) file)
     ∷ (codes "constructor_not_by_special", in_code constructor_not_by_special file)
     ∷ (codes "calls_initialiser", in_code calls_initialiser file)
-    ∷ (codes "special_of_class_aside", any_instruction_in (special_of_class_aside files file) file)
+    ∷ (codes "special_of_class_aside", any_decoded_in (special_of_class_aside files file) file)
     ∷ (codes "new_of_array", in_code new_of_array file)
     ∷ (codes "too_many_dimensions", in_code too_many_dimensions file)
     ∷ (codes "empty_range", in_exceptions empty_range file)

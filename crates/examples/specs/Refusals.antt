@@ -32,6 +32,9 @@ pub record OutsideProfiles : Type 0 where
   -- lload_0, wide ret
   pub lload : Meets (doing (codes "1e b1")) (codes "unknown_opcode")
   pub wide_ret : Meets (doing (codes "c4 a9 0000 b1")) (codes "unknown_opcode")
+  -- ldc2_w, whose operand would be a tableswitch that is cut, and before it a goto into its operand
+  pub ldc2_w : Meets (doing (codes "14 00aa")) (codes "unknown_opcode")
+  pub goto_into : Meets (doing (codes "a70004 140013 b1")) (codes "unknown_opcode")
   -- checkcast long[], newarray float, ldc of a float, ldc int[].class
   pub long_array : Meets (doing (codes "01 c00012 57 b1")) (codes "operand_of_left_out_type")
   pub float_array : Meets (doing (codes "03 bc06 57 b1")) (codes "left_out_array")
@@ -51,6 +54,8 @@ pub record MalformedCodes : Type 0 where
   pub from_6_to_5 : Meets (doing (codes "aa000000 00000010 00000006 00000005 b1")) (codes "low_above_high")
   pub negative : Meets (doing (codes "ab000000 00000000 80000000 b1")) (codes "negative_count")
   pub cut : Meets (doing (codes "b1 10")) (codes "cut_instruction")
+  -- sipush at the end, whose operand would begin no instruction of the table
+  pub cut_sipush : Meets (doing (codes "11 ca")) (codes "cut_instruction")
   -- goto into itself, and before the code
   pub goto : Meets (doing (codes "a70001 b1")) (codes "jump_off_boundary")
   pub goto_before : Meets (doing (codes "a7ffff b1")) (codes "jump_off_boundary")

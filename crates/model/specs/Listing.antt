@@ -204,7 +204,7 @@ kind_word flags = if is_interface flags then codes "interface" else codes "class
 
 abbrev pub implements_words : List Entry → List ℕ → List ℕ
 implements_words pool [] = []
-implements_words pool (first ∷ interfaces) = codes " implements_words" ++ flat_map (λ i. operand (class_word pool i)) (first ∷ interfaces)
+implements_words pool (first ∷ interfaces) = codes " implements" ++ flat_map (λ i. operand (class_word pool i)) (first ∷ interfaces)
 
 abbrev pub class_line : FileTree → List ℕ
 class_line c = line (kind_word c.flags ++ (operand (class_word c.pool c.this_class) ++ (codes " extends" ++ (operand (class_word c.pool c.super_class) ++ implements_words c.pool c.interfaces))))

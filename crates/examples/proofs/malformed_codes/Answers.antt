@@ -16,6 +16,7 @@ returns c =
         from_6_to_5 = refl;
         negative = refl;
         cut = refl;
+        cut_sipush = refl;
         goto = refl;
         goto_before = refl;
         same_match = refl;
