@@ -19,7 +19,7 @@ use Rattle.model.specs.Opening.{class_reference}
 use Rattle.model.specs.Outcomes.{MachineException, NullPointer, IncompatibleClassChange, AbstractMethod, OutcomeOf, Raises, Calls, Returns}
 use Rattle.model.specs.Worlds.{object_at, class_of_object}
 use Rattle.model.specs.Frames.{frame_with, entered_by}
-use Rattle.model.specs.Sites.{MeaningOf, Site, picks_none, wants_of, to_next, nowhere, operand}
+use Rattle.model.specs.Sites.{Leads, MeaningOf, Site, picks_none, wants_of, to_next, nowhere, operand}
 use Rattle.model.specs.BuiltInMethods.{built_in_method, built_in_may, built_in_does}
 
 -- ---- operands and results, by the descriptor
@@ -84,7 +84,7 @@ may_invoke C files event world ops (Fails fault) = picks_none event world ops
 may_invoke C files event world ops (Runs method) = may_run C event world ops method (body_of files method)
 
 -- a call on a receiver: what it wants, where it leads, and which method is run by the receiver
-abbrev pub call_on : {A : Type 0} → Carrier A → Program → Site → Member → List Want → (Slots VerificationType → List VerificationType → List VerificationType → List (ℕ × Slots VerificationType)) → (WorldOf A → ℕ → Chosen) → MeaningOf A
+abbrev pub call_on : {A : Type 0} → Carrier A → Program → Site → Member → List Want → Leads → (WorldOf A → ℕ → Chosen) → MeaningOf A
 call_on C files site method receiver leads choose =
     record {
       looks = None;
@@ -96,7 +96,7 @@ call_on C files site method receiver leads choose =
           (of_receiver (C.referent (operand C ops (parameter_count method))) (choose world));
     }
 
-abbrev pub leads_after : Program → Site → Member → Slots VerificationType → List VerificationType → List VerificationType → List (ℕ × Slots VerificationType)
+abbrev pub leads_after : Program → Site → Member → Leads
 leads_after files site method = to_next site.next (result_types files method)
 
 -- a reference to an object of the class that an instruction names

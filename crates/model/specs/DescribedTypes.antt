@@ -103,7 +103,7 @@ component_of files (ClassType c) = NullType
 component_of files (PrimitiveArray of) = IntType
 component_of files (ReferenceArray of) = OfType (made_type files of)
 
--- what `aaload` gives of an array of this type; null of null (own)
+-- what `aaload` gives of an array of this type; null of null (JVMS 4.10.1.9, aaload)
 abbrev pub component_type : Program → VerificationType → VerificationType
 component_type files Unusable = NullType
 component_type files IntType = NullType
