@@ -1,0 +1,5 @@
+pub mod Pushing
+pub mod Growing
+pub mod Filling
+pub mod Reading
+pub mod Naming

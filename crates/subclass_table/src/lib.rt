@@ -1,0 +1,10 @@
+//! The table that says which classes of a program are below which, made once, so that a test of a type reads two numbers.
+#![tactic(auto)]
+
+mod columns;
+mod laws;
+mod rows;
+mod table;
+
+pub use laws::object_is_first;
+pub use table::subclasses;
