@@ -1,0 +1,8 @@
+//! Bursts as events of a thread: what the loop over linked code does, in the words of the definitions.
+#![tactic(auto)]
+
+mod burst;
+mod joining;
+
+pub use burst::thread_local_burst;
+pub use joining::events_join;
