@@ -5,3 +5,5 @@ pub mod Pairing
 pub mod InterfaceRows
 pub mod Fitting
 pub mod Tabling
+pub mod Rooting
+pub mod Layouts
