@@ -2,7 +2,7 @@
 #![tactic(auto)]
 
 mod burst;
-mod joining;
+mod theorems;
 
 pub use burst::thread_local_burst;
-pub use joining::events_join;
+pub use theorems::{events_join, steps_are_events};
