@@ -1,0 +1,4 @@
+pub mod Pushing
+pub mod Growing
+pub mod Filling
+pub mod Reading
