@@ -2,3 +2,4 @@ pub mod Pushing
 pub mod Growing
 pub mod Filling
 pub mod Reading
+pub mod Naming

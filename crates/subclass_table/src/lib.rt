@@ -2,7 +2,9 @@
 #![tactic(auto)]
 
 mod columns;
+mod laws;
 mod rows;
 mod table;
 
+pub use laws::object_is_first;
 pub use table::subclasses;
