@@ -30,8 +30,8 @@ fn add_constant(
     Ok(())
 }
 
-/// The constants of the class of a number, in the order of its fields. The slots of the class's static fields begin at `slot`.
-/// This alone takes memory.
+/// The constants of the class of a number, in the order of its fields. The slots of the class's static fields begin at
+/// `slot`. This alone takes memory.
 pub fn constants_of(
     alloc: Global,
     set: &ClassSet,

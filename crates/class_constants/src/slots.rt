@@ -41,8 +41,8 @@ fn slot_behind_all(slot: u32, fields: &[Field]) -> u32
     slot
 }
 
-/// The slot of the first static field behind the class of a number, where the class's own begin at a slot. Slots count from 0
-/// over all files; the static fields of built-in classes have none.
+/// The slot of the first static field behind the class of a number, where the class's own begin at a slot. Slots count
+/// from 0 over all files; the static fields of built-in classes have none.
 pub fn next_slot(set: &ClassSet, class: usize, file: &ClassFile, slot: u32) -> u32
     requires linked { IsLinked set.now }
     requires stands { class_at set.now class ≡ Some (file_of file.now) }

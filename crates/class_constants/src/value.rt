@@ -42,8 +42,8 @@ fn number_or_count(texts: &StringNumbers, class: usize, index: u16) -> usize
     }
 }
 
-/// The word of the String of an index in the constant pool of the class of a number. The Strings stand behind three other objects
-/// and the Class objects, and null is 0.
+/// The word of the String of an index in the constant pool of the class of a number. The Strings stand behind three
+/// other objects and the Class objects, and null is 0.
 fn string_word(
     set: &ClassSet,
     texts: &StringNumbers,

@@ -11,7 +11,8 @@ use class_constants::next_slot;
 use linked_code::LinkedClass;
 use std::alloc::{AllocError, Global};
 
-/// The classes of linked files, each with its selections, which are given in the order of the classes. This alone takes memory.
+/// The classes of linked files, each with its selections, which are given in the order of the classes. This alone takes
+/// memory.
 pub fn class_rows(
     alloc: Global,
     sources: &RowSources<'_>,

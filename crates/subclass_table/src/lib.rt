@@ -1,4 +1,5 @@
-//! The table that says which classes of a program are below which, made once, so that a test of a type reads two numbers.
+//! The table that says which classes of a program are below which, made once, so that a test of a type reads two
+//! numbers.
 #![tactic(auto)]
 
 mod columns;

@@ -1,8 +1,8 @@
 //! The whole table.
 
-ghost use Rattle.std.specs.Prelude.{◌≡◌, ◌<◌, ◌^◌, true, length, IfOk, ℕ};
+ghost use Rattle.std.specs.Prelude.{◌≡◌, ◌<◌, ◌^◌, true, is_some, length, IfOk, ℕ};
 ghost use Rattle.model.specs.Classes.{classes_of};
-ghost use Rattle.linked_code.specs.Subtypes.{AreSubclasses, HasColumn};
+ghost use Rattle.linked_code.specs.Subtypes.{AreSubclasses, HasColumn, column_of};
 ghost use Rattle.subclass_table.specs.Columns.{is_tested};
 
 use crate::columns::{columns_of, marks_of};
@@ -11,15 +11,16 @@ use hierarchy::Hierarchy;
 use linked_code::Subclasses;
 use std::alloc::{AllocError, Global};
 
-/// Which classes are below which of the tested ones; these are given by their numbers, in any order and as often as one likes.
-/// Each class is looked for among the superclasses and superinterfaces of each other one by its name, once. This alone takes
-/// memory: a bit for each class and each class that is tested.
+/// Which classes are below which of the tested ones; these are given by their numbers, in any order and as often as one
+/// likes. Each class is looked for among the superclasses and superinterfaces of each other one by its name, once. This
+/// alone takes memory: a bit for each class and each class that is tested.
 pub fn subclasses(
     alloc: Global,
     hierarchy: &Hierarchy,
     tested: &[u16],
 ) -> Result<Subclasses, AllocError>
     ensures right { IfOk result (AreSubclasses hierarchy.now) }
+    ensures columns { IfOk result (λ table. (class : ℕ) → class < length (classes_of hierarchy.now) → class < 2 ^ 16 → is_some (column_of table class) ≡ is_tested tested.now class) }
     ensures tested { IfOk result (λ table. (class : ℕ) → class < length (classes_of hierarchy.now) → class < 2 ^ 16 → is_tested tested.now class ≡ true → HasColumn table class) }
 {
     let count = hierarchy.set().count().min(0x1_0000);
