@@ -109,7 +109,10 @@ fn wrong_interface_row(rows: &[Vec<InterfaceSelection>]) -> Option<usize> {
 fn classes_have_rows(rt: HostRuntime) -> Result<(), Fail> {
     let found: TableAnswers = asked(rt.alloc(), &CLASSES, &NO_ROWS)?;
     assert_eq!(rt; wrong_row(&found.tables.selections), None);
-    assert_eq!(rt; wrong_interface_row(&found.tables.interface_selections), None);
+    assert_eq!(rt;
+        wrong_interface_row(&found.tables.interface_selections),
+        None
+    );
     assert!(rt; found.tables.targets.as_slice() == TARGETS.as_slice());
     assert_eq!(rt; found.tables.run_place, 1);
     Ok(())
