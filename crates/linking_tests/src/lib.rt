@@ -15,4 +15,6 @@ mod methods;
 #[cfg(test)]
 mod program;
 #[cfg(test)]
+mod selections;
+#[cfg(test)]
 mod superclasses;

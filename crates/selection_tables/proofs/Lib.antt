@@ -7,3 +7,4 @@ pub mod Fitting
 pub mod Tabling
 pub mod Rooting
 pub mod Layouts
+pub mod Answering

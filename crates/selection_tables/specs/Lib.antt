@@ -3,6 +3,7 @@ pub mod Chosen
 pub mod Called
 pub mod Layout
 pub mod Bounds
+pub mod Answers
 pub mod Made
 pub mod Tables
 pub mod Carried
