@@ -2,9 +2,9 @@
 
 use linked_code::LinkedInstruction;
 use linked_code::LinkedInstruction::{
-    Add, And, Bound, Const, ExclusiveOr, Goto, IfEqual, IfIntsGreater, IfIntsGreaterOrEqual,
-    Increment, Jump, Load, Multiply, Remainder, ReturnValue, Store, TableSwitch,
-    UnsignedShiftRight,
+    Add, And, Bound, Const, ExclusiveOr, GetField, Goto, IfEqual, IfIntsGreater,
+    IfIntsGreaterOrEqual, IfNotEqual, Increment, Jump, Load, LoadElement, Multiply, PutField,
+    Remainder, ReturnValue, Store, StoreInt, TableSwitch, UnsignedShiftRight,
 };
 
 /// Counts up to local variable 0.
@@ -105,31 +105,96 @@ static SWITCH: [LinkedInstruction; 27] = [
     ReturnValue,
 ];
 
-/// A method of one int.
+/// How many primes are below local variable 0, by an array of as many ints in local variable 1.
+static SIEVE: [LinkedInstruction; 32] = [
+    Const(0),
+    Store(4),
+    Const(2),
+    Store(2),
+    Load(2),
+    Load(0),
+    IfIntsGreaterOrEqual(30),
+    Load(1),
+    Load(2),
+    LoadElement,
+    IfNotEqual(28),
+    Increment { local: 4, by: 1 },
+    Load(2),
+    Load(2),
+    Add,
+    Store(3),
+    Load(3),
+    Load(0),
+    IfIntsGreaterOrEqual(28),
+    Load(1),
+    Load(3),
+    Const(1),
+    StoreInt,
+    Load(3),
+    Load(2),
+    Add,
+    Store(3),
+    Goto(16),
+    Increment { local: 2, by: 1 },
+    Goto(4),
+    Load(4),
+    ReturnValue,
+];
+
+/// Adds up the numbers below local variable 0, in a field of the object in local variable 1.
+static FIELD: [LinkedInstruction; 16] = [
+    Const(0),
+    Store(2),
+    Load(2),
+    Load(0),
+    IfIntsGreaterOrEqual(13),
+    Load(1),
+    Load(1),
+    GetField(0),
+    Load(2),
+    Add,
+    PutField(0),
+    Increment { local: 2, by: 1 },
+    Goto(2),
+    Load(1),
+    GetField(0),
+    ReturnValue,
+];
+
+/// What a method has in local variable 1.
+#[derive(Clone, Copy)]
+pub enum Argument {
+    Nothing,
+    /// An array of as many ints as local variable 0 says.
+    Ints,
+    /// An object with one field.
+    Object,
+}
+
+/// A method of an int, and of what it works on.
 #[derive(Clone, Copy)]
 pub struct Sample {
     pub name: &'static str,
     pub code: &'static [LinkedInstruction],
+    pub argument: Argument,
+}
+
+fn made(name: &'static str, code: &'static [LinkedInstruction], argument: Argument) -> Sample {
+    Sample {
+        name,
+        code,
+        argument,
+    }
 }
 
 /// All of them.
-pub fn samples() -> [Sample; 4] {
+pub fn samples() -> [Sample; 6] {
     [
-        Sample {
-            name: "count",
-            code: &COUNT,
-        },
-        Sample {
-            name: "mix",
-            code: &MIX,
-        },
-        Sample {
-            name: "primes",
-            code: &PRIMES,
-        },
-        Sample {
-            name: "switch",
-            code: &SWITCH,
-        },
+        made("count", &COUNT, Argument::Nothing),
+        made("mix", &MIX, Argument::Nothing),
+        made("primes", &PRIMES, Argument::Nothing),
+        made("switch", &SWITCH, Argument::Nothing),
+        made("sieve", &SIEVE, Argument::Ints),
+        made("field", &FIELD, Argument::Object),
     ]
 }
