@@ -1,5 +1,5 @@
 -- The line that tells a refusal (own).
-use Rattle.std.specs.Prelude.{ℕ, List, [], ◌++◌, Option, Some, None, String, codes, string_bytes}
+use Rattle.std.specs.Prelude.{ℕ, List, [], ◌++◌, Option, Some, None, Vec, codes}
 use Rattle.std.specs.declared.alloc.Global.{Global}
 use Rattle.model.specs.Report.{number}
 use Rattle.reading.specs.Names.{cause_name}
@@ -25,9 +25,10 @@ abbrev pub numbered : List ℕ → Option ℕ → List ℕ
 numbered word None = []
 numbered word (Some n) = word ++ number n
 
-abbrev pub method_words : Option (String Global) → List ℕ
+-- the bytes of a method's name and descriptor, as they stand in the class file
+abbrev pub method_words : Option (Vec ℕ Global) → List ℕ
 method_words None = []
-method_words (Some method) = codes " method " ++ string_bytes method
+method_words (Some method) = codes " method " ++ method.items
 
 abbrev pub cause_words : Option Cause → List ℕ
 cause_words None = []

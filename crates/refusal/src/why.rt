@@ -1,11 +1,14 @@
 //! Why class files are refused.
 
-ghost use Rattle.std.specs.Prelude.{◌≡◌, Some, None};
+ghost use Rattle.std.specs.Prelude.{◌≡◌, Some, None, OnOk};
+ghost use Rattle.std.specs.Io.KnownBytes.{Appends};
+ghost use Rattle.refusal.specs.Lines.{cause_words, method_words, numbered, refusal_line};
 ghost use Rattle.refusal.specs.declared.why.RefusalKind.TheVariants as kinds;
 
 use reading::Cause;
 use std::alloc::{AllocError, AllocFailed};
-use std::fmt;
+use std::io::Write;
+use std::{fmt, io};
 
 /// What is wrong with class files. Its number is that of its place, counted from 1.
 #[derive(Clone, Copy, Debug, PartialEq, Eq)]
@@ -51,14 +54,14 @@ impl fmt::Display for RefusalKind {
     }
 }
 
-/// Why class files are refused, and where: the number of the file, counted from 0, the name and the descriptor of
-/// the method, and an offset, which counts from the start of the code where a method is named, else from that of the
-/// file. Only what is malformed has a cause.
+/// Why class files are refused, and where: the number of the file, counted from 0; the name of the method with its
+/// descriptor behind it, as the bytes that the class file has; and an offset, which counts from the start of the code
+/// where a method is named, else from that of the file. Only what is malformed has a cause.
 #[derive(Debug, Drop, PartialEq, Eq)]
 pub struct Refusal {
     pub kind: RefusalKind,
     pub file: Option<usize>,
-    pub method: Option<String>,
+    pub method: Option<Vec<u8>>,
     pub offset: Option<usize>,
     pub cause: Option<Cause>,
 }
@@ -99,7 +102,7 @@ impl Refusal {
     pub fn of_method(
         kind: RefusalKind,
         file: usize,
-        method: Option<String>,
+        method: Option<Vec<u8>>,
         offset: Option<usize>,
     ) -> Refusal
         ensures kind { result.kind ≡ kind }
@@ -133,35 +136,51 @@ impl Refusal {
             cause: Some(cause),
         }
     }
-}
 
-/// The line that tells it, without its end.
-impl fmt::Display for Refusal {
-    ghost use Rattle.std.specs.Prelude.{Some};
-    ghost use Rattle.refusal.specs.Lines.{refusal_line};
-
-    ghost output = { λ refusal. Some (refusal_line refusal) };
-
-    fn fmt<W: fmt::Write>(&self, f: &mut fmt::Formatter<W>) -> fmt::Result {
+    /// Writes the line that tells it, without its end. The name of a method stands in it byte by byte, so the line may be
+    /// no UTF-8.
+    pub fn write_line<W: Write>(&self, to: &mut W) -> io::Result<()>
+        ensures { OnOk result (Appends (W.contents to.old) (W.contents to.new) (refusal_line self.now)) }
+    {
         let kind = self.kind;
-        write!(f, "refused {kind}")?;
-        if let Some(file) = self.file {
-            write!(f, " file {file}")?;
+        write!(to, "refused {kind}")?;
+        write_number(to, " file ", self.file)?;
+        self.write_method(to)?;
+        write_number(to, " offset ", self.offset)?;
+        self.write_cause(to)
+    }
+
+    /// Writes the method, where one is known.
+    fn write_method<W: Write>(&self, to: &mut W) -> io::Result<()>
+        ensures { OnOk result (Appends (W.contents to.old) (W.contents to.new) (method_words self.now.method)) }
+    {
+        let Some(method) = &self.method else {
+            return Ok(());
+        };
+        to.write_all(b" method ")?;
+        to.write_all(method)
+    }
+
+    /// Writes the cause, where there is one.
+    fn write_cause<W: Write>(&self, to: &mut W) -> io::Result<()>
+        ensures { OnOk result (Appends (W.contents to.old) (W.contents to.new) (cause_words self.now.cause)) }
+    {
+        match self.cause {
+            Some(cause) => write!(to, " {cause}"),
+            None => Ok(()),
         }
-        if let Some(method) = &self.method {
-            write!(f, " method {method}")?;
-        }
-        if let Some(offset) = self.offset {
-            write!(f, " offset {offset}")?;
-        }
-        if let Some(cause) = self.cause {
-            write!(f, " {cause}")?;
-        }
-        Ok(())
     }
 }
 
-impl std::error::Error for Refusal {}
+/// Writes a number behind a word, where there is one.
+fn write_number<W: Write>(to: &mut W, word: &str, number: Option<usize>) -> io::Result<()>
+    ensures { OnOk result (Appends (W.contents to.old) (W.contents to.new) (numbered word.now number)) }
+{
+    match number {
+        Some(number) => write!(to, "{word}{number}"),
+        None => Ok(()),
+    }
+}
 
 impl From<AllocError> for Refusal {
     ghost from_gives = { λ _ refusal. refusal.kind ≡ kinds.OutOfMemory };
