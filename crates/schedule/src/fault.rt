@@ -4,30 +4,44 @@ ghost use Rattle.std.specs.Prelude.{◌≡◌};
 ghost use Rattle.schedule.specs.declared.fault.ScheduleFault.TheVariants.{OutOfMemory};
 
 use std::alloc::{AllocError, AllocFailed};
-use thiserror::Error;
+use std::fmt;
 
-/// What is wrong with a schedule file, or that there was no memory for what it holds. It is displayed by its
-/// name.
-#[derive(Clone, Copy, Debug, PartialEq, Eq, Error)]
+/// What is wrong with a schedule file, or that there was no memory for what it holds.
+#[derive(Clone, Copy, Debug, PartialEq, Eq)]
 pub enum ScheduleFault {
     /// The bytes end within a field.
-    #[error("Truncated")]
     Truncated,
     /// The first four bytes aren't `JSCH`.
-    #[error("Magic")]
     Magic,
     /// The version is another than 1.
-    #[error("Version")]
     Version,
     /// An entry stands for no event, or for several equal events with a pick that isn't 0.
-    #[error("Repeat")]
     Repeat,
     /// Bytes follow the last entry.
-    #[error("Trailing")]
     Trailing,
-    #[error("OutOfMemory")]
     OutOfMemory,
 }
+
+/// The name of the fault, as `Truncated`.
+impl fmt::Display for ScheduleFault {
+    ghost use Rattle.std.specs.Prelude.{Some};
+    ghost use Rattle.schedule.specs.Names.{fault_name};
+
+    ghost output = { λ fault. Some (fault_name fault) };
+
+    fn fmt<W: fmt::Write>(&self, f: &mut fmt::Formatter<W>) -> fmt::Result {
+        match self {
+            ScheduleFault::Truncated => f.write_str("Truncated"),
+            ScheduleFault::Magic => f.write_str("Magic"),
+            ScheduleFault::Version => f.write_str("Version"),
+            ScheduleFault::Repeat => f.write_str("Repeat"),
+            ScheduleFault::Trailing => f.write_str("Trailing"),
+            ScheduleFault::OutOfMemory => f.write_str("OutOfMemory"),
+        }
+    }
+}
+
+impl std::error::Error for ScheduleFault {}
 
 impl From<AllocError> for ScheduleFault {
     ghost from_gives = { λ _ e. e ≡ OutOfMemory };
