@@ -110,7 +110,7 @@ fn say_of_class(
     files: &[GivenFile<'_>],
     class: &ClassFile,
 ) -> Result<(), AllocError> {
-    let method = refusal.method.as_ref().map(|method| method.as_bytes());
+    let method = refusal.method.as_deref();
     match refusal.kind {
         RefusalKind::OutsideProfile => say_outside(line, alloc, class, method, refusal.offset),
         RefusalKind::DuplicateClass => {

@@ -1,7 +1,6 @@
 -- What linking answers.
 use Rattle.std.specs.Prelude.{◌≡◌, ◌⊎◌, ℕ, List, ◌++◌, Option, Some, None, Bool, true, false, take, slice_get, option_map}
 use Rattle.std.specs.Option.{option_and_then, option_map_or}
-use Rattle.std.specs.Str.Lossy.{utf8_lossy}
 use Rattle.model.specs.Tree.{MethodTree, FileTree}
 use Rattle.model.specs.Spells.{Spells}
 use Rattle.model.specs.Conditions.{text_at}
@@ -143,4 +142,4 @@ WalkRefuses trees tree number kind file cause =
 
 -- its name, and its descriptor behind that
 abbrev pub method_text : FileTree → ℕ → Option (List ℕ)
-method_text file k = option_map (λ (m : MethodTree). utf8_lossy (text_at file.pool m.name ++ text_at file.pool m.descriptor)) (slice_get file.methods k)
+method_text file k = option_map (λ (m : MethodTree). text_at file.pool m.name ++ text_at file.pool m.descriptor) (slice_get file.methods k)

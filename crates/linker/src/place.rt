@@ -1,8 +1,6 @@
 //! How a refusal names a place in a class file.
 
-ghost use Rattle.std.specs.Prelude.{◌≡◌, ◌+◌, ◌^◌, ◌<◌, ◌++◌, length, IfOk, option_map, slice_get};
-ghost use Rattle.std.specs.String.{string_bytes};
-ghost use Rattle.std.specs.Str.Lossy.{utf8_lossy};
+ghost use Rattle.std.specs.Prelude.{◌≡◌, ◌+◌, ◌^◌, ◌<◌, ◌++◌, length, IfOk, option_map, slice_get, vec_items};
 ghost use Rattle.model.specs.Conditions.{text_at};
 ghost use Rattle.model.specs.Classes.{name_of};
 ghost use Rattle.classfile.specs.View.{file_of};
@@ -41,22 +39,21 @@ pub(crate) fn class_name(file: &ClassFile) -> &[u8]
 }
 
 /// The name of a method with its descriptor behind it.
-fn text_of(alloc: Global, file: &ClassFile, method: &Method) -> Result<String, AllocError>
-    ensures { IfOk result (λ t. string_bytes t ≡ utf8_lossy (text_at file.now.pool method.now.name ++ text_at file.now.pool method.now.descriptor)) }
+fn text_of(alloc: Global, file: &ClassFile, method: &Method) -> Result<Vec<u8>, AllocError>
+    ensures { IfOk result (λ t. t.items ≡ text_at file.now.pool method.now.name ++ text_at file.now.pool method.now.descriptor) }
 {
     let mut text = Vec::from_slice(alloc, file.pool.text(method.name))?;
     text.extend_from_slice(file.pool.text(method.descriptor))?;
-    String::from_utf8_lossy(alloc, &text)
+    Ok(text)
 }
 
-/// The name of the method of an index with its descriptor behind it, where the class has such a method. What is no UTF-8
-/// stands as U+FFFD.
+/// The name of the method of an index with its descriptor behind it, where the class has such a method.
 pub(crate) fn method_text(
     alloc: Global,
     file: &ClassFile,
     method: usize,
-) -> Result<Option<String>, AllocError>
-    ensures { IfOk result (λ t. option_map (λ (s : _). string_bytes s) t ≡ method_text (file_of file.now) method) }
+) -> Result<Option<Vec<u8>>, AllocError>
+    ensures { IfOk result (λ t. option_map vec_items t ≡ method_text (file_of file.now) method) }
 {
     match file.methods.get(method) {
         Some(method) => Ok(Some(text_of(alloc, file, method)?)),

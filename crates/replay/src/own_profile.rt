@@ -2,8 +2,6 @@
 
 ghost use Rattle.std.specs.Prelude.{◌≡◌, ◌⊎◌, ◌++◌, Some, false, true, not, map, option_map, OnOk, IfOk, IfErr, codes};
 ghost use Rattle.std.specs.List.{list_any};
-ghost use Rattle.std.specs.String.{string_bytes};
-ghost use Rattle.std.specs.Str.Lossy.{utf8_lossy};
 ghost use Rattle.model.specs.Names.{spells};
 ghost use Rattle.model.specs.Conditions.{text_at};
 ghost use Rattle.model.specs.Classes.{code_in};
@@ -59,13 +57,13 @@ pub(crate) fn is_main(file: &ClassFile, method: &Method) -> bool
         && is_spelled(file.utf8(method.descriptor), b"([Ljava/lang/String;)V")
 }
 
-/// The name of a method with its descriptor behind it. What is no UTF-8 stands as U+FFFD.
-fn text_of(alloc: Global, file: &ClassFile, method: &Method) -> Result<String, AllocError>
-    ensures { IfOk result (λ t. string_bytes t ≡ utf8_lossy (text_at file.now.pool method.now.name ++ text_at file.now.pool method.now.descriptor)) }
+/// The name of a method with its descriptor behind it.
+fn text_of(alloc: Global, file: &ClassFile, method: &Method) -> Result<Vec<u8>, AllocError>
+    ensures { IfOk result (λ t. t.items ≡ text_at file.now.pool method.now.name ++ text_at file.now.pool method.now.descriptor) }
 {
     let mut text = Vec::from_slice(alloc, file.pool.text(method.name))?;
     text.extend_from_slice(file.pool.text(method.descriptor))?;
-    String::from_utf8_lossy(alloc, &text)
+    Ok(text)
 }
 
 /// A method, or an instruction of it at an offset, is outside of what is taken.

@@ -1,8 +1,6 @@
 -- Methods by their places: the place of their class in a program, and their own among the methods of the class. And what a
 -- refusal says of such a method.
-use Rattle.std.specs.Prelude.{◌≡◌, ◌⊎◌, ℕ, ◌-◌, ◌++◌, nat_lt, if◌then◌else◌, length, Option, Some, None, option_map}
-use Rattle.std.specs.String.{string_bytes}
-use Rattle.std.specs.Str.Lossy.{utf8_lossy}
+use Rattle.std.specs.Prelude.{◌≡◌, ◌⊎◌, ℕ, ◌-◌, ◌++◌, nat_lt, if◌then◌else◌, length, Option, Some, None, option_map, vec_items}
 use Rattle.model.specs.Names.{Member}
 use Rattle.model.specs.BuiltIn.{built_in_classes}
 use Rattle.model.specs.Classes.{Program, Body}
@@ -32,7 +30,7 @@ file_number class = if nat_lt class (length built_in_classes) then None else Som
 pub record IsRefusalOf (class : ℕ) (member : Member) (refusal : Refusal) : Type 0 where
   pub kind : refusal.kind ≡ kinds.Unverified
   pub file : refusal.file ≡ file_number class
-  pub method : option_map (λ text. string_bytes text) refusal.method ≡ Some (utf8_lossy (member.name ++ member.descriptor))
+  pub method : option_map vec_items refusal.method ≡ Some (member.name ++ member.descriptor)
 
 -- a method with code has no typing, and the refusal is of it
 pub record IsUnverified (files : Program) (refusal : Refusal) : Type 0 where

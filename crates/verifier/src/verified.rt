@@ -1,8 +1,6 @@
 //! Linked classes that are verified.
 
 ghost use Rattle.std.specs.Prelude.{◌≡◌, ◌⊎◌, ◌++◌, OnOk, IfOk, IfErr};
-ghost use Rattle.std.specs.String.{string_bytes};
-ghost use Rattle.std.specs.Str.Lossy.{utf8_lossy};
 ghost use Rattle.model.specs.Typing.{AreTyped};
 ghost use Rattle.method_code.specs.Linked.{IsLinked};
 ghost use Rattle.method_code.specs.View.{member_of};
@@ -59,13 +57,13 @@ fn file_number(class: usize) -> Option<usize>
     Some(class - BUILT_IN)
 }
 
-/// The name of a method with its descriptor behind it. What is no UTF-8 stands as U+FFFD.
-fn text_of(alloc: Global, method: &MethodCode<'_>) -> Result<String, AllocError>
-    ensures { IfOk result (λ t. string_bytes t ≡ utf8_lossy ((member_of method.now).name ++ (member_of method.now).descriptor)) }
+/// The name of a method with its descriptor behind it.
+fn text_of(alloc: Global, method: &MethodCode<'_>) -> Result<Vec<u8>, AllocError>
+    ensures { IfOk result (λ t. t.items ≡ (member_of method.now).name ++ (member_of method.now).descriptor) }
 {
     let mut text = Vec::from_slice(alloc, method.name())?;
     text.extend_from_slice(method.descriptor())?;
-    String::from_utf8_lossy(alloc, &text)
+    Ok(text)
 }
 
 /// The refusal of a method of the class at a place, for what is found at an offset of its code.
