@@ -1,3 +1,4 @@
+pub mod Complaints
 pub mod Devices
 pub mod Engines
 pub mod Listings

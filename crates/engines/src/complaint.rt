@@ -1,13 +1,15 @@
 //! What is said where the words of a command line have no status.
 
-ghost use Rattle.std.specs.Prelude.{◌≡◌};
+ghost use Rattle.std.specs.Prelude.{◌≡◌, OnOk};
+ghost use Rattle.engines.specs.Complaints.{Tells};
 ghost use Rattle.engines.specs.declared.complaint.Complaint.TheVariants as complaints;
 
 use crate::fault::Fault;
 use command_line::Usage;
-use std::fmt;
+use std::io;
+use std::io::Write;
 
-/// Why words have no status. What it shows is the text for the standard error, with each line ended.
+/// Why words have no status.
 #[derive(Debug, Drop)]
 pub enum Complaint {
     /// The words are no command.
@@ -16,11 +18,18 @@ pub enum Complaint {
     Fault(Fault),
 }
 
-impl fmt::Display for Complaint {
-    fn fmt<W: fmt::Write>(&self, f: &mut fmt::Formatter<W>) -> fmt::Result {
+impl Complaint {
+    /// Writes the text for the standard error, with each line ended. The names of class files stand in it byte by byte, so
+    /// it may be no UTF-8.
+    pub fn write_text<W: Write>(&self, to: &mut W) -> io::Result<()>
+        ensures { OnOk result (Tells self.now (W.contents to.old) (W.contents to.new)) }
+    {
         match self {
-            Complaint::Usage(usage) => usage.fmt(f),
-            Complaint::Fault(fault) => writeln!(f, "{fault}"),
+            Complaint::Usage(usage) => write!(to, "{usage}"),
+            Complaint::Fault(fault) => {
+                fault.write_line(to)?;
+                to.write_all(b"\n")
+            }
         }
     }
 }

@@ -1,29 +1,42 @@
 //! What keeps the program from a report.
 
-ghost use Rattle.std.specs.Prelude.{◌≡◌};
+ghost use Rattle.std.specs.Prelude.{◌≡◌, OnOk};
+ghost use Rattle.std.specs.Io.KnownBytes.{Appends};
 ghost use Rattle.engines.specs.declared.fault.Fault.TheVariants.{Memory, Refusal, Schedule};
 ghost use Rattle.engines.specs.Devices.{fault_of};
+ghost use Rattle.engines.specs.Complaints.{fault_line};
 
 use model::DeviceFault;
 use schedule::ScheduleFault;
 use std::alloc::{AllocError, AllocFailed};
-use thiserror::Error;
+use std::io;
+use std::io::Write;
 
-/// Why an engine has no status. What it shows is the line for the standard error.
-#[derive(Debug, Drop, Error)]
+/// Why an engine has no status.
+#[derive(Debug, Drop)]
 pub enum Fault {
     /// A reader or a writer failed.
-    #[error("device")]
     Device,
     /// Memory was wanted where nothing is read, linked or verified.
-    #[error("run refused Memory")]
     Memory,
     /// The class files are refused.
-    #[error("{0}")]
     Refusal(refusal::Refusal),
     /// The schedule file is refused.
-    #[error("schedule refused {0}")]
     Schedule(ScheduleFault),
+}
+
+impl Fault {
+    /// Writes the line for the standard error, without its end.
+    pub fn write_line<W: Write>(&self, to: &mut W) -> io::Result<()>
+        ensures { OnOk result (Appends (W.contents to.old) (W.contents to.new) (fault_line self.now)) }
+    {
+        match self {
+            Fault::Device => to.write_all(b"device"),
+            Fault::Memory => to.write_all(b"run refused Memory"),
+            Fault::Refusal(refusal) => refusal.write_line(to),
+            Fault::Schedule(fault) => write!(to, "schedule refused {fault}"),
+        }
+    }
 }
 
 impl From<refusal::Refusal> for Fault {

@@ -4,7 +4,7 @@
 
 use anyhow::{Context, Result};
 use linker::link;
-use std::{env, fs};
+use std::{env, fs, io};
 
 /// The bytes of the files that a line names.
 fn files_of(rt: &HostRuntime, line: &str) -> Result<Vec<Vec<u8>>> {
@@ -20,7 +20,10 @@ fn tell(rt: &HostRuntime, line: &str) -> Result<()> {
     let files = files_of(rt, line)?;
     match link(rt.alloc(), &files) {
         Ok(linked) => println!(rt; "linked {}", linked.file_count())?,
-        Err(refusal) => println!(rt; "{refusal}")?,
+        Err(refusal) => {
+            refusal.write_line(&mut io::writer(rt))?;
+            println!(rt; "")?;
+        }
     }
     Ok(())
 }

@@ -10,7 +10,7 @@ use refusal::Refusal;
 use std::alloc::Global;
 use std::io::Read;
 use std::time::Instant;
-use std::{env, fs};
+use std::{env, fs, io};
 use verifier::verify;
 
 /// How many bytes of code a method has.
@@ -57,7 +57,8 @@ fn main(rt: HostRuntime) -> Result<()> {
     let linked = match link(rt.alloc(), files.as_slice()) {
         Ok(linked) => linked,
         Err(refusal) => {
-            println!(rt; "{refusal}")?;
+            refusal.write_line(&mut io::writer(&rt))?;
+            println!(rt; "")?;
             return Ok(());
         }
     };
@@ -68,7 +69,11 @@ fn main(rt: HostRuntime) -> Result<()> {
     let elapsed = start?.elapsed(&rt)?;
     match refusal {
         None => println!(rt; "{bytes} bytes of code verified")?,
-        Some(refusal) => println!(rt; "{bytes} bytes of code {refusal}")?,
+        Some(refusal) => {
+            print!(rt; "{bytes} bytes of code ")?;
+            refusal.write_line(&mut io::writer(&rt))?;
+            println!(rt; "")?;
+        }
     }
     eprintln!(rt; "{} microseconds", elapsed.as_micros())?;
     Ok(())

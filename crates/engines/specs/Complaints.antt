@@ -1,0 +1,22 @@
+-- What is told on standard error (own).
+use Rattle.std.specs.Prelude.{ℕ, List, ◌++◌, Option, codes}
+use Rattle.std.specs.Io.KnownBytes.{Appends}
+use Rattle.model.specs.Report.{line}
+use Rattle.refusal.specs.Lines.{refusal_line}
+use Rattle.schedule.specs.Names.{fault_name}
+use Rattle.engines.specs.declared.complaint.Complaint.{Complaint}
+use Rattle.engines.specs.declared.complaint.Complaint.TheVariants as complaints
+use Rattle.engines.specs.declared.fault.Fault.{Fault}
+use Rattle.engines.specs.declared.fault.Fault.TheVariants as faults
+
+-- the line that tells a fault, without its end
+abbrev pub fault_line : Fault → List ℕ
+fault_line faults.Device = codes "device"
+fault_line faults.Memory = codes "run refused Memory"
+fault_line (faults.Refusal refusal) = refusal_line refusal
+fault_line (faults.Schedule fault) = codes "schedule refused " ++ fault_name fault
+
+-- A fault is told by its line. Of usage faults the parser has the text, and nothing is known of it.
+abbrev pub Tells : Complaint → Option (List ℕ) → Option (List ℕ) → Type 0
+Tells (complaints.Usage usage) old new = Unit {0}
+Tells (complaints.Fault fault) old new = Appends old new (line (fault_line fault))
