@@ -44,12 +44,16 @@ fn done(rt: &HostRuntime, words: &[String]) -> Status {
 
 /// The status where the words can't be had: they aren't text, or there is no memory for them.
 fn without_words(rt: &HostRuntime, error: &io::Error) -> Status {
-    if error.kind() == ErrorKind::OutOfMemory {
-        told(rt, Err(Complaint::Fault(Fault::Memory)), None)
-    } else {
-        let _ = rt.eprintln(error);
-        Status::Unusable
+    match error.kind() {
+        ErrorKind::OutOfMemory => return told(rt, Err(Complaint::Fault(Fault::Memory)), None),
+        ErrorKind::InvalidData => {
+            let _ = rt.eprintln("error: a word of the command line is no UTF-8");
+        }
+        _ => {
+            let _ = rt.eprintln(error);
+        }
     }
+    Status::Unusable
 }
 
 /// The status, after a complaint has been told, with the second line that there may be.
@@ -61,7 +65,7 @@ fn told(rt: &HostRuntime, outcome: Result<Status, Complaint>, second: Option<Vec
         Err(complaint) => {
             let status = Status::of_complaint(&complaint);
             // Where the standard error fails, the status alone tells the complaint.
-            let _ = rt.eprint(complaint);
+            let _ = complaint.write_text(&mut rt.stderr());
             if let Some(line) = second {
                 let _ = Write::write_all(&mut rt.stderr(), &line);
             }
