@@ -38,7 +38,7 @@ fn write_outcome<F: Folder, W: Write>(
     let status = match outcome {
         Ok(status) => status,
         Err(complaint) => {
-            write!(to, "{complaint}")?;
+            complaint.write_text(to)?;
             if let Some(line) = second_line(
                 alloc,
                 folder,
