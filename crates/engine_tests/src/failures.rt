@@ -181,11 +181,15 @@ const ORDERS: [Order; 6] = [
 fn tells_what_comes_first(rt: HostRuntime) -> Result<(), Fail> {
     for order in &ORDERS {
         let (answer, written) = outcome(rt.alloc(), order.words, order.failing, 0)?;
-        let told = match answer {
-            Ok(_) => String::new(rt.alloc()),
-            Err(complaint) => complaint.to_string(rt.alloc())?,
-        };
-        assert!(rt; told.as_str() == order.told && written.is_empty(), "{told}");
+        let mut told = Vec::new(rt.alloc());
+        if let Err(complaint) = answer {
+            complaint.write_text(&mut told)?;
+        }
+        assert!(rt;
+            told.as_slice() == order.told.as_bytes() && written.is_empty(),
+            "{}",
+            order.told
+        );
     }
     Ok(())
 }

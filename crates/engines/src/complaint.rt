@@ -19,8 +19,8 @@ pub enum Complaint {
 }
 
 impl Complaint {
-    /// Writes the text for the standard error, with each line ended. The names of class files stand in it byte by byte, so
-    /// it may be no UTF-8.
+    /// Writes the text for the standard error, with each line ended. The names of class files stand in it byte by byte,
+    /// so it may be no UTF-8.
     pub fn write_text<W: Write>(&self, to: &mut W) -> io::Result<()>
         ensures { OnOk result (Tells self.now (W.contents to.old) (W.contents to.new)) }
     {

@@ -137,8 +137,8 @@ impl Refusal {
         }
     }
 
-    /// Writes the line that tells it, without its end. The name of a method stands in it byte by byte, so the line may be
-    /// no UTF-8.
+    /// Writes the line that tells it, without its end. The name of a method stands in it byte by byte, so the line may
+    /// be no UTF-8.
     pub fn write_line<W: Write>(&self, to: &mut W) -> io::Result<()>
         ensures { OnOk result (Appends (W.contents to.old) (W.contents to.new) (refusal_line self.now)) }
     {
