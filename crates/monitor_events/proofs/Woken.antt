@@ -45,8 +45,8 @@ woken_to object cause waiters pick old new past done = rw (take_all pick waiters
 pub no_member : {P : Type 0} (waiters : List Waiter) (pick : ℕ) → pick < length waiters → slice_get waiters pick ≡ None → P
 no_member waiters pick within none = by (sym (slice_get-get_or waiters pick (record { thread = 0; count = 0 }) within) ∙ none)
   where
-  by : {P : Type 0} {waiter : Waiter} → Some waiter ≡ None → P
-  by e = absurd cc
+    by : {P : Type 0} {waiter : Waiter} → Some waiter ≡ None → P
+    by e = absurd cc
 
 -- all are woken, and the monitors are others
 pub woken_over : (object : ℕ) (cause : WakeCause) (world : WorldOf ℕ) (after : List Monitor) (old new : Heap) (from to : ThreadTable)

@@ -2,7 +2,7 @@
 use Rattle.std.specs.Prelude.{◌≡◌, ℕ, Bool, true, false, Result, Ok, Err}
 use Rattle.model.specs.State.{WorldOf, Waiter, WakeCause, Running}
 use Rattle.model.specs.Monitors as monitors
-use Rattle.model.specs.Worlds.{is_done, is_owner, may_enter, with_entry, with_exit, with_monitors, with_status, woken, all_woken}
+use Rattle.model.specs.Worlds.{is_done, is_owner, may_enter, with_entry, with_monitors, with_status, woken, all_woken}
 use Rattle.model.specs.BuiltInMethods.{waiting}
 use Rattle.monitor.specs.declared.call.Call.TheVariants as calls
 use Rattle.monitor.specs.declared.refusal.Refusal.{Refusal}

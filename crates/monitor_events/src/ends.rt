@@ -20,8 +20,8 @@ fn set_ended(threads: &mut Threads, thread: u16)
     threads.set_status(thread, ThreadStatus::Ended(pending));
 }
 
-/// The end of a thread, by an exception that is pending or without: all that wait on its Thread object are woken, as
-/// those that join it by a loop of waits are, and what it owns stays owned. It takes no memory.
+/// The end of a thread, by an exception that is pending or without: all that wait on its Thread object are woken,
+/// and what it owns stays owned. A thread that joins it may go on from here, since it isn't alive any more. It takes no memory.
 ///
 /// That the Thread object is there follows from the table of threads of a well-typed state (`references_have_room` of
 /// `limits_at_words`).

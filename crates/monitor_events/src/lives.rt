@@ -1,10 +1,11 @@
 //! The start of threads, and their interruption.
 
 ghost use Rattle.std.specs.Prelude.{◌≡◌, ◌<◌, length};
-ghost use Rattle.model.specs.Worlds.{with_interrupted, thread_at};
+ghost use Rattle.model.specs.Worlds.{with_interrupted, thread_at, has_ended};
 ghost use Rattle.model.specs.BuiltInMethods.{interrupted_in};
 ghost use Rattle.monitor_events.specs.Tables.{ThreadsBecome, BothBecome, IsStatusWithin};
-ghost use Rattle.monitor_events.specs.Lives.{SaysStarted, StartsBy};
+ghost use Rattle.monitor_events.specs.Lives.{SaysStarted, SaysAlive, StartsBy};
+ghost use Rattle.java_threads.specs.Statuses.{status_of};
 ghost use Rattle.java_threads.specs.Table.{thread_at as row_at};
 
 use heap::Heap;
@@ -66,5 +67,26 @@ pub fn interrupt(heap: &mut Heap, threads: &mut Threads, thread: u16)
             );
         }
         ThreadStatus::Ended(_) => {}
+    }
+}
+
+/// Whether a status is that of a thread that has ended.
+fn is_ended(status: ThreadStatus) -> bool
+    ensures { result ≡ has_ended (status_of status) }
+{
+    match status {
+        ThreadStatus::Running | ThreadStatus::Waiting { .. } | ThreadStatus::Relock { .. } => false,
+        ThreadStatus::Ended(_) => true,
+    }
+}
+
+/// Whether a thread of a Thread object was started and has not ended: until then one that joins it waits.
+#[tactic(auto, using(crate::proofs::Alive::some_alive, crate::proofs::Alive::none_alive))]
+pub fn is_alive(threads: &Threads, object: u32) -> bool
+    ensures { SaysAlive result object threads.now }
+{
+    match threads.number(object) {
+        Some(thread) => !is_ended(threads.status(thread)),
+        None => false,
     }
 }

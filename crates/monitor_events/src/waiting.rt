@@ -59,13 +59,7 @@ pub fn notify(heap: &mut Heap, threads: &mut Threads, object: u32, thread: u16, 
 ///
 /// That the call is allowed for each thread to which a status gives that object and count is `relocks_may_be_called` of
 /// `limits_at_words`.
-pub fn relock(
-    heap: &mut Heap,
-    threads: &mut Threads,
-    object: u32,
-    thread: u16,
-    count: u32,
-) -> bool
+pub fn relock(heap: &mut Heap, threads: &mut Threads, object: u32, thread: u16, count: u32) -> bool
     requires { IsAllowed (Call.Relock object thread count) heap.old.locks }
     ensures { Relocks result object thread count heap.old heap.new threads.old threads.new }
 {

@@ -1,4 +1,4 @@
-use Rattle.std.proofs.Common.{◌≡◌, slice_get}
+use Rattle.std.proofs.Common.{slice_get}
 use Rattle.model.specs.Monitors as monitors
 use Rattle.model.specs.Monitors.{monitor_at}
 use Rattle.monitor_events.proofs.Woken.{one_over}

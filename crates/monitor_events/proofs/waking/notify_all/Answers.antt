@@ -1,4 +1,3 @@
-use Rattle.std.proofs.Common.{◌≡◌}
 use Rattle.model.specs.State.{Notified}
 use Rattle.model.specs.Monitors as monitors
 use Rattle.monitor_events.proofs.Woken.{woken_over}

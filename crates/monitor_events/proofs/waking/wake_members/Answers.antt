@@ -1,5 +1,4 @@
-use Rattle.std.proofs.Common.{◌≡◌, ◌<◌, ◌≤◌, length, sym, ◌∙◌, arith, Some, None, slice_get}
-use Rattle.std.proofs.lemmas.Option.{slice_get-get_or}
+use Rattle.std.proofs.Common.{sym, arith}
 use Rattle.model.specs.Monitors.{monitor_at}
 use Rattle.java_threads.specs.Statuses.{cause_of}
 use Rattle.monitor_events.proofs.Woken.{woken_at, woken_to, no_member}
@@ -9,12 +8,12 @@ use Rattle.monitor_events.proofs.waking.wake_members.Goals as goal
 pub loop-pick-preserved : goal.loop-pick-preserved
 loop-pick-preserved c =
     elim c.match-waiter.branch [
-      in-Some w ↦ rw (w.threads-is) (
-      woken_at c.args.object (cause_of c.args.cause) (monitor_at c.args.heap.now.locks.monitors c.args.object).waiters c.loop-pick.pick _ c.args.threads.now c.loop-pick.threads _
-      (sym w.in-Some.ensures) c.loop-pick.invariant w.wake.ensures
-      )
+      | in-Some w ↦ rw (w.threads-is) (
+          woken_at c.args.object (cause_of c.args.cause) (monitor_at c.args.heap.now.locks.monitors c.args.object).waiters c.loop-pick.pick _ c.args.threads.now c.loop-pick.threads _
+          (sym w.in-Some.ensures) c.loop-pick.invariant w.wake.ensures
+          )
       | in_default w ↦ no_member (monitor_at c.args.heap.now.locks.monitors c.args.object).waiters c.loop-pick.pick
-      (omega (arith, c.loop-pick-test.true, c.waiter_count-pick-end.ensures)) (sym w.in_default.ensures)
+          (omega (arith, c.loop-pick-test.true, c.waiter_count-pick-end.ensures)) (sym w.in_default.ensures)
     ]
 
 pub returns : goal.returns

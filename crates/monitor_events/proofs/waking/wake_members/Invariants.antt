@@ -1,4 +1,4 @@
-use Rattle.std.proofs.Common.{◌≡◌, ◌≤◌, length, take}
+use Rattle.std.proofs.Common.{take}
 use Rattle.model.specs.Monitors.{monitor_at}
 use Rattle.model.specs.Worlds.{all_woken}
 use Rattle.java_threads.specs.Statuses.{cause_of}
