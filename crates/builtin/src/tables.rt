@@ -2,7 +2,7 @@
 
 use crate::outline::{Declared, Outline};
 
-/// ACC_PUBLIC and ACC_SUPER (JVMS table 4.1-B).
+/// ACC_PUBLIC and ACC_SUPER (JVMS table 4.1-A).
 pub(crate) const PUBLIC_CLASS: u16 = 0x0021;
 
 /// With ACC_FINAL.

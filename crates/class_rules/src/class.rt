@@ -10,7 +10,7 @@ use crate::name::{has, superclass_name};
 use classfile::ClassFile;
 use hierarchy::ClassSet;
 
-/// ACC_FINAL and ACC_INTERFACE (JVMS table 4.1-B).
+/// ACC_FINAL and ACC_INTERFACE (JVMS table 4.1-A).
 const FINAL: u16 = 0x0010;
 
 const INTERFACE: u16 = 0x0200;

@@ -8,7 +8,7 @@ ghost use Rattle.classfile.specs.View.{file_of};
 
 use classfile::ClassFile;
 
-/// Whether a flag is set (JVMS tables 4.1-B, 4.6-A).
+/// Whether a flag is set (JVMS tables 4.1-A, 4.6-A).
 pub(crate) fn has(flags: u16, flag: u16) -> bool
     requires { 0 < flag }
     ensures { result ≡ (flags / flag % 2 == 1) }

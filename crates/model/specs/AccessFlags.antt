@@ -1,4 +1,4 @@
--- Access flags (JVMS tables 4.1-B, 4.5-A, 4.6-A). Each is a bit that is read by itself: what contradicts another one, as
+-- Access flags (JVMS tables 4.1-A, 4.5-A, 4.6-A). Each is a bit that is read by itself: what contradicts another one, as
 -- ACC_PUBLIC beside ACC_PRIVATE, is no fault (own).
 use Rattle.std.specs.Prelude.{ℕ, ◌/◌, ◌%◌, Bool, not, ◌||◌, ◌==◌}
 use Rattle.model.specs.Tree.{FieldTree, MethodTree, FileTree}

@@ -13,7 +13,7 @@ pub record Declared : Type 0 where
 abbrev pub declared : ℕ → Name → Name → Declared
 declared flags name descriptor = record { flags = flags; name = name; descriptor = descriptor }
 
--- ---- flags (JVMS tables 4.1-B, 4.5-A, 4.6-A)
+-- ---- flags (JVMS tables 4.1-A, 4.5-A, 4.6-A)
 
 -- ACC_PUBLIC and ACC_SUPER
 abbrev pub public_class : ℕ

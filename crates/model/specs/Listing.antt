@@ -195,7 +195,7 @@ method_lines_of pool head (Some c) = line (head ++ sizes c) ++ code_lines pool c
 abbrev pub method_lines : List Entry → MethodTree → List ℕ
 method_lines pool m = method_lines_of pool (method_head pool m) (code_in m.parts)
 
--- ACC_INTERFACE (JVMS table 4.1-B) is set
+-- ACC_INTERFACE (JVMS table 4.1-A) is set
 abbrev pub is_interface : ℕ → Bool
 is_interface flags = flags / 0x0200 % 2 == 1
 

@@ -82,6 +82,6 @@ main_of class = record { class = class; name = codes "main"; descriptor = codes 
 abbrev pub initialiser_of : Name → Member
 initialiser_of class = record { class = class; name = codes "<clinit>"; descriptor = codes "()V" }
 
--- the method with which a started thread begins (JLS 17.3)
+-- the method with which a started thread begins (JLS 17)
 abbrev pub thread_run : Member
 thread_run = record { class = java_lang_thread; name = codes "run"; descriptor = codes "()V" }

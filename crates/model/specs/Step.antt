@@ -255,7 +255,7 @@ unwound C t exception world frame stack None = leaving t frame.entered world sta
 unwound C t exception world frame stack (Some entry) =
     on_to (with_caught world t) (Invocation (at_offset frame entry.handler (record { locals = frame.place.slots.locals; stack = C.reference exception ∷ [] })) ∷ stack)
 
--- a class is erroneous (JVMS 5.5, steps 10 and 11); what is no Error is replaced
+-- a class is erroneous (JVMS 5.5, steps 11 and 12); what is no Error is replaced
 abbrev pub failed : {A : Type 0} → ℕ → Bool → WorldOf A → StackOf A → SteppedOf (PartOf A)
 failed t true world stack = on_to world stack
 failed t false world stack = raised t ExceptionInInitializer world stack

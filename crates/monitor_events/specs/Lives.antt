@@ -1,4 +1,4 @@
--- The start of threads, their interruption and their end (JLS 17.2.3, 17.3, 12.4.1; the API of Thread).
+-- The start of threads, their interruption and their end (JLS 17, 17.2.3, 12.4.1; the API of Thread).
 use Rattle.std.specs.Prelude.{◌≡◌, ℕ, Bool, true, false, Result, Ok, Err, is_some}
 use Rattle.model.specs.State.{WorldOf}
 use Rattle.model.specs.Worlds.{is_alive, thread_of}

@@ -12,7 +12,7 @@ ghost use Rattle.profile.specs.Descriptions.{rows_of};
 use crate::described::{Described, text_says};
 use classfile::{ClassFile, Constant, Field, FieldAttribute};
 
-/// ACC_STATIC and ACC_INTERFACE (JVMS tables 4.1-B, 4.5-A and 4.6-A).
+/// ACC_STATIC and ACC_INTERFACE (JVMS tables 4.1-A, 4.5-A and 4.6-A).
 pub(crate) const STATIC: u16 = 0x0008;
 
 const INTERFACE: u16 = 0x0200;

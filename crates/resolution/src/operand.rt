@@ -23,7 +23,7 @@ use classfile::{ClassFile, Constant, Reference};
 use hierarchy::{ClassSet, Hierarchy, MemberPlace};
 use model::{FieldAccess, Invocation};
 
-/// ACC_INTERFACE and ACC_ABSTRACT (JVMS table 4.1-B).
+/// ACC_INTERFACE and ACC_ABSTRACT (JVMS table 4.1-A).
 const INTERFACE: u16 = 0x0200;
 
 const ABSTRACT: u16 = 0x0400;
