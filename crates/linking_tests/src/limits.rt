@@ -112,7 +112,7 @@ fn linked_count(alloc: Global, files: &[Vec<u8>]) -> Result<usize, Refusal> {
 fn told(alloc: Global, files: &[Vec<u8>]) -> Result<String, AllocError> {
     match linked_count(alloc, files) {
         Ok(count) => format!(in alloc; "linked {count}"),
-        Err(refusal) => format!(in alloc; "{refusal}"),
+        Err(refusal) => format!(in alloc; "{refusal:?}"),
     }
 }
 
