@@ -26,13 +26,16 @@ use Rattle.linked_types.specs.Types.{IsNumbered}
 not_over : (m n : ℕ) → nat_lt m n ≡ false → n ≤ m
 not_over m n h = grind (arith, nat_tests)
 
+pub few_classes : (files : Program) → IsLinked files → length (classes_of files) ≤ 65030
+few_classes files linked =
+    let few : length files ≤ 65000 = not_over 65000 (length files) (unrefused_of linked.0 files linked.1.spelled linked.1.no_refusal).files_fit in
+    omega (arith, few, count_behind files)
+
 module _ (files : Program) (name : Name) where
   -- ---- classes
 
   pub class_fits : IsLinked files → (place : ℕ) → place_of files name ≡ Some place → place < 2 ^ 16
-  class_fits linked place e =
-      let few : length files ≤ 65000 = not_over 65000 (length files) (unrefused_of linked.0 files linked.1.spelled linked.1.no_refusal).files_fit in
-      omega (arith, few, count_behind files, position_within (is_named name) (classes_of files) place e)
+  class_fits linked place e = omega (arith, few_classes files linked, position_within (is_named name) (classes_of files) place e)
 
   pub class_there : (place : ℕ) → place_of files name ≡ Some place → IsClassAt files place name
   class_there place e = by (slice_get (classes_of files) place) refl
