@@ -41,7 +41,8 @@ fn primitive_type(set: &ClassSet, name: &[u8], dimensions: u8, of: Primitive) ->
     })
 }
 
-/// The type that a name stands for as a descriptor; arrays of long, float and double stand as those of int, as in the model.
+/// The type that a name stands for as a descriptor; arrays of long, float and double stand as those of int, as in the
+/// model.
 fn described_type(set: &ClassSet, name: &[u8], field: Field<'_>) -> Option<LinkedType>
     requires { IsLinked set.now }
     ensures { IsNumbered set.now (reference_declared name.now (declared_of (field_of field.entry))) result }
@@ -80,8 +81,8 @@ fn numbered_type(set: &ClassSet, name: &[u8]) -> Option<LinkedType>
     }
 }
 
-/// The type that a class constant names (JVMS 4.4.1), an interface as itself: a class by its name, and an array by its descriptor.
-/// `None` exactly where the class, or that of the array's elements, is not in the set. Takes no memory.
+/// The type that a class constant names (JVMS 4.4.1), an interface as itself: a class by its name, and an array by its
+/// descriptor. `None` exactly where the class, or that of the array's elements, is not in the set. Takes no memory.
 pub fn named_type(set: &ClassSet, name: &[u8]) -> Option<LinkedType>
     requires { IsLinked set.now }
     ensures value { IfSome result (λ t. IsType set.now t (type_named name.now)) }
