@@ -1,8 +1,8 @@
 -- Component types by numbers: what is added to them, and what stands at a number.
-use Rattle.std.proofs.Common.{◌≡◌, ◌∙◌, ℕ, zero, suc, ◌+◌, ◌*◌, ◌<◌, ◌≤◌, ◌^◌, List, [], ◌∷◌, ◌++◌, length, Bool, true, false, cond, Option, Some, None, is_some, refl, sym, ap, subst, arith, length-append, ⊎_elim}
+use Rattle.std.proofs.Common.{◌≡◌, ◌∙◌, ℕ, zero, suc, ◌+◌, ◌*◌, ◌<◌, ◌≤◌, ◌^◌, List, [], ◌∷◌, ◌++◌, length, Bool, true, false, ◌||◌, cond, Option, Some, None, is_some, refl, sym, ap, subst, arith, length-append, ⊎_elim, inl, inr}
 use Rattle.std.specs.Prelude.{position, slice_get}
 use Rattle.std.specs.List.{list_any}
-use Rattle.std.proofs.lemmas.Bool.{false≢true, or_left, or_right, or_cases, cases_lt}
+use Rattle.std.proofs.lemmas.Bool.{false≢true, or_left, or_right, or_cases, or_from, or_parts, cases_lt}
 use Rattle.std.proofs.lemmas.List.Folds.{list_any-append}
 use Rattle.std.proofs.lemmas.List.{get_or_past}
 use Rattle.std.proofs.lemmas.Option.{slice_get_within}
@@ -15,7 +15,7 @@ use Rattle.model.specs.Classes.{Program, classes_of}
 use Rattle.model.specs.ReferenceTypes.{ReferenceType}
 use Rattle.model.specs.DescribedTypes.{type_named}
 use Rattle.hierarchy.specs.Places.{class_at}
-use Rattle.hierarchy.proofs.Names.{found_any}
+use Rattle.hierarchy.proofs.Names.{found_any, name_eq_sym}
 use Rattle.hierarchy.proofs.Finding.{find_passes, nowhere, passes_at, position_absent, position_within}
 use Rattle.hierarchy.proofs.RowLaws.{name_eq_refl}
 use Rattle.hierarchy.proofs.SetLaws.{no_item, same_name}
@@ -25,7 +25,7 @@ use Rattle.described_types.specs.Described.{type_missing}
 use Rattle.linked_code.specs.declared.types.LinkedType.{LinkedType}
 use Rattle.linked_code.specs.Numbers.{IsType, IsTypeAt}
 use Rattle.linked_types.specs.declared.components.Components.{Components}
-use Rattle.linked_types.specs.Components.{is_among, AreTypesOf, Grows, HasNamed, AreComponents}
+use Rattle.linked_types.specs.Components.{is_among, AreOnce, AreTypesOf, AddsOnly, Grows, HasNamed, IsInProgram, AreComponents}
 use Rattle.linked_types.proofs.Types.{few_classes}
 
 -- ---- names by numbers
@@ -58,6 +58,23 @@ only_one (n ∷ m ∷ names) name few h = absurd (omega (arith, few))
 
 no_entry : (pool : List Entry) (k : ℕ) → length pool + 1 ≤ k → entry_at pool k ≡ Unusable
 no_entry pool k past = get_or_past (Unusable ∷ pool) k Unusable (omega (arith, past))
+
+once_pushed : (names : List Name) (last : Name) → AreOnce names → is_among last names ≡ false → AreOnce (names ++ last ∷ [])
+once_pushed [] last h absent = (refl, tt)
+once_pushed (n ∷ names) last h absent =
+    let parts = or_parts (name_eq last n) (is_among last names) absent in (
+      list_any-append (name_eq n) names (last ∷ []) ∙ or_from (is_among n names) (name_eq n last || false) h.0 (or_from (name_eq n last) false (name_eq_sym n last ∙ parts.0) refl),
+      once_pushed names last h.1 parts.1,
+    )
+
+-- ---- which names are added
+
+pub only_same : (components : Components) (Is : Name → Type 0) → AddsOnly components components Is
+only_same components Is name h = inl h
+
+pub only_then : (old middle new : Components) (First Then Is : Name → Type 0) → AddsOnly old middle First → AddsOnly middle new Then → ((name : Name) → First name → Is name) → ((name : Name) → Then name → Is name) → AddsOnly old new Is
+only_then old middle new First Then Is before after first then name h =
+    ⊎_elim (λ there. ⊎_elim (λ older. inl older) (λ is. inr (first name is)) (before name there)) (λ is. inr (then name is)) (after name h)
 
 module _ (files : Program) where
   -- ---- types of names
@@ -93,15 +110,16 @@ module _ (files : Program) where
   -- ---- what is added
 
   pub grows_same : (components : Components) (most : ℕ) → Grows files components components most
-  grows_same components most = record { types = λ h. h; kept = λ name h. h; first = λ name h. h; few = omega arith }
+  grows_same components most = record { types = λ h. h; once = λ h. h; kept = λ name h. h; first = λ name h. h; few = omega arith }
 
   module _ (old new : Components) where
     pub grows_more : (most more : ℕ) → most ≤ more → Grows files old new most → Grows files old new more
-    grows_more most more l g = record { types = g.types; kept = g.kept; first = g.first; few = omega (arith, l, g.few) }
+    grows_more most more l g = record { types = g.types; once = g.once; kept = g.kept; first = g.first; few = omega (arith, l, g.few) }
 
     pub grows_then : (middle : Components) (most more : ℕ) → Grows files old middle most → Grows files middle new more → Grows files old new (most + more)
     grows_then middle most more g then = record {
       types = λ h. then.types (g.types h);
+      once = λ h. then.once (g.once h);
       kept = λ name h. then.kept name (g.kept name h);
       first = λ name h. then.first name (g.first name h);
       few = omega (arith, g.few, then.few);
@@ -114,10 +132,18 @@ module _ (files : Program) where
       pub pushed_there : is_among name new.names ≡ true
       pushed_there = ap (is_among name) added ∙ list_any-append (name_eq name) old.names (name ∷ []) ∙ or_right (list_any (name_eq name) old.names) _ (or_left _ _ (name_eq_refl name))
 
+      pub pushed_only : AddsOnly old new (λ n. n ≡ name)
+      pushed_only n h =
+          ⊎_elim
+          (λ older. inl older)
+          (λ last. ⊎_elim (λ is. inr (same_name n name is)) (λ none. absurd (false≢true none)) (or_cases (name_eq n name) false last))
+          (or_cases (is_among n old.names) (name_eq n name || false) (sym (list_any-append (name_eq n) old.names (name ∷ [])) ∙ sym (ap (is_among n) added) ∙ h))
+
       pub grows_pushed : (t : LinkedType) → IsType files t (type_named name) → new.types.items ≡ old.types.items ++ t ∷ [] → Grows files old new 1
       grows_pushed t is typed = record {
         types = λ h. subst (λ (names : List Name). AreTypesOf files names new.types.items) (sym added)
             (subst (λ (types : List LinkedType). AreTypesOf files (old.names ++ name ∷ []) types) (sym typed) (types_pushed old.names old.types.items name t h is));
+        once = λ h. subst AreOnce (sym added) (once_pushed old.names name h absent);
         kept = λ n h. ap (is_among n) added ∙ list_any-append (name_eq n) old.names (name ∷ []) ∙ or_left _ _ h;
         first = λ n h. ap (λ (names : List Name). slice_get names 0) added ∙ first_stays old.names name n h;
         few = omega (arith, ap length typed, length-append old.types.items (t ∷ []));
@@ -173,13 +199,19 @@ module _ (files : Program) where
 
   pub are_components : IsLinked files → (empty first all : Components) → empty.names ≡ [] → empty.types.items ≡ [] → Grows files empty first 1 → is_among java_lang_string first.names ≡ true
       → Grows files first all (length (classes_of files) * 0x10000) → ((class index : ℕ) (file : FileTree) → index < 2 ^ 16 → class_at files class ≡ Some file → HasNamed files file index all)
-      → AreComponents files all
-  are_components linked empty first all names types one string more named =
+      → AddsOnly empty first (λ name. name ≡ java_lang_string) → AddsOnly first all (IsInProgram files) → AreComponents files all
+  are_components linked empty first all names types one string more named only others =
       let none : AreTypesOf files empty.names empty.types.items = subst (λ (n : List Name). AreTypesOf files n empty.types.items) (sym names) (subst (λ (t : List LinkedType). AreTypesOf files [] t) (sym types) tt) in
       let single : length first.names ≤ 1 = omega (arith, same_count first.names first.types.items (one.types none), one.few, ap length types) in
       record {
         types = more.types (one.types none);
         named = named;
+        once = more.once (one.once (subst AreOnce (sym names) tt));
+        only = λ name h.
+            ⊎_elim
+            (λ there. ⊎_elim (λ none. absurd (false≢true (sym (ap (is_among name) names) ∙ none))) (λ is. inl is) (only name there))
+            (λ other. inr other)
+            (others name h);
         string = more.first java_lang_string (only_one first.names java_lang_string single string);
         few = omega (arith, more.few, one.few, ap length types, few_classes files linked);
       }

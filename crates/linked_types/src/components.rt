@@ -12,7 +12,7 @@ ghost use Rattle.hierarchy.specs.Places.{class_at};
 ghost use Rattle.linker.specs.Linking.{IsLinked};
 ghost use Rattle.described_types.specs.Described.{type_missing};
 ghost use Rattle.linked_code.specs.Numbers.{IsType, IsTypeAt};
-ghost use Rattle.linked_types.specs.Components.{is_among, Grows, HasNamed, AreComponents, IsComponentOperand};
+ghost use Rattle.linked_types.specs.Components.{is_among, Grows, AddsOnly, HasNamed, IsInPool, IsInProgram, AreComponents, IsComponentOperand};
 
 use crate::named::named_type;
 use crate::names::NameNumbers;
@@ -25,7 +25,8 @@ use std::alloc::{AllocError, Global};
 /// String is the first of all component types.
 const STRING: u32 = 0;
 
-/// The types that class constants of a program name, each once, by numbers of their own: String, and then class by class.
+/// The types that class constants of a program name, each name once, by numbers of their own: String, and then class by
+/// class.
 #[derive(Drop)]
 pub struct Components {
     /// What the constants name.
@@ -44,6 +45,7 @@ fn add_type(
     requires linked { IsLinked set.now }
     ensures grows { OnOk result (Grows set.now components.old components.new 1) }
     ensures there { OnOk result (type_missing set.now (type_named name.now) ≡ false → is_among name.now components.new.names ≡ true) }
+    ensures only { OnOk result (AddsOnly components.old components.new (λ added. added ≡ name.now)) }
 {
     if components.names.number_of(name).is_some() {
         return Ok(());
@@ -67,6 +69,7 @@ fn add_named(
     requires linked { IsLinked set.now }
     ensures grows { OnOk result (Grows set.now components.old components.new 1) }
     ensures there { OnOk result (HasNamed set.now (file_of file.now) index components.new) }
+    ensures only { OnOk result (AddsOnly components.old components.new (λ added. class_name_at file.now.pool index ≡ Some added)) }
 {
     match file.class_name(index) {
         Some(name) => add_type(components, alloc, set, name),
@@ -84,6 +87,7 @@ fn add_pool(
     requires linked { IsLinked set.now }
     ensures grows { OnOk result (Grows set.now components.old components.new 0x10000) }
     ensures there { OnOk result ((index : ℕ) → index < 2 ^ 16 → HasNamed set.now (file_of file.now) index components.new) }
+    ensures only { OnOk result (AddsOnly components.old components.new (IsInPool (file_of file.now))) }
 {
     let indices = (file.pool.constants().len() + 1).min(0x1_0000);
     for index in 0..indices {
@@ -97,6 +101,7 @@ fn add_pools(components: &mut Components, alloc: Global, set: &ClassSet) -> Resu
     requires linked { IsLinked set.now }
     ensures grows { OnOk result (Grows set.now components.old components.new (length (classes_of set.now) * 0x10000)) }
     ensures there { OnOk result ((class index : ℕ) (file : FileTree) → index < 2 ^ 16 → class_at set.now class ≡ Some file → HasNamed set.now file index components.new) }
+    ensures only { OnOk result (AddsOnly components.old components.new (IsInProgram set.now)) }
 {
     for place in 0..set.count() {
         let Some(file) = set.class_at(place) else {
@@ -122,9 +127,9 @@ impl Components {
         Ok(components)
     }
 
-    /// The number of the component type that the Class of an index names, for an `anewarray` in the class at a place. `None`
-    /// where the index names no Class, and where the class that it names, or that of an array's elements, is not in the
-    /// program.
+    /// The number of the component type that the Class of an index names, for an `anewarray` in the class at a place.
+    /// `None` where the index names no Class, and where the class that it names, or that of an array's elements, is not in
+    /// the program.
     pub fn component(&self, linked: &Linked, class: usize, index: u16) -> Option<u32>
         requires components { AreComponents linked.now self.now }
         ensures right { (file : FileTree) → class_at linked.now class ≡ Some file → IfSome result (IsComponentOperand linked.now self.now.types.items file.pool index) }

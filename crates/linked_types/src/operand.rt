@@ -13,8 +13,9 @@ use crate::named::named_type;
 use linked_code::LinkedType;
 use linker::Linked;
 
-/// The type that the Class of an index names, for the instructions of the class at a place. `None` where the index names
-/// no Class, and where the class that it names, or that of an array's elements, is not in the program. Takes no memory.
+/// The type that the Class of an index names, for the instructions of the class at a place. `None` where the index
+/// names no Class, and where the class that it names, or that of an array's elements, is not in the program. Takes no
+/// memory.
 pub fn type_operand(linked: &Linked, class: usize, index: u16) -> Option<LinkedType>
     ensures right { (file : FileTree) → class_at linked.now class ≡ Some file → IfSome result (IsTypeOperand linked.now file.pool index) }
     ensures there { (file : FileTree) (name : Name) → class_at linked.now class ≡ Some file → class_name_at file.pool index ≡ Some name → type_missing linked.now (type_named name) ≡ false → is_some result ≡ true }

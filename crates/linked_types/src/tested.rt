@@ -40,9 +40,9 @@ fn add_row(tested: &mut Vec<u16>, row: &[Option<LinkedType>]) -> Result<(), Allo
     Ok(())
 }
 
-/// The classes against which a run tests: those of the types in rows, each row of the entries of a constant pool, and of
-/// component types, by their numbers, one for each type that isn't of a primitive element. Where a table of subclasses has
-/// a column for each of them, these types can be tested by it. This alone takes memory.
+/// The classes against which a run tests: those of the types in rows, each row of the entries of a constant pool, and
+/// of component types, by their numbers, one for each type that isn't of a primitive element. Where a table of
+/// subclasses has a column for each of them, these types can be tested by it. This alone takes memory.
 pub fn tested_classes(
     alloc: Global,
     rows: &[Vec<Option<LinkedType>>],

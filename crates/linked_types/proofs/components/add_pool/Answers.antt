@@ -1,8 +1,10 @@
-use Rattle.std.proofs.Common.{◌≡◌, arith, length, ap}
+use Rattle.std.proofs.Common.{◌≡◌, Some, arith, length, ap}
 use Rattle.std.proofs.lemmas.List.{length-map}
 use Rattle.constant_pool.specs.View.{entry_of}
+use Rattle.model.specs.Pool.{class_name_at}
+use Rattle.linked_types.specs.Components.{IsInPool}
 use Rattle.classfile.specs.View.{file_of}
-use Rattle.linked_types.proofs.ComponentTypes.{grows_more, grows_then, named_more, named_all}
+use Rattle.linked_types.proofs.ComponentTypes.{grows_more, grows_then, named_more, named_all, only_then}
 use Rattle.linked_types.proofs.components.add_pool.Goals as goal
 
 pub loop-index-preserved : goal.loop-index-preserved
@@ -15,6 +17,7 @@ loop-index-preserved c =
       omega (arith, c.loop-index-test.true, c.min-indices.ensures),
       grows_then files c.args.components.now after before i 1 so.1 c.in_ok-add_named.ensures.grows,
       named_more files (file_of c.args.file.now) i before after 1 c.in_ok-add_named.ensures.grows so.2 c.in_ok-add_named.ensures.there,
+      only_then c.args.components.now before after (IsInPool (file_of c.args.file.now)) (λ name. class_name_at c.args.file.now.pool i ≡ Some name) (IsInPool (file_of c.args.file.now)) so.3 c.in_ok-add_named.ensures.only (λ name is. is) (λ name is. (i, is)),
     )
 
 pub returns-clause-grows : goal.returns-clause-grows

@@ -1,7 +1,7 @@
 use Rattle.std.proofs.Common.{◌≡◌, ◌∙◌, false, is_some, sym, ap}
 use Rattle.std.specs.List.{list_any}
 use Rattle.model.specs.Names.{name_eq}
-use Rattle.linked_types.proofs.ComponentTypes.{numbered_any, grows_pushed, pushed_there}
+use Rattle.linked_types.proofs.ComponentTypes.{numbered_any, grows_pushed, pushed_there, pushed_only}
 use Rattle.linked_types.proofs.components.add_type.Goals as goal
 
 pub returns-then-is_some-clause-there : goal.returns-then-is_some-clause-there
@@ -21,3 +21,10 @@ returns-clause-there c found =
     let names = c.args.components.now.names in
     let absent : list_any (name_eq name) names ≡ false = sym (numbered_any (name_eq name) names) ∙ ap is_some (sym c.number_of.ensures) ∙ sym c.is_some.ensures ∙ c.if-is_some.false in
     pushed_there c.args.set.now c.args.components.now (record { names = c.add.new.self; types = c.push.new.self }) name absent c.in_ok-add.ensures
+
+pub returns-clause-only : goal.returns-clause-only
+returns-clause-only c =
+    let name = c.args.name.now in
+    let names = c.args.components.now.names in
+    let absent : list_any (name_eq name) names ≡ false = sym (numbered_any (name_eq name) names) ∙ ap is_some (sym c.number_of.ensures) ∙ sym c.is_some.ensures ∙ c.if-is_some.false in
+    pushed_only c.args.set.now c.args.components.now (record { names = c.add.new.self; types = c.push.new.self }) name absent c.in_ok-add.ensures

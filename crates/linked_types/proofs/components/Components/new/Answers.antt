@@ -13,5 +13,5 @@ returns c =
     let all = c.add_pools.new.components in
     let empty : Components = record { names = c.new.result; types = c.new-2.result } in
     let linked : IsLinked files = subst IsLinked (sym c.set-set.ensures.same) c.set-set.ensures.linked in
-    let are : AreComponents files all = are_components files linked empty first all c.new.ensures c.new-2.ensures.items c.in_ok-add_type.ensures.grows (c.in_ok-add_type.ensures.there (string_found files)) c.in_ok-add_pools.ensures.grows c.in_ok-add_pools.ensures.there in
+    let are : AreComponents files all = are_components files linked empty first all c.new.ensures c.new-2.ensures.items c.in_ok-add_type.ensures.grows (c.in_ok-add_type.ensures.there (string_found files)) c.in_ok-add_pools.ensures.grows c.in_ok-add_pools.ensures.there c.in_ok-add_type.ensures.only c.in_ok-add_pools.ensures.only in
     subst (λ (f : Program). AreComponents f all) c.set-set.ensures.same are
