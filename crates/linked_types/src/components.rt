@@ -128,8 +128,8 @@ impl Components {
     }
 
     /// The number of the component type that the Class of an index names, for an `anewarray` in the class at a place.
-    /// `None` where the index names no Class, and where the class that it names, or that of an array's elements, is not in
-    /// the program.
+    /// `None` where the index names no Class, and where the class that it names, or that of an array's elements, is not
+    /// in the program.
     pub fn component(&self, linked: &Linked, class: usize, index: u16) -> Option<u32>
         requires components { AreComponents linked.now self.now }
         ensures right { (file : FileTree) → class_at linked.now class ≡ Some file → IfSome result (IsComponentOperand linked.now self.now.types.items file.pool index) }
