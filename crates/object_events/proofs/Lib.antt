@@ -1,2 +1,6 @@
 pub mod Done
 pub mod Fields
+pub mod Statics
+pub mod Arrays
+pub mod Events
+pub mod Instructions
