@@ -4,3 +4,5 @@ pub mod Statics
 pub mod Arrays
 pub mod Events
 pub mod Instructions
+pub mod Bridge
+pub mod Whole
