@@ -5,4 +5,5 @@ pub mod Arrays
 pub mod Events
 pub mod Instructions
 pub mod Bridge
+pub mod Heaps
 pub mod Whole

@@ -10,6 +10,7 @@ use Rattle.word_operands.specs.Operands.{AreOperandsFound}
 use Rattle.word_operands.proofs.Meant.{operands_found}
 use Rattle.object_events.specs.Threads.{AreObjectBursts}
 use Rattle.object_events.proofs.Bridge.{is_object_burst}
+use Rattle.object_events.proofs.Heaps.{steps_heap}
 
 found : AreOperandsFound
 found files trees linkable state h t frame on = operands_found trees (linked_of files trees linkable.spelled linkable.no_refusal).rooted state h t frame on
@@ -20,4 +21,4 @@ words_kept files trees accepted frames before event cost next h e =
     (λ n state at after typed is. kept files trees accepted n state at after typed is) frames before event cost next h e
 
 pub are_bursts : AreObjectBursts
-are_bursts code ready n old new e = is_object_burst found words_kept code ready n old new e
+are_bursts code ready n old new e = (is_object_burst found words_kept code ready n old new e, steps_heap code ready n old new e)
