@@ -1,6 +1,4 @@
 -- The statements of the contracts, from what is known of operands and of what an event keeps.
-use Rattle.std.proofs.Common.{◌≡◌, ℕ, List, Bool, Some}
-use Rattle.model.specs.Operands.{words}
 use Rattle.laws.proofs.LinkedOf.{linked_of}
 use Rattle.word_runs.proofs.Carried.{carried}
 use Rattle.word_runs.proofs.KeptWords.{kept_words}

@@ -2,8 +2,8 @@
 
 ghost use Rattle.object_events.specs.Threads.{AreObjectBursts};
 
-/// Instructions by linked code that touch their frame, objects and static fields alone are events of the thread whose frame does
-/// them.
+/// Instructions by linked code that touch their frame, objects and static fields alone are events of the thread whose
+/// frame does them.
 pub fn object_steps_are_events()
     ensures holds { AreObjectBursts }
 {}
