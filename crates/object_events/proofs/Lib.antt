@@ -5,5 +5,6 @@ pub mod Arrays
 pub mod Events
 pub mod Instructions
 pub mod Bridge
+pub mod Joined
 pub mod Heaps
 pub mod Whole

@@ -1,6 +1,11 @@
-//! What is known of such bursts. The function here is a theorem, and does nothing.
+//! What is known of such bursts. Each function here is a theorem, and does nothing.
 
-ghost use Rattle.object_events.specs.Threads.{AreObjectBursts};
+ghost use Rattle.object_events.specs.Threads.{AreObjectBursts, DoBurstsJoin};
+
+/// Bursts go on where others have led.
+pub fn object_bursts_join()
+    ensures holds { DoBurstsJoin }
+{}
 
 /// Instructions by linked code that touch their frame, objects and static fields alone are events of the thread whose
 /// frame does them.
