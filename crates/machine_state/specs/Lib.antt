@@ -1,0 +1,4 @@
+pub mod Refusals
+pub mod Shown
+pub mod Instructions
+pub mod Events
