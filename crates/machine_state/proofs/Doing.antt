@@ -1,16 +1,15 @@
 -- An instruction whose class is ready is done.
 use Rattle.std.proofs.Common.{◌≡◌, ℕ, ◌∷◌, Option, Some, None, refl, ap, ◌∙◌}
 use Rattle.std.specs.Option.{option_and_then}
-use Rattle.model.specs.declared.event.Event.{Event}
 use Rattle.model.specs.Names.{Name}
-use Rattle.model.specs.Classes.{Program, Body, body_of}
+use Rattle.model.specs.Classes.{Program}
 use Rattle.model.specs.Operands.{words}
-use Rattle.model.specs.State.{FrameOf, Invocation, StackOf, WorldOf}
-use Rattle.model.specs.ClassInitialisation.{Look, IsReady, look_at, look_by, status_of}
-use Rattle.model.specs.Sites.{MeaningOf, Site, site_at}
+use Rattle.model.specs.State.{Invocation, StackOf, WorldOf}
+use Rattle.model.specs.ClassInitialisation.{Look, IsReady, look_at}
+use Rattle.model.specs.Sites.{Site}
 use Rattle.model.specs.Meanings.{meaning_of}
 use Rattle.model.specs.Step.{SteppedOf, PartOf, enabled_if, needing, needing_class, ops_of, done, bytecode_by, bytecode_in}
-use Rattle.machine_state.specs.Instructions.{IsAt, AreInstructionsDone}
+use Rattle.machine_state.specs.Instructions.{AreInstructionsDone}
 
 -- a class that is ready asks for nothing
 pub needs_nothing : (trees : Program) (t : ℕ) (class : Option Name) (world : WorldOf ℕ) (stack : StackOf ℕ) (rest : SteppedOf (PartOf ℕ))

@@ -1,10 +1,8 @@
 -- What an event of a thread makes of what is shown, of the part of the state that the thread touches (JVMS 2.6, 5.5; JLS 17).
-use Rattle.std.specs.Prelude.{◌≡◌, ℕ, List, [], ◌∷◌, ◌++◌, Option, Some, None, Result, Ok, Err, replicate}
+use Rattle.std.specs.Prelude.{◌≡◌, ℕ, List, [], ◌++◌, Option, None, Result, Ok, Err, replicate}
 use Rattle.model.specs.declared.end.RunCause.{RunCause}
-use Rattle.model.specs.declared.event.Event.{Event}
 use Rattle.model.specs.Classes.{Program}
-use Rattle.model.specs.Operands.{words}
-use Rattle.model.specs.State.{StackOf, WorldOf, StateOf}
+use Rattle.model.specs.State.{WorldOf}
 use Rattle.model.specs.Outcomes.{Cost}
 use Rattle.model.specs.LimitStands.{Bounds, is_crowded}
 use Rattle.model.specs.Step.{SteppedOf, NotEnabled, Next, PartOf}

@@ -1,7 +1,6 @@
 -- When the words of a machine show a world and a state of the definitions over words (JVMS 2.5, 5.5; JLS 17).
-use Rattle.std.specs.Prelude.{◌≡◌, ℕ, List, Some, None, Bool, true, false, length, map, slice_get, IsTrue}
+use Rattle.std.specs.Prelude.{◌≡◌, ℕ, List, Some, Bool, true, false, map, slice_get}
 use Rattle.model.specs.Names.{Name}
-use Rattle.model.specs.Tree.{FileTree}
 use Rattle.model.specs.Classes.{Program, name_of}
 use Rattle.model.specs.Linkable.{IsLinkable}
 use Rattle.model.specs.State as model

@@ -6,11 +6,11 @@ mod answers;
 mod refusals;
 mod state;
 
+ghost use Rattle.machine_state.specs.Instructions.{AreInstructionsDone};
+
 pub use answers::{Answer, Effect, MachineException};
 pub use refusals::Refusal;
 pub use state::{ClassStatus, Shared};
-
-ghost use Rattle.machine_state.specs.Instructions.{AreInstructionsDone};
 
 /// The event of a thread that runs is what its instruction does, where the class that this needs is ready.
 pub fn instructions_are_done()
