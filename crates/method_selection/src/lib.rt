@@ -6,5 +6,5 @@ mod rows;
 mod virtuals;
 
 pub use kinds::class_of_kind;
-pub use rows::{class_at, classes_are_read, method_at, methods_are_read};
+pub use rows::{class_at, classes_are_read, method_at, methods_are_read, methods_are_run};
 pub use virtuals::select_virtual;

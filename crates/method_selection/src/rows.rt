@@ -2,6 +2,7 @@
 
 ghost use Rattle.std.specs.Prelude.{◌≡◌, option_map, slice_get};
 ghost use Rattle.method_selection.specs.Rows.{AreClassesRead, AreMethodsRead};
+ghost use Rattle.method_selection.specs.Run.{AreMethodsRun};
 
 use linked_code::{LinkedClass, LinkedMethod, LinkedProgram};
 
@@ -27,4 +28,9 @@ pub fn classes_are_read()
 /// The row of a method's number is what a linked method is of it.
 pub fn methods_are_read()
     ensures holds { AreMethodsRead }
+{}
+
+/// What a call of a chosen method runs is what the row of its number says: an AbstractMethodError, a built-in method, or code.
+pub fn methods_are_run()
+    ensures holds { AreMethodsRun }
 {}
