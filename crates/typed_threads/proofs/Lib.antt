@@ -1,0 +1,4 @@
+pub mod Instances
+pub mod Threads
+pub mod Objects
+pub mod Steps
