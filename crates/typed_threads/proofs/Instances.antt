@@ -9,7 +9,7 @@ use Rattle.model.specs.Classes.{Program}
 use Rattle.model.specs.ReferenceTypes.{ReferenceType, ClassType, PrimitiveArray, ReferenceArray}
 use Rattle.model.specs.Types.{is_object_below}
 use Rattle.model.specs.State.{ObjectOf, type_of, types_of, StateOf}
-use Rattle.model.specs.WellTyped.{Extends}
+use Rattle.model.specs.WellTyped.{is_object_in, Extends}
 use Rattle.model.specs.Words.{AreWellTypedWords}
 use Rattle.word_runs.proofs.WordWorlds.{types_words}
 use Rattle.typed_threads.specs.Objects.{IsInstance, Keeps}
@@ -33,6 +33,10 @@ module _ {A : Type 0} (heap : List (ObjectOf A)) where
   instance_of files class other r (Some (ClassType own)) e h = record { there = within r (ClassType own) e; own = own; type = e; below = h }
   instance_of files class other r (Some (PrimitiveArray of)) e h = absurd (false≢true (sym other ∙ h))
   instance_of files class other r (Some (ReferenceArray of)) e h = absurd (false≢true (sym other ∙ h))
+
+  -- and what is an instance is below its class
+  pub instance_typed : (files : Program) (class : Name) (r : ℕ) → IsInstance files heap class r → is_object_in files (types_of heap) class r ≡ true
+  instance_typed files class r h = subst (λ o. is_object_below files (ClassType class) o ≡ true) (sym h.type) h.below
 
 -- ---- objects that stay
 

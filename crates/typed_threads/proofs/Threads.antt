@@ -31,7 +31,7 @@ module _ (files : Program) (os : List ReferenceType) where
       (stack, subst (λ th. IsThreadTyped files os th stack) same h.0)
   thread_typed (x ∷ xs) (stack ∷ stacks) (suc t) thread h e = thread_typed xs stacks t thread h.1 e
 
-  pending_in : (pending : Option ℕ) (stack : StackOf Value) (status : ThreadStatus) → IsStackTyped files os pending stack status → (exception : ℕ) → has_ended status ≡ false → pending ≡ Some exception → is_object_in files os java_lang_throwable exception ≡ true
+  pub pending_in : (pending : Option ℕ) (stack : StackOf Value) (status : ThreadStatus) → IsStackTyped files os pending stack status → (exception : ℕ) → has_ended status ≡ false → pending ≡ Some exception → is_object_in files os java_lang_throwable exception ≡ true
   pending_in None stack Running h exception a e = absurd (none_some exception e)
   pending_in (Some found) stack Running h exception a e =
       subst (λ r. is_object_in files os java_lang_throwable r ≡ true) (same_Some found exception e) h.0

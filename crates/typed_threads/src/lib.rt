@@ -4,6 +4,7 @@
 //! of it depends on how many threads or objects there are. The lemmas in `proofs/` are there for a crate above to cite.
 #![tactic(auto)]
 
+ghost use Rattle.typed_threads.specs.Ends.{AreEndsKept, AreOpeningEnds};
 ghost use Rattle.typed_threads.specs.Objects.{AreObjectsKept, AreOpeningObjectsThere};
 ghost use Rattle.typed_threads.specs.Threads.{ArePendingThrowable, AreTablesCounted, AreThreadObjects, AreWaitsForObjects};
 
@@ -35,4 +36,15 @@ pub fn opening_objects_are_there()
 /// An event takes no object away, and leaves each with its type.
 pub fn a_step_keeps_objects()
     ensures holds { AreObjectsKept }
+{}
+
+/// In the opening state no thread has ended.
+pub fn no_thread_has_ended_at_the_opening()
+    ensures holds { AreOpeningEnds }
+{}
+
+/// Where each exception with which a thread has ended is there, and is an instance of Throwable or of a class below it, that is
+/// so after an event.
+pub fn a_step_keeps_ends()
+    ensures holds { AreEndsKept }
 {}
