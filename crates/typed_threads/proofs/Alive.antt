@@ -17,17 +17,15 @@ use Rattle.model.specs.Operands.{values, under}
 use Rattle.model.specs.Lookup.{select, field_member}
 use Rattle.model.specs.Sites.{site_with}
 use Rattle.model.specs.Meanings.{meaning_of}
-use Rattle.model.specs.Calls.{result_types}
-use Rattle.model.specs.State.{types_of, Instance, InProgress, Erroneous, WakeCause, Notified, Interrupted, ThreadStatus, Running, Waiting, Relock, Ended, Thread, Frame, Phase, Super, End, Invocation, Initialisation, StackOf, World}
+use Rattle.model.specs.State.{types_of, InProgress, Erroneous, WakeCause, Notified, Interrupted, ThreadStatus, Running, Waiting, Relock, Ended, Thread, Frame, Phase, Super, End, Invocation, Initialisation, StackOf, World}
 use Rattle.model.specs.Monitors as monitors
 use Rattle.model.specs.Outcomes.{MachineException, NoClassDefFound, StackOverflow, IllegalMonitorState, InterruptedWait, AbstractMethod, ExceptionInInitializer, OutcomeOf, Goes, Raises, Throws, Interrupts, Calls, Returns, Waits}
 use Rattle.model.specs.Worlds.{no_thread, thread_at, has_ended, is_owner, may_enter, with_begun, with_status, with_interrupted, with_monitors, with_static, put_value, is_done, object_at, class_of_object}
 use Rattle.model.specs.ClassInitialisation.{Look, IsReady, IsNew, IsHeld, HasFailed, look_by, status_of, constant_value, with_constant, with_constants, with_class_status, with_class_begun}
-use Rattle.model.specs.Frames.{frame_count, at_call, frame_with, entered_by}
-use Rattle.model.specs.Opening.{arguments_reference, class_reference}
-use Rattle.model.specs.Step.{SteppedOf, NotEnabled, WrongKind, Next, PartOf, enabled_if, unpicked, raised, raised_by_interrupt, needing, needing_class, entering, pushed, leaving, returned, become, ops_of, done, bytecode_by, bytecode_in, bytecode_event, initialiser_event, before, initialisation_event, initial_class, main_frame, main_event, run_frame, run_of, run_event, begin_event, handler_in, unwound, failed, pending_event, after_wait, relock_event, running_event, going_event, thread_event}
+use Rattle.model.specs.Frames.{frame_count, at_call, frame_with}
+use Rattle.model.specs.Step.{SteppedOf, NotEnabled, WrongKind, Next, PartOf, enabled_if, raised, raised_by_interrupt, needing, needing_class, entering, pushed, leaving, returned, become, ops_of, done, bytecode_by, bytecode_in, bytecode_event, initialiser_event, before, initialisation_event, initial_class, main_frame, run_frame, run_of, begin_event, handler_in, unwound, failed, pending_event, after_wait, relock_event, running_event, going_event, thread_event}
 use Rattle.model.specs.Typing.{AreTyped}
-use Rattle.model.specs.WellTyped.{is_object_in, Ready, Results, Beneath, IsRunning, IsStackTyped}
+use Rattle.model.specs.WellTyped.{is_object_in, Ready, IsRunning, IsStackTyped}
 use Rattle.laws.proofs.Linked.{Linked}
 use Rattle.typed_runs.proofs.Changes.{Fits, Live, OutcomeTyped}
 use Rattle.typed_runs.proofs.Flows.{InstructionsTyped, Flow, flow_of, here_of}

@@ -1,5 +1,5 @@
 -- The exception that a thread ended with is a Throwable: each event keeps that.
-use Rattle.std.proofs.Common.{◌≡◌, ℕ, List, [], ◌∷◌, Bool, true, false, ◌==◌, Option, Some, None, refl, sym, ap, ◌∙◌, subst}
+use Rattle.std.proofs.Common.{◌≡◌, ℕ, [], ◌∷◌, Bool, true, false, ◌==◌, Option, Some, None, refl, sym, ap, ◌∙◌, subst}
 use Rattle.std.specs.Prelude.{slice_get}
 use Rattle.std.proofs.lemmas.Bool.{true≢false, eqb-true}
 use Rattle.std.proofs.lemmas.Option.{get_or_from_slice_get, same_Some}
@@ -7,9 +7,8 @@ use Rattle.model.specs.declared.event.Event.{Event}
 use Rattle.model.specs.declared.value.Value.{Value}
 use Rattle.model.specs.Names.{java_lang_thread, java_lang_throwable}
 use Rattle.model.specs.Classes.{Program}
-use Rattle.model.specs.Operands.{words, values}
-use Rattle.model.specs.State.{types_of, ThreadStatus, Ended, Thread, StackOf, World, State, StateOf}
-use Rattle.model.specs.Outcomes.{Cost}
+use Rattle.model.specs.Operands.{values}
+use Rattle.model.specs.State.{types_of, ThreadStatus, Ended, Thread, StackOf, World, State}
 use Rattle.model.specs.Worlds.{no_thread, thread_at, with_thread, has_ended}
 use Rattle.model.specs.Step.{SteppedOf, NotEnabled, WrongKind, Next, PartOf, part, is_over, ended, with_waiters_woken, with_end, end_of, settled, thread_event, with_part, event_of, stepped}
 use Rattle.model.specs.Typing.{AreTyped}

@@ -12,7 +12,7 @@ use Rattle.model.specs.Worlds.{no_thread, thread_at}
 use Rattle.model.specs.Step.{SteppedOf, NotEnabled, WrongKind, Next, PartOf, settled, thread_event, with_part, event_of, stepped}
 use Rattle.model.specs.Typing.{AreTyped}
 use Rattle.model.specs.WellTyped.{Extends, IsStackTyped, IsWellTyped}
-use Rattle.model.specs.Words.{words_of}
+use Rattle.model.specs.Words.{words_of, AreWellTypedWords}
 use Rattle.laws.proofs.Linked.{Linked}
 use Rattle.typed_runs.proofs.Flows.{InstructionsTyped}
 use Rattle.typed_runs.proofs.StepParts.{OnPart}
@@ -49,30 +49,37 @@ module _ (files : Program) (linked : Linked files) (accepted : AreTyped files) (
   pub step_extends : Extending state (stepped values files frames state event)
   step_extends = event_extends (slice_get state.stacks event.thread) refl
 
-module _ (state : State) (cost : Cost) (next : StateOf ℕ) where
-  -- over words
-  words_extend : (y : SteppedOf State) → Extending state y → map_stepped words_of y ≡ Next cost next → Extends (types_of state.world.heap) (types_of next.world.heap)
-  words_extend NotEnabled x e = absurd (no_next e)
-    where
-      no_next : {S : Type 0} {c : Cost} {s : S} → NotEnabled ≡ Next c s → ⊥
-      no_next e = absurd cc
-  words_extend WrongKind x e = absurd (no_next e)
-    where
-      no_next : {S : Type 0} {c : Cost} {s : S} → WrongKind ≡ Next c s → ⊥
-      no_next e = absurd cc
-  words_extend (Next c after) x e =
-      let is : words_of after ≡ next = of_next e in
-      subst (λ (w : StateOf ℕ). Extends (types_of state.world.heap) (types_of w.world.heap)) is
-      (subst (Extends (types_of state.world.heap)) (sym (types_words after.world.heap)) x)
-    where
-      of_next : Next c (words_of after) ≡ Next cost next → words_of after ≡ next
-      of_next e = cc
+-- an event at words comes of one at values
+pub record FromValues (y : SteppedOf State) (next : StateOf ℕ) : Type 0 where
+  pub cost : Cost
+  pub after : State
+  pub is : y ≡ Next cost after
+  pub are : words_of after ≡ next
+
+from_values : (y : SteppedOf State) (cost : Cost) (next : StateOf ℕ) → map_stepped words_of y ≡ Next cost next → FromValues y next
+from_values NotEnabled cost next e = absurd (no_next e)
+  where
+    no_next : {S : Type 0} {c : Cost} {s : S} → NotEnabled ≡ Next c s → ⊥
+    no_next e = absurd cc
+from_values WrongKind cost next e = absurd (no_next e)
+  where
+    no_next : {S : Type 0} {c : Cost} {s : S} → WrongKind ≡ Next c s → ⊥
+    no_next e = absurd cc
+from_values (Next c after) cost next e = record { cost = c; after = after; is = refl; are = of_next e }
+  where
+    of_next : Next c (words_of after) ≡ Next cost next → words_of after ≡ next
+    of_next e = cc
+
+pub stepped_at_values : (trees : Program) (linked : Linked trees) (frames : ℕ) (before : StateOf ℕ) (event : Event) (cost : Cost) (next : StateOf ℕ) (h : AreWellTypedWords trees before) → stepped words trees frames before event ≡ Next cost next → FromValues (stepped values trees frames h.0 event) next
+stepped_at_values trees linked frames before event cost next h e =
+    from_values (stepped values trees frames h.0 event) cost next
+    (sym (carried trees linked.rooted frames h.0 event h.1.typed) ∙ subst (λ (w : StateOf ℕ). stepped words trees frames w event ≡ Next cost next) h.1.are e)
 
 pub objects_kept : AreObjectsKept
 objects_kept files trees accepted frames before event cost next h e =
-    let state = h.0 in
     let linked = links files trees accepted in
-    let x = step_extends trees linked accepted.typed (instructs files trees accepted) frames state h.1.typed event in
-    let to = sym (carried trees linked.rooted frames state event h.1.typed) ∙ subst (λ (w : StateOf ℕ). stepped words trees frames w event ≡ Next cost next) h.1.are e in
+    let f = stepped_at_values trees linked frames before event cost next h e in
+    let x = subst (Extending h.0) f.is (step_extends trees linked accepted.typed (instructs files trees accepted) frames h.0 h.1.typed event) in
+    let to = ap (λ (w : StateOf ℕ). types_of w.world.heap) (sym f.are) ∙ types_words f.after.world.heap in
     keeps_of before.world.heap next.world.heap
-    (subst (λ os. Extends os (types_of next.world.heap)) (sym (types_are trees before h)) (words_extend state cost next (stepped values trees frames state event) x to))
+    (subst (λ os. Extends os (types_of next.world.heap)) (sym (types_are trees before h)) (subst (Extends (types_of h.0.world.heap)) (sym to) x))

@@ -1,5 +1,5 @@
--- The exceptions with which threads have ended (JVMS 2.10, JLS 11.3): well-typed states say nothing of them, and each event keeps
--- what is said here.
+-- The exceptions with which threads have ended (JVMS 2.10, JLS 11.3): well-typed states say nothing of them, and each
+-- event keeps what is said here.
 use Rattle.std.specs.Prelude.{◌≡◌, ℕ, List, Some, slice_get}
 use Rattle.model.specs.declared.event.Event.{Event}
 use Rattle.model.specs.Names.{java_lang_throwable}

@@ -1,4 +1,5 @@
--- Which objects are there at the words of a well-typed state, and of what types (JVMS 2.4, 4.10.1.2): those that were there stay.
+-- Which objects are there at the words of a well-typed state, and of what types (JVMS 2.4, 4.10.1.2): those that were
+-- there stay.
 use Rattle.std.specs.Prelude.{◌≡◌, ℕ, ◌<◌, ◌≤◌, List, Some, length, slice_get, IsTrue}
 use Rattle.std.specs.List.{list_any}
 use Rattle.model.specs.declared.event.Event.{Event}
