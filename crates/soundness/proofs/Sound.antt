@@ -66,7 +66,7 @@ module _ (files : Program) (linked : Linked files) (accepted : AreTyped files) (
           unpicked_typed files event.thread world event (pending_event values files event.thread exception (slice_get (types_of world.heap) exception) world stack)
           (pending_event_typed files linked event.thread world thread there start runs exception e h.0 (slice_get (types_of world.heap) exception) refl stack h.1)
 
-    by_status : (stack : StackOf Value) (status : ThreadStatus) → thread.status ≡ status → IsStackTyped files (types_of world.heap) thread.pending stack status → OnPart files event.thread world (thread_event values files frames event world stack status)
+    pub by_status : (stack : StackOf Value) (status : ThreadStatus) → thread.status ≡ status → IsStackTyped files (types_of world.heap) thread.pending stack status → OnPart files event.thread world (thread_event values files frames event world stack status)
     by_status stack Running e h =
         let is = ap (λ (th : Thread). th.pending) (get_or_from_slice_get world.threads event.thread thread no_thread there) in
         subst (λ p. OnPart files event.thread world (going_event values files frames event world stack p)) (sym is) (going_on_typed e stack thread.pending refl h)
@@ -126,10 +126,10 @@ module _ (files : Program) (linked : Linked files) (accepted : AreTyped files) (
 -- ---- accepted files
 
 module _ (files : List (List ℕ)) (trees : Program) (accepted : IsAccepted files trees) where
-  links : Linked trees
+  pub links : Linked trees
   links = linked_of files trees accepted.linkable.spelled accepted.linkable.no_refusal
 
-  instructs : InstructionsTyped trees
+  pub instructs : InstructionsTyped trees
   instructs = meaning_typed trees (built_in_typed trees links)
 
   pub kept : (frames : ℕ) (state : State) (event : Event) (next : State) → IsWellTyped trees state → step trees frames state event ≡ Some next → IsWellTyped trees next
