@@ -1,32 +1,29 @@
 -- Classes that are tested have columns.
-use Rattle.std.proofs.Common.{◌≡◌, ◌∙◌, ℕ, zero, suc, ◌<◌, ◌^◌, List, [], ◌∷◌, ◌++◌, length, map, true, false, Option, Some, None, refl, sym, ap, subst, arith, get_or}
+use Rattle.std.proofs.Common.{◌≡◌, ◌∙◌, ℕ, zero, suc, ◌<◌, ◌^◌, List, [], ◌∷◌, ◌++◌, length, true, false, Option, Some, None, refl, sym, ap, subst, arith}
 use Rattle.std.specs.Prelude.{slice_get, slice_index_or, ◌==◌}
 use Rattle.std.specs.Option.{option_to_list}
-use Rattle.std.specs.List.{flat_map, list_any}
+use Rattle.std.specs.List.{flat_map}
 use Rattle.std.proofs.lemmas.Bool.{or_left, or_right}
 use Rattle.std.proofs.lemmas.Bool.Decides.{nat_tests}
 use Rattle.std.proofs.lemmas.List.Folds.{list_any-append}
 use Rattle.std.proofs.lemmas.Option.{slice_get_within}
 use Rattle.model.specs.Names.{Name}
-use Rattle.model.specs.Tree.{Entry, FileTree}
+use Rattle.model.specs.Tree.{Entry}
 use Rattle.model.specs.Pool.{class_name_at}
 use Rattle.model.specs.Classes.{Program, classes_of}
 use Rattle.model.specs.DescribedTypes.{type_named}
 use Rattle.model.specs.ReferenceTypes.{ReferenceType}
-use Rattle.hierarchy.specs.Places.{class_at}
 use Rattle.linker.specs.Linking.{IsLinked}
 use Rattle.linked_code.specs.declared.program.LinkedProgram.{LinkedProgram}
 use Rattle.linked_code.specs.declared.subclasses.Subclasses.{Subclasses}
 use Rattle.linked_code.specs.declared.types.LinkedType.{LinkedType}
-use Rattle.linked_code.specs.Methods.{Takes}
 use Rattle.linked_code.specs.Numbers.{IsType, IsTypeAt}
 use Rattle.linked_code.specs.Programs.{IsComponent}
 use Rattle.linked_code.specs.Subtypes.{HasColumn, IsTested}
-use Rattle.linked_instructions.specs.Operands.{EachRow, IsComponentType, IsNamedType}
+use Rattle.linked_instructions.specs.Operands.{EachRow}
 use Rattle.subclass_table.specs.Columns.{is_tested}
 use Rattle.linked_types.specs.Tested.{HaveColumns}
 use Rattle.linked_types.proofs.Types.{few_classes}
-use Rattle.linked_operands.specs.Catches.{IsCatch}
 use Rattle.type_tables.specs.declared.tables.TypeTables.{TypeTables}
 use Rattle.type_tables.specs.Rows.{AreRows, AreCatchesIn, AreComponentsIn, AreTypesIn, caught_in, rows_of}
 use Rattle.type_tables.specs.Tables.{AreComponentTypes, AreNamedTypes, AreTaken, HasTables}

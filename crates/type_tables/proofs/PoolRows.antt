@@ -1,11 +1,11 @@
 -- Rows for each class, pushed one after the other.
-use Rattle.std.proofs.Common.{◌≡◌, ℕ, ◌+◌, ◌<◌, ◌≤◌, List, [], ◌∷◌, ◌++◌, length, map, get_or, sym, ap, subst, ◌∙◌, arith, below_more, Option, Some, Vec, Global}
+use Rattle.std.proofs.Common.{◌≡◌, ℕ, ◌+◌, ◌<◌, List, [], ◌∷◌, ◌++◌, length, map, get_or, sym, ap, subst, ◌∙◌, arith, below_more, Some, Vec, Global}
 use Rattle.std.proofs.lemmas.List.{get_or_append_left, get_or-append-add, length-append, map-append}
 use Rattle.std.proofs.lemmas.Option.{slice_get_within}
 use Rattle.model.specs.Tree.{FileTree}
 use Rattle.model.specs.Classes.{Program, classes_of}
 use Rattle.hierarchy.specs.Places.{class_at}
-use Rattle.type_tables.specs.Rows.{AreRows, rows_of}
+use Rattle.type_tables.specs.Rows.{AreRows}
 
 abbrev pub items_of : {A : Type 0} → List (Vec A Global) → List (List A)
 items_of rows = map (λ row. row.items) rows

@@ -1,4 +1,4 @@
-use Rattle.std.proofs.Common.{◌≡◌, ◌≤◌, ◌++◌, ◌∙◌, arith, length, map, ap}
+use Rattle.std.proofs.Common.{◌≤◌, ◌++◌, ◌∙◌, arith, length, ap}
 use Rattle.std.specs.List.{flat_map}
 use Rattle.std.proofs.lemmas.Option.{slice_get_past}
 use Rattle.hierarchy.proofs.Indices.{take_whole}

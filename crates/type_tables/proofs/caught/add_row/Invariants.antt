@@ -1,5 +1,4 @@
 use Rattle.std.proofs.Common.{◌≡◌, ◌++◌, take}
-use Rattle.std.specs.List.{flat_map}
 use Rattle.type_tables.specs.Rows.{caught_in}
 use Rattle.type_tables.proofs.caught.add_row.Given as goal
 

@@ -1,7 +1,7 @@
-use Rattle.std.proofs.Common.{◌≤◌, length}
+use Rattle.std.proofs.Common.{length}
 use Rattle.model.specs.Classes.{classes_of}
 use Rattle.type_tables.specs.Rows.{AreTypesIn}
-use Rattle.std.proofs.Common.{◌≡◌, arith, ap, ◌∙◌, sym}
+use Rattle.std.proofs.Common.{◌≡◌, arith, ap, ◌∙◌}
 use Rattle.type_tables.proofs.PoolRows.{none_before, more_before, all_rows}
 use Rattle.type_tables.proofs.pool_rows.type_rows.Goals as goal
 

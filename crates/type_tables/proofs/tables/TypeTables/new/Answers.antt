@@ -1,11 +1,10 @@
-use Rattle.std.proofs.Common.{◌≡◌, ◌++◌, ℕ, List, map, sym, ap, subst, ◌∙◌}
+use Rattle.std.proofs.Common.{◌≡◌, ◌++◌, ℕ, List, sym, ap, subst, ◌∙◌}
 use Rattle.std.specs.Prelude.{slice_get}
 use Rattle.std.specs.List.{flat_map}
 use Rattle.model.specs.Names.{java_lang_string}
 use Rattle.model.specs.Classes.{Program}
 use Rattle.model.specs.ReferenceTypes.{ClassType}
 use Rattle.linker.specs.Linking.{IsLinked}
-use Rattle.linked_code.specs.declared.subclasses.Subclasses.{Subclasses}
 use Rattle.linked_code.specs.declared.types.LinkedType.{LinkedType}
 use Rattle.linked_code.specs.Numbers.{IsTypeAt}
 use Rattle.linked_code.specs.Subtypes.{AreSubclasses}
