@@ -1,5 +1,5 @@
 //! What the indices of the constant pool of a class are for its instructions and its exception entries, in linked code:
-//! a table for each kind of operand but calls, with a row for each index. Indices that are nothing of the kind have no row.
+//! a table for each kind of operand but calls. An index that is nothing of the kind has no row.
 #![tactic(auto)]
 
 mod catch_table;
