@@ -1,10 +1,10 @@
 -- An exception that is allocated and pending, and one that is refused.
-use Rattle.std.proofs.Common.{◌≡◌, ℕ, List, [], ◌∷◌, ◌++◌, Option, Some, None, Result, Ok, Err, slice_index_or, slice_set, length, refl, sym, ap, subst, ◌∙◌}
+use Rattle.std.proofs.Common.{◌≡◌, ℕ, List, [], Some, Result, Ok, Err, slice_index_or, slice_set, length, refl, sym, ap, subst, ◌∙◌}
 use Rattle.std.specs.Result.{IsErrAnd}
 use Rattle.std.proofs.lemmas.List.{append-nil}
 use Rattle.model.specs.Names.{Name}
 use Rattle.model.specs.Classes.{Program}
-use Rattle.model.specs.State.{ObjectOf, Instance, Thread, StackOf, WorldOf, new_thread}
+use Rattle.model.specs.State.{Instance, Thread, StackOf, WorldOf, new_thread}
 use Rattle.model.specs.Outcomes.{Makes, exception_class}
 use Rattle.model.specs.LimitStands.{Bounds}
 use Rattle.model.specs.Worlds.{allocated, with_pending}
@@ -20,6 +20,7 @@ use Rattle.linked_code.specs.Numbers.{IsClassAt}
 use Rattle.thread_stacks.specs.Stacks.{ShownEntry}
 use Rattle.shown_objects.specs.Shown.{ShowsObject}
 use Rattle.shown_stacks.specs.Shown.{ShowsStack}
+use Rattle.machine_state.specs.declared.answers.Answer.{Answer}
 use Rattle.machine_state.specs.declared.answers.MachineException.{MachineException}
 use Rattle.machine_state.specs.declared.refusals.Refusal.{Refusal}
 use Rattle.machine_state.specs.declared.state.Shared.{Shared}
@@ -29,22 +30,22 @@ use Rattle.machine_state.specs.Shown.{Represents}
 use Rattle.machine_state.specs.Events.{Becomes, IsDone, MayBeRefused}
 use Rattle.allocations.specs.Allocated.{IsMade}
 use Rattle.allocations.proofs.Allocating.{made, refused}
-use Rattle.raised_exceptions.specs.Raised.{class_number, answered}
+use Rattle.raised_exceptions.specs.Raised.{class_number}
 use Rattle.raised_exceptions.proofs.Numbered.{numbered}
 
 module _ (trees : Program) (p : LinkedProgram) (bounds : Bounds) (inflated : List ℕ) (world : WorldOf ℕ) (old : Shared) (r : Represents trees p bounds old world)
     (shown : List ShownEntry) (own : StackOf ℕ) (s : ShowsStack trees p shown own) where
-
   -- ---- refused
 
   pub told_as : (next : PartOf ℕ) (object : ObjectKind) (why : AllocRefusal) (after : Heap) → heap.IsRefused why 0 old.heap after
-      → (result : Result (Unit {0}) Refusal) → IsErrAnd result (λ told. told ≡ of_heap why)
-      → Becomes trees p bounds inflated world (Next (Makes 0) next) (answered result) old (record old { heap = after }) shown shown
+      → (result : Result Answer Refusal) → IsErrAnd result (λ told. told ≡ of_heap why)
+      → Becomes trees p bounds inflated world (Next (Makes 0) next) result old (record old { heap = after }) shown shown
   told_as next object why after is (Ok u) e = absurd e
   told_as next object why after is (Err told) e =
-      let both : MayBeRefused trees bounds inflated world (Makes 0) (of_heap why) × (after ≡ old.heap) = refused trees p bounds inflated world old (record old { heap = after }) r object 0 why is in
-      ( record { cost = Makes 0; next = next; is = refl; may = subst (MayBeRefused trees bounds inflated world (Makes 0)) (sym e) both.0 }
-      , record { shared = ap (λ (h : Heap). record old { heap = h }) both.1; stack = refl } )
+      let both : MayBeRefused trees bounds inflated world (Makes 0) (of_heap why) × (after ≡ old.heap) = refused trees p bounds inflated world old (record old { heap = after }) r object 0 why is in (
+        record { cost = Makes 0; next = next; is = refl; may = subst (MayBeRefused trees bounds inflated world (Makes 0)) (sym e) both.0 },
+        record { shared = ap (λ (h : Heap). record old { heap = h }) both.1; stack = refl },
+      )
 
   -- ---- done
 

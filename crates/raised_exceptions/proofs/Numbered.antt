@@ -1,5 +1,5 @@
 -- Where the classes of exceptions stand among the built-in ones.
-use Rattle.std.proofs.Common.{◌≡◌, refl}
+use Rattle.std.proofs.Common.{refl}
 use Rattle.model.specs.Classes.{Program}
 use Rattle.model.specs.BuiltIn.{built_in_classes}
 use Rattle.machine_state.specs.declared.answers.MachineException.{MachineException}

@@ -1,5 +1,5 @@
 -- Exceptions that the machine makes, with no call of a constructor (JVMS 2.10).
-use Rattle.std.specs.Prelude.{◌≡◌, ℕ, List, [], Result, Ok, Err}
+use Rattle.std.specs.Prelude.{◌≡◌, ℕ, List, [], Result}
 use Rattle.model.specs.Classes.{Program}
 use Rattle.model.specs.Lookup.{instance_fields}
 use Rattle.model.specs.State.{StackOf, WorldOf}
@@ -11,7 +11,6 @@ use Rattle.linked_code.specs.Numbers.{IsClassAt}
 use Rattle.thread_stacks.specs.Stacks.{ShownEntry}
 use Rattle.shown_stacks.specs.Shown.{ShowsStack}
 use Rattle.machine_state.specs.declared.answers.Answer.{Answer}
-use Rattle.machine_state.specs.declared.answers.Answer.TheVariants as answer
 use Rattle.machine_state.specs.declared.answers.MachineException.{MachineException}
 use Rattle.machine_state.specs.declared.answers.MachineException.TheVariants as exception
 use Rattle.machine_state.specs.declared.refusals.Refusal.{Refusal}
@@ -49,20 +48,15 @@ AreNumbered = (trees : Program) (fault : MachineException) → IsNumbered trees 
 
 -- ---- what raises them
 
--- what is done has no other answer
-abbrev pub answered : Result (Unit {0}) Refusal → Result Answer Refusal
-answered (Ok u) = Ok answer.Done
-answered (Err told) = Err told
-
 -- in each world that is shown, and over each stack of the thread
-abbrev pub IsRaised : Result (Unit {0}) Refusal → MachineException → (t : ℕ) → Shared → Shared → Type 0
+abbrev pub IsRaised : Result Answer Refusal → MachineException → (t : ℕ) → Shared → Shared → Type 0
 IsRaised result fault t old new =
     (trees : Program) (p : LinkedProgram) (bounds : Bounds) (inflated : List ℕ) (world : WorldOf ℕ) → Represents trees p bounds old world
     → (shown : List ShownEntry) (own : StackOf ℕ) → ShowsStack trees p shown own
-    → Becomes trees p bounds inflated world (raised t (shown_exception fault) world own) (answered result) old new shown shown
+    → Becomes trees p bounds inflated world (raised t (shown_exception fault) world own) result old new shown shown
 
-abbrev pub IsRaisedByInterrupt : Result (Unit {0}) Refusal → (t : ℕ) → Shared → Shared → Type 0
+abbrev pub IsRaisedByInterrupt : Result Answer Refusal → (t : ℕ) → Shared → Shared → Type 0
 IsRaisedByInterrupt result t old new =
     (trees : Program) (p : LinkedProgram) (bounds : Bounds) (inflated : List ℕ) (world : WorldOf ℕ) → Represents trees p bounds old world
     → (shown : List ShownEntry) (own : StackOf ℕ) → ShowsStack trees p shown own
-    → Becomes trees p bounds inflated world (raised_by_interrupt t world own) (answered result) old new shown shown
+    → Becomes trees p bounds inflated world (raised_by_interrupt t world own) result old new shown shown

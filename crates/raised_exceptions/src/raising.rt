@@ -5,7 +5,7 @@ ghost use Rattle.raised_exceptions.specs.Raised.{class_number, IsRaised, IsRaise
 ghost use Rattle.heap.specs.Heap.{Allocates};
 ghost use Rattle.heap.specs.declared.kind.ObjectKind.{ObjectKind};
 
-use machine_state::{MachineException, Refusal, Shared};
+use machine_state::{Answer, MachineException, Refusal, Shared};
 
 /// The number of the class of an exception: the built-in classes come first in each program.
 fn class_of(fault: MachineException) -> u32
@@ -29,17 +29,17 @@ fn class_of(fault: MachineException) -> u32
     }
 }
 
-/// The machine makes an exception, with no call of a constructor, and it is pending in a thread.
+/// The machine makes an exception, with no call of a constructor, and it is pending in a thread. It answers that its event is done.
 ///
 /// # Errors
 ///
 /// Where as many objects as may be were made, or there is no memory. Nothing has changed then.
-pub fn raise(shared: &mut Shared, thread: u16, fault: MachineException) -> Result<(), Refusal>
+pub fn raise(shared: &mut Shared, thread: u16, fault: MachineException) -> Result<Answer, Refusal>
     ensures { IsRaised result fault thread shared.old shared.new }
 {
     let exception = shared.heap.alloc_object(class_of(fault), 0)?;
     shared.threads.set_pending(thread, Some(exception));
-    Ok(())
+    Ok(Answer::Done)
 }
 
 /// A thread that waits or joins was interrupted: an InterruptedException is pending, and the interrupt status is cleared
@@ -48,7 +48,7 @@ pub fn raise(shared: &mut Shared, thread: u16, fault: MachineException) -> Resul
 /// # Errors
 ///
 /// Where as many objects as may be were made, or there is no memory. Nothing has changed then.
-pub fn raise_interrupt(shared: &mut Shared, thread: u16) -> Result<(), Refusal>
+pub fn raise_interrupt(shared: &mut Shared, thread: u16) -> Result<Answer, Refusal>
     ensures { IsRaisedByInterrupt result thread shared.old shared.new }
 {
     let exception = shared
@@ -56,5 +56,5 @@ pub fn raise_interrupt(shared: &mut Shared, thread: u16) -> Result<(), Refusal>
         .alloc_object(class_of(MachineException::InterruptedWait), 0)?;
     shared.threads.set_interrupted(thread, false);
     shared.threads.set_pending(thread, Some(exception));
-    Ok(())
+    Ok(Answer::Done)
 }

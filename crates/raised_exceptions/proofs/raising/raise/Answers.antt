@@ -1,6 +1,5 @@
 use Rattle.std.proofs.Common.{List, ap}
 use Rattle.model.specs.State.{Thread}
-use Rattle.heap.specs.declared.kind.ObjectKind.{ObjectKind}
 use Rattle.heap.specs.declared.kind.ObjectKind.TheVariants as kind
 use Rattle.java_threads.specs.Table.{ThreadTable}
 use Rattle.raised_exceptions.proofs.Made.{told_as, is_pending}
