@@ -3,3 +3,4 @@ pub mod Growing
 pub mod Filling
 pub mod Reading
 pub mod Naming
+pub mod Settling

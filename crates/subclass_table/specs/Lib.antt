@@ -1,3 +1,4 @@
 pub mod Columns
 pub mod Rows
 pub mod First
+pub mod Settled

@@ -7,5 +7,5 @@ mod laws;
 mod rows;
 mod table;
 
-pub use laws::object_is_first;
+pub use laws::{above_by_classes_above, object_is_first};
 pub use table::subclasses;
