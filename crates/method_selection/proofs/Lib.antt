@@ -1,3 +1,4 @@
 mod Reading
 mod Selecting
 mod Running
+mod Objects
