@@ -2,3 +2,4 @@ mod Reading
 mod Selecting
 mod Running
 mod Objects
+mod Searching
