@@ -1,5 +1,5 @@
 -- From class to class up to Error.
-use Rattle.std.proofs.Common.{◌≡◌, ◌∙◌, ◌+◌, ◌-◌, ◌≤◌, ℕ, suc, zero, Bool, true, false, List, [], ◌∷◌, length, refl, sym, ap, subst, Option, Some, None, arith}
+use Rattle.std.proofs.Common.{◌≡◌, ◌∙◌, ℕ, suc, zero, true, false, List, [], ◌∷◌, length, refl, sym, ap, subst, Option, Some, None}
 use Rattle.std.specs.Prelude.{slice_get, ◌==◌, ◌||◌}
 use Rattle.std.specs.Option.{option_map_or, option_and_then}
 use Rattle.model.specs.Names.{Name, name_eq, java_lang_error}

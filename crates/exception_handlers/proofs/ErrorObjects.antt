@@ -1,5 +1,5 @@
 -- Objects that are Errors.
-use Rattle.std.proofs.Common.{◌≡◌, ◌∙◌, ℕ, zero, suc, Bool, true, false, List, [], ◌∷◌, length, refl, sym, ap, subst, Option, Some, None, option_map}
+use Rattle.std.proofs.Common.{◌≡◌, ◌∙◌, ℕ, zero, suc, Bool, true, false, List, [], ◌∷◌, length, refl, sym, ap, Option, Some, None, option_map}
 use Rattle.std.specs.Prelude.{◌||◌, slice_get}
 use Rattle.std.specs.List.{list_any, AllByRecursion}
 use Rattle.std.proofs.lemmas.Bool.{or_from}
@@ -7,7 +7,7 @@ use Rattle.model.specs.Names.{Name, name_eq, java_lang_error}
 use Rattle.model.specs.BuiltIn.{built_in_classes}
 use Rattle.model.specs.Classes.{Program, classes_of, is_interface, superclass_of, is_within, is_subclass, implements, all_superinterfaces}
 use Rattle.model.specs.Linkable.{IsLinkable}
-use Rattle.model.specs.ReferenceTypes.{ReferenceType, ClassType, PrimitiveArray, ReferenceArray, is_subclass_or_implements}
+use Rattle.model.specs.ReferenceTypes.{ReferenceType, ClassType, is_subclass_or_implements}
 use Rattle.model.specs.State.{ObjectOf, Instance, Primitives, References, type_of, types_of}
 use Rattle.model.specs.Types.{is_object_of}
 use Rattle.std.specs.Option.{option_map_or}

@@ -1,6 +1,6 @@
 -- The first handler that takes an exception, from one to the next.
-use Rattle.std.proofs.Common.{◌≡◌, ◌∙◌, ◌<◌, ℕ, zero, suc, ◌+◌, Bool, true, false, List, [], ◌∷◌, length, drop, refl, sym, ap, subst, Option, Some, None, if◌then◌else◌}
-use Rattle.std.specs.Prelude.{◌&&◌, find, slice_get}
+use Rattle.std.proofs.Common.{◌≡◌, ℕ, zero, suc, Bool, List, [], ◌∷◌, length, drop, refl, sym, subst, Option, Some, None, if◌then◌else◌}
+use Rattle.std.specs.Prelude.{find, slice_get}
 use Rattle.model.specs.declared.class_file.ExceptionEntry.{ExceptionEntry}
 use Rattle.model.specs.Tree.{Entry}
 use Rattle.model.specs.Classes.{Program}
