@@ -73,6 +73,7 @@ module _ (trees : Program) (p : LinkedProgram) (bounds : Bounds) (inflated : Lis
           is = refl;
           becomes = record {
             within = m.within;
+            there = tt;
             represents = record {
               world_is = record {
                 objects = m.represents.world_is.objects;
