@@ -7,12 +7,6 @@ ghost use Rattle.field_instructions.specs.Puts.{Leaves};
 use machine_state::{Effect, Refusal};
 use thread_stacks::Frame;
 
-/// The frame goes on at the next place.
-#[inline]
-fn go_on(frame: &mut Frame) {
-    frame.go_to(frame.place.saturating_add(1));
-}
-
 /// A word takes the place of so many operands, and the frame goes on at the next place.
 ///
 /// # Errors
