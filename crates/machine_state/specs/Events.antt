@@ -1,5 +1,5 @@
 -- What an event of a thread makes of what is shown, of the part of the state that the thread touches (JVMS 2.6, 5.5; JLS 17).
-use Rattle.std.specs.Prelude.{◌≡◌, ℕ, List, [], ◌++◌, Option, None, Result, Ok, Err, length, replicate}
+use Rattle.std.specs.Prelude.{◌≡◌, ◌⊎◌, ℕ, suc, List, [], ◌∷◌, ◌++◌, Option, None, Result, Ok, Err, length}
 use Rattle.model.specs.declared.end.RunCause.{RunCause}
 use Rattle.model.specs.Classes.{Program}
 use Rattle.model.specs.State.{WorldOf}
@@ -24,9 +24,18 @@ pub record IsUnchanged (old new : Shared) (from to : List ShownEntry) : Type 0 w
   pub shared : new ≡ old
   pub stack : to ≡ from
 
--- other threads' stacks stay; those of threads that were started are empty
+-- no thread was started: the stacks of all others stay
+pub record AreOthersKept (old new : Shared) : Type 0 where
+  pub stacks : new.stacks.items ≡ old.stacks.items
+  pub threads : length new.threads.threads ≡ length old.threads.threads
+
+-- or one was, whose stack is empty
+pub record IsOneStarted (old new : Shared) : Type 0 where
+  pub stacks : new.stacks.items ≡ old.stacks.items ++ [] ∷ []
+  pub threads : length new.threads.threads ≡ suc (length old.threads.threads)
+
 abbrev pub AreStacksAdded : Shared → Shared → Type 0
-AreStacksAdded old new = (started : ℕ) × (new.stacks.items ≡ old.stacks.items ++ replicate started [])
+AreStacksAdded old new = AreOthersKept old new ⊎ IsOneStarted old new
 
 -- the limit that stands where an event takes something
 abbrev pub limit_of : Program → Bounds → List ℕ → WorldOf ℕ → Cost → Option RunCause
