@@ -1,3 +1,1 @@
 pub mod Puts
-pub mod Frames
-pub mod Moves

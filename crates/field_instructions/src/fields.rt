@@ -5,7 +5,7 @@ ghost use Rattle.model.specs.Worlds as model;
 ghost use Rattle.linked_code.specs.Numbers.{primitive_of};
 ghost use Rattle.linked_code.specs.declared.instruction.LinkedInstruction.TheVariants as linked;
 ghost use Rattle.linked_code.specs.declared.program.LinkedProgram.{LinkedProgram};
-ghost use Rattle.field_instructions.specs.Frames.{DoesOwn};
+ghost use Rattle.linked_frames.specs.Frames.{DoesOwn};
 ghost use Rattle.field_instructions.specs.Puts.{put_field_of};
 
 use crate::leaving::{leave, leave_nothing};
