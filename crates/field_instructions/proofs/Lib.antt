@@ -1,0 +1,3 @@
+pub mod OnTop
+pub mod Referred
+pub mod Instances

@@ -28,7 +28,7 @@ use Rattle.machine_state.specs.declared.refusals.Refusal.TheVariants as refusal
 use Rattle.machine_state.specs.declared.state.Shared.{Shared}
 use Rattle.machine_state.specs.Shown.{Represents}
 use Rattle.machine_state.specs.Instructions.{Does}
-use Rattle.machine_state.specs.Events.{IsDone}
+use Rattle.machine_state.specs.Events.{IsUnchanged, IsDone}
 use Rattle.linked_frames.specs.Frames.{IsRunning}
 use Rattle.linked_frames.proofs.Frames.{top_shown, finds_shown, meaning_is, top_frame, with_top_is}
 use Rattle.linked_frames.proofs.Moves.{free_done, replaced_shown}
@@ -56,6 +56,17 @@ module _ (trees : Program) (p : LinkedProgram) (bounds : Bounds) (inflated : Lis
       ∙ ap (λ s. slice_index_or s k 0) (top_shown trees p bounds inflated t old stack state frame rest code site meaning instruction is).top.operands
       ∙ ap (λ (f : ShownFrame). slice_index_or f.operands k 0) (sym (lent_shows found lent))
       ∙ e
+
+  -- nothing has changed where it is as it was
+  pub kept : (found : ShownFrame) → IsTopFrame stack (Some found) → IsUnchanged old old stack (with_top found stack)
+  kept found lent =
+      record {
+        shared = refl;
+        stack =
+            with_top_is trees p bounds inflated t old stack state frame rest code site meaning instruction is found
+            ∙ ap (λ (x : ShownFrame). Invocation x ∷ is.others) (lent_shows found lent)
+            ∙ sym is.is_stack;
+      }
 
   -- ---- where it goes on
 
@@ -115,16 +126,7 @@ module _ (trees : Program) (p : LinkedProgram) (bounds : Bounds) (inflated : Lis
       → Does trees p bounds inflated t state.world (model.Invocation frame ∷ rest) (goes_on state.world count results) result old old stack (with_top left stack)
   done_or_refused count results found lent left (Ok answer) e = done state.world old unchanged count results found lent left answer e
   done_or_refused count results found lent left (Err refusal.Memory) e =
-      let f : left ≡ is.shown = e ∙ lent_shows found lent in (
-        record { cost = Free; next = _; is = refl; may = tt },
-        record {
-          shared = refl;
-          stack =
-              with_top_is trees p bounds inflated t old stack state frame rest code site meaning instruction is left
-              ∙ ap (λ (x : ShownFrame). Invocation x ∷ is.others) f
-              ∙ sym is.is_stack;
-        },
-      )
+      (record { cost = Free; next = _; is = refl; may = tt }, kept left (subst (λ (f : ShownFrame). IsTopFrame stack (Some f)) (sym e) lent))
   done_or_refused count results found lent left (Err refusal.Objects) e = absurd e
   done_or_refused count results found lent left (Err refusal.Cells) e = absurd e
   done_or_refused count results found lent left (Err refusal.Monitors) e = absurd e
