@@ -1,5 +1,5 @@
 -- The object that a word refers to, and a machine that has changed one of its objects, or a static field.
-use Rattle.std.proofs.Common.{◌≡◌, ℕ, zero, suc, ◌-◌, ◌≤◌, List, [], ◌∷◌, Bool, true, false, Option, Some, None, refl, subst, arith}
+use Rattle.std.proofs.Common.{◌≡◌, ℕ, zero, suc, ◌-◌, ◌≤◌, List, [], ◌∷◌, Bool, true, false, Option, Some, None, refl, subst, arith, Vec, Global}
 use Rattle.std.specs.Prelude.{slice_get, slice_index_or, option_map}
 use Rattle.std.specs.Option.{option_map_or}
 use Rattle.std.proofs.lemmas.Bool.{false≢true, and_parts}
@@ -69,6 +69,29 @@ module _ (trees : Program) (p : LinkedProgram) (bounds : Bounds) (old : Shared) 
           objects = shows;
           monitors = r.world_is.monitors;
           statics = r.world_is.statics;
+          statuses = r.world_is.statuses;
+          ready = r.world_is.ready;
+          threads = r.world_is.threads;
+          printed = r.world_is.printed;
+        };
+        limits = record {
+          opening = r.limits.opening;
+          objects = r.limits.objects;
+          cells = r.limits.cells;
+          monitors = r.limits.monitors;
+          threads = r.limits.threads;
+        };
+      }
+
+  -- of static fields
+  pub with_slots : (statics : Vec ℕ Global) (fields : List (Member × ℕ)) → ShowsStatics trees statics.items fields
+      → Represents trees p bounds (record old { statics = statics }) (record world { statics = fields })
+  with_slots statics fields shows =
+      record {
+        world_is = record {
+          objects = r.world_is.objects;
+          monitors = r.world_is.monitors;
+          statics = shows;
           statuses = r.world_is.statuses;
           ready = r.world_is.ready;
           threads = r.world_is.threads;

@@ -1,6 +1,6 @@
 //! Static fields. That the class of a field is initialised is asked before.
 
-ghost use Rattle.std.specs.Prelude.{◌≡◌, ℕ, slice_set};
+ghost use Rattle.std.specs.Prelude.{◌≡◌, ℕ, slice_index, slice_set};
 ghost use Rattle.linked_code.specs.declared.instruction.LinkedInstruction.TheVariants as linked;
 ghost use Rattle.linked_code.specs.declared.program.LinkedProgram.{LinkedProgram};
 ghost use Rattle.machine_state.specs.declared.state.Shared.{Shared};
@@ -16,6 +16,14 @@ use thread_stacks::ThreadStack;
 /// The word of the PrintStream, which is the first of all objects.
 const PRINT_STREAM: u32 = 1;
 
+/// The static field in a slot, or 0 where there is none.
+#[inline]
+fn static_word(statics: &[u32], slot: u32) -> u32
+    ensures { result ≡ slice_index statics.now slot }
+{
+    statics.get(slot as usize).copied().unwrap_or(0)
+}
+
 /// `getstatic`: the static field in a slot goes onto the stack.
 ///
 /// # Errors
@@ -26,10 +34,7 @@ pub fn get_static(shared: &Shared, stack: &mut ThreadStack, slot: u32) -> Result
     ensures { (p : LinkedProgram) (class t : ℕ) → DoesOwn p (linked.GetStatic class slot) t result shared.now shared.now stack.old stack.new }
 {
     match stack.frame_mut() {
-        Some(frame) => {
-            let word = shared.statics.get(slot as usize).copied().unwrap_or(0);
-            leave(frame, 0, word)
-        }
+        Some(frame) => leave(frame, 0, static_word(&shared.statics, slot)),
         None => Ok(Effect::NotEnabled),
     }
 }
