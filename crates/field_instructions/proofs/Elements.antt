@@ -72,7 +72,7 @@ keeps (References own elements) word = refl
 
 module _ (trees : Program) (p : LinkedProgram) (bounds : Bounds) (inflated : List ℕ) (t : ℕ) (old : Shared) (stack : List ShownEntry) (state : StateOf ℕ) (frame : FrameOf ℕ) (rest : StackOf ℕ) (code : LinkedCode) (site : Site) (meaning : MeaningOf ℕ) (instruction : LinkedInstruction) (is : IsRunning trees p bounds inflated t old stack state frame rest code site meaning instruction) where
   -- the array that a word refers to
-  record Held (r : ℕ) : Type 0 where
+  pub record Held (r : ℕ) : Type 0 where
     pub array : ObjectOf ℕ
     pub there : object_at state.world r ≡ array
     pub elements : HasElements trees p.components.items old.heap.objects state.world.heap r array
@@ -86,7 +86,7 @@ module _ (trees : Program) (p : LinkedProgram) (bounds : Bounds) (inflated : Lis
       record { array = m.object; there = there; elements = has; are = ap elements_of there ∙ has.are }
 
   -- what is wanted as an array is one
-  abbrev IsArrayWant : Want → Type 0
+  abbrev pub IsArrayWant : Want → Type 0
   IsArrayWant want = (r : ℕ) → word_meets trees (types_of state.world.heap) want (suc r) ≡ true → Held r
 
   ints_held : (of : Primitive) → IsArrayWant (AReference (PrimitiveArray of))
@@ -134,7 +134,7 @@ module _ (trees : Program) (p : LinkedProgram) (bounds : Bounds) (inflated : Lis
   -- ---- an index
 
   outside : (r i : ℕ) → Held r → length (words_at old.heap.objects r) ≤ i → in_range state.world r i ≡ false
-  outside r i h e = ap (λ l. nat_lt i (length l)) h.are ∙ le-ltb (length (words_at old.heap.objects r)) i e
+  outside r i h e = ap (λ l. nat_lt i (length l)) h.are ∙ le-ltb i (length (words_at old.heap.objects r)) e
 
   inside : (r i : ℕ) → Held r → i < length (words_at old.heap.objects r) → in_range state.world r i ≡ true
   inside r i h e = ap (λ l. nat_lt i (length l)) h.are ∙ lt-ltb i (length (words_at old.heap.objects r)) e

@@ -1,5 +1,5 @@
 -- The object that a word refers to, and a machine that has changed one of its objects, or a static field.
-use Rattle.std.proofs.Common.{◌≡◌, ℕ, zero, suc, ◌-◌, ◌≤◌, List, [], ◌∷◌, Bool, true, false, Option, Some, None, refl, subst, arith, Vec, Global}
+use Rattle.std.proofs.Common.{◌≡◌, ℕ, zero, suc, ◌-◌, ◌<◌, ◌≤◌, List, [], ◌∷◌, Bool, true, false, Option, Some, None, refl, subst, arith, Vec, Global}
 use Rattle.std.specs.Prelude.{slice_get, slice_index_or, option_map}
 use Rattle.std.specs.Option.{option_map_or}
 use Rattle.std.proofs.lemmas.Bool.{false≢true, and_parts}
@@ -43,6 +43,13 @@ null_is (suc r) e = absurd (e (omega arith))
 
 pub refers : (w r : ℕ) → (1 ≤ w) × (r ≡ w - 1) → w ≡ suc r
 refers w r e = let least = e.0 in let is = e.1 in omega arith
+
+-- an index is one of so many, or is not
+pub within : (i n k : ℕ) → n ≡ k → i < n → i < k
+within i n k e less = omega arith
+
+pub past : (i n k : ℕ) → n ≡ k → n ≤ i → k ≤ i
+past i n k e most = omega arith
 
 -- an object that is there, whose type passes a test
 pub record Referred (heap : List (ObjectOf ℕ)) (test : ReferenceType → Bool) (r : ℕ) : Type 0 where
