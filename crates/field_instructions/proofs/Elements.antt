@@ -22,7 +22,6 @@ use Rattle.model.specs.Meanings.{meaning_of}
 use Rattle.model.specs.Step.{SteppedOf, Next, PartOf, part, become, raised}
 use Rattle.heap.specs.Heap.{Heap, words_at, word_at, put_element}
 use Rattle.linked_code.specs.declared.instruction.LinkedInstruction.{LinkedInstruction}
-use Rattle.linked_code.specs.declared.instruction.LinkedInstruction.TheVariants as linked
 use Rattle.linked_code.specs.declared.method.LinkedCode.{LinkedCode}
 use Rattle.linked_code.specs.declared.program.LinkedProgram.{LinkedProgram}
 use Rattle.linked_code.specs.Arrays.{is_narrow}
@@ -38,7 +37,7 @@ use Rattle.machine_state.specs.Instructions.{instruction_event, Does}
 use Rattle.linked_frames.specs.Frames.{IsRunning, event_of}
 use Rattle.linked_frames.proofs.Frames.{event_is}
 use Rattle.field_instructions.specs.Puts.{Leaves}
-use Rattle.field_instructions.proofs.OnTop.{pops_met, lent_shows, operand_is, goes_on, IsShownAfter, done, done_or_refused}
+use Rattle.field_instructions.proofs.OnTop.{pops_met, lent_shows, operand_is, IsShownAfter, done, done_or_refused}
 use Rattle.field_instructions.proofs.Referred.{meets_first, meets_second, meets_third, referred, with_objects}
 
 -- ---- arrays by what is wanted

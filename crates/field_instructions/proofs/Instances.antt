@@ -2,12 +2,10 @@
 use Rattle.std.proofs.Common.{◌≡◌, ℕ, suc, ◌+◌, List, [], ◌∷◌, take, drop, Bool, true, false, Some, Result, Ok, refl, sym, ap, subst, ◌∙◌, arith}
 use Rattle.std.specs.Prelude.{slice_get, slice_index_or, slice_set, if◌then◌else◌}
 use Rattle.std.proofs.lemmas.Option.{get_or_from_slice_get}
-use Rattle.model.specs.declared.event.Event.{Event}
 use Rattle.model.specs.Names.{Name, Member, name_eq}
 use Rattle.model.specs.Classes.{Program}
 use Rattle.model.specs.LimitStands.{Bounds}
 use Rattle.model.specs.ReferenceTypes.{ReferenceType, ClassType, is_assignable}
-use Rattle.model.specs.ReferenceTypes as model_types
 use Rattle.model.specs.Types.{AnOwner}
 use Rattle.model.specs.DescribedTypes.{made_type, declared_want, field_declared}
 use Rattle.model.specs.Calls.{of_class}
@@ -111,7 +109,7 @@ module _ (trees : Program) (p : LinkedProgram) (bounds : Bounds) (inflated : Lis
         let first = first_of words l.field in
         let value : value_in first l.field (fields_of (object_at state.world r)) ≡ word = ap (λ x. value_in first l.field (fields_of x)) h.object ∙ h.field_is.read first ∙ sym is_word in
         let goes = event_by (suc r) is_r
-            ∙ ap (λ x. goes_on trees p bounds inflated t old stack state frame rest code site meaning (linked.GetField slot) is state.world 1 (x ∷ [])) value in
+        ∙ ap (λ x. goes_on trees p bounds inflated t old stack state frame rest code site meaning (linked.GetField slot) is state.world 1 (x ∷ [])) value in
         subst (λ s. Does trees p bounds inflated t state.world (model.Invocation frame ∷ rest) s result old old stack (with_top left stack)) (sym goes)
         (done_or_refused trees p bounds inflated t old stack state frame rest code site meaning (linked.GetField slot) is 1 (word ∷ []) found lent left result leaves)
 
@@ -168,7 +166,7 @@ module _ (trees : Program) (p : LinkedProgram) (bounds : Bounds) (inflated : Lis
         ap (λ x. with_field put.field x (object_at state.world r)) (put.keeps v ∙ sym is_word) ∙ ap (λ x. with_field put.field word x) h.object
         in
         let goes = put_by (suc r) v is_r is_v
-            ∙ ap (λ x. goes_on trees p bounds inflated t old stack state frame rest code site meaning (puts.put_field_of of slot) is (with_object state.world r x) 2 []) is_object in
+        ∙ ap (λ x. goes_on trees p bounds inflated t old stack state frame rest code site meaning (puts.put_field_of of slot) is (with_object state.world r x) 2 []) is_object in
         let after = with_object state.world r object in
         let shown : IsShownAfter trees p bounds inflated t old stack state frame rest code site meaning (puts.put_field_of of slot) is after (record old { heap = record old.heap { objects = put_field old.heap.objects r slot word } }) =
         record {

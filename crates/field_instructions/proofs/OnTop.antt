@@ -1,6 +1,6 @@
 -- What an instruction finds in the frame on top, and how it leaves it.
-use Rattle.std.proofs.Common.{◌≡◌, ℕ, ◌+◌, ◌<◌, ◌^◌, List, [], ◌∷◌, ◌++◌, length, take, drop, true, Option, Some, Result, Ok, Err, refl, sym, ap, subst, ◌∙◌, arith}
-use Rattle.std.specs.Prelude.{slice_get, slice_index_or}
+use Rattle.std.proofs.Common.{◌≡◌, ℕ, ◌+◌, ◌<◌, ◌^◌, List, ◌∷◌, ◌++◌, length, take, drop, true, Some, Result, Ok, Err, refl, sym, ap, subst, ◌∙◌, arith}
+use Rattle.std.specs.Prelude.{slice_index_or}
 use Rattle.std.proofs.lemmas.Bool.{and_parts}
 use Rattle.std.proofs.lemmas.List.{get_or-take}
 use Rattle.std.proofs.lemmas.Option.{same_Some, slice_get_within}
@@ -18,7 +18,7 @@ use Rattle.linked_code.specs.declared.instruction.LinkedInstruction.{LinkedInstr
 use Rattle.linked_code.specs.declared.method.LinkedCode.{LinkedCode}
 use Rattle.linked_code.specs.declared.program.LinkedProgram.{LinkedProgram}
 use Rattle.linked_code.specs.Linked.{offset_in}
-use Rattle.word_operands.specs.Operands.{Finds, word_meets}
+use Rattle.word_operands.specs.Operands.{word_meets}
 use Rattle.thread_stacks.specs.Stacks.{ShownFrame, ShownEntry, Invocation, IsTopFrame, with_top}
 use Rattle.shown_stacks.specs.Shown.{ShowsStack}
 use Rattle.machine_state.specs.declared.answers.Effect.{Effect}

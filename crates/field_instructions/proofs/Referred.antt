@@ -11,10 +11,9 @@ use Rattle.model.specs.ReferenceTypes.{ReferenceType}
 use Rattle.model.specs.Types.{Want}
 use Rattle.model.specs.Operands.{pops_meet}
 use Rattle.model.specs.State.{ObjectOf, type_of, types_of, WorldOf}
-use Rattle.model.specs.Worlds.{with_object}
 use Rattle.heap.specs.Heap.{Object}
 use Rattle.linked_code.specs.declared.program.LinkedProgram.{LinkedProgram}
-use Rattle.word_operands.specs.Operands.{is_word_with, word_meets}
+use Rattle.word_operands.specs.Operands.{is_word_with}
 use Rattle.shown_objects.specs.Shown.{ShowsObjects, ShowsStatics}
 use Rattle.machine_state.specs.declared.state.Shared.{Shared}
 use Rattle.machine_state.specs.Shown.{Represents}

@@ -1,5 +1,5 @@
 -- getstatic and putstatic by slots, and System.out.
-use Rattle.std.proofs.Common.{◌≡◌, ℕ, ◌+◌, List, [], ◌∷◌, take, drop, Some, Result, Ok, refl, sym, ap, subst, ◌∙◌, arith, Vec, Global}
+use Rattle.std.proofs.Common.{◌≡◌, ℕ, ◌+◌, List, [], ◌∷◌, take, Some, Result, Ok, refl, sym, ap, subst, ◌∙◌, arith, Vec, Global}
 use Rattle.std.specs.Prelude.{slice_index, slice_index_or, slice_set}
 use Rattle.model.specs.Classes.{Program}
 use Rattle.model.specs.LimitStands.{Bounds}
@@ -57,7 +57,7 @@ module _ (trees : Program) (p : LinkedProgram) (bounds : Bounds) (inflated : Lis
         let static = are_statics trees old.statics.items state.world.statics is.lent.represents.world_is.statics l.field slot l.slots in
         let value : value_in first l.field state.world.statics ≡ word = static.read first ∙ sym is_word in
         let goes = event_is trees p bounds inflated t old stack state frame rest code site meaning (linked.GetStatic class slot) is frames (event_of t) (get_static_of words trees (offset_in code.starts.items (is.shown.place + 1)) l.field) l.is
-            ∙ ap (λ x. goes_on trees p bounds inflated t old stack state frame rest code site meaning (linked.GetStatic class slot) is state.world 0 (x ∷ [])) value in
+        ∙ ap (λ x. goes_on trees p bounds inflated t old stack state frame rest code site meaning (linked.GetStatic class slot) is state.world 0 (x ∷ [])) value in
         subst (λ s. Does trees p bounds inflated t state.world (model.Invocation frame ∷ rest) s result old old stack (with_top left stack)) (sym goes)
         (done_or_refused trees p bounds inflated t old stack state frame rest code site meaning (linked.GetStatic class slot) is 0 (word ∷ []) found lent left result leaves)
 
@@ -84,7 +84,7 @@ module _ (trees : Program) (p : LinkedProgram) (bounds : Bounds) (inflated : Lis
         let after = with_static state.world put.field word in
         let operand = operand_is trees p bounds inflated t old stack state frame rest code site meaning (puts.put_static_of of class slot) is found lent 1 0 v (omega arith) is_v in
         let goes = event_is trees p bounds inflated t old stack state frame rest code site meaning (puts.put_static_of of class slot) is frames (event_of t) (put_static_of words trees (offset_in code.starts.items (is.shown.place + 1)) put.field) put.is
-            ∙ ap (λ x. next (with_static state.world put.field x) 1 []) (put.keeps (slice_index_or (take 1 frame.place.slots.stack) 0 0) ∙ ap (kept (primitive_of of)) operand ∙ sym is_word) in
+        ∙ ap (λ x. next (with_static state.world put.field x) 1 []) (put.keeps (slice_index_or (take 1 frame.place.slots.stack) 0 0) ∙ ap (kept (primitive_of of)) operand ∙ sym is_word) in
         let shown : IsShownAfter trees p bounds inflated t old stack state frame rest code site meaning (puts.put_static_of of class slot) is after (record old { statics = statics }) =
         record {
           represents = with_slots trees p bounds old state.world is.lent.represents statics after.statics (subst (λ s. ShowsStatics trees s after.statics) (sym is_statics) (static.written word));

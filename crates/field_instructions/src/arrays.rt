@@ -1,6 +1,6 @@
 //! Elements of arrays. Those of all arrays are words, and an array narrows what it keeps.
 
-ghost use Rattle.std.specs.Prelude.{◌≡◌, ℕ};
+ghost use Rattle.std.specs.Prelude.{ℕ, Ok};
 ghost use Rattle.linked_code.specs.declared.instruction.LinkedInstruction.TheVariants as linked;
 ghost use Rattle.linked_code.specs.declared.program.LinkedProgram.{LinkedProgram};
 ghost use Rattle.linked_frames.specs.Frames.{DoesOwn};
@@ -37,23 +37,23 @@ pub fn load_element(shared: &Shared, stack: &mut ThreadStack) -> Result<Effect, 
 
 /// The operand on top goes into the array under the index under it, at that index.
 #[inline]
-fn store(shared: &mut Shared, stack: &mut ThreadStack) -> Result<Effect, Refusal>
-    ensures ints { (p : LinkedProgram) (t : ℕ) → DoesOwn p linked.StoreInt t result shared.old shared.new stack.old stack.new }
-    ensures narrow { (p : LinkedProgram) (t : ℕ) → DoesOwn p linked.StoreNarrow t result shared.old shared.new stack.old stack.new }
+fn store(shared: &mut Shared, stack: &mut ThreadStack) -> Effect
+    ensures ints { (p : LinkedProgram) (t : ℕ) → DoesOwn p linked.StoreInt t (Ok result) shared.old shared.new stack.old stack.new }
+    ensures narrow { (p : LinkedProgram) (t : ℕ) → DoesOwn p linked.StoreNarrow t (Ok result) shared.old shared.new stack.old stack.new }
 {
     let Some(frame) = stack.frame_mut() else {
-        return Ok(Effect::NotEnabled);
+        return Effect::NotEnabled;
     };
     let index = frame.operand(1);
     match frame.operand(2).checked_sub(1) {
-        None => Ok(Effect::Raises(MachineException::NullPointer)),
+        None => Effect::Raises(MachineException::NullPointer),
         Some(array) => {
             if index < shared.heap.length(array) {
                 let word = frame.operand(0);
                 shared.heap.put_element(array, index, word);
-                Ok(leave_nothing(frame, 3))
+                leave_nothing(frame, 3)
             } else {
-                Ok(Effect::Raises(MachineException::ArrayIndexOutOfBounds))
+                Effect::Raises(MachineException::ArrayIndexOutOfBounds)
             }
         }
     }
@@ -61,16 +61,16 @@ fn store(shared: &mut Shared, stack: &mut ThreadStack) -> Result<Effect, Refusal
 
 /// `iastore`: the operand on top goes into an array of ints.
 #[inline]
-pub fn store_int(shared: &mut Shared, stack: &mut ThreadStack) -> Result<Effect, Refusal>
-    ensures { (p : LinkedProgram) (t : ℕ) → DoesOwn p linked.StoreInt t result shared.old shared.new stack.old stack.new }
+pub fn store_int(shared: &mut Shared, stack: &mut ThreadStack) -> Effect
+    ensures { (p : LinkedProgram) (t : ℕ) → DoesOwn p linked.StoreInt t (Ok result) shared.old shared.new stack.old stack.new }
 {
     store(shared, stack)
 }
 
 /// `bastore`, `castore`, `sastore`: the operand on top goes into an array, narrowed to what the array holds.
 #[inline]
-pub fn store_narrow(shared: &mut Shared, stack: &mut ThreadStack) -> Result<Effect, Refusal>
-    ensures { (p : LinkedProgram) (t : ℕ) → DoesOwn p linked.StoreNarrow t result shared.old shared.new stack.old stack.new }
+pub fn store_narrow(shared: &mut Shared, stack: &mut ThreadStack) -> Effect
+    ensures { (p : LinkedProgram) (t : ℕ) → DoesOwn p linked.StoreNarrow t (Ok result) shared.old shared.new stack.old stack.new }
 {
     store(shared, stack)
 }

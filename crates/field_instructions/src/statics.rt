@@ -1,14 +1,14 @@
-//! Static fields. That the class of a field is initialised is asked before.
+//! Static fields. Whether the class of a field is to be initialised first is asked elsewhere.
 
-ghost use Rattle.std.specs.Prelude.{◌≡◌, ℕ, slice_index, slice_set};
+ghost use Rattle.std.specs.Prelude.{◌≡◌, ℕ, Ok, slice_index, slice_set};
 ghost use Rattle.linked_code.specs.declared.instruction.LinkedInstruction.TheVariants as linked;
 ghost use Rattle.linked_code.specs.declared.program.LinkedProgram.{LinkedProgram};
 ghost use Rattle.machine_state.specs.declared.state.Shared.{Shared};
 ghost use Rattle.linked_frames.specs.Frames.{DoesOwn};
 ghost use Rattle.field_instructions.specs.Puts.{put_static_of};
 
-use crate::fields::kept;
 use crate::leaving::{leave, leave_nothing};
+use crate::narrowing::kept;
 use linked_code::Primitive;
 use machine_state::{Effect, Refusal, Shared};
 use thread_stacks::ThreadStack;
@@ -67,20 +67,15 @@ fn set_static(statics: &mut Vec<u32>, slot: u32, word: u32)
 /// `putstatic` of a field of a type, of a reference as of an int: the operand on top goes into the static field in a slot,
 /// narrowed to the type.
 #[inline]
-pub fn put_static(
-    shared: &mut Shared,
-    stack: &mut ThreadStack,
-    of: Primitive,
-    slot: u32,
-) -> Result<Effect, Refusal>
-    ensures { (p : LinkedProgram) (class t : ℕ) → DoesOwn p (put_static_of of class slot) t result shared.old shared.new stack.old stack.new }
+pub fn put_static(shared: &mut Shared, stack: &mut ThreadStack, of: Primitive, slot: u32) -> Effect
+    ensures { (p : LinkedProgram) (class t : ℕ) → DoesOwn p (put_static_of of class slot) t (Ok result) shared.old shared.new stack.old stack.new }
 {
     match stack.frame_mut() {
         Some(frame) => {
             let word = kept(of, frame.operand(0));
             set_static(&mut shared.statics, slot, word);
-            Ok(leave_nothing(frame, 1))
+            leave_nothing(frame, 1)
         }
-        None => Ok(Effect::NotEnabled),
+        None => Effect::NotEnabled,
     }
 }

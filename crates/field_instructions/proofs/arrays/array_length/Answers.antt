@@ -9,7 +9,7 @@ use Rattle.field_instructions.proofs.arrays.array_length.Goals as goal
 pub returns-in-None : goal.returns-in-None
 returns-in-None c = λ p t frames trees bounds inflated state frame rest code site meaning is. (
   length_of_null trees p bounds inflated t c.args.shared.now c.args.stack.now state frame rest code site meaning linked.ArrayLength is (shown_frame c.in-Some.frame.now) c.in-Some.ensures.value frames is.stands.linked.to is.stands.linked.is
-  (sym c.operand.ensures ∙ null_is c.operand.result c.in-None.ensures),
+      (sym c.operand.ensures ∙ null_is c.operand.result c.in-None.ensures),
   kept trees p bounds inflated t c.args.shared.now c.args.stack.now state frame rest code site meaning linked.ArrayLength is (shown_frame c.in-Some.frame.now) c.in-Some.ensures.value,
 )
 

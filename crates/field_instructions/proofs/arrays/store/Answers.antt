@@ -10,8 +10,8 @@ pub returns-in-None-clause-ints : goal.returns-in-None-clause-ints
 returns-in-None-clause-ints c = λ p t frames trees bounds inflated state frame rest code site meaning is.
     let l = is.stands.linked in (
       store_of_null trees p bounds inflated t c.args.shared.now c.args.stack.now state frame rest code site meaning linked.StoreInt is (shown_frame c.in-Some.frame.now) c.in-Some.ensures.value frames l.to
-      (stores_int trees p bounds inflated t c.args.shared.now c.args.stack.now state frame rest code site meaning linked.StoreInt is l.is)
-      (sym c.operand.ensures ∙ null_is c.operand.result c.in-None.ensures),
+          (stores_int trees p bounds inflated t c.args.shared.now c.args.stack.now state frame rest code site meaning linked.StoreInt is l.is)
+          (sym c.operand.ensures ∙ null_is c.operand.result c.in-None.ensures),
       kept trees p bounds inflated t c.args.shared.now c.args.stack.now state frame rest code site meaning linked.StoreInt is (shown_frame c.in-Some.frame.now) c.in-Some.ensures.value,
     )
 
@@ -19,8 +19,8 @@ pub returns-in-None-clause-narrow : goal.returns-in-None-clause-narrow
 returns-in-None-clause-narrow c = λ p t frames trees bounds inflated state frame rest code site meaning is.
     let l = is.stands.linked.stores in (
       store_of_null trees p bounds inflated t c.args.shared.now c.args.stack.now state frame rest code site meaning linked.StoreNarrow is (shown_frame c.in-Some.frame.now) c.in-Some.ensures.value frames l.to
-      (stores_narrow trees p bounds inflated t c.args.shared.now c.args.stack.now state frame rest code site meaning linked.StoreNarrow is is.stands.linked.kind is.stands.linked.narrow l.is)
-      (sym c.operand.ensures ∙ null_is c.operand.result c.in-None.ensures),
+          (stores_narrow trees p bounds inflated t c.args.shared.now c.args.stack.now state frame rest code site meaning linked.StoreNarrow is is.stands.linked.kind is.stands.linked.narrow l.is)
+          (sym c.operand.ensures ∙ null_is c.operand.result c.in-None.ensures),
       kept trees p bounds inflated t c.args.shared.now c.args.stack.now state frame rest code site meaning linked.StoreNarrow is (shown_frame c.in-Some.frame.now) c.in-Some.ensures.value,
     )
 
@@ -54,11 +54,11 @@ pub returns-else-index-length-clause-ints : goal.returns-else-index-length-claus
 returns-else-index-length-clause-ints c = λ p t frames trees bounds inflated state frame rest code site meaning is.
     let l = is.stands.linked in (
       store_outside trees p bounds inflated t c.args.shared.now c.args.stack.now state frame rest code site meaning linked.StoreInt is (shown_frame c.in-Some.frame.now) c.in-Some.ensures.value frames l.to
-      (stores_int trees p bounds inflated t c.args.shared.now c.args.stack.now state frame rest code site meaning linked.StoreInt is l.is)
-      c.in-Some-checked_sub.array c.operand-index.result
-      (sym c.operand.ensures ∙ refers c.operand.result c.in-Some-checked_sub.array c.in-Some-checked_sub.ensures)
-      (sym c.operand-index.ensures)
-      (past c.operand-index.result c.length.result _ c.length.ensures c.if-index-length.false),
+          (stores_int trees p bounds inflated t c.args.shared.now c.args.stack.now state frame rest code site meaning linked.StoreInt is l.is)
+          c.in-Some-checked_sub.array c.operand-index.result
+          (sym c.operand.ensures ∙ refers c.operand.result c.in-Some-checked_sub.array c.in-Some-checked_sub.ensures)
+          (sym c.operand-index.ensures)
+          (past c.operand-index.result c.length.result _ c.length.ensures c.if-index-length.false),
       kept trees p bounds inflated t c.args.shared.now c.args.stack.now state frame rest code site meaning linked.StoreInt is (shown_frame c.in-Some.frame.now) c.in-Some.ensures.value,
     )
 
@@ -66,10 +66,10 @@ pub returns-else-index-length-clause-narrow : goal.returns-else-index-length-cla
 returns-else-index-length-clause-narrow c = λ p t frames trees bounds inflated state frame rest code site meaning is.
     let l = is.stands.linked.stores in (
       store_outside trees p bounds inflated t c.args.shared.now c.args.stack.now state frame rest code site meaning linked.StoreNarrow is (shown_frame c.in-Some.frame.now) c.in-Some.ensures.value frames l.to
-      (stores_narrow trees p bounds inflated t c.args.shared.now c.args.stack.now state frame rest code site meaning linked.StoreNarrow is is.stands.linked.kind is.stands.linked.narrow l.is)
-      c.in-Some-checked_sub.array c.operand-index.result
-      (sym c.operand.ensures ∙ refers c.operand.result c.in-Some-checked_sub.array c.in-Some-checked_sub.ensures)
-      (sym c.operand-index.ensures)
-      (past c.operand-index.result c.length.result _ c.length.ensures c.if-index-length.false),
+          (stores_narrow trees p bounds inflated t c.args.shared.now c.args.stack.now state frame rest code site meaning linked.StoreNarrow is is.stands.linked.kind is.stands.linked.narrow l.is)
+          c.in-Some-checked_sub.array c.operand-index.result
+          (sym c.operand.ensures ∙ refers c.operand.result c.in-Some-checked_sub.array c.in-Some-checked_sub.ensures)
+          (sym c.operand-index.ensures)
+          (past c.operand-index.result c.length.result _ c.length.ensures c.if-index-length.false),
       kept trees p bounds inflated t c.args.shared.now c.args.stack.now state frame rest code site meaning linked.StoreNarrow is (shown_frame c.in-Some.frame.now) c.in-Some.ensures.value,
     )

@@ -10,7 +10,7 @@ use Rattle.field_instructions.proofs.fields.get_field.Goals as goal
 pub returns-in-None : goal.returns-in-None
 returns-in-None c = λ p t frames trees bounds inflated state frame rest code site meaning is. (
   get_field_of_null trees p bounds inflated t c.args.shared.now c.args.stack.now state frame rest code site meaning c.args.slot is (shown_frame c.in-Some.frame.now) c.in-Some.ensures.value frames
-  (sym c.operand.ensures ∙ null_is c.operand.result c.in-None.ensures),
+      (sym c.operand.ensures ∙ null_is c.operand.result c.in-None.ensures),
   kept trees p bounds inflated t c.args.shared.now c.args.stack.now state frame rest code site meaning (linked.GetField c.args.slot) is (shown_frame c.in-Some.frame.now) c.in-Some.ensures.value,
 )
 

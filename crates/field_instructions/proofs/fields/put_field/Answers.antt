@@ -1,8 +1,6 @@
 use Rattle.std.proofs.Common.{sym, ap, ◌∙◌}
 use Rattle.thread_stacks.specs.Stacks.{shown_frame}
-use Rattle.heap.specs.Heap.{Heap, put_field}
-use Rattle.linked_code.specs.Numbers.{primitive_of}
-use Rattle.model.specs.Worlds as model
+use Rattle.heap.specs.Heap.{put_field}
 use Rattle.field_instructions.specs.Puts.{put_field_of}
 use Rattle.field_instructions.proofs.OnTop.{kept}
 use Rattle.field_instructions.proofs.Referred.{refers, null_is}
@@ -12,7 +10,7 @@ use Rattle.field_instructions.proofs.fields.put_field.Goals as goal
 pub returns-in-None : goal.returns-in-None
 returns-in-None c = λ p t frames trees bounds inflated state frame rest code site meaning is. (
   put_field_of_null trees p bounds inflated t c.args.shared.now c.args.stack.now state frame rest code site meaning c.args.of c.args.slot is (shown_frame c.in-Some.frame.now) c.in-Some.ensures.value frames
-  (sym c.operand.ensures ∙ null_is c.operand.result c.in-None.ensures),
+      (sym c.operand.ensures ∙ null_is c.operand.result c.in-None.ensures),
   kept trees p bounds inflated t c.args.shared.now c.args.stack.now state frame rest code site meaning (put_field_of c.args.of c.args.slot) is (shown_frame c.in-Some.frame.now) c.in-Some.ensures.value,
 )
 

@@ -1,4 +1,4 @@
-use Rattle.std.proofs.Common.{List, ap, slice_index, ◌∙◌}
+use Rattle.std.proofs.Common.{ap, slice_index, ◌∙◌}
 use Rattle.thread_stacks.specs.Stacks.{shown_frame}
 use Rattle.field_instructions.proofs.StaticSlots.{get_static_done}
 use Rattle.field_instructions.proofs.statics.get_static.Goals as goal
