@@ -115,14 +115,14 @@ module _ (trees : Program) (p : LinkedProgram) (bounds : Bounds) (inflated : Lis
 
   -- ---- putfield
 
-  linked_put : (at : ℕ → ℕ) (place slot : ℕ) (of : Primitive) → IsLinked trees p at code.instructions.items site place (puts.put_field_of of slot) → IsPutField trees site (at (place + 1)) slot (primitive_of of)
+  linked_put : (at : ℕ → ℕ) (place slot : ℕ) (of : Primitive) → IsLinked trees p at code.instructions.items site place (puts.put_field_instruction of slot) → IsPutField trees site (at (place + 1)) slot (primitive_of of)
   linked_put at place slot primitive.Boolean l = l
   linked_put at place slot primitive.Char l = l
   linked_put at place slot primitive.Byte l = l
   linked_put at place slot primitive.Short l = l
   linked_put at place slot primitive.Int l = l
 
-  module _ (of : Primitive) (slot : ℕ) (is : IsRunning trees p bounds inflated t old stack state frame rest code site meaning (puts.put_field_of of slot)) (found : ShownFrame) (lent : IsTopFrame stack (Some found)) (frames : ℕ) where
+  module _ (of : Primitive) (slot : ℕ) (is : IsRunning trees p bounds inflated t old stack state frame rest code site meaning (puts.put_field_instruction of slot)) (found : ShownFrame) (lent : IsTopFrame stack (Some found)) (frames : ℕ) where
     put : IsPutField trees site (offset_in code.starts.items (is.shown.place + 1)) slot (primitive_of of)
     put = linked_put (offset_in code.starts.items) is.shown.place slot of is.stands.linked
 
@@ -137,23 +137,23 @@ module _ (trees : Program) (p : LinkedProgram) (bounds : Bounds) (inflated : Lis
 
     put_by : (w v : ℕ) → slice_index_or found.operands 1 0 ≡ w → slice_index_or found.operands 0 0 ≡ v → instruction_event trees frames (event_of t) state.world frame rest meaning ≡ put_with w v
     put_by w v is_w is_v =
-        event_is trees p bounds inflated t old stack state frame rest code site meaning (puts.put_field_of of slot) is frames (event_of t) puts_it put.is
-        ∙ ap (λ x. put_with x (slice_index_or (take 2 frame.place.slots.stack) 0 0)) (operand_is trees p bounds inflated t old stack state frame rest code site meaning (puts.put_field_of of slot) is found lent 2 1 w (omega arith) is_w)
-        ∙ ap (λ x. put_with w x) (operand_is trees p bounds inflated t old stack state frame rest code site meaning (puts.put_field_of of slot) is found lent 2 0 v (omega arith) is_v)
+        event_is trees p bounds inflated t old stack state frame rest code site meaning (puts.put_field_instruction of slot) is frames (event_of t) puts_it put.is
+        ∙ ap (λ x. put_with x (slice_index_or (take 2 frame.place.slots.stack) 0 0)) (operand_is trees p bounds inflated t old stack state frame rest code site meaning (puts.put_field_instruction of slot) is found lent 2 1 w (omega arith) is_w)
+        ∙ ap (λ x. put_with w x) (operand_is trees p bounds inflated t old stack state frame rest code site meaning (puts.put_field_instruction of slot) is found lent 2 0 v (omega arith) is_v)
 
     pub put_field_of_null : slice_index_or found.operands 1 0 ≡ 0 → instruction_event trees frames (event_of t) state.world frame rest meaning ≡ raised t NullPointer state.world (model.Invocation frame ∷ rest)
     put_field_of_null e = put_by 0 (slice_index_or found.operands 0 0) e refl
 
     meets_owner : (w : ℕ) → slice_index_or found.operands 1 0 ≡ w → word_meets trees (types_of state.world.heap) (owner_want trees put.named put.field) w ≡ true
     meets_owner w e =
-        let same = lent_shows trees p bounds inflated t old stack state frame rest code site meaning (puts.put_field_of of slot) is found lent in
+        let same = lent_shows trees p bounds inflated t old stack state frame rest code site meaning (puts.put_field_instruction of slot) is found lent in
         subst (λ x. word_meets trees (types_of state.world.heap) (owner_want trees put.named put.field) x ≡ true) (ap (λ (f : ShownFrame). slice_index_or f.operands 1 0) (sym same) ∙ e)
         (meets_second (word_meets trees (types_of state.world.heap)) (declared_want trees (field_declared put.field.descriptor)) (owner_want trees put.named put.field) [] is.shown.operands
-        (pops_met trees p bounds inflated t old stack state frame rest code site meaning (puts.put_field_of of slot) is puts_it put.is))
+        (pops_met trees p bounds inflated t old stack state frame rest code site meaning (puts.put_field_instruction of slot) is puts_it put.is))
 
     owned : (r : ℕ) (b : Bool) → word_meets trees (types_of state.world.heap) (if b then AnOwner put.named else of_class trees put.named) (suc r) ≡ true → Held put.field slot r
-    owned r true e = held (puts.put_field_of of slot) is (ClassType put.named) put.field slot r put.own e
-    owned r false e = held (puts.put_field_of of slot) is (made_type trees (ClassType put.named)) put.field slot r put.slots e
+    owned r true e = held (puts.put_field_instruction of slot) is (ClassType put.named) put.field slot r put.own e
+    owned r false e = held (puts.put_field_instruction of slot) is (made_type trees (ClassType put.named)) put.field slot r put.slots e
 
     pub put_field_done : (r v word : ℕ) → slice_index_or found.operands 1 0 ≡ suc r → slice_index_or found.operands 0 0 ≡ v → word ≡ kept (primitive_of of) v
         → (heap : Heap) → heap ≡ record old.heap { objects = put_field old.heap.objects r slot word }
@@ -166,9 +166,9 @@ module _ (trees : Program) (p : LinkedProgram) (bounds : Bounds) (inflated : Lis
         ap (λ x. with_field put.field x (object_at state.world r)) (put.keeps v ∙ sym is_word) ∙ ap (λ x. with_field put.field word x) h.object
         in
         let goes = put_by (suc r) v is_r is_v
-        ∙ ap (λ x. goes_on trees p bounds inflated t old stack state frame rest code site meaning (puts.put_field_of of slot) is (with_object state.world r x) 2 []) is_object in
+        ∙ ap (λ x. goes_on trees p bounds inflated t old stack state frame rest code site meaning (puts.put_field_instruction of slot) is (with_object state.world r x) 2 []) is_object in
         let after = with_object state.world r object in
-        let shown : IsShownAfter trees p bounds inflated t old stack state frame rest code site meaning (puts.put_field_of of slot) is after (record old { heap = record old.heap { objects = put_field old.heap.objects r slot word } }) =
+        let shown : IsShownAfter trees p bounds inflated t old stack state frame rest code site meaning (puts.put_field_instruction of slot) is after (record old { heap = record old.heap { objects = put_field old.heap.objects r slot word } }) =
         record {
           represents = with_objects trees p bounds old state.world is.lent.represents (put_field old.heap.objects r slot word) (slice_set state.world.heap r object) (h.field_is.written word);
           fat = refl;
@@ -177,5 +177,5 @@ module _ (trees : Program) (p : LinkedProgram) (bounds : Bounds) (inflated : Lis
         }
         in
         subst (λ s. Does trees p bounds inflated t state.world (model.Invocation frame ∷ rest) s (Ok answer) old (record old { heap = heap }) stack (with_top left stack)) (sym goes)
-        (subst (λ (x : Heap). Does trees p bounds inflated t state.world (model.Invocation frame ∷ rest) (goes_on trees p bounds inflated t old stack state frame rest code site meaning (puts.put_field_of of slot) is after 2 []) (Ok answer) old (record old { heap = x }) stack (with_top left stack)) (sym is_heap)
-        (done trees p bounds inflated t old stack state frame rest code site meaning (puts.put_field_of of slot) is after (record old { heap = record old.heap { objects = put_field old.heap.objects r slot word } }) shown 2 [] found lent left answer leaves))
+        (subst (λ (x : Heap). Does trees p bounds inflated t state.world (model.Invocation frame ∷ rest) (goes_on trees p bounds inflated t old stack state frame rest code site meaning (puts.put_field_instruction of slot) is after 2 []) (Ok answer) old (record old { heap = x }) stack (with_top left stack)) (sym is_heap)
+        (done trees p bounds inflated t old stack state frame rest code site meaning (puts.put_field_instruction of slot) is after (record old { heap = record old.heap { objects = put_field old.heap.objects r slot word } }) shown 2 [] found lent left answer leaves))

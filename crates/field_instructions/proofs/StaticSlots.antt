@@ -63,14 +63,14 @@ module _ (trees : Program) (p : LinkedProgram) (bounds : Bounds) (inflated : Lis
 
   -- ---- putstatic
 
-  linked_put : (at : ℕ → ℕ) (place class slot : ℕ) (of : Primitive) → IsLinked trees p at code.instructions.items site place (puts.put_static_of of class slot) → IsPutStatic trees site (at (place + 1)) class slot (primitive_of of)
+  linked_put : (at : ℕ → ℕ) (place class slot : ℕ) (of : Primitive) → IsLinked trees p at code.instructions.items site place (puts.put_static_instruction of class slot) → IsPutStatic trees site (at (place + 1)) class slot (primitive_of of)
   linked_put at place class slot primitive.Boolean l = l
   linked_put at place class slot primitive.Char l = l
   linked_put at place class slot primitive.Byte l = l
   linked_put at place class slot primitive.Short l = l
   linked_put at place class slot primitive.Int l = l
 
-  module _ (of : Primitive) (class slot : ℕ) (is : IsRunning trees p bounds inflated t old stack state frame rest code site meaning (puts.put_static_of of class slot)) (found : ShownFrame) (lent : IsTopFrame stack (Some found)) (frames : ℕ) where
+  module _ (of : Primitive) (class slot : ℕ) (is : IsRunning trees p bounds inflated t old stack state frame rest code site meaning (puts.put_static_instruction of class slot)) (found : ShownFrame) (lent : IsTopFrame stack (Some found)) (frames : ℕ) where
     put : IsPutStatic trees site (offset_in code.starts.items (is.shown.place + 1)) class slot (primitive_of of)
     put = linked_put (offset_in code.starts.items) is.shown.place class slot of is.stands.linked
 
@@ -79,13 +79,13 @@ module _ (trees : Program) (p : LinkedProgram) (bounds : Bounds) (inflated : Lis
         → (left : ShownFrame) (answer : Effect) → Leaves (Ok answer) 1 [] found left
         → Does trees p bounds inflated t state.world (model.Invocation frame ∷ rest) (instruction_event trees frames (event_of t) state.world frame rest meaning) (Ok answer) old (record old { statics = statics }) stack (with_top left stack)
     put_static_done v word is_v is_word statics is_statics left answer leaves =
-        let next = goes_on trees p bounds inflated t old stack state frame rest code site meaning (puts.put_static_of of class slot) is in
+        let next = goes_on trees p bounds inflated t old stack state frame rest code site meaning (puts.put_static_instruction of class slot) is in
         let static = are_statics trees old.statics.items state.world.statics is.lent.represents.world_is.statics put.field slot put.slots in
         let after = with_static state.world put.field word in
-        let operand = operand_is trees p bounds inflated t old stack state frame rest code site meaning (puts.put_static_of of class slot) is found lent 1 0 v (omega arith) is_v in
-        let goes = event_is trees p bounds inflated t old stack state frame rest code site meaning (puts.put_static_of of class slot) is frames (event_of t) (put_static_of words trees (offset_in code.starts.items (is.shown.place + 1)) put.field) put.is
+        let operand = operand_is trees p bounds inflated t old stack state frame rest code site meaning (puts.put_static_instruction of class slot) is found lent 1 0 v (omega arith) is_v in
+        let goes = event_is trees p bounds inflated t old stack state frame rest code site meaning (puts.put_static_instruction of class slot) is frames (event_of t) (put_static_of words trees (offset_in code.starts.items (is.shown.place + 1)) put.field) put.is
         ∙ ap (λ x. next (with_static state.world put.field x) 1 []) (put.keeps (slice_index_or (take 1 frame.place.slots.stack) 0 0) ∙ ap (kept (primitive_of of)) operand ∙ sym is_word) in
-        let shown : IsShownAfter trees p bounds inflated t old stack state frame rest code site meaning (puts.put_static_of of class slot) is after (record old { statics = statics }) =
+        let shown : IsShownAfter trees p bounds inflated t old stack state frame rest code site meaning (puts.put_static_instruction of class slot) is after (record old { statics = statics }) =
         record {
           represents = with_slots trees p bounds old state.world is.lent.represents statics after.statics (subst (λ s. ShowsStatics trees s after.statics) (sym is_statics) (static.written word));
           fat = refl;
@@ -94,4 +94,4 @@ module _ (trees : Program) (p : LinkedProgram) (bounds : Bounds) (inflated : Lis
         }
         in
         subst (λ s. Does trees p bounds inflated t state.world (model.Invocation frame ∷ rest) s (Ok answer) old (record old { statics = statics }) stack (with_top left stack)) (sym goes)
-        (done trees p bounds inflated t old stack state frame rest code site meaning (puts.put_static_of of class slot) is after (record old { statics = statics }) shown 1 [] found lent left answer leaves)
+        (done trees p bounds inflated t old stack state frame rest code site meaning (puts.put_static_instruction of class slot) is after (record old { statics = statics }) shown 1 [] found lent left answer leaves)

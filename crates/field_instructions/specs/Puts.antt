@@ -11,20 +11,20 @@ use Rattle.machine_state.specs.declared.refusals.Refusal.{Refusal}
 use Rattle.machine_state.specs.declared.refusals.Refusal.TheVariants as refusal
 
 -- putfield of a field of the type; a reference is put as an int is
-abbrev pub put_field_of : Primitive → (slot : ℕ) → LinkedInstruction
-put_field_of primitive.Boolean slot = linked.PutBooleanField slot
-put_field_of primitive.Char slot = linked.PutCharField slot
-put_field_of primitive.Byte slot = linked.PutByteField slot
-put_field_of primitive.Short slot = linked.PutShortField slot
-put_field_of primitive.Int slot = linked.PutField slot
+abbrev pub put_field_instruction : Primitive → (slot : ℕ) → LinkedInstruction
+put_field_instruction primitive.Boolean slot = linked.PutBooleanField slot
+put_field_instruction primitive.Char slot = linked.PutCharField slot
+put_field_instruction primitive.Byte slot = linked.PutByteField slot
+put_field_instruction primitive.Short slot = linked.PutShortField slot
+put_field_instruction primitive.Int slot = linked.PutField slot
 
 -- putstatic, likewise
-abbrev pub put_static_of : Primitive → (class slot : ℕ) → LinkedInstruction
-put_static_of primitive.Boolean class slot = linked.PutBooleanStatic class slot
-put_static_of primitive.Char class slot = linked.PutCharStatic class slot
-put_static_of primitive.Byte class slot = linked.PutByteStatic class slot
-put_static_of primitive.Short class slot = linked.PutShortStatic class slot
-put_static_of primitive.Int class slot = linked.PutStatic class slot
+abbrev pub put_static_instruction : Primitive → (class slot : ℕ) → LinkedInstruction
+put_static_instruction primitive.Boolean class slot = linked.PutBooleanStatic class slot
+put_static_instruction primitive.Char class slot = linked.PutCharStatic class slot
+put_static_instruction primitive.Byte class slot = linked.PutByteStatic class slot
+put_static_instruction primitive.Short class slot = linked.PutShortStatic class slot
+put_static_instruction primitive.Int class slot = linked.PutStatic class slot
 
 -- these words in the place of so many operands, at the place behind
 abbrev pub gone_on : (count : ℕ) → List ℕ → ShownFrame → ShownFrame

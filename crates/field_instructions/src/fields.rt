@@ -4,7 +4,7 @@ ghost use Rattle.std.specs.Prelude.{ℕ, Ok};
 ghost use Rattle.linked_code.specs.declared.instruction.LinkedInstruction.TheVariants as linked;
 ghost use Rattle.linked_code.specs.declared.program.LinkedProgram.{LinkedProgram};
 ghost use Rattle.linked_frames.specs.Frames.{DoesOwn};
-ghost use Rattle.field_instructions.specs.Puts.{put_field_of};
+ghost use Rattle.field_instructions.specs.Puts.{put_field_instruction};
 
 use crate::leaving::{leave, leave_nothing};
 use crate::narrowing::kept;
@@ -34,7 +34,7 @@ pub fn get_field(shared: &Shared, stack: &mut ThreadStack, slot: u16) -> Result<
 /// object of the operand under it, narrowed to the type.
 #[inline]
 pub fn put_field(shared: &mut Shared, stack: &mut ThreadStack, of: Primitive, slot: u16) -> Effect
-    ensures { (p : LinkedProgram) (t : ℕ) → DoesOwn p (put_field_of of slot) t (Ok result) shared.old shared.new stack.old stack.new }
+    ensures { (p : LinkedProgram) (t : ℕ) → DoesOwn p (put_field_instruction of slot) t (Ok result) shared.old shared.new stack.old stack.new }
 {
     let Some(frame) = stack.frame_mut() else {
         return Effect::NotEnabled;

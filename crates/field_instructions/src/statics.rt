@@ -5,7 +5,7 @@ ghost use Rattle.linked_code.specs.declared.instruction.LinkedInstruction.TheVar
 ghost use Rattle.linked_code.specs.declared.program.LinkedProgram.{LinkedProgram};
 ghost use Rattle.machine_state.specs.declared.state.Shared.{Shared};
 ghost use Rattle.linked_frames.specs.Frames.{DoesOwn};
-ghost use Rattle.field_instructions.specs.Puts.{put_static_of};
+ghost use Rattle.field_instructions.specs.Puts.{put_static_instruction};
 
 use crate::leaving::{leave, leave_nothing};
 use crate::narrowing::kept;
@@ -68,7 +68,7 @@ fn set_static(statics: &mut Vec<u32>, slot: u32, word: u32)
 /// narrowed to the type.
 #[inline]
 pub fn put_static(shared: &mut Shared, stack: &mut ThreadStack, of: Primitive, slot: u32) -> Effect
-    ensures { (p : LinkedProgram) (class t : ℕ) → DoesOwn p (put_static_of of class slot) t (Ok result) shared.old shared.new stack.old stack.new }
+    ensures { (p : LinkedProgram) (class t : ℕ) → DoesOwn p (put_static_instruction of class slot) t (Ok result) shared.old shared.new stack.old stack.new }
 {
     match stack.frame_mut() {
         Some(frame) => {

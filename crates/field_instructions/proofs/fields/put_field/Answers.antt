@@ -1,7 +1,7 @@
 use Rattle.std.proofs.Common.{sym, ap, ◌∙◌}
 use Rattle.thread_stacks.specs.Stacks.{shown_frame}
 use Rattle.heap.specs.Heap.{put_field}
-use Rattle.field_instructions.specs.Puts.{put_field_of}
+use Rattle.field_instructions.specs.Puts.{put_field_instruction}
 use Rattle.field_instructions.proofs.OnTop.{kept}
 use Rattle.field_instructions.proofs.Referred.{refers, null_is}
 use Rattle.field_instructions.proofs.Instances.{put_field_of_null, put_field_done}
@@ -11,7 +11,7 @@ pub returns-in-None : goal.returns-in-None
 returns-in-None c = λ p t frames trees bounds inflated state frame rest code site meaning is. (
   put_field_of_null trees p bounds inflated t c.args.shared.now c.args.stack.now state frame rest code site meaning c.args.of c.args.slot is (shown_frame c.in-Some.frame.now) c.in-Some.ensures.value frames
       (sym c.operand.ensures ∙ null_is c.operand.result c.in-None.ensures),
-  kept trees p bounds inflated t c.args.shared.now c.args.stack.now state frame rest code site meaning (put_field_of c.args.of c.args.slot) is (shown_frame c.in-Some.frame.now) c.in-Some.ensures.value,
+  kept trees p bounds inflated t c.args.shared.now c.args.stack.now state frame rest code site meaning (put_field_instruction c.args.of c.args.slot) is (shown_frame c.in-Some.frame.now) c.in-Some.ensures.value,
 )
 
 pub returns-in-Some-checked_sub : goal.returns-in-Some-checked_sub
