@@ -1,35 +1,27 @@
 -- What the end of an invocation makes of its monitor.
-use Rattle.std.proofs.Common.{◌≡◌, ◌<◌, ◌≤◌, ℕ, List, [], ◌∷◌, Option, Some, None, Bool, true, false, if◌then◌else◌, Result, Ok, Err, length, drop, refl, sym, ap, subst, ◌∙◌}
+use Rattle.std.proofs.Common.{◌≡◌, ℕ, List, [], ◌∷◌, Option, Some, None, Bool, true, false, if◌then◌else◌, Result, Ok, Err, length, drop, refl, sym, ap, subst, ◌∙◌}
 use Rattle.std.specs.Result.{IsErrAnd}
-use Rattle.std.proofs.lemmas.List.{get_or_past}
 use Rattle.model.specs.Classes.{Program}
 use Rattle.model.specs.State as model
 use Rattle.model.specs.State.{FrameOf, StackEntryOf, StackOf, WorldOf}
 use Rattle.model.specs.Outcomes.{IllegalMonitorState}
-use Rattle.model.specs.Monitors.{unlocked, owns}
 use Rattle.model.specs.LimitStands.{Bounds}
 use Rattle.model.specs.Worlds.{with_exit}
-use Rattle.model.specs.Step.{SteppedOf, PartOf, Next, on_to, raised, leaving}
+use Rattle.model.specs.Step.{SteppedOf, PartOf, on_to, raised, leaving}
 use Rattle.heap.specs.Heap.{Heap}
-use Rattle.monitor_events.specs.Tables.{over, MonitorsBecome}
+use Rattle.monitor_events.specs.Tables.{MonitorsBecome}
 use Rattle.linked_code.specs.declared.program.LinkedProgram.{LinkedProgram}
 use Rattle.thread_stacks.specs.Stacks.{ShownEntry, Invocation, Initialisation}
 use Rattle.shown_stacks.specs.Shown.{ShowsStack}
 use Rattle.machine_state.specs.declared.answers.Answer.{Answer}
 use Rattle.machine_state.specs.declared.answers.Answer.TheVariants as answer
-use Rattle.machine_state.specs.declared.answers.MachineException.TheVariants as exception
 use Rattle.machine_state.specs.declared.refusals.Refusal.{Refusal}
 use Rattle.machine_state.specs.declared.state.Shared.{Shared}
 use Rattle.machine_state.specs.Shown.{Represents}
 use Rattle.machine_state.specs.Events.{IsDone, Becomes}
 use Rattle.entries.proofs.Changing.{monitors_shown}
-use Rattle.raised_exceptions.specs.Raised.{IsRaised}
 use Rattle.linked_frames.proofs.Moves.{free_done}
 use Rattle.returns.specs.Leaving.{HasEntered, may_leave, SaysMayLeave, with_leave, Leaves}
-
--- nobody owns the monitor of an object that is not there
-pub nobody_owns : (object t : ℕ) (heap : Heap) → length heap.locks.monitors ≤ object → SaysMayLeave false t (Some object) heap
-nobody_owns object t heap past world = sym (ap (λ m. owns t m.owner) (get_or_past heap.locks.monitors object unlocked past))
 
 -- ---- the monitor is left
 
@@ -42,9 +34,6 @@ left old heap t object entered is becomes =
       flags = becomes.fat_are;
       rest = refl;
     })
-
-pub none_left : (old : Shared) (t : ℕ) (entered : Option ℕ) → entered ≡ None → Leaves t entered old old
-none_left old t entered is = subst (λ o. Leaves t o old old) (sym is) (record { represents = λ trees p bounds world r. r; flags = refl; rest = refl })
 
 -- ---- the object that the frame on top entered
 

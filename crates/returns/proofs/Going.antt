@@ -1,20 +1,20 @@
 -- The place behind the instruction of a frame that stands in code has the offset after it.
 use Rattle.std.proofs.Common.{◌≡◌, ◌⊎◌, inl, inr, ℕ, zero, suc, ◌+◌, ◌<◌, ◌≤◌, List, [], ◌∷◌, Option, Some, None, Bool, true, false, ◌==◌, option_map, length, refl, sym, ap, subst, ◌∙◌, arith}
-use Rattle.std.specs.Prelude.{slice_get, unwrap_or, is_some, IfSome}
+use Rattle.std.specs.Prelude.{slice_get, unwrap_or, is_some}
 use Rattle.std.specs.Option.{option_and_then}
 use Rattle.std.proofs.lemmas.Bool.{cases_lt, false≢true, eqb-true}
 use Rattle.std.proofs.lemmas.Bool.Decides.{nat_tests}
 use Rattle.std.proofs.lemmas.List.{get_or_past}
 use Rattle.std.proofs.lemmas.Option.{same_Some}
 use Rattle.model.specs.Names.{Member}
-use Rattle.model.specs.Classes.{Program, Body, body_of}
+use Rattle.model.specs.Classes.{Program, Body}
 use Rattle.model.specs.Instruction.{Sized, sized_at, length_at}
 use Rattle.model.specs.Sites.{Site, site_with, site_at}
 use Rattle.model.specs.State as model
 use Rattle.model.specs.State.{FrameOf, StackOf}
 use Rattle.model.specs.Step.{next_of}
 use Rattle.laws.proofs.Unrefused.{unrefused_of}
-use Rattle.word_runs.specs.Words.{StandsInCode, AreInCode}
+use Rattle.word_runs.specs.Words.{StandsInCode}
 use Rattle.linked_code.specs.declared.instruction.LinkedInstruction.{LinkedInstruction}
 use Rattle.linked_code.specs.declared.method.LinkedCode.{LinkedCode}
 use Rattle.linked_code.specs.declared.method.LinkedMethod.{LinkedMethod}
@@ -27,7 +27,7 @@ use Rattle.linked_code.specs.Methods.{IsMethodBody, IsCode, IsLinkedMethod}
 use Rattle.linked_code.specs.Programs.{AreMethods}
 use Rattle.linkable_code.proofs.Decoded.{decoded}
 use Rattle.thread_stacks.specs.Stacks.{ShownFrame, ShownEntry, Invocation, Initialisation, IsTopFrame}
-use Rattle.shown_stacks.specs.Shown.{ShowsFrame, ShowsStack, IsNext, offset_at}
+use Rattle.shown_stacks.specs.Shown.{ShowsFrame, offset_at}
 use Rattle.machine_state.specs.Shown.{IsProgram}
 use Rattle.linked_frames.proofs.Frames.{offset_of}
 use Rattle.returns.specs.Places.{code_in, code_at, GoesOnAt, IsNextOfTop}

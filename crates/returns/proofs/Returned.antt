@@ -8,10 +8,9 @@ use Rattle.model.specs.declared.instr.Returned.{Returned}
 use Rattle.model.specs.declared.instr.Returned.TheVariants as returned
 use Rattle.model.specs.Names.{Name}
 use Rattle.model.specs.Classes.{Program}
-use Rattle.model.specs.Types.{Want}
 use Rattle.model.specs.DescribedTypes.{DeclaredType, declared_want, results_declared}
-use Rattle.model.specs.Operands.{Slots, words}
-use Rattle.model.specs.Sites.{MeaningOf, Site, operand}
+use Rattle.model.specs.Operands.{words}
+use Rattle.model.specs.Sites.{MeaningOf, Site}
 use Rattle.model.specs.Meanings.{meaning_of}
 use Rattle.model.specs.State as model
 use Rattle.model.specs.State.{FrameOf, StackOf, StateOf, Thread, WorldOf}

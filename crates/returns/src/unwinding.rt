@@ -13,11 +13,7 @@ use thread_stacks::ThreadStack;
 /// # Errors
 ///
 /// Where that exception can't be made: as many objects as may be were made, or there is no memory. Nothing has changed then.
-pub fn unwind(
-    shared: &mut Shared,
-    stack: &mut ThreadStack,
-    thread: u16,
-) -> Result<Answer, Refusal>
+pub fn unwind(shared: &mut Shared, stack: &mut ThreadStack, thread: u16) -> Result<Answer, Refusal>
     ensures { Unwinds result thread shared.old shared.new stack.old stack.new }
 {
     let entered = entered_by_top(stack);

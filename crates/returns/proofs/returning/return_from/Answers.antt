@@ -1,4 +1,4 @@
-use Rattle.std.proofs.Common.{drop, sym, ap, ◌∙◌}
+use Rattle.std.proofs.Common.{drop, ap, ◌∙◌}
 use Rattle.std.specs.Prelude.{option_to_list}
 use Rattle.thread_stacks.specs.Stacks.{returned}
 use Rattle.returns.proofs.Returned.{not_owner, lacks, returns as returned_to}
