@@ -1,0 +1,4 @@
+pub mod Named
+pub mod FileStatuses
+pub mod Setting
+pub mod Beginning
