@@ -31,16 +31,16 @@ use Rattle.machine_state.specs.declared.state.ClassStatus.{ClassStatus}
 use Rattle.machine_state.specs.declared.state.Shared.{Shared}
 use Rattle.machine_state.specs.Shown.{IsProgram, Represents}
 use Rattle.machine_state.specs.Events.{IsDone}
-use Rattle.method_selection.proofs.Reading.{classes_read}
+use Rattle.method_selection.specs.Rows.{HasClass, AreClassesRead}
 use Rattle.class_initialisation.specs.Constants.{with_constants}
 use Rattle.class_initialisation.proofs.Setting.{kind_of, its_class}
 
 -- ---- events that take nothing
 
 pub free_done : (trees : Program) (p : LinkedProgram) (bounds : Bounds) (inflated : List ℕ) (world after : WorldOf ℕ) (own : StackOf ℕ) (old new : Shared) (to : List ShownEntry)
-    → Represents trees p bounds new after → ShowsStack trees p to own → new ≡ record old { statics = new.statics; statuses = new.statuses; ready = new.ready }
+    → Represents trees p bounds new after → ShowsStack trees p to own → new.heap ≡ old.heap → new.stacks ≡ old.stacks → new.threads ≡ old.threads
     → IsDone trees p bounds inflated world (on_to after own) old new to
-free_done trees p bounds inflated world after own old new to r s kept =
+free_done trees p bounds inflated world after own old new to r s heap stacks threads =
     record {
       cost = Free;
       next = part after own;
@@ -50,8 +50,8 @@ free_done trees p bounds inflated world after own old new to r s kept =
         there = tt;
         represents = r;
         stack = s;
-        flags = ap (λ (s : Shared). s.heap.locks.fat) kept;
-        others = inl (record { stacks = ap (λ (s : Shared). s.stacks.items) kept; threads = ap (λ (s : Shared). length s.threads.threads) kept });
+        flags = λ i. (heap i).locks.fat;
+        others = inl (record { stacks = λ i. (stacks i).items; threads = λ i. length (threads i).threads });
       };
     }
 
@@ -69,18 +69,13 @@ module _ (trees : Program) (class : Name) (pool : List Entry) where
   are_set [] [] slots world s h = record { statics = world.statics; is = refl; shown = s }
   are_set [] (l ∷ ls) slots world s h = absurd h
   are_set (f ∷ fs) constants slots world s h =
-      by (λ ls slots world s h. are_set fs ls slots world s h) (constant_value words trees pool f) constants h
+      let r = by (λ ls slots world s h. are_set fs ls slots world s h) (constant_value words trees pool f) constants h in
+      record { statics = r.0; is = r.1; shown = r.2 }
     where
-      field : Member
-      field = field_member class pool f
-
-      abbrev after : Option ℕ → WorldOf ℕ
-      after o = option_map_or (λ value. with_static world (field_member class pool f) (put_value words (field_member class pool f) value)) o world
-
       by : ((ls : List LinkedConstant) (slots : List ℕ) (world : WorldOf ℕ) → ShowsStatics trees slots world.statics → AreConstants trees (filter_map (constant_in trees class pool) fs) ls → AreSet fs ls slots world)
           → (o : Option ℕ) (ls : List LinkedConstant)
           → AreConstants trees (cons_option (option_map (λ (value : ℕ). (field_member class pool f, put_value words (field_member class pool f) value)) o) (filter_map (constant_in trees class pool) fs)) ls
-          → (statics : List (Member × ℕ)) × (initialisation.with_constants words trees class pool (after o) fs ≡ record world { statics = statics }) × ShowsStatics trees (with_constants ls slots) statics
+          → (statics : List (Member × ℕ)) × (initialisation.with_constants words trees class pool (option_map_or (λ value. with_static world (field_member class pool f) (put_value words (field_member class pool f) value)) o world) fs ≡ record world { statics = statics }) × ShowsStatics trees (with_constants ls slots) statics
       by rest None ls h = let r = rest ls slots world s h in (r.statics, r.is, r.shown)
       by rest (Some value) [] h = absurd h
       by rest (Some value) (l ∷ ls) h =
@@ -88,3 +83,69 @@ module _ (trees : Program) (class : Name) (pool : List Entry) where
           let r = rest ls (slice_set slots l.slot l.word) (with_static world (field_member class pool f) (put_value words (field_member class pool f) value))
               (subst (λ w. ShowsStatics trees (slice_set slots l.slot l.word) (with_value (field_member class pool f) w world.statics)) h.1 written) h.2 in
           (r.statics, r.is, r.shown)
+
+-- ---- the class
+
+module _ (read : AreClassesRead) (trees : Program) (p : LinkedProgram) (bounds : Bounds) (inflated : List ℕ) (world : WorldOf ℕ) (own : StackOf ℕ) (program : IsProgram trees p)
+    (old : Shared) (from : List ShownEntry) (s : ShowsStack trees p from own) (class : Name) (number t : ℕ) (at : IsClassAt trees number class) where
+  -- with its status set
+  abbrev marked_world : WorldOf ℕ
+  marked_world = with_class_status world class (model.InProgress t)
+
+  module _ (marked : Shared) (kept : marked ≡ record old { statuses = marked.statuses; ready = marked.ready }) (r : Represents trees p bounds marked marked_world)
+      (statics : Vec ℕ Global) where
+    after : (row : LinkedClass) → slice_get p.classes.items number ≡ Some row → statics.items ≡ with_constants row.constants.items marked.statics.items
+        → Represents trees p bounds (record marked { statics = statics }) (with_class_begun words trees t class world)
+    after row is_row are =
+        subst (λ (w : WorldOf ℕ). Represents trees p bounds (record marked { statics = statics }) w) (sym world_is)
+        (record {
+          world_is = record {
+            objects = r.world_is.objects;
+            monitors = r.world_is.monitors;
+            statics = subst (λ l. ShowsStatics trees l set.statics) (sym are) set.shown;
+            statuses = r.world_is.statuses;
+            ready = r.world_is.ready;
+            threads = r.world_is.threads;
+            printed = r.world_is.printed;
+          };
+          limits = record {
+            opening = r.limits.opening;
+            objects = r.limits.objects;
+            cells = r.limits.cells;
+            monitors = r.limits.monitors;
+            threads = r.limits.threads;
+          };
+        })
+      where
+        h : HasClass trees p number class
+        h = read trees p program.linked number class at
+
+        class_is : class_of trees class ≡ Some h.file
+        class_is =
+            let kind = kind_of number in
+            subst (λ (n : Name). class_of trees n ≡ Some h.file) h.named (its_class trees program.linkable.no_refusal number kind.0 kind.1 h.file h.there)
+
+        constants : AreConstants trees (filter_map (constant_in trees class h.file.pool) h.file.fields) row.constants.items
+        constants =
+            let same : h.row ≡ row = same_Some _ _ (sym h.is ∙ is_row) in
+            subst (λ (l : LinkedClass). AreConstants trees (filter_map (constant_in trees class h.file.pool) h.file.fields) l.constants.items) same
+            (subst (λ (n : Name). AreConstants trees (filter_map (constant_in trees n h.file.pool) h.file.fields) h.row.constants.items) h.named h.linked.constants)
+
+        set : AreSet trees class h.file.pool h.file.fields row.constants.items marked.statics.items marked_world
+        set = are_set trees class h.file.pool h.file.fields row.constants.items marked.statics.items marked_world r.world_is.statics constants
+
+        world_is : with_class_begun words trees t class world ≡ record marked_world { statics = set.statics }
+        world_is = ap (λ o. option_map_or (λ (file : FileTree). initialisation.with_constants words trees class file.pool marked_world file.fields) o marked_world) class_is ∙ set.is
+
+    pub begun : (row : LinkedClass) → slice_get p.classes.items number ≡ Some row → statics.items ≡ with_constants row.constants.items marked.statics.items
+        → (to : List ShownEntry) → to ≡ Initialisation number phase.Super ∷ from
+        → IsDone trees p bounds inflated world (begun_class words trees t class world own) old (record marked { statics = statics }) to
+    begun row is_row are to to_is =
+        free_done trees p bounds inflated world (with_class_begun words trees t class world) (model.Initialisation class model.Super ∷ own) old (record marked { statics = statics }) to
+        (after row is_row are)
+        (subst (λ (l : List ShownEntry). ShowsStack trees p l (model.Initialisation class model.Super ∷ own)) (sym to_is) ((at, refl), s))
+        (ap (λ (m : Shared). m.heap) kept) (ap (λ (m : Shared). m.stacks) kept) (ap (λ (m : Shared). m.threads) kept)
+
+    -- there is a row
+    pub no_row : slice_get p.classes.items number ≡ None → ⊥
+    no_row none = let h = read trees p program.linked number class at in let e = sym h.is ∙ none in cc

@@ -2,3 +2,5 @@ pub mod Named
 pub mod FileStatuses
 pub mod Setting
 pub mod Beginning
+pub mod Looking
+pub mod Failing

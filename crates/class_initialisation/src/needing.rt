@@ -6,7 +6,7 @@ use crate::constants::set_constants;
 use crate::statuses::{look, set_status, ClassLook};
 use linked_code::LinkedProgram;
 use machine_state::{Answer, ClassStatus, MachineException, Refusal, Shared};
-use method_selection::class_at;
+use method_selection::{class_at, classes_are_read};
 use raised_exceptions::raise;
 use thread_stacks::{Phase, ThreadStack};
 
@@ -20,6 +20,7 @@ fn begin(
 ) -> Result<Answer, Refusal>
     ensures { Begins program.now result thread class shared.old shared.new stack.old stack.new }
 {
+    classes_are_read();
     stack.push_initialisation(class, Phase::Super)?;
     set_status(shared, class, ClassStatus::InProgress(thread));
     if let Some(row) = class_at(program, class as u32) {

@@ -1,6 +1,7 @@
 //! How far classes are.
 
 ghost use Rattle.std.specs.Prelude.{◌≡◌, false, slice_get, slice_set, unwrap_or};
+ghost use Rattle.machine_state.specs.declared.state.ClassStatus.{ClassStatus};
 ghost use Rattle.machine_state.specs.Shown.{is_initialised, shown_status};
 ghost use Rattle.class_initialisation.specs.Statuses.{IsFileOf, IsStatus, IsLook, IsStatusSet, shown_look};
 ghost use Rattle.model.specs.ClassInitialisation.{look_by};
@@ -28,17 +29,24 @@ fn file_of(class: u16) -> Option<usize>
     (class as usize).checked_sub(BUILT_IN)
 }
 
+/// How far the class of a file is.
+fn status_at(shared: &Shared, file: usize) -> ClassStatus
+    ensures { result ≡ unwrap_or (slice_get shared.now.statuses.items file) ClassStatus.Initialised }
+{
+    shared
+        .statuses
+        .get(file)
+        .copied()
+        .unwrap_or(ClassStatus::Initialised)
+}
+
 /// How far the class of a number is.
 fn status_of(shared: &Shared, class: u16) -> ClassStatus
     ensures { IsStatus shared.now class result }
 {
     match file_of(class) {
         None => ClassStatus::Initialised,
-        Some(file) => shared
-            .statuses
-            .get(file)
-            .copied()
-            .unwrap_or(ClassStatus::Initialised),
+        Some(file) => status_at(shared, file),
     }
 }
 
