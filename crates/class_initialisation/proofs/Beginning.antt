@@ -81,7 +81,7 @@ module _ (trees : Program) (class : Name) (pool : List Entry) where
       by rest (Some value) (l ∷ ls) h =
           let written = (are_statics trees slots world.statics s (field_member class pool f) l.slot h.0).written l.word in
           let r = rest ls (slice_set slots l.slot l.word) (with_static world (field_member class pool f) (put_value words (field_member class pool f) value))
-              (subst (λ w. ShowsStatics trees (slice_set slots l.slot l.word) (with_value (field_member class pool f) w world.statics)) h.1 written) h.2 in
+          (subst (λ w. ShowsStatics trees (slice_set slots l.slot l.word) (with_value (field_member class pool f) w world.statics)) h.1 written) h.2 in
           (r.statics, r.is, r.shown)
 
 -- ---- the class

@@ -37,9 +37,10 @@ module _ (trees : Program) (p : LinkedProgram) (bounds : Bounds) (inflated : Lis
   pub still_refused : (told : Refusal) (mid : Shared) (from under : List ShownEntry) → Becomes trees p bounds inflated world (raised t fault world rest) (Err told) old mid under under
       → Becomes trees p bounds inflated world (raised t fault after rest) (Err told) old mid from from
   still_refused told mid from under h =
-      let taken : h.0.cost ≡ Makes 0 = (let is = h.0.is in cc) in
-      (record { cost = Makes 0; next = _; is = refl; may = subst (λ (c : Cost). MayBeRefused trees bounds inflated world c told) taken h.0.may },
-      record { shared = h.1.shared; stack = refl })
+      let taken : h.0.cost ≡ Makes 0 = (let is = h.0.is in cc) in (
+        record { cost = Makes 0; next = _; is = refl; may = subst (λ (c : Cost). MayBeRefused trees bounds inflated world c told) taken h.0.may },
+        record { shared = h.1.shared; stack = refl },
+      )
 
   added : (mid new : Shared) → new ≡ record mid { statuses = new.statuses; ready = new.ready } → AreStacksAdded old mid → AreStacksAdded old new
   added mid new kept =

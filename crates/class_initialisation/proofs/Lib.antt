@@ -4,3 +4,6 @@ pub mod Setting
 pub mod Beginning
 pub mod Looking
 pub mod Failing
+pub mod Rows
+pub mod Phases
+pub mod Supers

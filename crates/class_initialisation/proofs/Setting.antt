@@ -75,9 +75,9 @@ module _ (trees : Program) (linkable : some_stands trees ≡ false) where
         absurd (true≢false (sym (built_in_is other below class there) ∙ not_built_in number place is class at))
     one_number number place is class at other (Some j) is_other there =
         let same : place ≡ j =
-            one_place trees (files_differ trees linkable) place j at.0 there.0
-            (file_at trees linkable place at.0 (at_place number place is class at))
-            (file_at trees linkable j there.0 (at_place other j is_other class there)) (at.2 ∙ sym there.2) in
+        one_place trees (files_differ trees linkable) place j at.0 there.0
+        (file_at trees linkable place at.0 (at_place number place is class at))
+        (file_at trees linkable j there.0 (at_place other j is_other class there)) (at.2 ∙ sym there.2) in
         is ∙ ap (λ n. 30 + n) same ∙ sym is_other
 
 pub kind_of : (number : ℕ) → (found : Option ℕ) × IsFileOf number found

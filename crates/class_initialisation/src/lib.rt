@@ -3,10 +3,11 @@
 #![tactic(auto)]
 
 mod constants;
+mod initialisers;
 mod needing;
 mod statuses;
 mod steps;
 
 pub use needing::need_class;
-pub use statuses::{look, ClassLook};
-pub use steps::fail;
+pub use statuses::{ClassLook, look};
+pub use steps::{fail, initialise};

@@ -3,7 +3,7 @@
 ghost use Rattle.class_initialisation.specs.Needed.{Begins, Needs};
 
 use crate::constants::set_constants;
-use crate::statuses::{look, set_status, ClassLook};
+use crate::statuses::{ClassLook, look, set_status};
 use linked_code::LinkedProgram;
 use machine_state::{Answer, ClassStatus, MachineException, Refusal, Shared};
 use method_selection::{class_at, classes_are_read};
@@ -49,8 +49,6 @@ pub fn need_class(
         ClassLook::Ready => Ok(None),
         ClassLook::New => begin(shared, stack, program, thread, class).map(Some),
         ClassLook::Held => Ok(Some(Answer::NotEnabled)),
-        ClassLook::Failed => {
-            raise(shared, thread, MachineException::NoClassDefFound).map(Some)
-        }
+        ClassLook::Failed => { raise(shared, thread, MachineException::NoClassDefFound).map(Some) }
     }
 }

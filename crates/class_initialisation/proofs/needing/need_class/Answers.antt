@@ -24,9 +24,10 @@ returns-in-New c = λ trees bounds inflated world own program r s class at.
     c.begin.result c.map.result c.map.ensures.cases (c.begin.ensures trees bounds inflated world own program r s class at)
 
 pub returns-in-Held : goal.returns-in-Held
-returns-in-Held c = λ trees bounds inflated world own program r s class at rest.
-    (ap (λ (l : Look). needing words trees c.args.thread class l world own rest) (sym (c.in-Held.ensures trees c.args.program.now bounds world program r class at)),
-    record { shared = refl; stack = refl })
+returns-in-Held c = λ trees bounds inflated world own program r s class at rest. (
+  ap (λ (l : Look). needing words trees c.args.thread class l world own rest) (sym (c.in-Held.ensures trees c.args.program.now bounds world program r class at)),
+  record { shared = refl; stack = refl },
+)
 
 pub returns-in-Failed : goal.returns-in-Failed
 returns-in-Failed c = λ trees bounds inflated world own program r s class at.
