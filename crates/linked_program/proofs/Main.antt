@@ -1,17 +1,16 @@
 -- main of the initial class: where it stands, and its number.
-use Rattle.std.proofs.Common.{◌≡◌, ◌∙◌, ℕ, List, [], ◌∷◌, ◌<◌, ◌^◌, Option, Some, None, false, refl, sym, ap, subst}
+use Rattle.std.proofs.Common.{◌≡◌, ◌∙◌, ℕ, [], ◌∷◌, ◌<◌, ◌^◌, Option, Some, None, false, refl, ap, subst}
 use Rattle.std.specs.Prelude.{slice_get, option_map}
 use Rattle.std.specs.Option.{option_map_or}
-use Rattle.model.specs.Names.{Name, Member, main_of}
+use Rattle.model.specs.Names.{Member, main_of}
 use Rattle.model.specs.Tree.{FileTree, MethodTree}
-use Rattle.model.specs.Classes.{Program, name_of, classes_of}
+use Rattle.model.specs.Classes.{Program, name_of}
 use Rattle.model.specs.Lookup.{any_method, method_in_class, method_of, where_so}
 use Rattle.model.specs.Step.{initial_class}
 use Rattle.hierarchy.specs.Places as places
 use Rattle.hierarchy.specs.Places.{class_at, member_in}
 use Rattle.hierarchy.specs.declared.place.MemberPlace.{MemberPlace}
 use Rattle.hierarchy.proofs.Indices.{file_behind}
-use Rattle.laws.proofs.Linked.{Main}
 use Rattle.laws.proofs.LinkedMain.{main}
 use Rattle.linker.specs.Linking.{IsLinked}
 use Rattle.field_links.proofs.OwnNames.{unrefused}
