@@ -6,7 +6,7 @@ use Rattle.std.specs.List.{filter_map, cons_option}
 use Rattle.std.proofs.lemmas.Option.{same_Some}
 use Rattle.model.specs.Names.{Name, Member}
 use Rattle.model.specs.Tree.{Entry, FieldTree, FileTree}
-use Rattle.model.specs.Classes.{Program, name_of, class_of}
+use Rattle.model.specs.Classes.{Program, class_of}
 use Rattle.model.specs.Lookup.{field_member}
 use Rattle.model.specs.Operands.{words}
 use Rattle.model.specs.State as model
@@ -16,7 +16,7 @@ use Rattle.model.specs.Outcomes.{Free}
 use Rattle.model.specs.Worlds.{with_static, put_value, with_value}
 use Rattle.model.specs.ClassInitialisation as initialisation
 use Rattle.model.specs.ClassInitialisation.{constant_value, with_class_status, with_class_begun}
-use Rattle.model.specs.Step.{Next, part, on_to, begun_class}
+use Rattle.model.specs.Step.{part, on_to, begun_class}
 use Rattle.linked_code.specs.declared.class.LinkedClass.{LinkedClass}
 use Rattle.linked_code.specs.declared.class.LinkedConstant.{LinkedConstant}
 use Rattle.linked_code.specs.declared.program.LinkedProgram.{LinkedProgram}
@@ -27,7 +27,6 @@ use Rattle.thread_stacks.specs.Stacks.{ShownEntry, Initialisation}
 use Rattle.shown_objects.specs.Shown.{ShowsStatics}
 use Rattle.shown_objects.proofs.Objects.{are_statics}
 use Rattle.shown_stacks.specs.Shown.{ShowsStack}
-use Rattle.machine_state.specs.declared.state.ClassStatus.{ClassStatus}
 use Rattle.machine_state.specs.declared.state.Shared.{Shared}
 use Rattle.machine_state.specs.Shown.{IsProgram, Represents}
 use Rattle.machine_state.specs.Events.{IsDone}

@@ -1,6 +1,5 @@
 -- A class that fails.
-use Rattle.std.proofs.Common.{◌≡◌, ℕ, List, [], ◌∷◌, Bool, true, false, Result, Ok, Err, length, drop, refl, sym, ap, subst, ◌∙◌, ⊎_elim, inl, inr}
-use Rattle.std.specs.Result.{IsErrAnd}
+use Rattle.std.proofs.Common.{◌≡◌, ℕ, List, [], ◌∷◌, Ok, Err, length, drop, refl, sym, ap, subst, ◌∙◌, ⊎_elim, inl, inr}
 use Rattle.model.specs.Names.{Name}
 use Rattle.model.specs.Classes.{Program}
 use Rattle.model.specs.State as model
@@ -9,18 +8,18 @@ use Rattle.model.specs.LimitStands.{Bounds}
 use Rattle.model.specs.Outcomes.{MachineException, Makes, Cost, exception_class}
 use Rattle.model.specs.Worlds.{allocated, with_pending}
 use Rattle.model.specs.ClassInitialisation.{with_class_status}
-use Rattle.model.specs.Step.{Next, PartOf, part, raised, failed}
+use Rattle.model.specs.Step.{PartOf, part, raised}
 use Rattle.linked_code.specs.declared.program.LinkedProgram.{LinkedProgram}
 use Rattle.linked_code.specs.Numbers.{IsClassAt}
-use Rattle.thread_stacks.specs.Stacks.{ShownEntry, Invocation, Initialisation}
+use Rattle.thread_stacks.specs.Stacks.{ShownEntry}
 use Rattle.shown_stacks.specs.Shown.{ShowsStack}
 use Rattle.machine_state.specs.declared.answers.Answer.{Answer}
 use Rattle.machine_state.specs.declared.answers.Answer.TheVariants as answer
 use Rattle.machine_state.specs.declared.refusals.Refusal.{Refusal}
 use Rattle.machine_state.specs.declared.state.ClassStatus.{ClassStatus}
 use Rattle.machine_state.specs.declared.state.Shared.{Shared}
-use Rattle.machine_state.specs.Shown.{IsProgram, Represents, shown_status}
-use Rattle.machine_state.specs.Events.{Becomes, IsDone, IsRefused, MayBeRefused, HasBecome, AreStacksAdded}
+use Rattle.machine_state.specs.Shown.{IsProgram, shown_status}
+use Rattle.machine_state.specs.Events.{Becomes, IsDone, MayBeRefused, HasBecome, AreStacksAdded}
 use Rattle.class_initialisation.specs.Statuses.{IsStatusSet}
 
 -- what is under the entry on top

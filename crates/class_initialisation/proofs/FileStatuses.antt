@@ -1,11 +1,11 @@
 -- The statuses of the classes of files, one by one.
-use Rattle.std.proofs.Common.{◌≡◌, ◌≢◌, ℕ, zero, suc, List, [], ◌∷◌, Bool, true, false, Option, Some, None, if◌then◌else◌, map, refl, sym, ap, subst, ◌∙◌}
+use Rattle.std.proofs.Common.{◌≡◌, ℕ, zero, suc, List, [], ◌∷◌, Bool, true, false, Some, if◌then◌else◌, map, refl, sym, ap, ◌∙◌}
 use Rattle.std.specs.Prelude.{slice_get, slice_set}
 use Rattle.std.specs.List.{list_any}
 use Rattle.std.proofs.lemmas.Bool.{true≢false, or_parts}
 use Rattle.model.specs.Names.{Name, name_eq}
 use Rattle.model.specs.Tree.{FileTree}
-use Rattle.model.specs.Classes.{Program, name_of, is_named, is_built_in}
+use Rattle.model.specs.Classes.{name_of, is_named, is_built_in}
 use Rattle.model.specs.Linkable.{two_of_one_name, has_built_in_name}
 use Rattle.model.specs.State.{ClassStatus}
 use Rattle.model.specs.ClassInitialisation.{status_in, with_status_in}

@@ -1,19 +1,18 @@
 -- Classes by their numbers and by their names, where all names differ.
-use Rattle.std.proofs.Common.{◌≡◌, ◌<◌, ◌+◌, ◌≢◌, ℕ, zero, suc, List, [], ◌∷◌, ◌++◌, length, Bool, true, false, Option, Some, None, cond, refl, sym, ap, subst, ◌∙◌, arith}
+use Rattle.std.proofs.Common.{◌≡◌, ◌<◌, ◌+◌, ℕ, zero, suc, List, [], ◌∷◌, ◌++◌, length, Bool, true, false, Option, Some, None, cond, refl, sym, ap, subst, ◌∙◌, arith}
 use Rattle.std.specs.Prelude.{find, is_some, slice_get}
 use Rattle.std.specs.Option.{option_or}
 use Rattle.std.specs.List.{list_any}
 use Rattle.std.proofs.lemmas.Bool.{true≢false, or_parts}
 use Rattle.std.proofs.lemmas.List.Folds.{find-append}
-use Rattle.model.specs.Names.{Name, name_eq}
+use Rattle.model.specs.Names.{name_eq}
 use Rattle.model.specs.Tree.{FileTree}
 use Rattle.model.specs.BuiltIn.{built_in_classes}
 use Rattle.model.specs.Classes.{Program, name_of, is_named, is_built_in, classes_of, class_of}
 use Rattle.model.specs.Linkable.{some_stands, two_of_one_name, has_built_in_name}
-use Rattle.laws.proofs.Classes.{names_same, name_self}
-use Rattle.laws.proofs.RootedOf.{name_turned, name_sides}
+use Rattle.laws.proofs.Classes.{name_self}
+use Rattle.laws.proofs.RootedOf.{name_sides}
 use Rattle.laws.proofs.Unrefused.{names_differ}
-use Rattle.linked_code.specs.Numbers.{IsClassAt}
 
 -- ---- lists
 

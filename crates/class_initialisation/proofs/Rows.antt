@@ -1,10 +1,10 @@
 -- What the rows of classes and of methods say of the initialisation of a class.
-use Rattle.std.proofs.Common.{◌≡◌, ℕ, List, Option, Some, None, Bool, true, false, if◌then◌else◌, refl, sym, ap, subst, ◌∙◌}
+use Rattle.std.proofs.Common.{◌≡◌, ℕ, Option, Some, None, true, false, if◌then◌else◌, refl, sym, ap, subst, ◌∙◌}
 use Rattle.std.specs.Prelude.{slice_get, is_some}
 use Rattle.std.specs.Option.{option_map_or}
 use Rattle.std.proofs.lemmas.Option.{same_Some}
 use Rattle.model.specs.Names.{Name, Member, initialiser_of}
-use Rattle.model.specs.Classes.{Program, Body, name_of, superclass_of, is_interface, body_of}
+use Rattle.model.specs.Classes.{Program, Body, superclass_of, is_interface, body_of}
 use Rattle.model.specs.Step.{before}
 use Rattle.linked_code.specs.declared.class.LinkedClass.{LinkedClass}
 use Rattle.linked_code.specs.declared.method.LinkedCode.{LinkedCode}
@@ -17,7 +17,7 @@ use Rattle.linked_code.specs.Linked.{no_offset, offset_in}
 use Rattle.linked_code.specs.ClassRows.{IsInitialiser, IsLinkedClass}
 use Rattle.linked_code.specs.Methods.{IsMethodBody, IsCode}
 use Rattle.thread_stacks.specs.declared.frame.Callee.{Callee}
-use Rattle.shown_stacks.specs.Shown.{IsCallee, starts_of, offset_at}
+use Rattle.shown_stacks.specs.Shown.{IsCallee, starts_of}
 use Rattle.machine_state.specs.Shown.{IsProgram}
 use Rattle.method_selection.specs.Rows.{HasClass, HasMethod, AreClassesRead, AreMethodsRead}
 use Rattle.class_initialisation.specs.Steps.{IsCalleeOf, IsInitialiserOf}

@@ -1,5 +1,5 @@
 -- The status of a class in a world that is shown, and another status set.
-use Rattle.std.proofs.Common.{◌≡◌, ◌<◌, ◌≤◌, ◌+◌, ◌-◌, ℕ, zero, suc, List, [], ◌∷◌, Bool, true, false, ltb, Option, Some, None, if◌then◌else◌, map, refl, sym, ap, subst, ◌∙◌, arith, ⊎_elim}
+use Rattle.std.proofs.Common.{◌≡◌, ◌<◌, ◌≤◌, ◌+◌, ◌-◌, ℕ, zero, suc, List, [], ◌∷◌, Bool, true, false, ltb, Option, Some, None, if◌then◌else◌, map, refl, sym, ap, subst, ◌∙◌, arith}
 use Rattle.std.specs.Prelude.{slice_get, slice_set}
 use Rattle.std.specs.Option.{option_map}
 use Rattle.std.proofs.lemmas.Bool.{true≢false, false≢true}
@@ -18,7 +18,7 @@ use Rattle.linked_code.specs.declared.program.LinkedProgram.{LinkedProgram}
 use Rattle.linked_code.specs.Numbers.{IsClassAt}
 use Rattle.machine_state.specs.declared.state.ClassStatus.{ClassStatus}
 use Rattle.machine_state.specs.declared.state.Shared.{Shared}
-use Rattle.machine_state.specs.Shown.{IsProgram, Represents, shown_status, is_initialised, AreInitialised}
+use Rattle.machine_state.specs.Shown.{IsProgram, Represents, shown_status, is_initialised}
 use Rattle.class_initialisation.specs.Statuses.{IsFileOf}
 use Rattle.class_initialisation.proofs.Named.{files_differ, none_built_in, is_so, class_below, file_at, is_not, class_behind, one_place}
 use Rattle.class_initialisation.proofs.FileStatuses.{names, statuses, status_at, set_at, set_names, set_other, set_none}

@@ -1,5 +1,5 @@
 -- The superclass of a class comes first (JVMS 5.5, step 7).
-use Rattle.std.proofs.Common.{◌≡◌, ℕ, List, ◌∷◌, Option, Some, None, Result, Ok, Err, refl, sym, ap, subst, ◌∙◌}
+use Rattle.std.proofs.Common.{◌≡◌, ℕ, List, ◌∷◌, Option, Some, None, Result, refl, sym, subst}
 use Rattle.model.specs.Names.{Name, initialiser_of}
 use Rattle.model.specs.Classes.{Program, body_of}
 use Rattle.model.specs.Operands.{words}
@@ -7,7 +7,7 @@ use Rattle.model.specs.State as model
 use Rattle.model.specs.State.{StackOf, WorldOf}
 use Rattle.model.specs.LimitStands.{Bounds}
 use Rattle.model.specs.ClassInitialisation.{Look, IsReady, look_at}
-use Rattle.model.specs.Step.{SteppedOf, PartOf, before, needing, needing_class, initialiser_event, initialisation_event}
+use Rattle.model.specs.Step.{before, needing, needing_class, initialiser_event}
 use Rattle.linked_code.specs.declared.program.LinkedProgram.{LinkedProgram}
 use Rattle.linked_code.specs.Numbers.{IsClassAt, IsClassIf}
 use Rattle.thread_stacks.specs.Stacks.{ShownEntry}

@@ -1,4 +1,4 @@
-use Rattle.std.proofs.Common.{◌≡◌, rules, sym, ap, ◌∙◌}
+use Rattle.std.proofs.Common.{sym, ap, ◌∙◌}
 use Rattle.class_initialisation.specs.Constants.{with_constants}
 use Rattle.class_initialisation.proofs.Beginning.{begun, no_row}
 use Rattle.class_initialisation.proofs.needing.begin.Goals as goal

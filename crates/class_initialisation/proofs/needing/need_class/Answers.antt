@@ -1,7 +1,6 @@
-use Rattle.std.proofs.Common.{Some, refl, sym, ap, ◌∙◌, Result, Option, Ok, Err, subst}
+use Rattle.std.proofs.Common.{refl, sym, ap, Ok, Err, subst}
 use Rattle.model.specs.Operands.{words}
-use Rattle.model.specs.State.{WorldOf}
-use Rattle.model.specs.ClassInitialisation.{Look, look_by, status_of}
+use Rattle.model.specs.ClassInitialisation.{Look}
 use Rattle.model.specs.Outcomes.{NoClassDefFound}
 use Rattle.model.specs.Step.{needing, raised, begun_class}
 use Rattle.machine_state.specs.Events.{Becomes}

@@ -1,4 +1,4 @@
-use Rattle.std.proofs.Common.{List, Option, Some, None, Ok, Err, Result, sym, ap, subst, ◌∙◌}
+use Rattle.std.proofs.Common.{Option, Ok, Err, Result, sym, ap, subst, ◌∙◌}
 use Rattle.model.specs.Step.{before}
 use Rattle.machine_state.specs.declared.answers.Answer.{Answer}
 use Rattle.machine_state.specs.declared.refusals.Refusal.{Refusal}

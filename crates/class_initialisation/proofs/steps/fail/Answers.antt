@@ -1,4 +1,4 @@
-use Rattle.std.proofs.Common.{Bool, true, List, Result, Ok, Err, drop, sym, subst, ap}
+use Rattle.std.proofs.Common.{true, List, Ok, drop, sym, subst, ap}
 use Rattle.model.specs.State.{Erroneous}
 use Rattle.model.specs.Outcomes.{ExceptionInInitializer}
 use Rattle.model.specs.ClassInitialisation.{with_class_status}

@@ -5,7 +5,6 @@ use Rattle.model.specs.Operands.{words}
 use Rattle.model.specs.ClassInitialisation.{with_class_status}
 use Rattle.model.specs.Step.{initialisation_event}
 use Rattle.thread_stacks.specs.declared.entry.Phase.{Phase}
-use Rattle.thread_stacks.specs.declared.entry.Phase.TheVariants as phase
 use Rattle.thread_stacks.specs.Stacks.{ShownEntry}
 use Rattle.shown_stacks.specs.Shown.{phase_of}
 use Rattle.machine_state.specs.declared.state.Shared.{Shared}

@@ -1,4 +1,4 @@
-use Rattle.std.proofs.Common.{List, Some, None, Option, ℕ, ◌∷◌, [], refl, sym, ap, subst, ◌∙◌}
+use Rattle.std.proofs.Common.{List, None, Option, ℕ, ◌∷◌, [], refl, sym, subst}
 use Rattle.model.specs.Classes.{Body}
 use Rattle.model.specs.Frames.{frame_with}
 use Rattle.model.specs.Names.{initialiser_of}
