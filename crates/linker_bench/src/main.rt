@@ -22,7 +22,11 @@ fn files_of(rt: &HostRuntime, line: &str) -> Result<Vec<Vec<u8>>> {
 fn tell_linked(rt: &HostRuntime, linked: &Linked, makes_program: bool) -> Result<()> {
     if makes_program {
         let program = linked_program(rt.alloc(), linked)?;
-        println!(rt; "linked {}: {} methods", linked.file_count(), program.methods.len())?;
+        println!(rt;
+            "linked {}: {} methods",
+            linked.file_count(),
+            program.methods.len()
+        )?;
     } else {
         println!(rt; "linked {}", linked.file_count())?;
     }
