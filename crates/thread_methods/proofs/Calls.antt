@@ -1,30 +1,33 @@
 -- A call by the frame on top of a thread: its operands, and the stack and the state after it.
-use Rattle.std.proofs.Common.{◌≡◌, ◌<◌, ◌-◌, ℕ, zero, suc, List, [], ◌∷◌, ◌++◌, length, take, drop, Bool, Option, Some, None, refl, sym, ap, subst, ◌∙◌}
-use Rattle.std.specs.Prelude.{slice_get, slice_index_or, unwrap_or, replicate}
-use Rattle.std.proofs.lemmas.List.{append-nil}
+use Rattle.std.proofs.Common.{◌≡◌, ◌<◌, ◌-◌, ℕ, zero, suc, List, [], ◌∷◌, ◌++◌, length, take, drop, Bool, true, Some, Result, Ok, Err, refl, sym, ap, subst, inl, arith, ◌∙◌}
+use Rattle.std.specs.Prelude.{slice_get, slice_index_or, unwrap_or}
 use Rattle.std.proofs.lemmas.Option.{get_or_from_slice_get}
 use Rattle.model.specs.Classes.{Program}
-use Rattle.model.specs.Operands.{word_reference}
+use Rattle.model.specs.Operands.{word_reference, words}
 use Rattle.model.specs.State as model
-use Rattle.model.specs.State.{ObjectOf, Thread, Monitor, FrameOf, StackOf, WorldOf, StateOf}
-use Rattle.model.specs.Outcomes.{Cost, Free}
+use Rattle.model.specs.State.{ObjectOf, Thread, FrameOf, StackOf, WorldOf, StateOf}
+use Rattle.model.specs.Outcomes.{Free}
 use Rattle.model.specs.LimitStands.{Bounds}
+use Rattle.model.specs.BuiltInMethods.{object_of}
+use Rattle.model.specs.Worlds.{thread_at}
 use Rattle.model.specs.Frames.{at_offset, at_call}
 use Rattle.model.specs.Step.{Next, part}
-use Rattle.heap.specs.Heap.{Heap}
-use Rattle.java_threads.specs.Table.{ThreadTable}
+use Rattle.java_threads.specs.Table.{thread_at as row_at}
 use Rattle.linked_code.specs.declared.method.BuiltInMethod.{BuiltInMethod}
 use Rattle.linked_code.specs.declared.program.LinkedProgram.{LinkedProgram}
 use Rattle.thread_stacks.specs.Stacks.{ShownEntry, Invocation, on_top, without}
-use Rattle.shown_objects.specs.Shown.{ShowsObjects}
 use Rattle.shown_stacks.specs.Shown.{ShowsFrame, ShowsStack}
-use Rattle.limits_at_words.specs.FatLocks.{flags_after}
+use Rattle.machine_state.specs.declared.answers.Effect.{Effect}
+use Rattle.machine_state.specs.declared.answers.Effect.TheVariants as effect
+use Rattle.machine_state.specs.declared.refusals.Refusal.{Refusal}
+use Rattle.machine_state.specs.declared.refusals.Refusal.TheVariants as refusal
 use Rattle.machine_state.specs.declared.state.Shared.{Shared}
 use Rattle.machine_state.specs.Shown.{Represents}
-use Rattle.machine_state.specs.Events.{IsDone, AreStacksAdded, limit_of}
-use Rattle.monitor_events.specs.Tables.{shared, among, BothBecome, ThreadsBecome}
+use Rattle.machine_state.specs.Events.{IsDone}
+use Rattle.machine_state.specs.Instructions.{Does}
+use Rattle.monitor_events.specs.Tables.{among, over}
 use Rattle.thread_methods.specs.Called.{RefersTo, IsCalling}
-use Rattle.thread_methods.specs.Moves.{operand_of, went_on}
+use Rattle.thread_methods.specs.Moves.{operand_of, went_on, Answers}
 
 -- ---- operands
 
@@ -36,7 +39,7 @@ taken (suc count) (x ∷ words) (suc k) w e = taken count words k w e
 
 -- the one on top is there where any is taken
 pub first_taken : (count : ℕ) (words : List ℕ) → 0 < length (take count words) → slice_index_or (take count words) 0 0 ≡ slice_index_or words 0 0
-first_taken zero words h = absurd (omega h)
+first_taken zero words h = absurd (omega (arith, h))
 first_taken (suc count) [] h = refl
 first_taken (suc count) (x ∷ words) h = refl
 
@@ -62,7 +65,7 @@ module _ (trees : Program) (p : LinkedProgram) (bounds : Bounds) (inflated : Lis
     pub object_is : operand_of k from - 1 ≡ refers.reference
     object_is =
         ap (λ w. w - 1) (operand_is k ∙ get_or_from_slice_get frame.place.slots.stack k (suc refers.reference) 0 (taken count frame.place.slots.stack k (suc refers.reference) refers.word))
-        ∙ omega
+        ∙ omega arith
 
     pub same_object : (object : ℕ) → object ≡ operand_of k from - 1 → unwrap_or (word_reference (slice_index_or (take count frame.place.slots.stack) k 0)) 0 ≡ object
     same_object object e = object_read ∙ sym (e ∙ object_is)
@@ -104,75 +107,83 @@ module _ (trees : Program) (p : LinkedProgram) (bounds : Bounds) (inflated : Lis
   -- ---- the event
 
   -- it is done where it takes nothing, no lock is made fat, and no thread is new
-  pub free : (after : WorldOf ℕ) (new : Shared) → Represents trees p bounds new after → new.heap.locks.fat ≡ old.heap.locks.fat → new.stacks ≡ old.stacks
+  pub free : (after : WorldOf ℕ) (new : Shared) → Represents trees p bounds new after
+      → new.heap.locks.fat ≡ old.heap.locks.fat → new.stacks.items ≡ old.stacks.items → length new.threads.threads ≡ length old.threads.threads
       → (to : List ShownEntry) (results : List ℕ) → to ≡ on_top (went_on count results next) from
       → IsDone trees p bounds inflated world (Next Free (part after (gone_on results))) old new to
-  free after new r fat stacks to results is_to =
+  free after new r fat stacks threads to results is_to =
       record {
         cost = Free;
         next = part after (gone_on results);
         is = refl;
         becomes = record {
           within = refl;
+          there = tt;
           represents = r;
           stack = subst (λ s. ShowsStack trees p s (gone_on results)) (sym is_to) (went results);
           flags = fat;
-          others = (0, ap (λ (s : _). s.items) stacks ∙ sym (append-nil old.stacks.items));
+          others = inl (record { stacks = stacks; threads = threads });
         };
       }
 
-  -- ---- the state after it
+  -- nothing shared has changed
+  pub same : (to : List ShownEntry) (results : List ℕ) → to ≡ on_top (went_on count results next) from
+      → IsDone trees p bounds inflated world (Next Free (part world (gone_on results))) old old to
+  same = free world old represented refl refl refl
 
-  shown_both : shared world old.heap old.threads ≡ world
-  shown_both = λ i. record world { monitors = represented.world_is.monitors i; threads = represented.world_is.threads i }
+  -- it has a result, or there is no memory for it
+  with_result : (result : Result Effect Refusal) (word : ℕ) (to : List ShownEntry) → Answers result count word next from to
+      → Does trees p bounds inflated t world (model.Invocation frame ∷ rest) (Next Free (part world (gone_on (word ∷ [])))) result old old from to
+  with_result (Ok effect.Done) word to e = same to (word ∷ []) e
+  with_result (Ok (effect.Raises fault)) word to e = absurd e
+  with_result (Ok (effect.Throws thrown)) word to e = absurd e
+  with_result (Ok effect.Interrupts) word to e = absurd e
+  with_result (Ok effect.NotEnabled) word to e = absurd e
+  with_result (Err refusal.Objects) word to e = absurd e
+  with_result (Err refusal.Cells) word to e = absurd e
+  with_result (Err refusal.Monitors) word to e = absurd e
+  with_result (Err refusal.Threads) word to e = absurd e
+  with_result (Err refusal.LockCount) word to e = absurd e
+  with_result (Err refusal.Memory) word to e = (record { cost = Free; next = part world (gone_on (word ∷ [])); is = refl; may = tt }, record { shared = refl; stack = e })
 
-  -- monitors and threads have changed
-  pub both_changed : (event : WorldOf ℕ → WorldOf ℕ) (fat : List Bool) (heap : Heap) (table : ThreadTable) → BothBecome event fat old.heap heap old.threads table
-      → Represents trees p bounds (record old { heap = heap; threads = table }) (event world)
-  both_changed event fat heap table b =
-      subst (Represents trees p bounds (record old { heap = heap; threads = table })) (b.world world ∙ ap event shown_both)
-      (record {
-        world_is = record {
-          objects = subst (λ (h : Heap). ShowsObjects trees p.components.items h.objects world.heap) (sym b.rest) represented.world_is.objects;
-          monitors = refl;
-          statics = represented.world_is.statics;
-          statuses = represented.world_is.statuses;
-          ready = represented.world_is.ready;
-          threads = refl;
-          printed = represented.world_is.printed;
-        };
-        limits = record {
-          opening = ap (λ (h : Heap). h.opening) b.rest ∙ represented.limits.opening;
-          objects = ap (λ (h : Heap). h.object_limit) b.rest ∙ represented.limits.objects;
-          cells = ap (λ (h : Heap). h.cell_limit) b.rest ∙ represented.limits.cells;
-          monitors = b.lock_limit ∙ represented.limits.monitors;
-          threads = b.thread_limit ∙ represented.limits.threads;
-        };
-      })
+  pub answered : (word value : ℕ) → word ≡ value → (result : Result Effect Refusal) (to : List ShownEntry) → Answers result count word next from to
+      → Does trees p bounds inflated t world (model.Invocation frame ∷ rest) (Next Free (part world (gone_on (value ∷ [])))) result old old from to
+  answered word value e result to h =
+      subst (λ v. Does trees p bounds inflated t world (model.Invocation frame ∷ rest) (Next Free (part world (gone_on (v ∷ [])))) result old old from to) e
+      (with_result result word to h)
 
-  shown_threads : among world old.threads ≡ world
-  shown_threads = λ i. record world { threads = represented.world_is.threads i }
+  -- it has a result, and shared state has changed after that
+  pub passed : (done : Effect) (word value : ℕ) → word ≡ value → (to : List ShownEntry) → Answers (Ok done) count word next from to
+      → (after : WorldOf ℕ) (new : Shared) → Represents trees p bounds new after
+      → new.heap.locks.fat ≡ old.heap.locks.fat → new.stacks.items ≡ old.stacks.items → length new.threads.threads ≡ length old.threads.threads
+      → Does trees p bounds inflated t world (model.Invocation frame ∷ rest) (Next Free (part after (gone_on (value ∷ [])))) (Ok done) old new from to
+  passed effect.Done word value e to h after new r fat stacks threads = free after new r fat stacks threads to (value ∷ []) (h ∙ ap (λ w. on_top (went_on count (w ∷ []) next) from) e)
+  passed (effect.Raises fault) word value e to h after new r fat stacks threads = absurd h
+  passed (effect.Throws thrown) word value e to h after new r fat stacks threads = absurd h
+  passed effect.Interrupts word value e to h after new r fat stacks threads = absurd h
+  passed effect.NotEnabled word value e to h after new r fat stacks threads = absurd h
 
-  -- threads have changed, whatever stacks there are
-  pub threads_changed : (event : WorldOf ℕ → WorldOf ℕ) (table : ThreadTable) (stacks : _) → ThreadsBecome event old.threads table
-      → Represents trees p bounds (record old { threads = table; stacks = stacks }) (event world)
-  threads_changed event table stacks b =
-      subst (Represents trees p bounds (record old { threads = table; stacks = stacks })) (b.world world ∙ ap event shown_threads)
-      (record {
-        world_is = record {
-          objects = represented.world_is.objects;
-          monitors = represented.world_is.monitors;
-          statics = represented.world_is.statics;
-          statuses = represented.world_is.statuses;
-          ready = represented.world_is.ready;
-          threads = refl;
-          printed = represented.world_is.printed;
-        };
-        limits = record {
-          opening = represented.limits.opening;
-          objects = represented.limits.objects;
-          cells = represented.limits.cells;
-          monitors = represented.limits.monitors;
-          threads = b.limit ∙ represented.limits.threads;
-        };
-      })
+  -- ---- what is asked
+
+  pub among_is : among world old.threads ≡ world
+  among_is = λ i. record world { threads = represented.world_is.threads i }
+
+  pub over_is : over world old.heap ≡ world
+  over_is = λ i. record world { monitors = represented.world_is.monitors i }
+
+  -- the row of the thread itself
+  pub row_is : {B : Type 0} (read : Thread → B) → read (row_at old.threads.threads t) ≡ read (thread_at world t)
+  row_is read = ap (λ (threads : List Thread). read (row_at threads t)) represented.world_is.threads
+
+  module _ (test : ObjectOf ℕ → Bool) (refers : RefersTo world.heap (take count frame.place.slots.stack) 0 test) (object : ℕ) (is_object : object ≡ operand_of 0 from - 1) where
+    -- what is answered of the object in a world that is this one
+    answers_in : (other : WorldOf ℕ) → other ≡ world → (ask : WorldOf ℕ → ℕ → Bool) (flag : Bool) → flag ≡ ask other object
+        → flag ≡ ask world (object_of words (take count frame.place.slots.stack) 0)
+    answers_in other e ask flag h = h ∙ (λ i. ask (e i) (sym (same_object 0 test refers object is_object) i))
+
+    -- by the table of threads, and by the heap
+    pub says : (ask : WorldOf ℕ → ℕ → Bool) (flag : Bool) → flag ≡ ask (among world old.threads) object → flag ≡ ask world (object_of words (take count frame.place.slots.stack) 0)
+    says = answers_in (among world old.threads) among_is
+
+    pub says_over : (ask : WorldOf ℕ → ℕ → Bool) (flag : Bool) → flag ≡ ask (over world old.heap) object → flag ≡ ask world (object_of words (take count frame.place.slots.stack) 0)
+    says_over = answers_in (over world old.heap) over_is

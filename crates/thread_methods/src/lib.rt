@@ -2,6 +2,7 @@
 #![tactic(auto)]
 
 mod called;
+mod growth;
 mod lives;
 mod moves;
 mod printing;

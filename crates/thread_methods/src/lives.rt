@@ -9,6 +9,7 @@ ghost use Rattle.monitor_events.specs.Tables.{among, AreStatusesWithin};
 ghost use Rattle.linked_code.specs.declared.method.BuiltInMethod.TheVariants as method;
 ghost use Rattle.thread_methods.specs.Called.{DoesUnpicked};
 
+use crate::growth::{add, spare};
 use crate::moves::{answer, go_on, object};
 use heap::Heap;
 use java_threads::Threads;
@@ -41,13 +42,13 @@ pub(crate) fn start(
 ) -> Result<Effect, Refusal>
     ensures { (t : ℕ) → DoesUnpicked method.ThreadStart operands next t result shared.old shared.new stack.old stack.new }
 {
-    shared.stacks.reserve(1)?;
+    let spare = spare(&shared.stacks)?;
     let started = events::start(&mut shared.threads, object(stack, 0))?;
     if !started {
         return Ok(Effect::Raises(MachineException::IllegalThreadState));
     }
     let empty = ThreadStack::new(*shared.stacks.allocator());
-    shared.stacks.push_reserved(empty);
+    add(&mut shared.stacks, spare, empty);
     go_on(stack, operands, next);
     Ok(Effect::Done)
 }

@@ -4,6 +4,7 @@ ghost use Rattle.std.specs.Prelude.{ℕ};
 ghost use Rattle.linked_code.specs.declared.method.BuiltInMethod.TheVariants as method;
 ghost use Rattle.thread_methods.specs.Called.{DoesUnpicked};
 
+use crate::growth::{add, spare};
 use crate::moves::{go_on, operand};
 use machine_state::{Effect, Refusal, Shared};
 use thread_stacks::ThreadStack;
@@ -17,8 +18,8 @@ pub(crate) fn print_line(
 ) -> Result<Effect, Refusal>
     ensures { (t : ℕ) → DoesUnpicked method.PrintStreamPrintln operands next t result shared.old shared.new stack.old stack.new }
 {
-    shared.printed.reserve(1)?;
-    shared.printed.push_reserved(operand(stack, 0) as i32);
+    let spare = spare(&shared.printed)?;
+    add(&mut shared.printed, spare, operand(stack, 0).cast_signed());
     go_on(stack, operands, next);
     Ok(Effect::Done)
 }

@@ -26,13 +26,13 @@ pub(crate) fn wait(
     ensures { DoesUnpicked method.ObjectWait operands next thread result shared.old shared.new stack.old stack.new }
 {
     let object = object(stack, 0);
-    if shared.threads.interrupted(thread) && events::is_owner(&shared.heap, object, thread) {
-        return Ok(Effect::Interrupts);
-    }
-    let waits = events::wait(&mut shared.heap, &mut shared.threads, object, thread)?;
-    if !waits {
+    if !events::is_owner(&shared.heap, object, thread) {
         return Ok(Effect::Raises(MachineException::IllegalMonitorState));
     }
+    if shared.threads.interrupted(thread) {
+        return Ok(Effect::Interrupts);
+    }
+    events::wait(&mut shared.heap, &mut shared.threads, object, thread)?;
     stay(stack, operands);
     Ok(Effect::Done)
 }
