@@ -1,17 +1,18 @@
 -- A call by the frame on top of a thread: its operands, and the stack and the state after it.
 use Rattle.std.proofs.Common.{◌≡◌, ◌<◌, ◌-◌, ℕ, zero, suc, List, [], ◌∷◌, ◌++◌, length, take, drop, Bool, true, Some, Result, Ok, Err, refl, sym, ap, subst, inl, arith, ◌∙◌}
 use Rattle.std.specs.Prelude.{slice_get, slice_index_or, unwrap_or}
+use Rattle.std.specs.Result.{IsErrAnd}
 use Rattle.std.proofs.lemmas.Option.{get_or_from_slice_get}
 use Rattle.model.specs.Classes.{Program}
 use Rattle.model.specs.Operands.{word_reference, words}
 use Rattle.model.specs.State as model
 use Rattle.model.specs.State.{ObjectOf, Thread, FrameOf, StackOf, WorldOf, StateOf}
-use Rattle.model.specs.Outcomes.{Free}
+use Rattle.model.specs.Outcomes.{Cost, Free}
 use Rattle.model.specs.LimitStands.{Bounds}
 use Rattle.model.specs.BuiltInMethods.{object_of}
 use Rattle.model.specs.Worlds.{thread_at}
 use Rattle.model.specs.Frames.{at_offset, at_call}
-use Rattle.model.specs.Step.{Next, part}
+use Rattle.model.specs.Step.{SteppedOf, PartOf, Next, part}
 use Rattle.java_threads.specs.Table.{thread_at as row_at}
 use Rattle.linked_code.specs.declared.method.BuiltInMethod.{BuiltInMethod}
 use Rattle.linked_code.specs.declared.program.LinkedProgram.{LinkedProgram}
@@ -23,7 +24,7 @@ use Rattle.machine_state.specs.declared.refusals.Refusal.{Refusal}
 use Rattle.machine_state.specs.declared.refusals.Refusal.TheVariants as refusal
 use Rattle.machine_state.specs.declared.state.Shared.{Shared}
 use Rattle.machine_state.specs.Shown.{Represents}
-use Rattle.machine_state.specs.Events.{IsDone}
+use Rattle.machine_state.specs.Events.{IsDone, MayBeRefused}
 use Rattle.machine_state.specs.Instructions.{Does}
 use Rattle.monitor_events.specs.Tables.{among, over}
 use Rattle.thread_methods.specs.Called.{RefersTo, IsCalling}
@@ -187,3 +188,17 @@ module _ (trees : Program) (p : LinkedProgram) (bounds : Bounds) (inflated : Lis
 
     pub says_over : (ask : WorldOf ℕ → ℕ → Bool) (flag : Bool) → flag ≡ ask (over world old.heap) object → flag ≡ ask world (object_of words (take count frame.place.slots.stack) 0)
     says_over = answers_in (over world old.heap) over_is
+
+  -- ---- after it
+
+  -- there are as many threads, where the worlds have as many
+  pub as_many : (after : WorldOf ℕ) (new : Shared) → Represents trees p bounds new after → length after.threads ≡ length world.threads → length new.threads.threads ≡ length old.threads.threads
+  as_many after new r e = ap (λ (threads : List Thread). length threads) r.world_is.threads ∙ e ∙ ap (λ (threads : List Thread). length threads) (sym represented.world_is.threads)
+
+  -- a refusal changes nothing
+  pub refused : (new : Shared) (stepped : SteppedOf (PartOf ℕ)) (cost : Cost) (after : PartOf ℕ) → stepped ≡ Next cost after → (told : Refusal) → MayBeRefused trees bounds inflated world cost told → new ≡ old
+      → (result : Result Effect Refusal) → IsErrAnd result (λ e. e ≡ told)
+      → Does trees p bounds inflated t world (model.Invocation frame ∷ rest) stepped result old new from from
+  refused new stepped cost after e told may unchanged (Ok done) h = absurd h
+  refused new stepped cost after e told may unchanged (Err other) h =
+      (record { cost = cost; next = after; is = e; may = subst (MayBeRefused trees bounds inflated world cost) (sym h) may }, record { shared = unchanged; stack = refl })

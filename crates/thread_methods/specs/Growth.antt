@@ -1,6 +1,5 @@
 -- A vector with room for one more item (own). No public clause cites this module.
-use Rattle.std.specs.Prelude.{◌≡◌, ◌<◌, List, [], Option, Some, None}
-use Rattle.std_alloc.specs.declared.vec.Vec.{Vec}
+use Rattle.std.specs.Prelude.{◌≡◌, ◌<◌, [], Option, Some, None, Vec}
 use Rattle.std.specs.Vec.{vec_len, vec_capacity}
 
 -- it is the vector itself, or a larger one with no items

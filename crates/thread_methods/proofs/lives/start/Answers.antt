@@ -6,8 +6,16 @@ use Rattle.java_threads.specs.Table.{thread_at as row_at}
 use Rattle.monitor_events.specs.Tables.{among, AreStatusesWithin}
 use Rattle.linked_code.specs.declared.method.BuiltInMethod.TheVariants as method
 use Rattle.thread_methods.specs.Called.{DoesUnpicked}
-use Rattle.thread_methods.proofs.lives.interrupt.Goals as goal
+use Rattle.thread_methods.proofs.lives.start.Goals as goal
 
--- src/lives.rt:57:1
+-- src/lives.rt:46:19
+pub returns-in_err-started : goal.returns-in_err-started
+returns-in_err-started c = ?
+
+-- src/lives.rt:48:9
+pub returns-then-not-started : goal.returns-then-not-started
+returns-then-not-started c = ?
+
+-- src/lives.rt:37:1
 pub returns : goal.returns
 returns c = ?
