@@ -178,15 +178,15 @@ module _ (trees : Program) (p : LinkedProgram) (bounds : Bounds) (inflated : Lis
 
   module _ (test : ObjectOf ℕ → Bool) (refers : RefersTo world.heap (take count frame.place.slots.stack) 0 test) (object : ℕ) (is_object : object ≡ operand_of 0 from - 1) where
     -- what is answered of the object in a world that is this one
-    answers_in : (other : WorldOf ℕ) → other ≡ world → (ask : WorldOf ℕ → ℕ → Bool) (flag : Bool) → flag ≡ ask other object
+    answers_in : {B : Type 0} (other : WorldOf ℕ) → other ≡ world → (ask : WorldOf ℕ → ℕ → B) (flag : B) → flag ≡ ask other object
         → flag ≡ ask world (object_of words (take count frame.place.slots.stack) 0)
     answers_in other e ask flag h = h ∙ (λ i. ask (e i) (sym (same_object 0 test refers object is_object) i))
 
     -- by the table of threads, and by the heap
-    pub says : (ask : WorldOf ℕ → ℕ → Bool) (flag : Bool) → flag ≡ ask (among world old.threads) object → flag ≡ ask world (object_of words (take count frame.place.slots.stack) 0)
+    pub says : {B : Type 0} (ask : WorldOf ℕ → ℕ → B) (flag : B) → flag ≡ ask (among world old.threads) object → flag ≡ ask world (object_of words (take count frame.place.slots.stack) 0)
     says = answers_in (among world old.threads) among_is
 
-    pub says_over : (ask : WorldOf ℕ → ℕ → Bool) (flag : Bool) → flag ≡ ask (over world old.heap) object → flag ≡ ask world (object_of words (take count frame.place.slots.stack) 0)
+    pub says_over : {B : Type 0} (ask : WorldOf ℕ → ℕ → B) (flag : B) → flag ≡ ask (over world old.heap) object → flag ≡ ask world (object_of words (take count frame.place.slots.stack) 0)
     says_over = answers_in (over world old.heap) over_is
 
   -- ---- after it
@@ -199,6 +199,6 @@ module _ (trees : Program) (p : LinkedProgram) (bounds : Bounds) (inflated : Lis
   pub refused : (new : Shared) (stepped : SteppedOf (PartOf ℕ)) (cost : Cost) (after : PartOf ℕ) → stepped ≡ Next cost after → (told : Refusal) → MayBeRefused trees bounds inflated world cost told → new ≡ old
       → (result : Result Effect Refusal) → IsErrAnd result (λ e. e ≡ told)
       → Does trees p bounds inflated t world (model.Invocation frame ∷ rest) stepped result old new from from
-  refused new stepped cost after e told may unchanged (Ok done) h = absurd h
+  refused new stepped cost after e told may unchanged (Ok other) h = absurd h
   refused new stepped cost after e told may unchanged (Err other) h =
       (record { cost = cost; next = after; is = e; may = subst (MayBeRefused trees bounds inflated world cost) (sym h) may }, record { shared = unchanged; stack = refl })

@@ -43,8 +43,11 @@ fn may_pick(heap: &Heap, object: u32, thread: u16, pick: u16) -> bool
     requires { object < length heap.now.locks.monitors }
     ensures { (world : WorldOf ℕ) → result ≡ may_pick_in (over world heap.now) object thread pick }
 {
+    if !events::is_owner(heap, object, thread) {
+        return pick == 0;
+    }
     let members = heap.waiter_count(object);
-    if members > 0 && events::is_owner(heap, object, thread) {
+    if members > 0 {
         usize::from(pick) < members
     } else {
         pick == 0
