@@ -30,12 +30,11 @@ first : {A : Type 0} (p : A → Bool) (x : A) (xs : List A) → p x ≡ true →
 first p x xs h = rw (h, zero_lt (length xs)) refl
 
 module _ (files : Program) where
-  fields_to : ℕ → Name → List Member
+  abbrev fields_to : ℕ → Name → List Member
   fields_to n c = flat_map (own_instance_fields files) (reverse (lineage_of files n c))
 
   -- those of the superclass come before
   before : (n : ℕ) (c s : Name) → superclass_of files c ≡ Some s → Begins (fields_to n s) → Begins (fields_to (suc n) c)
-  unfolding fields_to
   before n c s q b = (
     b.0 ++ flat_map (own_instance_fields files) (c ∷ []),
     ap (λ (o : Option Name). flat_map (own_instance_fields files) (reverse (c ∷ option_map_or (λ x. lineage_of files n x) o []))) q
@@ -45,7 +44,7 @@ module _ (files : Program) where
   )
 
   of_thread : (n : ℕ) → fields_to (suc n) java_lang_thread ≡ thread_target ∷ []
-  unfolding built_in_classes, fields_to
+  unfolding built_in_classes
   of_thread zero = refl
   of_thread (suc n) = refl
 
@@ -76,7 +75,6 @@ module _ (files : Program) where
       (or_cases (name_eq c java_lang_thread) _ w)
 
   pub target_slot : Rooted files → (class : Name) → is_subclass files class java_lang_thread ≡ true → slot_in (instance_fields files class) thread_target ≡ Some 0
-  unfolding fields_to
   target_slot rooted class below =
       let b = begins (length (classes_of files)) (length (classes_of files)) class (rooted class) below in
       ap (λ (fields : List Member). slot_in fields thread_target) b.1 ∙ first (λ (f : Member). member_eq f thread_target) thread_target b.0 refl

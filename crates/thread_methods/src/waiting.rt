@@ -22,7 +22,7 @@ pub(crate) fn wait(
     next: usize,
 ) -> Result<Effect, Refusal>
     requires there { operand_of 0 stack.old - 1 < length shared.old.heap.locks.monitors }
-    requires numbered { thread < 32767 }
+    requires started { thread < length shared.old.threads.threads }
     ensures { DoesUnpicked method.ObjectWait operands next thread result shared.old shared.new stack.old stack.new }
 {
     let object = object(stack, 0);
@@ -32,6 +32,7 @@ pub(crate) fn wait(
     if shared.threads.interrupted(thread) {
         return Ok(Effect::Interrupts);
     }
+    let _count = shared.threads.len();
     events::wait(&mut shared.heap, &mut shared.threads, object, thread)?;
     stay(stack, operands);
     Ok(Effect::Done)
