@@ -14,7 +14,7 @@ returns c = λ trees p bounds inflated state frame rest offset is frames.
     passed trees p bounds inflated c.args.thread c.args.shared.now c.args.stack.now state frame rest method.ThreadInterrupted c.args.operands c.args.next offset is c.in_ok-done.done
     c.word_of.result (bit (thread_at state.world c.args.thread).interrupted)
     (c.word_of.ensures ∙ ap bit (c.interrupted-interrupted.ensures ∙ row_is trees p bounds inflated c.args.thread c.args.shared.now c.args.stack.now state frame rest method.ThreadInterrupted c.args.operands c.args.next offset is (λ row. row.interrupted)))
-    c.answer-done.new.stack c.in_ok-done.ensures
+    c.answer.new.stack c.in_ok-done.ensures
     (with_interrupted state.world c.args.thread false) new
     (threads_shown trees p bounds state.world c.args.shared.now new is.lent.represents (λ world. with_interrupted world c.args.thread false) c.set_interrupted.ensures refl)
     refl refl

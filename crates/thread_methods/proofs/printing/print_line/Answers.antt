@@ -1,5 +1,7 @@
 use Rattle.std.proofs.Common.{◌≡◌, ℕ, [], ◌∷◌, ◌++◌, take, refl, sym, ap, ◌∙◌}
 use Rattle.std.specs.Prelude.{slice_index_or}
+use Rattle.std.specs.Int.{w32}
+use Rattle.std.proofs.lemmas.Int.{to_z-of_z}
 use Rattle.model.specs.Ints.{signed}
 use Rattle.model.specs.BuiltInMethods.{with_printed}
 use Rattle.linked_code.specs.declared.method.BuiltInMethod.TheVariants as method
@@ -25,7 +27,7 @@ returns c = λ t trees p bounds inflated state frame rest offset is frames.
         statuses = world_is.statuses;
         ready = world_is.ready;
         threads = world_is.threads;
-        printed = c.add.ensures ∙ (λ i. world_is.printed i ++ (c.cast_signed.ensures ∙ ap signed bits_are) i ∷ []);
+        printed = c.add.ensures ∙ (λ i. world_is.printed i ++ (to_z-of_z w32 c.cast_signed.result c.cast_signed.type_inv ∙ c.cast_signed.ensures ∙ ap signed bits_are) i ∷ []);
       };
       limits = record { opening = limits.opening; objects = limits.objects; cells = limits.cells; monitors = limits.monitors; threads = limits.threads };
     })
