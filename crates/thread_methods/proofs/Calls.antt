@@ -79,8 +79,7 @@ module _ (trees : Program) (p : LinkedProgram) (bounds : Bounds) (inflated : Lis
 
   pub went : (results : List ℕ) → ShowsStack trees p (on_top (went_on count results next) from) (gone_on results)
   went results =
-      subst (λ s. ShowsStack trees p (on_top (went_on count results next) s) (gone_on results)) (sym is.is_stack)
-      (
+      subst (λ s. ShowsStack trees p (on_top (went_on count results next) s) (gone_on results)) (sym is.is_stack) (
         record {
           method = shows.0.method;
           offset = sym is.goes_on;
@@ -93,8 +92,7 @@ module _ (trees : Program) (p : LinkedProgram) (bounds : Bounds) (inflated : Lis
 
   pub stayed : ShowsStack trees p (on_top (without count) from) (model.Invocation (at_call frame (drop count frame.place.slots.stack)) ∷ rest)
   stayed =
-      subst (λ s. ShowsStack trees p (on_top (without count) s) (model.Invocation (at_call frame (drop count frame.place.slots.stack)) ∷ rest)) (sym is.is_stack)
-      (
+      subst (λ s. ShowsStack trees p (on_top (without count) s) (model.Invocation (at_call frame (drop count frame.place.slots.stack)) ∷ rest)) (sym is.is_stack) (
         record {
           method = shows.0.method;
           offset = shows.0.offset;

@@ -30,9 +30,7 @@ fn run_unpicked(
             waiting::notify_all(shared, stack, thread, operands, next)
         }
         BuiltInMethod::ThreadStart => lives::start(shared, stack, operands, next),
-        BuiltInMethod::ThreadInterrupt => {
-            lives::interrupt(shared, stack, operands, next)
-        }
+        BuiltInMethod::ThreadInterrupt => { lives::interrupt(shared, stack, operands, next) }
         BuiltInMethod::ThreadIsInterrupted => {
             lives::ask_interrupted(shared, stack, operands, next)
         }

@@ -14,7 +14,10 @@ pub(crate) fn spare<T: Drop>(items: &Vec<T>) -> Result<Option<Vec<T>>, AllocErro
     if count < items.capacity() {
         return Ok(None);
     }
-    let larger = Vec::with_capacity(*items.allocator(), count.saturating_add(count).saturating_add(4))?;
+    let larger = Vec::with_capacity(
+        *items.allocator(),
+        count.saturating_add(count).saturating_add(4),
+    )?;
     Ok(Some(larger))
 }
 

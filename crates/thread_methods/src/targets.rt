@@ -13,11 +13,7 @@ use thread_stacks::ThreadStack;
 const TARGET: u32 = 0;
 
 /// `<init>()V` of a built-in class, which does nothing to its object, and `Thread.yield`, which does nothing.
-pub(crate) fn pass(
-    stack: &mut ThreadStack,
-    operands: usize,
-    next: usize,
-) -> Result<Effect, Refusal>
+pub(crate) fn pass(stack: &mut ThreadStack, operands: usize, next: usize) -> Result<Effect, Refusal>
     ensures construct { (shared : Shared) (t : ℕ) → DoesUnpicked method.Construct operands next t result shared shared stack.old stack.new }
     ensures yields { (shared : Shared) (t : ℕ) → DoesUnpicked method.ThreadYield operands next t result shared shared stack.old stack.new }
 {

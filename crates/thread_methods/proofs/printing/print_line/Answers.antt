@@ -1,7 +1,8 @@
-use Rattle.std.proofs.Common.{◌≡◌, ℕ, [], ◌∷◌, ◌++◌, take, refl, sym, ap, ◌∙◌}
+use Rattle.std.proofs.Common.{◌≡◌, ℕ, [], ◌∷◌, ◌++◌, take, FitsSigned, rules, arith, refl, sym, ap, subst, ◌∙◌}
 use Rattle.std.specs.Prelude.{slice_index_or}
 use Rattle.std.specs.Int.{w32}
 use Rattle.std.proofs.lemmas.Int.{to_z-of_z}
+use Rattle.std.proofs.Math.Facts.{sfits_to_z}
 use Rattle.model.specs.Ints.{signed}
 use Rattle.model.specs.BuiltInMethods.{with_printed}
 use Rattle.linked_code.specs.declared.method.BuiltInMethod.TheVariants as method
@@ -27,7 +28,7 @@ returns c = λ t trees p bounds inflated state frame rest offset is frames.
         statuses = world_is.statuses;
         ready = world_is.ready;
         threads = world_is.threads;
-        printed = c.add.ensures ∙ (λ i. world_is.printed i ++ (to_z-of_z w32 c.cast_signed.result c.cast_signed.type_inv ∙ c.cast_signed.ensures ∙ ap signed bits_are) i ∷ []);
+        printed = c.add.ensures ∙ (λ i. world_is.printed i ++ (to_z-of_z w32 c.cast_signed.result (subst (λ z. FitsSigned w32 z) (sym c.cast_signed.ensures) (sfits_to_z {w = w32} {n = c.operand.result} (first_of (search (rules, c.operand.type_inv), grind (arith, c.operand.type_inv))))) ∙ c.cast_signed.ensures ∙ ap signed bits_are) i ∷ []);
       };
       limits = record { opening = limits.opening; objects = limits.objects; cells = limits.cells; monitors = limits.monitors; threads = limits.threads };
     })
