@@ -1,5 +1,5 @@
 -- A call by the frame on top of a thread: its operands, and the stack and the state after it.
-use Rattle.std.proofs.Common.{◌≡◌, ◌<◌, ◌-◌, ℕ, zero, suc, List, [], ◌∷◌, ◌++◌, length, take, drop, Bool, true, Some, Result, Ok, Err, refl, sym, ap, subst, inl, arith, ◌∙◌}
+use Rattle.std.proofs.Common.{◌≡◌, ◌<◌, ◌-◌, ℕ, zero, suc, List, [], ◌∷◌, ◌++◌, length, take, drop, Bool, Some, Result, Ok, Err, refl, sym, ap, subst, inl, arith, ◌∙◌}
 use Rattle.std.specs.Prelude.{slice_get, slice_index_or, unwrap_or}
 use Rattle.std.specs.Result.{IsErrAnd}
 use Rattle.std.proofs.lemmas.Option.{get_or_from_slice_get}
@@ -16,7 +16,7 @@ use Rattle.model.specs.Step.{SteppedOf, PartOf, Next, part}
 use Rattle.java_threads.specs.Table.{thread_at as row_at}
 use Rattle.linked_code.specs.declared.method.BuiltInMethod.{BuiltInMethod}
 use Rattle.linked_code.specs.declared.program.LinkedProgram.{LinkedProgram}
-use Rattle.thread_stacks.specs.Stacks.{ShownEntry, Invocation, on_top, without}
+use Rattle.thread_stacks.specs.Stacks.{ShownEntry, on_top, without}
 use Rattle.shown_stacks.specs.Shown.{ShowsFrame, ShowsStack}
 use Rattle.machine_state.specs.declared.answers.Effect.{Effect}
 use Rattle.machine_state.specs.declared.answers.Effect.TheVariants as effect

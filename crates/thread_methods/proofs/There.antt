@@ -1,6 +1,5 @@
 -- What is there at a call: the receiver has a monitor, and each thread its object and the object on which it waits.
-use Rattle.std.proofs.Common.{◌≡◌, ◌<◌, ◌-◌, ℕ, zero, suc, List, [], ◌∷◌, length, take, Bool, true, Option, Some, None, refl, sym, ap, subst, arith, ◌∙◌}
-use Rattle.std.specs.Prelude.{slice_get, slice_index_or}
+use Rattle.std.proofs.Common.{◌≡◌, ◌<◌, ◌-◌, ℕ, zero, suc, List, [], ◌∷◌, length, take, Bool, true, Option, refl, sym, ap, subst, arith, ◌∙◌}
 use Rattle.std.proofs.lemmas.Bool.{ltb-true}
 use Rattle.std.proofs.lemmas.List.{length-map}
 use Rattle.std.proofs.lemmas.Option.{slice_get_within}
@@ -9,14 +8,13 @@ use Rattle.model.specs.declared.value.Value.TheVariants as value
 use Rattle.model.specs.Names.{Name}
 use Rattle.model.specs.Classes.{Program}
 use Rattle.model.specs.LimitStands.{Bounds}
-use Rattle.model.specs.ReferenceTypes.{ReferenceType, ClassType}
+use Rattle.model.specs.ReferenceTypes.{ClassType}
 use Rattle.model.specs.Types.{OfType}
 use Rattle.model.specs.Operands.{word_of}
 use Rattle.model.specs.State.{ObjectOf, types_of, ThreadStatus, Running, Waiting, Relock, Ended, Thread, Monitor, FrameOf, StackOf, StateOf}
 use Rattle.model.specs.WellTyped.{is_object_in, IsStackTyped, AreThreadsTyped}
 use Rattle.model.specs.Words.{map_object}
 use Rattle.object_counts.proofs.References.{are_objects}
-use Rattle.heap.specs.Heap.{Heap}
 use Rattle.java_threads.specs.Table.{thread_at as row_at}
 use Rattle.shown_objects.proofs.Objects.{counted}
 use Rattle.linked_code.specs.declared.method.BuiltInMethod.{BuiltInMethod}
@@ -62,7 +60,7 @@ module _ (trees : Program) (p : LinkedProgram) (bounds : Bounds) (inflated : Lis
   objects_are : length old.heap.objects ≡ length state.world.heap
   objects_are = counted trees p.components.items old.heap.objects state.world.heap is.lent.represents.world_is.objects
 
-  monitors_are : length old.heap.locks.monitors ≡ length state.world.heap
+  pub monitors_are : length old.heap.locks.monitors ≡ length state.world.heap
   monitors_are =
       ap (λ (ms : List Monitor). length ms) is.lent.represents.world_is.monitors
       ∙ subst (λ (s : StateOf ℕ). length s.world.monitors ≡ length s.world.heap) (sym is.lent.typed.1.are)

@@ -1,9 +1,9 @@
 -- Wait sets: how many threads there are stays as it was, and what becomes of a thread that waits.
-use Rattle.std.proofs.Common.{◌≡◌, ◌<◌, ℕ, List, [], ◌∷◌, length, Option, Some, None, refl, sym, ap, ◌∙◌}
+use Rattle.std.proofs.Common.{◌≡◌, ℕ, List, [], ◌∷◌, length, Option, Some, None, refl, ◌∙◌}
 use Rattle.std.proofs.lemmas.List.{length-set}
-use Rattle.model.specs.State.{Waiter, WakeCause, Notified, ThreadStatus, Running, Waiting, Relock, Ended, WorldOf}
+use Rattle.model.specs.State.{Waiter, WakeCause, ThreadStatus, Running, Waiting, Relock, Ended, WorldOf}
 use Rattle.model.specs.Worlds.{woken, all_woken}
-use Rattle.model.specs.BuiltInMethods.{notified, notified_one, notified_all, waiting, interrupted_in}
+use Rattle.model.specs.BuiltInMethods.{notified_one, waiting, interrupted_in}
 
 -- so many threads
 abbrev pub count : WorldOf ℕ → ℕ

@@ -1,6 +1,5 @@
-use Rattle.std.proofs.Common.{ℕ, Option, Some, None, [], refl, subst, sym}
+use Rattle.std.proofs.Common.{ℕ, Option, Some, None, [], refl, subst}
 use Rattle.model.specs.BuiltInMethods.{interrupted_in, interrupted_on}
-use Rattle.model.specs.State.{WorldOf}
 use Rattle.model.specs.Outcomes.{Free}
 use Rattle.model.specs.Worlds.{thread_at, thread_of}
 use Rattle.model.specs.Step.{Next, part}

@@ -1,6 +1,5 @@
-use Rattle.std.proofs.Common.{ℕ, Bool, true, false, ◌||◌, not, drop, take, refl, sym, subst, [], ◌∷◌, ◌∙◌}
-use Rattle.model.specs.BuiltInMethods.{object_of, join_by}
-use Rattle.model.specs.Operands.{words}
+use Rattle.std.proofs.Common.{ℕ, Bool, ◌||◌, not, drop, refl, sym, subst, [], ◌∙◌}
+use Rattle.model.specs.BuiltInMethods.{join_by}
 use Rattle.model.specs.State.{WorldOf, FrameOf, StackOf}
 use Rattle.model.specs.Classes.{Program}
 use Rattle.model.specs.Worlds.{is_alive, thread_at}

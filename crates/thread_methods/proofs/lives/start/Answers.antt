@@ -1,4 +1,4 @@
-use Rattle.std.proofs.Common.{◌≡◌, ◌<◌, ℕ, suc, List, [], ◌∷◌, ◌++◌, Bool, true, false, Option, Some, None, Ok, Err, is_some, length, length-append, take, drop, nat_le, refl, sym, ap, subst, inr, arith, ◌∙◌}
+use Rattle.std.proofs.Common.{◌≡◌, ◌<◌, ℕ, List, [], ◌∷◌, ◌++◌, Bool, true, false, Option, Some, None, Ok, Err, is_some, length, length-append, take, drop, nat_le, refl, sym, ap, subst, inr, arith, ◌∙◌}
 use Rattle.std.specs.Prelude.{if◌then◌else◌}
 use Rattle.std.proofs.lemmas.Bool.{lt-leb, le-leb}
 use Rattle.model.specs.declared.end.RunCause.{RunCause}
@@ -8,7 +8,7 @@ use Rattle.model.specs.Classes.{Program}
 use Rattle.model.specs.LimitStands.{Bounds}
 use Rattle.model.specs.Operands.{words}
 use Rattle.model.specs.Outcomes.{Starts}
-use Rattle.model.specs.State.{Thread, WorldOf}
+use Rattle.model.specs.State.{WorldOf}
 use Rattle.model.specs.Worlds.{thread_of}
 use Rattle.model.specs.Step.{part, become}
 use Rattle.java_threads.specs.declared.refusal.Refusal.{Refusal}

@@ -1,7 +1,7 @@
-use Rattle.std.proofs.Common.{◌≡◌, ◌<◌, ◌≤◌, ◌&&◌, ◌==◌, Bool, length, sym, subst, ◌∙◌}
+use Rattle.std.proofs.Common.{◌<◌, ◌≤◌, ◌&&◌, ◌==◌, length, sym, subst, ◌∙◌}
 use Rattle.std.specs.Prelude.{if◌then◌else◌, nat_lt}
 use Rattle.std.proofs.lemmas.Bool.{lt-ltb, le-ltb}
-use Rattle.model.specs.Worlds.{is_owner, waiters_of}
+use Rattle.model.specs.Worlds.{waiters_of}
 use Rattle.monitor_events.specs.Tables.{over}
 use Rattle.thread_methods.proofs.waiting.may_pick.Goals as goal
 

@@ -1,14 +1,13 @@
-use Rattle.std.proofs.Common.{ℕ, Bool, true, false, length, drop, take, refl, sym, ap, subst, [], ◌≡◌, ◌∙◌}
+use Rattle.std.proofs.Common.{ℕ, Bool, drop, take, refl, sym, subst, [], ◌≡◌, ◌∙◌}
 use Rattle.model.specs.BuiltInMethods.{object_of, if_owner, notified_all}
 use Rattle.model.specs.Classes.{Program}
 use Rattle.model.specs.Operands.{words}
 use Rattle.model.specs.Sites.{pushing}
 use Rattle.model.specs.State.{WorldOf, FrameOf, StackOf, Notified}
 use Rattle.model.specs.Worlds.{is_owner, waiters_of}
-use Rattle.model.specs.Step.{SteppedOf, PartOf, enabled_if, become}
+use Rattle.model.specs.Step.{SteppedOf, PartOf, become}
 use Rattle.word_operands.specs.Receivers.{is_any}
 use Rattle.linked_code.specs.declared.method.BuiltInMethod.TheVariants as method
-use Rattle.machine_state.specs.declared.state.Shared.{Shared}
 use Rattle.machine_state.specs.Events.{IsDone}
 use Rattle.entries.proofs.Changing.{both_shown}
 use Rattle.monitor_events.specs.Tables.{BothBecome}

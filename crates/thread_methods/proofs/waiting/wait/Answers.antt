@@ -1,4 +1,4 @@
-use Rattle.std.proofs.Common.{ℕ, List, Bool, true, false, Result, Ok, Err, length, drop, take, refl, sym, ap, subst, inl, [], ◌∷◌, ◌≡◌, ◌<◌, ◌∙◌}
+use Rattle.std.proofs.Common.{ℕ, List, Bool, true, false, Ok, Err, length, drop, take, refl, sym, subst, inl, ◌∷◌, ◌≡◌, ◌<◌, ◌∙◌}
 use Rattle.std.proofs.lemmas.Bool.{true≢false}
 use Rattle.model.specs.BuiltInMethods.{object_of, wait_by, waiting}
 use Rattle.model.specs.Classes.{Program}
@@ -7,7 +7,7 @@ use Rattle.model.specs.Outcomes.{Joins}
 use Rattle.model.specs.State.{WorldOf, FrameOf, StackOf, Invocation}
 use Rattle.model.specs.Worlds.{is_owner, thread_at}
 use Rattle.model.specs.Frames.{at_call}
-use Rattle.model.specs.Step.{SteppedOf, PartOf, Next, part, become}
+use Rattle.model.specs.Step.{SteppedOf, PartOf, part, become}
 use Rattle.model.specs.LimitStands.{Bounds}
 use Rattle.word_operands.specs.Receivers.{is_any}
 use Rattle.linked_code.specs.declared.method.BuiltInMethod.TheVariants as method
