@@ -7,3 +7,4 @@ mod first_frames;
 mod runs;
 
 pub use first_frames::push_first;
+pub use runs::begin_run;
