@@ -31,8 +31,7 @@ returns-in-None c = λ trees bounds inflated state program lent.
     let p = c.args.program.now in
     let t = c.args.thread in
     let r = c.object-object.result in
-    let h = c.in-None.ensures.run trees program state.world.heap lent.represents.world_is.objects (instance trees p bounds inflated t c.args.shared.now c.args.stack.now state lent r c.object-object.ensures) in
-    (
+    let h = c.in-None.ensures.run trees program state.world.heap lent.represents.world_is.objects (instance trees p bounds inflated t c.args.shared.now c.args.stack.now state lent r c.object-object.ensures) in (
       ap (run_event words trees c.args.frames t state.world) (sym (object_is trees p bounds inflated t c.args.shared.now c.args.stack.now state lent r c.object-object.ensures)) ∙ fails trees p c.args.frames t state.world r _ h,
       record { shared = refl; stack = refl },
     )
