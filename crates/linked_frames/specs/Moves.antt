@@ -1,5 +1,5 @@
 -- An instruction that goes on to a place of its code (JVMS 2.6): what the stack and the event are then.
-use Rattle.std.specs.Prelude.{◌≡◌, ℕ, List, ◌∷◌}
+use Rattle.std.specs.Prelude.{◌≡◌, ℕ, List, ◌∷◌, length}
 use Rattle.model.specs.Classes.{Program}
 use Rattle.model.specs.Frames.{at_offset}
 use Rattle.model.specs.LimitStands.{Bounds}
@@ -38,5 +38,5 @@ abbrev pub AreFreeDone : Type 0
 AreFreeDone =
     (trees : Program) (p : LinkedProgram) (bounds : Bounds) (inflated : List ℕ) (world after : WorldOf ℕ) (own : model.StackOf ℕ) (old new : Shared) (to : List ShownEntry)
     → Represents trees p bounds new after → ShowsStack trees p to own
-    → new.heap.locks.fat ≡ old.heap.locks.fat → new.stacks ≡ old.stacks
+    → new.heap.locks.fat ≡ old.heap.locks.fat → new.stacks ≡ old.stacks → length new.threads.threads ≡ length old.threads.threads
     → IsDone trees p bounds inflated world (Next Free (part after own)) old new to

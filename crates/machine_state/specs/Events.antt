@@ -1,5 +1,5 @@
 -- What an event of a thread makes of what is shown, of the part of the state that the thread touches (JVMS 2.6, 5.5; JLS 17).
-use Rattle.std.specs.Prelude.{◌≡◌, ℕ, List, [], ◌++◌, Option, None, Result, Ok, Err, replicate}
+use Rattle.std.specs.Prelude.{◌≡◌, ◌⊎◌, ℕ, suc, List, [], ◌∷◌, ◌++◌, Option, None, Result, Ok, Err, length}
 use Rattle.model.specs.declared.end.RunCause.{RunCause}
 use Rattle.model.specs.Classes.{Program}
 use Rattle.model.specs.State.{WorldOf}
@@ -7,7 +7,7 @@ use Rattle.model.specs.Outcomes.{Cost}
 use Rattle.model.specs.LimitStands.{Bounds, is_crowded}
 use Rattle.model.specs.Step.{SteppedOf, NotEnabled, Next, PartOf}
 use Rattle.limits_at_words.specs.Limits.{limit_in}
-use Rattle.limits_at_words.specs.FatLocks.{flags_after}
+use Rattle.limits_at_words.specs.FatLocks.{flags_after, IsOneOf}
 use Rattle.linked_code.specs.declared.program.LinkedProgram.{LinkedProgram}
 use Rattle.thread_stacks.specs.Stacks.{ShownEntry}
 use Rattle.shown_stacks.specs.Shown.{ShowsStack}
@@ -24,17 +24,28 @@ pub record IsUnchanged (old new : Shared) (from to : List ShownEntry) : Type 0 w
   pub shared : new ≡ old
   pub stack : to ≡ from
 
--- other threads' stacks stay; those of threads that were started are empty
+-- no thread was started: the stacks of all others stay
+pub record AreOthersKept (old new : Shared) : Type 0 where
+  pub stacks : new.stacks.items ≡ old.stacks.items
+  pub threads : length new.threads.threads ≡ length old.threads.threads
+
+-- or one was, whose stack is empty
+pub record IsOneStarted (old new : Shared) : Type 0 where
+  pub stacks : new.stacks.items ≡ old.stacks.items ++ [] ∷ []
+  pub threads : length new.threads.threads ≡ suc (length old.threads.threads)
+
 abbrev pub AreStacksAdded : Shared → Shared → Type 0
-AreStacksAdded old new = (started : ℕ) × (new.stacks.items ≡ old.stacks.items ++ replicate started [])
+AreStacksAdded old new = AreOthersKept old new ⊎ IsOneStarted old new
 
 -- the limit that stands where an event takes something
 abbrev pub limit_of : Program → Bounds → List ℕ → WorldOf ℕ → Cost → Option RunCause
 limit_of trees bounds inflated world cost = limit_in trees bounds (is_crowded bounds.monitors inflated) world cost
 
--- What is shown is the part after the event: no limit stood, and the fat locks are those before it, with the one that it makes fat.
+-- What is shown is the part after the event: no limit stood, the object whose monitor it takes is there, and the fat locks are those
+-- before it, with the one that it makes fat.
 pub record HasBecome (trees : Program) (p : LinkedProgram) (bounds : Bounds) (inflated : List ℕ) (world : WorldOf ℕ) (cost : Cost) (next : PartOf ℕ) (old new : Shared) (to : List ShownEntry) : Type 0 where
   pub within : limit_of trees bounds inflated world cost ≡ None
+  pub there : IsOneOf cost (length old.heap.locks.monitors)
   pub represents : Represents trees p bounds new next.world
   pub stack : ShowsStack trees p to next.stack
   pub flags : new.heap.locks.fat ≡ flags_after cost old.heap.locks.fat

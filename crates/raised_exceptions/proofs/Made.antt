@@ -1,7 +1,7 @@
 -- An exception that is allocated and pending, and one that is refused.
-use Rattle.std.proofs.Common.{◌≡◌, ℕ, List, [], Some, Result, Ok, Err, slice_index_or, slice_set, length, refl, sym, ap, subst, ◌∙◌}
+use Rattle.std.proofs.Common.{◌≡◌, ℕ, List, [], Some, Result, Ok, Err, slice_index_or, slice_set, length, refl, sym, ap, subst, ◌∙◌, inl}
 use Rattle.std.specs.Result.{IsErrAnd}
-use Rattle.std.proofs.lemmas.List.{append-nil}
+use Rattle.std.proofs.lemmas.List.{length-set}
 use Rattle.model.specs.Names.{Name}
 use Rattle.model.specs.Classes.{Program}
 use Rattle.model.specs.State.{Instance, Thread, StackOf, WorldOf, new_thread}
@@ -60,19 +60,20 @@ module _ (trees : Program) (p : LinkedProgram) (bounds : Bounds) (inflated : Lis
     abbrev pub pending_in : (change : List Thread → List Thread) (t : ℕ) → List Thread → ℕ → List Thread
     pending_in change t threads exception = slice_set (change threads) t (record (slice_index_or (change threads) t (new_thread 0)) { pending = Some exception })
 
-    pub is_pending : (change : List Thread → List Thread) (t reference : ℕ) (after : Heap) (table : ThreadTable)
+    pub is_pending : (change : List Thread → List Thread) → ((threads : List Thread) → length (change threads) ≡ length threads) → (t reference : ℕ) (after : Heap) (table : ThreadTable)
         → Allocates (Ok reference) (kind.Instance number) 0 old.heap after
         → table.threads ≡ pending_in change t old.threads.threads reference → table.limit ≡ old.threads.limit
         → IsDone trees p bounds inflated world
         (Next (Makes 0) (part (with_pending (allocated (record world { threads = change world.threads }) (Instance class [])) t (length world.heap)) own))
         old (record old { heap = after; threads = table }) shown
-    is_pending change t reference after table allocates threads_are limit_is =
+    is_pending change same t reference after table allocates threads_are limit_is =
         record {
           cost = Makes 0;
           next = _;
           is = refl;
           becomes = record {
             within = m.within;
+            there = tt;
             represents = record {
               world_is = record {
                 objects = m.represents.world_is.objects;
@@ -93,7 +94,7 @@ module _ (trees : Program) (p : LinkedProgram) (bounds : Bounds) (inflated : Lis
             };
             stack = s;
             flags = m.flags;
-            others = (0, sym (append-nil old.stacks.items));
+            others = inl (record { stacks = refl; threads = ap length threads_are ∙ length-set (change old.threads.threads) t _ ∙ same old.threads.threads });
           };
         }
       where

@@ -1,4 +1,4 @@
-use Rattle.std.proofs.Common.{List, ap}
+use Rattle.std.proofs.Common.{List, refl, ap}
 use Rattle.model.specs.State.{Thread}
 use Rattle.heap.specs.declared.kind.ObjectKind.TheVariants as kind
 use Rattle.java_threads.specs.Table.{ThreadTable}
@@ -15,5 +15,5 @@ returns-in_err-exception c = λ trees p bounds inflated world r shown own s.
 pub returns : goal.returns
 returns c = λ trees p bounds inflated world r shown own s.
     is_pending trees p bounds inflated world c.args.shared.now r shown own s c.args.fault c.class_of.result c.class_of.ensures
-    (λ (threads : List Thread). threads) c.args.thread c.in_ok-exception.exception c.alloc_object.new.self c.set_pending.new.self c.in_ok-exception.ensures
+    (λ (threads : List Thread). threads) (λ threads. refl) c.args.thread c.in_ok-exception.exception c.alloc_object.new.self c.set_pending.new.self c.in_ok-exception.ensures
     (ap (λ (table : ThreadTable). table.threads) c.set_pending.ensures) (ap (λ (table : ThreadTable). table.limit) c.set_pending.ensures)

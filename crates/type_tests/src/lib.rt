@@ -1,0 +1,9 @@
+//! Tests of subtypes by numbers: whether a class is below another one, and whether objects are of a type. Each reads a constant
+//! number of words of the tables of a linked program.
+#![tactic(auto)]
+
+mod classes;
+mod kinds;
+
+pub use classes::is_class_below;
+pub use kinds::is_kind_below;
