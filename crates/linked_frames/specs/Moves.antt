@@ -8,7 +8,7 @@ use Rattle.model.specs.Outcomes.{Free}
 use Rattle.model.specs.Sites.{MeaningOf, Site}
 use Rattle.model.specs.State as model
 use Rattle.model.specs.State.{FrameOf, StackOf, WorldOf, StateOf}
-use Rattle.model.specs.Step.{Next, PartOf, part}
+use Rattle.model.specs.Step.{Next, part}
 use Rattle.linked_code.specs.declared.instruction.LinkedInstruction.{LinkedInstruction}
 use Rattle.linked_code.specs.declared.method.LinkedCode.{LinkedCode}
 use Rattle.linked_code.specs.declared.program.LinkedProgram.{LinkedProgram}

@@ -1,4 +1,5 @@
 //! Where the frame on top of a thread stands in linked code, and what an instruction may take for granted there.
+//! The lemmas in `proofs/` are there for a crate above to cite.
 #![tactic(auto)]
 
 mod standing;
@@ -6,13 +7,19 @@ mod standing;
 ghost use Rattle.linked_frames.specs.Frames.{AreFramesStanding, AreTopsShown, AreOperandsThere};
 ghost use Rattle.linked_frames.specs.Moves.{AreMovesShown, AreFreeDone};
 
+use linked_code::{places_are_filled, places_are_next};
+use method_selection::methods_are_read;
 pub use standing::instruction_at;
 
 /// The frame on top of a thread that runs, with no exception pending, stands at an instruction of the linked code of its
 /// method.
 pub fn frames_stand()
     ensures holds { AreFramesStanding }
-{}
+{
+    places_are_filled();
+    places_are_next();
+    methods_are_read();
+}
 
 /// What is kept of it shows the frame, and the rest of the stack.
 pub fn tops_are_shown()
