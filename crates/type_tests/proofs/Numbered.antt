@@ -1,16 +1,15 @@
 -- The classes of linked files: how many there are, and which of them is Object.
-use Rattle.std.proofs.Common.{◌≡◌, ◌∙◌, ◌<◌, ◌≤◌, ◌+◌, ◌^◌, ℕ, suc, zero, Bool, true, false, List, [], ◌∷◌, ◌++◌, length, refl, sym, ap, subst, arith, Some, length-append}
-use Rattle.std.specs.Prelude.{find, slice_get, is_some, nat_lt, nat_eq, ◌==◌, ◌||◌, if◌then◌else◌}
+use Rattle.std.proofs.Common.{◌≡◌, ◌∙◌, ◌<◌, ◌≤◌, ◌^◌, ℕ, suc, zero, Bool, true, false, List, [], ◌∷◌, ◌++◌, length, refl, sym, ap, subst, arith, Some}
+use Rattle.std.specs.Prelude.{drop, find, slice_get, is_some, nat_lt, nat_eq, ◌==◌, if◌then◌else◌}
 use Rattle.std.specs.List.{list_any}
-use Rattle.std.proofs.lemmas.Bool.{or_parts, or_from, false≢true}
+use Rattle.std.proofs.lemmas.Bool.{or_parts, or_from}
 use Rattle.std.proofs.lemmas.Bool.Decides.{nat_tests}
-use Rattle.std.proofs.lemmas.List.Folds.{list_any-append}
 use Rattle.std.proofs.lemmas.Option.{slice_get_within}
 use Rattle.model.specs.Names.{Name, name_eq, java_lang_object}
 use Rattle.model.specs.Tree.{FileTree}
 use Rattle.model.specs.BuiltIn.{built_in_classes, object_class}
 use Rattle.model.specs.Classes.{Program, name_of, is_named, classes_of}
-use Rattle.model.specs.Linkable.{IsLinkable, stands, DuplicateClass, too_many_files, has_built_in_name, two_of_one_name}
+use Rattle.model.specs.Linkable.{IsLinkable, has_built_in_name, two_of_one_name}
 use Rattle.laws.proofs.Unrefused.{names_differ, unrefused_of}
 use Rattle.linked_code.specs.Numbers.{IsClassAt}
 use Rattle.linked_code.specs.Subtypes.{IsObjectFirst}
@@ -42,7 +41,7 @@ first_not test x xs h = by (test x) h
 -- a file that has no name of a built-in class isn't named as Object is
 no_object : (file : FileTree) → has_built_in_name file ≡ false → is_named java_lang_object file ≡ false
 unfolding built_in_classes
-no_object file h = names_same (name_of file) java_lang_object ∙ first_not (is_named (name_of file)) _ _ h
+no_object file h = names_same (name_of file) java_lang_object ∙ first_not (is_named (name_of file)) object_class (drop 1 built_in_classes) h
 
 no_objects : (files : Program) → list_any has_built_in_name files ≡ false → list_any (is_named java_lang_object) files ≡ false
 no_objects [] h = refl
@@ -53,7 +52,7 @@ no_objects (file ∷ files) h =
 -- no class behind the first is named as Object is
 others : (files : Program) (n : ℕ) (file : FileTree) → list_any has_built_in_name files ≡ false → slice_get (classes_of files) (suc n) ≡ Some file → is_named java_lang_object file ≡ false
 unfolding built_in_classes
-others files n file h e = none_at (is_named java_lang_object) _ n file (no_objects files h) e
+others files n file h e = none_at (is_named java_lang_object) (drop 1 built_in_classes ++ files) n file (no_objects files h) e
 
 module _ (bytes : List (List ℕ)) (files : Program) (linkable : IsLinkable bytes files) where
   -- a class has a number of 16 bits
@@ -71,4 +70,6 @@ module _ (bytes : List (List ℕ)) (files : Program) (linkable : IsLinkable byte
     where
       by : (number : ℕ) (file : FileTree) → slice_get (classes_of files) number ≡ Some file → (number == 0) ≡ is_named java_lang_object file
       by zero file e = let is : object_class ≡ file = cc in ap (is_named java_lang_object) is
-      by (suc n) file e = sym (others files n file (or_parts (two_of_one_name files) _ (names_differ files linkable.no_refusal)).1 e)
+      by (suc n) file e =
+          let later : (suc n == 0) ≡ false = grind (arith, nat_tests) in
+          later ∙ sym (others files n file (or_parts (two_of_one_name files) _ (names_differ files linkable.no_refusal)).1 e)

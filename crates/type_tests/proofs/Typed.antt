@@ -1,11 +1,12 @@
 -- The types of objects, by number.
-use Rattle.std.proofs.Common.{◌≡◌, ◌∙◌, ◌<◌, ◌^◌, ℕ, zero, suc, Bool, true, false, List, Some, refl, sym, ap, subst, arith}
-use Rattle.std.specs.Prelude.{slice_get}
+use Rattle.std.proofs.Common.{◌≡◌, ◌∙◌, ◌<◌, ◌^◌, ℕ, zero, suc, Bool, false, List, [], ◌∷◌, Option, Some, None, refl, sym, ap, subst}
+use Rattle.std.specs.Prelude.{option_map, slice_get}
 use Rattle.model.specs.Names.{Name}
 use Rattle.model.specs.Classes.{Program}
-use Rattle.model.specs.Linkable.{IsLinkable}
-use Rattle.model.specs.ReferenceTypes.{ReferenceType, PrimitiveArray, ReferenceArray, is_subtype}
-use Rattle.model.specs.State.{ObjectOf, Instance, Primitives, References, type_of}
+use Rattle.model.specs.ReferenceTypes.{ReferenceType, PrimitiveArray, ReferenceArray}
+use Rattle.model.specs.State.{ObjectOf, Instance, Primitives, References, type_of, types_of}
+use Rattle.model.specs.Types.{is_object_of}
+use Rattle.heap.specs.Heap.{Object, kind_of}
 use Rattle.heap.specs.declared.kind.NarrowKind.TheVariants as narrow
 use Rattle.heap.specs.declared.kind.ObjectKind.{ObjectKind}
 use Rattle.heap.specs.declared.kind.ObjectKind.TheVariants as kind
@@ -16,9 +17,8 @@ use Rattle.linked_code.specs.declared.types.LinkedType.{LinkedType}
 use Rattle.linked_code.specs.declared.program.LinkedProgram.{LinkedProgram}
 use Rattle.linked_code.specs.Numbers.{IsClassAt, IsTypeWith, IsType}
 use Rattle.linked_code.specs.Subtypes.{AreTypesTested, is_linked_subtype}
-use Rattle.linked_code.specs.Programs.{IsLinkedProgram}
-use Rattle.shown_objects.specs.Shown.{IsKindOf}
-use Rattle.type_tests.specs.Tests.{array_of, IsTypeOfKind, TestsKind}
+use Rattle.shown_objects.specs.Shown.{IsKindOf, ShowsObject, ShowsObjects}
+use Rattle.type_tests.specs.Tests.{array_of, IsTypeOfKind, TestsKind, TestsObject}
 use Rattle.type_tests.proofs.Numbered.{small, object_first}
 
 -- an array around a type
@@ -64,3 +64,42 @@ tested law p of type answer is files trees linkable program column object above 
     let own = type_of_kind trees p.components.items (small files trees linkable) of object of_kind in
     is own.own own.is_of_kind
     ∙ law trees p.subclasses (object_first files trees linkable) program.subclasses own.own type (type_of object) above own.is_type of_type column
+
+-- ---- an object of a heap
+
+-- what shows an object is there where the object is
+abbrev ShowsIf : Program → List LinkedType → Option Object → Option (ObjectOf ℕ) → Type 0
+ShowsIf files components None None = Unit {0}
+ShowsIf files components (Some o) (Some m) = ShowsObject files components o m
+ShowsIf files components None (Some m) = ⊥
+ShowsIf files components (Some o) None = ⊥
+
+shown_at : (files : Program) (components : List LinkedType) (os : List Object) (ms : List (ObjectOf ℕ)) → ShowsObjects files components os ms
+    → (r : ℕ) → ShowsIf files components (slice_get os r) (slice_get ms r)
+shown_at files components [] [] h r = tt
+shown_at files components [] (m ∷ ms) h r = absurd h
+shown_at files components (o ∷ os) [] h r = absurd h
+shown_at files components (o ∷ os) (m ∷ ms) h zero = h.0
+shown_at files components (o ∷ os) (m ∷ ms) h (suc r) = shown_at files components os ms h.1 r
+
+type_at : (ms : List (ObjectOf ℕ)) (r : ℕ) → slice_get (types_of ms) r ≡ option_map type_of (slice_get ms r)
+type_at [] r = refl
+type_at (m ∷ ms) zero = refl
+type_at (m ∷ ms) (suc r) = type_at ms r
+
+-- by the kind of an object, if it is there
+abbrev pub TestsIf : LinkedProgram → LinkedType → Option ObjectKind → Bool → Type 0
+TestsIf p type None answer = answer ≡ false
+TestsIf p type (Some of) answer = TestsKind p of type answer
+
+pub object_tested : (p : LinkedProgram) (objects : List Object) (r : ℕ) (type : LinkedType) (answer : Bool) (of : Option ObjectKind)
+    → of ≡ option_map kind_of (slice_get objects r) → TestsIf p type of answer → TestsObject p objects r type answer
+object_tested p objects r type answer of is tests files trees linkable program column heap above shows of_type =
+    by (slice_get objects r) (slice_get heap r) (shown_at trees p.components.items objects heap shows r) (subst (λ o. TestsIf p type o answer) is tests)
+    ∙ ap (is_object_of trees above) (sym (type_at heap r))
+  where
+    by : (o : Option Object) (m : Option (ObjectOf ℕ)) → ShowsIf trees p.components.items o m → TestsIf p type (option_map kind_of o) answer → answer ≡ is_object_of trees above (option_map type_of m)
+    by None None h t = t
+    by (Some o) (Some m) h t = t files trees linkable program column m above h.kind of_type
+    by None (Some m) h t = absurd h
+    by (Some o) None h t = absurd h

@@ -4,7 +4,9 @@ use Rattle.model.specs.Names.{Name}
 use Rattle.model.specs.Classes.{Program}
 use Rattle.model.specs.Linkable.{IsLinkable}
 use Rattle.model.specs.ReferenceTypes.{ReferenceType, is_subclass_or_implements, is_subtype}
-use Rattle.model.specs.State.{ObjectOf, type_of}
+use Rattle.model.specs.State.{ObjectOf, type_of, types_of}
+use Rattle.model.specs.Types.{is_object_of}
+use Rattle.heap.specs.Heap.{Object}
 use Rattle.heap.specs.declared.kind.NarrowKind.{NarrowKind}
 use Rattle.heap.specs.declared.kind.NarrowKind.TheVariants as narrow
 use Rattle.heap.specs.declared.kind.ObjectKind.{ObjectKind}
@@ -17,7 +19,7 @@ use Rattle.linked_code.specs.declared.program.LinkedProgram.{LinkedProgram}
 use Rattle.linked_code.specs.Numbers.{IsClassAt, IsType}
 use Rattle.linked_code.specs.Subtypes.{HasColumn, IsTested}
 use Rattle.linked_code.specs.Programs.{IsLinkedProgram}
-use Rattle.shown_objects.specs.Shown.{IsKindOf}
+use Rattle.shown_objects.specs.Shown.{IsKindOf, ShowsObjects}
 
 -- ---- classes
 
@@ -36,6 +38,14 @@ TestsKind p kind of answer =
     (files : List (List ℕ)) (trees : Program) → IsLinkable files trees → IsLinkedProgram trees p → IsTested p.subclasses of
     → (object : ObjectOf ℕ) (above : ReferenceType) → IsKindOf trees p.components.items kind object → IsType trees of above
     → answer ≡ is_subtype trees (type_of object) above
+
+-- Whatever files the program is linked from, and whatever objects these show, the object of the reference is there and is an
+-- instance of the type.
+abbrev pub TestsObject : LinkedProgram → List Object → (reference : ℕ) → LinkedType → Bool → Type 0
+TestsObject p objects reference of answer =
+    (files : List (List ℕ)) (trees : Program) → IsLinkable files trees → IsLinkedProgram trees p → IsTested p.subclasses of
+    → (heap : List (ObjectOf ℕ)) (above : ReferenceType) → ShowsObjects trees p.components.items objects heap → IsType trees of above
+    → answer ≡ is_object_of trees above (slice_get (types_of heap) reference)
 
 -- ---- types of objects, by number
 

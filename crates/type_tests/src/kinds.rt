@@ -79,6 +79,7 @@ fn is_below(program: &LinkedProgram, kind: ObjectKind, of: LinkedType) -> bool
 
 /// Whether an object of a kind is an instance of a type (JVMS 6.5 checkcast, instanceof, aastore). The class of the type, if it has
 /// one, is one against which something is tested.
+#[inline]
 pub fn is_kind_below(program: &LinkedProgram, kind: ObjectKind, of: LinkedType) -> bool
     ensures { TestsKind program.now kind of result }
 {

@@ -4,6 +4,8 @@
 
 mod classes;
 mod kinds;
+mod objects;
 
 pub use classes::is_class_below;
 pub use kinds::is_kind_below;
+pub use objects::is_object_below;

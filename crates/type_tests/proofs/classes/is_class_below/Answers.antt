@@ -4,5 +4,5 @@ use Rattle.type_tests.proofs.classes.is_class_below.Goals as goal
 
 pub returns : goal.returns
 returns c = λ files trees linkable program column class other is above.
-    c.is_set.ensures (small files trees linkable c.args.class class is) (small files trees linkable c.args.above other above)
+    c.is_numbered_below.ensures (small files trees linkable c.args.class class is) (small files trees linkable c.args.above other above)
     ∙ program.subclasses c.args.class c.args.above class other is above column
