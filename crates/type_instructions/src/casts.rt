@@ -3,7 +3,7 @@
 ghost use Rattle.std.specs.Prelude.{ℕ, Ok};
 ghost use Rattle.linked_code.specs.declared.instruction.LinkedInstruction.TheVariants as linked;
 ghost use Rattle.linked_frames.specs.Frames.{DoesOwn};
-ghost use Rattle.type_instructions.specs.Words.{TestsWord};
+ghost use Rattle.type_instructions.specs.Words.{TestsWord, TestsInstance};
 
 use crate::leaving::{leave, leave_nothing};
 use heap::Heap;
@@ -20,6 +20,17 @@ pub(crate) fn may_be(program: &LinkedProgram, heap: &Heap, word: u32, of: Linked
     match word.checked_sub(1) {
         Some(object) => is_object_below(program, heap, object, of),
         None => true,
+    }
+}
+
+/// 1 for the word of an instance of a type, 0 for null and anything else.
+#[inline]
+fn instance_bit(program: &LinkedProgram, heap: &Heap, word: u32, of: LinkedType) -> u32
+    ensures { TestsInstance program.now heap.now.objects word of result }
+{
+    match word.checked_sub(1) {
+        Some(object) => u32::from(is_object_below(program, heap, object, of)),
+        None => 0,
     }
 }
 
@@ -60,7 +71,6 @@ pub fn instance_of(
     let Some(frame) = stack.frame_mut() else {
         return Ok(Effect::NotEnabled);
     };
-    let word = frame.operand(0);
-    let is_instance = word != 0 && may_be(program, &shared.heap, word, of);
-    leave(frame, 1, u32::from(is_instance))
+    let bit = instance_bit(program, &shared.heap, frame.operand(0), of);
+    leave(frame, 1, bit)
 }
