@@ -1,9 +1,9 @@
 -- Instructions that make an object.
-use Rattle.std.proofs.Common.{◌≡◌, ◌+◌, ◌<◌, ◌≤◌, ◌^◌, ℕ, zero, suc, List, [], ◌∷◌, Option, Some, Result, Ok, Err, Bool, true, false, length, take, drop, replicate, refl, sym, ap, subst, arith, ◌∙◌, inl}
-use Rattle.std.specs.Prelude.{map, nat_le, slice_index_or}
+use Rattle.std.proofs.Common.{◌≡◌, ◌+◌, ◌<◌, ◌≤◌, ◌^◌, ℕ, suc, List, [], ◌∷◌, Some, Result, Ok, Err, Bool, true, false, length, drop, replicate, refl, sym, ap, subst, arith, ◌∙◌, inl}
+use Rattle.std.specs.Prelude.{map, slice_index_or}
 use Rattle.std.proofs.lemmas.Bool.{lt-leb, le-leb}
 use Rattle.std.proofs.lemmas.List.{length-map}
-use Rattle.model.specs.Names.{Name, Member}
+use Rattle.model.specs.Names.{Member}
 use Rattle.model.specs.Classes.{Program}
 use Rattle.model.specs.LimitStands.{Bounds}
 use Rattle.model.specs.ReferenceTypes.{ReferenceType}
@@ -11,13 +11,12 @@ use Rattle.model.specs.DescribedTypes.{DeclaredType, DeclaredInt, DeclaredRefere
 use Rattle.model.specs.Lookup.{instance_fields}
 use Rattle.model.specs.Opening.{first_value, with_first, new_instance}
 use Rattle.model.specs.Operands.{words}
-use Rattle.model.specs.Outcomes.{Makes, Goes, Raises, NegativeArraySize}
+use Rattle.model.specs.Outcomes.{Makes, Goes}
 use Rattle.model.specs.Arrays.{is_negative, made_array, array_meaning}
 use Rattle.model.specs.Objects.{new_meaning}
 use Rattle.model.specs.Sites.{MeaningOf, Site}
 use Rattle.model.specs.Meanings.{meaning_of}
-use Rattle.model.specs.State as model
-use Rattle.model.specs.State.{ObjectOf, Instance, Primitives, FrameOf, StackOf, StateOf}
+use Rattle.model.specs.State.{ObjectOf, Primitives, FrameOf, StackOf, StateOf}
 use Rattle.model.specs.Step.{Next, part, become}
 use Rattle.model.specs.Worlds.{allocated, fields_of}
 use Rattle.heap.specs.declared.kind.ObjectKind.{ObjectKind}
@@ -26,7 +25,6 @@ use Rattle.heap.specs.declared.refusal.AllocRefusal.{AllocRefusal}
 use Rattle.heap.specs.declared.refusal.AllocRefusal.TheVariants as heap
 use Rattle.heap.specs.Heap.{Heap, Allocates, fresh}
 use Rattle.linked_code.specs.declared.instruction.LinkedInstruction.{LinkedInstruction}
-use Rattle.linked_code.specs.declared.instruction.LinkedInstruction.TheVariants as linked
 use Rattle.linked_code.specs.declared.method.LinkedCode.{LinkedCode}
 use Rattle.linked_code.specs.declared.program.LinkedProgram.{LinkedProgram}
 use Rattle.linked_code.specs.Linked.{offset_in}
@@ -43,10 +41,10 @@ use Rattle.machine_state.specs.declared.refusals.Refusal.{Refusal}
 use Rattle.machine_state.specs.declared.refusals.Refusal.TheVariants as refusal
 use Rattle.machine_state.specs.declared.state.Shared.{Shared}
 use Rattle.machine_state.specs.Refusals.{of_heap}
-use Rattle.machine_state.specs.Events.{IsUnchanged, IsRefused, MayBeRefused}
+use Rattle.machine_state.specs.Events.{MayBeRefused}
 use Rattle.allocations.specs.Allocated.{IsMade}
 use Rattle.allocations.proofs.Allocating.{made, refused}
-use Rattle.linked_frames.specs.Frames.{IsRunning, event_of}
+use Rattle.linked_frames.specs.Frames.{IsRunning}
 use Rattle.type_instructions.specs.Leaving.{gone_on, IsUnmade, LeavesNew}
 use Rattle.type_instructions.specs.Arrays.{kind_of_array, AreArrays}
 use Rattle.type_instructions.proofs.Events.{IsEvent, DoesSo, own_after, slots_after, place_small, operand_is, operands_there, unchanged, event_by, goes_on, shows_after, stays}

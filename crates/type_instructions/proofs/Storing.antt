@@ -1,12 +1,12 @@
 -- References that are stored in arrays.
-use Rattle.std.proofs.Common.{◌≡◌, ◌+◌, ◌<◌, ◌≤◌, ℕ, zero, suc, List, [], ◌∷◌, ◌++◌, Option, Some, None, Ok, Bool, true, false, length, drop, refl, sym, ap, subst, arith, ◌∙◌}
+use Rattle.std.proofs.Common.{◌≡◌, ◌+◌, ◌<◌, ◌≤◌, ℕ, zero, suc, List, [], ◌∷◌, Option, Some, None, Ok, Bool, true, false, length, drop, refl, sym, ap, subst, arith, ◌∙◌}
 use Rattle.std.specs.Prelude.{slice_get, slice_set, slice_index_or, nat_lt, IsTrue}
 use Rattle.std.specs.Option.{option_and_then}
 use Rattle.std.proofs.lemmas.Bool.{and_parts, false≢true, lt-ltb, le-ltb}
 use Rattle.std.proofs.lemmas.Option.{get_or_from_slice_get}
 use Rattle.model.specs.Classes.{Program}
 use Rattle.model.specs.LimitStands.{Bounds}
-use Rattle.model.specs.ReferenceTypes.{ReferenceType, ReferenceArray, is_assignable}
+use Rattle.model.specs.ReferenceTypes.{ReferenceArray, is_assignable}
 use Rattle.model.specs.Types.{Want, AReference, AnInt}
 use Rattle.model.specs.Operands.{words, word_reference, over_words, pops_meet, is_ready}
 use Rattle.model.specs.Outcomes.{Free, OutcomeOf, Goes, not_null}
@@ -14,8 +14,7 @@ use Rattle.model.specs.Objects.{any_object}
 use Rattle.model.specs.Arrays.{in_range, at_index, may_stand_in, if_storable, stored, store_reference_meaning}
 use Rattle.model.specs.Sites.{MeaningOf, Site}
 use Rattle.model.specs.Meanings.{meaning_of}
-use Rattle.model.specs.State as model
-use Rattle.model.specs.State.{ObjectOf, Instance, Primitives, References, type_of, types_of, FrameOf, StackOf, StateOf, WorldOf}
+use Rattle.model.specs.State.{ObjectOf, Instance, Primitives, References, types_of, FrameOf, StackOf, StateOf, WorldOf}
 use Rattle.model.specs.Step.{become}
 use Rattle.model.specs.Worlds.{no_object, object_at, with_object, elements_of, with_element}
 use Rattle.heap.specs.declared.kind.ObjectKind.{ObjectKind}
@@ -26,7 +25,6 @@ use Rattle.linked_code.specs.declared.method.LinkedCode.{LinkedCode}
 use Rattle.linked_code.specs.declared.types.LinkedType.{LinkedType}
 use Rattle.linked_code.specs.declared.program.LinkedProgram.{LinkedProgram}
 use Rattle.linked_code.specs.Linked.{offset_in}
-use Rattle.linked_code.specs.Programs.{IsLinkedProgram}
 use Rattle.word_operands.specs.Operands.{word_meets, is_word_with}
 use Rattle.shown_objects.specs.Shown.{IsKindOf, ShowsObjects}
 use Rattle.shown_objects.specs.Laws.{is_array, kept_in, HasElements}
@@ -116,6 +114,11 @@ module _ {trees : Program} {p : LinkedProgram} {bounds : Bounds} {inflated : Lis
   storing a b x =
       at_index (in_range state.world x b) (if_storable (may_stand_in words trees state.world (object_at state.world x) a) (stored site.next state.world x b a frame.place.slots (drop 3 frame.place.slots.stack)))
 
+  -- what comes of it where the index is one of the array
+  abbrev if_within : OutcomeOf ℕ
+  if_within =
+      if_storable (may_stand_in words trees state.world (object_at state.world r) word) (stored site.next state.world r index word frame.place.slots (drop 3 frame.place.slots.stack))
+
   store_event : (outcome : OutcomeOf ℕ) → storing word index r ≡ outcome → IsEvent is frames (become trees frames t state.world frame rest outcome)
   store_event outcome e =
       event_by is frames (store_reference_meaning words trees site) means refl outcome
@@ -127,8 +130,8 @@ module _ {trees : Program} {p : LinkedProgram} {bounds : Bounds} {inflated : Lis
   array =
       let accepts : Want → ℕ → Bool = word_meets trees (types_of state.world.heap) in
       let ready = subst (λ (x : MeaningOf ℕ). IsTrue (is_ready accepts over_words x.wants is.stands.at.body.code.max_stack (record { locals = is.shown.locals; stack = is.shown.operands })))
-          (meaning_is trees p bounds inflated t shared stack state frame rest code site meaning instruction is (store_reference_meaning words trees site) means)
-          (finds_shown trees p bounds inflated t shared stack state frame rest code site meaning instruction is).ready in
+      (meaning_is trees p bounds inflated t shared stack state frame rest code site meaning instruction is (store_reference_meaning words trees site) means)
+      (finds_shown trees p bounds inflated t shared stack state frame rest code site meaning instruction is).ready in
       let wanted : accepts array_want (slice_index_or is.shown.operands 2 0) ≡ true =
       third accepts (AReference any_object) AnInt array_want is.shown.operands (and_parts (pops_meet accepts (AReference any_object ∷ AnInt ∷ array_want ∷ []) is.shown.operands) _ ready).0
       in
@@ -144,7 +147,7 @@ module _ {trees : Program} {p : LinkedProgram} {bounds : Bounds} {inflated : Lis
   range_is within e = ap (λ m. nat_lt index (length (elements_of m))) object_is ∙ ap (λ l. nat_lt index (length l)) elements.are ∙ e
 
   pub outside : length (words_at shared.heap.objects r) ≤ index → DoesSo is frames (Ok (effect.Raises exception.ArrayIndexOutOfBounds)) shared (with_top from stack)
-  outside le = (store_event _ (ap (λ b. at_index b _) (range_is false (le-ltb index (length (words_at shared.heap.objects r)) le))), stays is from top)
+  outside le = (store_event _ (ap (λ b. at_index b if_within) (range_is false (le-ltb index (length (words_at shared.heap.objects r)) le))), stays is from top)
 
   module _ (lt : index < length (words_at shared.heap.objects r)) where
     within : in_range state.world r index ≡ true
@@ -153,7 +156,7 @@ module _ {trees : Program} {p : LinkedProgram} {bounds : Bounds} {inflated : Lis
     tested : (answer : Bool) → TestsStore p shared.heap.objects r word answer
         → storing word index r ≡ if_storable answer (stored site.next state.world r index word frame.place.slots (drop 3 frame.place.slots.stack))
     tested answer tests =
-        ap (λ b. at_index b (if_storable (may_stand_in words trees state.world (object_at state.world r) word) (stored site.next state.world r index word frame.place.slots (drop 3 frame.place.slots.stack)))) within
+        ap (λ b. at_index b if_within) within
         ∙ ap (λ b. if_storable b (stored site.next state.world r index word frame.place.slots (drop 3 frame.place.slots.stack)))
         (sym (tests is.program.files trees is.program.linkable is.program.linked state.world is.lent.represents.world_is.objects))
 

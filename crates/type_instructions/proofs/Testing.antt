@@ -1,16 +1,14 @@
 -- Tests of the types of objects by their words.
-use Rattle.std.proofs.Common.{◌≡◌, ◌+◌, ◌<◌, ◌≤◌, ℕ, suc, List, [], ◌∷◌, ◌++◌, Some, Result, Ok, Bool, true, false, length, drop, refl, sym, ap, subst, arith, ◌∙◌}
+use Rattle.std.proofs.Common.{◌≡◌, ◌+◌, ◌≤◌, ℕ, suc, List, [], ◌∷◌, Some, Result, Ok, Bool, true, false, length, drop, refl, sym, ap, subst, arith, ◌∙◌}
 use Rattle.std.specs.Prelude.{slice_index_or}
 use Rattle.model.specs.Classes.{Program}
 use Rattle.model.specs.LimitStands.{Bounds}
-use Rattle.model.specs.ReferenceTypes.{ReferenceType}
 use Rattle.model.specs.Operands.{words, word_reference, is_word_of}
 use Rattle.model.specs.Outcomes.{Free, Goes, Throws, not_null}
 use Rattle.model.specs.Objects.{cast, check_cast_meaning, instance_bit, instance_of_meaning}
 use Rattle.model.specs.ThrowMeaning.{throw_meaning}
 use Rattle.model.specs.Sites.{MeaningOf, Site}
 use Rattle.model.specs.Meanings.{meaning_of}
-use Rattle.model.specs.State as model
 use Rattle.model.specs.State.{types_of, FrameOf, StackOf, StateOf}
 use Rattle.model.specs.Step.{become}
 use Rattle.linked_code.specs.declared.instruction.LinkedInstruction.{LinkedInstruction}

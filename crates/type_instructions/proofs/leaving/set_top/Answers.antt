@@ -1,4 +1,4 @@
-use Rattle.std.proofs.Common.{◌≡◌, ◌+◌, ◌-◌, ◌<◌, ◌≤◌, ℕ, List, length, reverse, take, sym, ap, arith, ◌∙◌}
+use Rattle.std.proofs.Common.{◌≡◌, ◌+◌, ◌-◌, ◌≤◌, ℕ, List, length, reverse, take, sym, ap, arith, ◌∙◌}
 use Rattle.std.proofs.Math.ListN.{set}
 use Rattle.thread_stacks.specs.Stacks.{shown_frame}
 use Rattle.thread_stacks.proofs.Turned.{set_turned}

@@ -1,4 +1,4 @@
-use Rattle.std.proofs.Common.{◌≡◌, ◌<◌, ◌≤◌, suc, Bool, true, false, length, sym, ap, subst, arith, ◌∙◌}
+use Rattle.std.proofs.Common.{◌≡◌, ◌<◌, ◌≤◌, suc, length, subst, arith, ◌∙◌}
 use Rattle.heap.specs.Heap.{words_at}
 use Rattle.type_instructions.specs.Words.{TestsStore}
 use Rattle.type_instructions.proofs.Events.{is_top}
