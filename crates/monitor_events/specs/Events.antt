@@ -4,9 +4,10 @@ use Rattle.model.specs.State.{WorldOf, Waiter, WakeCause, Running}
 use Rattle.model.specs.Monitors as monitors
 use Rattle.model.specs.Worlds.{is_done, is_owner, may_enter, with_entry, with_monitors, with_status, woken, all_woken}
 use Rattle.model.specs.BuiltInMethods.{waiting}
+use Rattle.monitor.specs.declared.call.Call.{Call}
 use Rattle.monitor.specs.declared.call.Call.TheVariants as calls
 use Rattle.monitor.specs.declared.refusal.Refusal.{Refusal}
-use Rattle.monitor.specs.Locks.{IsRefused, fat_after}
+use Rattle.monitor.specs.Locks.{Locks, IsRefused, fat_after, is_table_full, is_count_full}
 use Rattle.heap.specs.Heap.{Heap}
 use Rattle.java_threads.specs.Table.{ThreadTable}
 use Rattle.monitor_events.specs.Tables.{over, MonitorsBecome, ThreadsBecome, BothBecome}
@@ -19,11 +20,17 @@ SaysMayEnter answer object thread heap = (world : WorldOf ℕ) → answer ≡ ma
 abbrev pub SaysOwner : Bool → (object thread : ℕ) → Heap → Type 0
 SaysOwner answer object thread heap = (world : WorldOf ℕ) → answer ≡ is_owner (over world heap) thread object
 
+-- no limit forbids a call: the lock would not become one of too many fat ones, and the count of entries is not full
+pub record IsWithin (call : Call) (locks : Locks) : Type 0 where
+  pub table : is_table_full call locks ≡ false
+  pub count : is_count_full call locks ≡ false
+
 -- one more entry, where the thread may; refused at a limit or for want of memory, and then nothing has changed
 abbrev pub Enters : Result Bool Refusal → (object thread : ℕ) → Heap → Heap → Type 0
 Enters (Ok entered) object thread old new =
     SaysMayEnter entered object thread old
     × MonitorsBecome (λ world. with_entry world thread object) (fat_after (calls.Enter object thread) old.locks) old new
+    × IsWithin (calls.Enter object thread) old.locks
 Enters (Err refusal) object thread old new = IsRefused refusal (calls.Enter object thread) old.locks new.locks × (new ≡ old)
 
 -- ---- JLS 17.2
@@ -46,6 +53,7 @@ abbrev pub WaitsBy : Result Bool Refusal → (object thread : ℕ) → Heap → 
 WaitsBy (Ok true) object thread old new from to =
     SaysOwner true object thread old
     × BothBecome (λ world. waiting world thread object) (fat_after (calls.Wait object thread) old.locks) old new from to
+    × IsWithin (calls.Wait object thread) old.locks
 WaitsBy (Ok false) object thread old new from to = SaysOwner false object thread old × (new ≡ old) × (to ≡ from)
 WaitsBy (Err refusal) object thread old new from to = IsRefused refusal (calls.Wait object thread) old.locks new.locks × (new ≡ old) × (to ≡ from)
 

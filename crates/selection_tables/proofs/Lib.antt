@@ -7,4 +7,3 @@ pub mod Fitting
 pub mod Tabling
 pub mod Rooting
 pub mod Layouts
-pub mod Answering

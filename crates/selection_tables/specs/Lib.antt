@@ -3,7 +3,6 @@ pub mod Chosen
 pub mod Called
 pub mod Layout
 pub mod Bounds
-pub mod Answers
 pub mod Made
 pub mod Tables
 pub mod Carried

@@ -1,7 +1,7 @@
 //! The classes that have columns.
 
 ghost use Rattle.std.specs.Prelude.{◌≡◌, ◌++◌, ◌∷◌, [], ◌≤◌, ◌^◌, ◌==◌, ◌||◌, ◌<◌, ℕ, false, length, slice_index_or, IfOk, OnOk};
-ghost use Rattle.subclass_table.specs.Columns.{AreMarks, AreColumns, column_for, class_for};
+ghost use Rattle.subclass_table.specs.Columns.{AreMarks, AreColumns, column_in, column_for, class_for};
 
 use std::alloc::{AllocError, Global};
 
@@ -12,6 +12,13 @@ pub(crate) struct Columns {
     pub by_class: Vec<Option<u16>>,
     /// For each column its class.
     pub classes: Vec<u16>,
+}
+
+/// The column of a class, if it has one.
+pub(crate) fn column_at(columns: &[Option<u16>], class: usize) -> Option<u16>
+    ensures { result ≡ column_in columns.now class }
+{
+    columns.get(class).copied().unwrap_or(None)
 }
 
 /// Marks a class, if it is among those that have marks.

@@ -2,8 +2,13 @@
 //! numbers.
 #![tactic(auto)]
 
+mod bits;
+mod by_names;
+mod class_rows;
 mod columns;
 mod laws;
+mod names;
+mod order;
 mod rows;
 mod table;
 

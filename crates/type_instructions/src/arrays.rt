@@ -27,8 +27,8 @@ fn kind_of_array(of: Primitive) -> ObjectKind
     }
 }
 
-/// An array of a kind, of as many elements as the operand on top says, is made, and its word takes the place of that; where it is
-/// less than 0, a NegativeArraySizeException.
+/// An array of a kind, of as many elements as the operand on top says, is made, and its word takes the place of that;
+/// where it is less than 0, a NegativeArraySizeException.
 #[inline]
 fn make_array(
     shared: &mut Shared,

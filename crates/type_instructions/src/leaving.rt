@@ -42,7 +42,6 @@ pub(crate) fn leave_nothing(frame: &mut Frame, count: usize) -> Effect
 
 /// A word takes the place of the operand on top, if there is one.
 #[inline]
-#[tactic(auto, using(thread_stacks::proofs::Turned::set_turned, thread_stacks::proofs::Turned::same_turned))]
 pub(crate) fn set_top(frame: &mut Frame, word: u32)
     ensures value { 0 < length (shown_frame frame.old).operands → shown_frame frame.new ≡ replaced 1 (word ∷ []) (shown_frame frame.old) }
     ensures place { frame.new.place ≡ frame.old.place }

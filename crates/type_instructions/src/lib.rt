@@ -1,5 +1,5 @@
-//! Instructions on objects and their types (JVMS 6.5), as events of a thread: `new`, `newarray`, `anewarray`, `ldc` of an object,
-//! `aastore`, `checkcast`, `instanceof` and `athrow`.
+//! Instructions on objects and their types (JVMS 6.5), as events of a thread: `new`, `newarray`, `anewarray`, `ldc` of
+//! an object, `aastore`, `checkcast`, `instanceof` and `athrow`.
 #![tactic(auto)]
 
 mod allocation;
