@@ -51,7 +51,8 @@ pub fn new_object(
     leave_new(&mut shared.heap, frame, kind, u32::from(fields))
 }
 
-/// `athrow`: the object of the operand on top is thrown, or a NullPointerException where that is null. The stack stays as it is.
+/// `athrow`: the object of the operand on top is thrown, or a NullPointerException where that is null. The stack stays as
+/// it is.
 #[inline]
 pub fn throw(stack: &ThreadStack) -> Effect
     ensures { (p : LinkedProgram) (t : ℕ) (shared : Shared) → DoesOwn p linked.Throw t (Ok result) shared shared stack.now stack.now }
