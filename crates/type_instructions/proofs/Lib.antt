@@ -1,0 +1,4 @@
+mod Events
+mod Making
+mod Testing
+mod Storing
