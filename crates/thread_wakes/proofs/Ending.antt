@@ -63,6 +63,13 @@ ended_alone t old new becomes rest past =
     past_still : (world : WorldOf ℕ) → length old.heap.locks.monitors ≤ (thread_at (shared world old.heap old.threads) t).object
     past_still world = past
 
+-- ---- no thread is new
+
+pub added : (old between new : Shared) → new.stacks.items ≡ between.stacks.items → length new.threads.threads ≡ length between.threads.threads
+    → AreStacksAdded old between → AreStacksAdded old new
+added old between new stacks count (inl kept) = inl (record { stacks = stacks ∙ kept.stacks; threads = count ∙ kept.threads })
+added old between new stacks count (inr started) = inr (record { stacks = stacks ∙ started.stacks; threads = count ∙ started.threads })
+
 -- ---- whether a thread has ended
 
 module _ (trees : Program) (p : LinkedProgram) (t : ℕ) (world : WorldOf ℕ) where
@@ -113,7 +120,7 @@ module _ (t : ℕ) (between : Shared) (to : List ShownEntry) (trees : Program) (
           represents = both_shown trees p bounds d.next.world between new d.becomes.represents (λ w. with_end w t true) between.heap.locks.fat e.become e.rest;
           stack = d.becomes.stack;
           flags = e.become.fat_are ∙ d.becomes.flags;
-          others = others d.becomes.others;
+          others = added old between new stacks count d.becomes.others;
         };
       }
     where
@@ -122,10 +129,6 @@ module _ (t : ℕ) (between : Shared) (to : List ShownEntry) (trees : Program) (
 
       count : length new.threads.threads ≡ length between.threads.threads
       count = ap (λ (w : WorldOf ℕ). length w.threads) (e.become.world d.next.world) ∙ end_count (shared d.next.world between.heap between.threads) t
-
-      others : AreStacksAdded old between → AreStacksAdded old new
-      others (inl kept) = inl (record { stacks = stacks ∙ kept.stacks; threads = count ∙ kept.threads })
-      others (inr started) = inr (record { stacks = stacks ∙ started.stacks; threads = count ∙ started.threads })
 
   pub has_ended : (new : Shared) → Ends t between new → (length to == 0) ≡ true → is_over (table.thread_at between.threads.threads t) ≡ true
       → IsDone trees p bounds inflated world (settled t stepped) old new to

@@ -2,5 +2,7 @@
 #![tactic(auto)]
 
 mod ends;
+mod relocking;
 
 pub use ends::settle;
+pub use relocking::relock_event;
