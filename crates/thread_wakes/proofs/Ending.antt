@@ -1,5 +1,5 @@
 -- The end of a thread, after its event.
-use Rattle.std.proofs.Common.{◌≡◌, ◌≤◌, ◌<◌, ℕ, List, [], ◌∷◌, Bool, true, false, length, refl, sym, ap, subst, ◌∙◌, ◌⊎◌, inl, inr, ◌==◌, arith, eqb-true}
+use Rattle.std.proofs.Common.{◌≡◌, ◌≤◌, ℕ, List, [], ◌∷◌, true, false, length, refl, sym, ap, ◌∙◌, inl, inr, ◌==◌, arith, eqb-true}
 use Rattle.std.proofs.lemmas.List.{length-set, set_past, get_or_past}
 use Rattle.std.proofs.lemmas.Bool.{false≢true}
 use Rattle.model.specs.Classes.{Program}
@@ -12,7 +12,7 @@ use Rattle.model.specs.Step.{SteppedOf, Next, PartOf, part, is_over, ended, with
 use Rattle.heap.specs.Heap.{Heap}
 use Rattle.java_threads.specs.Table.{ThreadTable}
 use Rattle.java_threads.specs.Table as table
-use Rattle.monitor_events.specs.Tables.{shared, ThreadsBecome, BothBecome}
+use Rattle.monitor_events.specs.Tables.{shared, ThreadsBecome}
 use Rattle.linked_code.specs.declared.program.LinkedProgram.{LinkedProgram}
 use Rattle.thread_stacks.specs.Stacks.{ShownEntry}
 use Rattle.shown_stacks.specs.Shown.{ShowsStack}

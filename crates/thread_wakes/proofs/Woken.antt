@@ -10,7 +10,7 @@ use Rattle.model.specs.State.{Instance, Monitor, WakeCause, Notified, Interrupte
 use Rattle.model.specs.Monitors as monitors
 use Rattle.model.specs.Monitors.{unlocked, monitor_at, monitor_relock}
 use Rattle.model.specs.LimitStands.{Bounds}
-use Rattle.model.specs.Outcomes.{Cost, Free, Makes, InterruptedWait, exception_class}
+use Rattle.model.specs.Outcomes.{Cost, Makes, InterruptedWait, exception_class}
 use Rattle.model.specs.Worlds.{is_done, has_ended, no_thread, thread_at, allocated, with_pending, with_interrupted}
 use Rattle.model.specs.Step.{Next, PartOf, part, enabled_if, after_wait, raised_by_interrupt, relock_event}
 use Rattle.model.specs.Step as step

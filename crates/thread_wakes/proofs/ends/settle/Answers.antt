@@ -12,6 +12,6 @@ returns-then-is_over c = λ trees p bounds inflated world old stepped d.
 -- src/ends.rt:47:1
 pub returns-else-is_empty : goal.returns-else-is_empty
 returns-else-is_empty c = elim c.else-is_empty.branch [
-    else-is_empty-via-then-is_empty+else-is_over w ↦ λ trees p bounds inflated world old stepped d. goes_on c.args.thread c.args.shared.now c.args.stack.now trees p bounds inflated world old stepped d (sym w.if-is_over.ensures.says)
+  | else-is_empty-via-then-is_empty+else-is_over w ↦ λ trees p bounds inflated world old stepped d. goes_on c.args.thread c.args.shared.now c.args.stack.now trees p bounds inflated world old stepped d (sym w.if-is_over.ensures.says)
   | else-is_empty-via-else-is_empty w ↦ λ trees p bounds inflated world old stepped d. has_frames c.args.thread c.args.shared.now c.args.stack.now trees p bounds inflated world old stepped d (sym w.if-is_empty.ensures)
-  ]
+]
