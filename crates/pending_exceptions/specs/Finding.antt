@@ -2,8 +2,7 @@
 use Rattle.std.specs.Prelude.{◌≡◌, ℕ, List, [], ◌∷◌, Option, Some, None, slice_get}
 use Rattle.std.specs.Option.{option_and_then}
 use Rattle.model.specs.Classes.{Program, body_of}
-use Rattle.model.specs.State as model
-use Rattle.model.specs.State.{ObjectOf, FrameOf, StackOf}
+use Rattle.model.specs.State.{ObjectOf, FrameOf}
 use Rattle.model.specs.Step.{handler_in}
 use Rattle.heap.specs.Heap.{Object}
 use Rattle.word_runs.specs.Words.{StandsInCode}

@@ -1,8 +1,7 @@
 -- The event of a thread in which an exception is pending (JVMS 2.10, 5.5).
 use Rattle.std.specs.Prelude.{◌≡◌, ℕ, List, ◌∷◌, Some, Result, IsFalse, slice_get}
-use Rattle.std.specs.Option.{option_and_then}
-use Rattle.model.specs.Names.{Name, java_lang_error}
-use Rattle.model.specs.Classes.{Program, body_of}
+use Rattle.model.specs.Names.{Name}
+use Rattle.model.specs.Classes.{Program}
 use Rattle.model.specs.LimitStands.{Bounds}
 use Rattle.model.specs.Operands.{words}
 use Rattle.model.specs.State as model

@@ -14,11 +14,7 @@ fn word_of(heap: &Heap, object: u32) -> u32
     ensures bound { length heap.now.objects < 2 ^ 32 }
     ensures there { object < length heap.now.objects → result ≡ object + 1 }
 {
-    if object < heap.len() {
-        object + 1
-    } else {
-        0
-    }
+    if object < heap.len() { object + 1 } else { 0 }
 }
 
 /// The frame on top goes on at a handler, with one word alone on its stack. On an error nothing has changed.
