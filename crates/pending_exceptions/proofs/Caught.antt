@@ -1,5 +1,5 @@
 -- What becomes of a frame where an exception is pending.
-use Rattle.std.proofs.Common.{◌≡◌, ℕ, suc, ◌+◌, ◌<◌, ◌^◌, List, [], ◌∷◌, Option, Some, None, Result, length, false, refl, sym, ap, subst, ◌∙◌}
+use Rattle.std.proofs.Common.{◌≡◌, ℕ, suc, ◌+◌, ◌<◌, ◌^◌, List, [], ◌∷◌, Option, Some, None, Result, length, false, refl, sym, ap, subst, ◌∙◌, arith}
 use Rattle.std.specs.Prelude.{slice_get}
 use Rattle.std.specs.Option.{option_and_then}
 use Rattle.std.proofs.lemmas.Option.{slice_get_within, slice_get-get_or}
@@ -38,6 +38,9 @@ use Rattle.pending_exceptions.specs.Pending.{IsPending, event_of_pending}
 
 -- ---- the frame goes on at a handler
 
+one_more : (n : ℕ) → n + 1 ≡ suc n
+one_more n = omega arith
+
 module _ (trees : Program) (p : LinkedProgram) (bounds : Bounds) (inflated : List ℕ) (world : WorldOf ℕ) (old : Shared) (r : Represents trees p bounds old world)
     (shown : ShownFrame) (others : List ShownEntry) (frame : FrameOf ℕ) (rest : StackOf ℕ) (shows : ShowsFrame trees p shown frame) (under : ShowsStack trees p others rest) where
   abbrev taken : (exception offset : ℕ) → StackOf ℕ
@@ -48,8 +51,8 @@ module _ (trees : Program) (p : LinkedProgram) (bounds : Bounds) (inflated : Lis
       → IsDone trees p bounds inflated world (on_to (with_caught world t) (taken exception offset)) old new to
   catches t handler exception word offset place word_is new cleared to to_is =
       free_done trees p bounds inflated world (with_caught world t) (taken exception offset) old new to (cleared.represents trees p bounds world r)
-      (subst (λ (st : List ShownEntry). ShowsStack trees p st (taken exception offset)) (sym (to_is ∙ ap (λ w. Invocation (caught handler w shown) ∷ others) word_is))
-      (catch trees p shown frame shows handler offset (exception + 1) place, under))
+      (subst (λ (st : List ShownEntry). ShowsStack trees p st (taken exception offset)) (sym (to_is ∙ ap (λ w. Invocation (caught handler w shown) ∷ others) (word_is ∙ one_more exception)))
+      (catch trees p shown frame shows handler offset (suc exception) place, under))
       (ap (λ (s : Shared). s.heap.locks.fat) cleared.rest) (ap (λ (s : Shared). s.stacks) cleared.rest) cleared.count
 
 -- ---- the exception is one of the objects
