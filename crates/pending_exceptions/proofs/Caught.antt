@@ -1,5 +1,5 @@
 -- What becomes of a frame where an exception is pending.
-use Rattle.std.proofs.Common.{◌≡◌, ℕ, suc, ◌+◌, ◌<◌, ◌^◌, List, [], ◌∷◌, Option, Some, None, Result, length, false, refl, sym, ap, subst, ◌∙◌, arith}
+use Rattle.std.proofs.Common.{◌≡◌, ℕ, suc, ◌+◌, ◌<◌, ◌^◌, List, [], ◌∷◌, Option, Some, None, Result, length, refl, sym, ap, subst, ◌∙◌, arith}
 use Rattle.std.specs.Prelude.{slice_get}
 use Rattle.std.specs.Option.{option_and_then}
 use Rattle.std.proofs.lemmas.Option.{slice_get_within, slice_get-get_or}
@@ -33,7 +33,7 @@ use Rattle.linked_frames.proofs.Moves.{free_done}
 use Rattle.exception_handlers.specs.Handlers.{type_at, IsPlaceOf}
 use Rattle.returns.specs.Unwound.{Unwinds}
 use Rattle.pending_exceptions.specs.Finding.{IsHandlerOnTop}
-use Rattle.pending_exceptions.specs.Caught.{IsCaughtOnTop, IsCleared, Catches}
+use Rattle.pending_exceptions.specs.Caught.{IsCleared, Catches}
 use Rattle.pending_exceptions.specs.Pending.{IsPending, event_of_pending}
 
 -- ---- the frame goes on at a handler
