@@ -1,11 +1,10 @@
 #!/usr/bin/env python3
 """Measures linking on class files that it makes.
 
-    link.py [--program PROGRAM] [--command COMMAND | --whole] [--chain N] [--rungs N] [NAME..]
+    link.py [--program PROGRAM] [--command COMMAND] [--chain N] [--rungs N] [NAME..]
 
 PROGRAM is the built program `linker_bench` [default: crates/linker_bench/out/linker_bench, which `rt run` leaves]. With
-a COMMAND it is run as `PROGRAM COMMAND FILE..`, as `jvm verify`, which does more than to link. With --whole the linked
-program is made of what was linked, too, with the code of all methods. One line is printed for
+a COMMAND it is run as `PROGRAM COMMAND FILE..`, as `jvm verify`, which does more than to link. One line is printed for
 each program of class files [default: all]: files a second of the processor, and the peak resident memory, also for each
 byte of the files. The files are read and decoded too. The programs are:
 
@@ -206,7 +205,6 @@ def main():
     parser = argparse.ArgumentParser(description=__doc__, formatter_class=argparse.RawDescriptionHelpFormatter)
     parser.add_argument("--program", default=built)
     parser.add_argument("--command")
-    parser.add_argument("--whole", action="store_true")
     parser.add_argument("--chain", type=int, default=5_000)
     parser.add_argument("--rungs", type=int, default=1_000)
     parser.add_argument("names", nargs="*", metavar="NAME")
@@ -219,7 +217,7 @@ def main():
             names, methods, size = written(folder, made(options))
             with open(os.path.join(folder, "sets"), "w") as file:
                 file.write(" ".join(names) + "\n")
-            command = [program, options.command, *names] if options.command else [program, "sets"] + ["whole"] * options.whole
+            command = [program, options.command, *names] if options.command else [program, "sets"]
             seconds, peak = measured(command, folder)
         print(
             f"{made.__name__}: {len(names)} files, {methods} methods, {size / 1e6:.1f} MB in {seconds:.3f} s: "
