@@ -4,7 +4,11 @@
 mod begun;
 mod callees;
 mod first_frames;
+mod initial;
 mod runs;
+mod threads;
 
 pub use first_frames::push_first;
+pub use initial::begin_main;
 pub use runs::begin_run;
+pub use threads::begin_thread;
