@@ -29,9 +29,9 @@ fn begin_started(
     }
 }
 
-/// A thread that has not begun, with an empty stack, calls the method that it runs: the main thread `main` of the initial
-/// class (JVMS 5.2), any other `run` of its Thread object (JLS 17). Where the method isn't called, the thread has not
-/// begun: the initial class is initialised first, the event isn't enabled, or an exception is pending.
+/// A thread that has not begun, with an empty stack, calls the method that it runs: the main thread `main` of the
+/// initial class (JVMS 5.2), any other `run` of its Thread object (JLS 17). Where the method isn't called, the thread
+/// has not begun: the initial class is initialised first, the event isn't enabled, or an exception is pending.
 ///
 /// # Errors
 ///
