@@ -1,6 +1,6 @@
 -- The objects of the opening heap are those of the definitions.
-use Rattle.std.proofs.Common.{◌≡◌, ℕ, suc, ◌+◌, ◌≤◌, List, [], ◌∷◌, ◌++◌, map, length, replicate, refl, sym, ap, subst, ◌∙◌, arith}
-use Rattle.model.specs.Names.{Name, Member, java_lang_class, java_lang_string, java_lang_thread, java_io_print_stream, thread_target}
+use Rattle.std.proofs.Common.{◌≡◌, ℕ, suc, ◌≤◌, List, [], ◌∷◌, ◌++◌, map, length, replicate, refl, sym, ap, subst, ◌∙◌}
+use Rattle.model.specs.Names.{Member, java_lang_class, java_lang_string, java_lang_thread, java_io_print_stream, thread_target}
 use Rattle.model.specs.Tree.{FileTree}
 use Rattle.model.specs.BuiltIn.{built_in_classes}
 use Rattle.model.specs.Classes.{Program, classes_of}
@@ -8,8 +8,7 @@ use Rattle.model.specs.DescribedTypes.{DeclaredType, DeclaredInt, DeclaredRefere
 use Rattle.model.specs.Lookup.{instance_fields}
 use Rattle.model.specs.StringConstants.{string_texts}
 use Rattle.model.specs.Operands.{words}
-use Rattle.model.specs.State.{ObjectOf, Instance, References}
-use Rattle.model.specs.ReferenceTypes.{ClassType}
+use Rattle.model.specs.State.{ObjectOf, Instance}
 use Rattle.model.specs.Opening.{first_value, with_first, new_instance, opening_heap}
 use Rattle.heap.specs.declared.kind.ObjectKind.TheVariants as kind
 use Rattle.heap.specs.Heap.{Object, fresh}

@@ -2,7 +2,6 @@
 use Rattle.std.specs.Prelude.{◌≡◌, ℕ, ◌+◌, List, [], ◌∷◌, ◌++◌, false, length, replicate}
 use Rattle.model.specs.declared.limits.Limits.{Limits}
 use Rattle.model.specs.Monitors.{unlocked}
-use Rattle.heap.specs.declared.kind.ObjectKind.{ObjectKind}
 use Rattle.heap.specs.declared.kind.ObjectKind.TheVariants as kind
 use Rattle.heap.specs.Heap.{Object, Heap, fresh}
 use Rattle.linked_code.specs.declared.program.LinkedProgram.{LinkedProgram}

@@ -27,10 +27,7 @@ pub(crate) fn opening_statuses(
 }
 
 /// The built-in classes are ready from the start, and no others.
-pub(crate) fn opening_ready(
-    alloc: Global,
-    program: &LinkedProgram,
-) -> Result<Vec<bool>, AllocError>
+pub(crate) fn opening_ready(alloc: Global, program: &LinkedProgram) -> Result<Vec<bool>, AllocError>
     requires { 30 ≤ length program.now.classes.items }
     ensures { IfOk result (λ ready. ready.items ≡ replicate 30 true ++ replicate (length program.now.classes.items - 30) false) }
 {
