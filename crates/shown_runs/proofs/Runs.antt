@@ -1,0 +1,126 @@
+-- A run that is shown goes on.
+use Rattle.std.proofs.Common.{◌≡◌, ℕ, List, [], ◌∷◌, ◌++◌, Option, None, Result, Ok, Err, Bool, refl, sym, ap, subst, ◌∙◌}
+use Rattle.model.specs.declared.event.Event.{Event}
+use Rattle.model.specs.declared.end.RunCause.{RunCause}
+use Rattle.model.specs.Accepted.{IsAccepted}
+use Rattle.model.specs.Classes.{Program}
+use Rattle.model.specs.LimitStands.{Bounds, inflated, inflated_by, is_crowded, limit_at, limit_after}
+use Rattle.model.specs.Opening.{opening}
+use Rattle.model.specs.Operands.{words, values}
+use Rattle.model.specs.Outcomes.{Cost}
+use Rattle.model.specs.State.{State, StateOf}
+use Rattle.model.specs.Step.{SteppedOf, NotEnabled, WrongKind, Next, is_enabled, is_enabled_by, next_by, stepped}
+use Rattle.model.specs.Words.{words_of}
+use Rattle.typed_runs.proofs.Opened.{opening_typed}
+use Rattle.word_runs.specs.Words.{map_stepped, IsCarried}
+use Rattle.word_runs.proofs.OpenedWords.{opened_words}
+use Rattle.word_runs.proofs.Carried.{carried}
+use Rattle.laws.proofs.LinkedOf.{linked_of}
+use Rattle.soundness.proofs.Sound.{kept}
+use Rattle.monitor_counts.specs.Counts.{IsLonger}
+use Rattle.monitor_counts.proofs.Runs.{runs_longer}
+use Rattle.limits_at_words.specs.Limits.{limit_in, limit_by}
+use Rattle.limits_at_words.proofs.Limits.{limits_carried, limits_standing}
+use Rattle.word_reports.specs.Reports.{is_enabled_of}
+use Rattle.word_reports.proofs.Reported.{reported}
+use Rattle.linked_code.specs.declared.program.LinkedProgram.{LinkedProgram}
+use Rattle.machine_state.specs.declared.answers.Answer.{Answer}
+use Rattle.machine_state.specs.declared.answers.Answer.TheVariants as answer
+use Rattle.machine_state.specs.declared.refusals.Refusal.{Refusal}
+use Rattle.machine_state.specs.declared.refusals.Refusal.TheVariants as refusal
+use Rattle.machine_state.specs.declared.state.Shared.{Shared}
+use Rattle.machine_state.specs.Events.{MayBeRefused}
+use Rattle.state_events.specs.Whole.{IsShown, IsSame, Turns}
+use Rattle.shown_runs.specs.Runs.{HasRun, GoesOn, IsRefusedAfter, AreRunsOpened, AreRunsGoingOn}
+use Rattle.shown_runs.proofs.Limits.{within_more}
+use Rattle.shown_runs.proofs.Same.{shown_still}
+
+pub runs_opened : AreRunsOpened
+runs_opened trees p bounds shared h =
+    record {
+      state = opening values trees;
+      reached = refl;
+      within = refl;
+      at = opening words trees;
+      are = record { typed = opening_typed trees; are = opened_words trees };
+      shown = h;
+    }
+
+same_cost : {S : Type 0} (c cost : Cost) (s next : S) → Next c s ≡ Next cost next → c ≡ cost
+same_cost c cost s next e = cc
+
+same_next : {S : Type 0} (c cost : Cost) (s next : S) → Next c s ≡ Next cost next → s ≡ next
+same_next c cost s next e = cc
+
+-- ---- one more event
+
+module _ (files : List (List ℕ)) (trees : Program) (accepted : IsAccepted files trees) (p : LinkedProgram) (bounds : Bounds) (events : List Event) (old : Shared) (has : HasRun trees p bounds old events) (event : Event) where
+  abbrev pub crowded : ℕ → Bool
+  crowded = is_crowded bounds.monitors (inflated trees bounds.frames events)
+
+  carries : IsCarried trees
+  carries = carried trees (linked_of files trees accepted.linkable.spelled accepted.linkable.no_refusal).rooted
+
+  -- over words the event becomes what it becomes over values
+  at_words : stepped words trees bounds.frames has.at event ≡ map_stepped words_of (stepped values trees bounds.frames has.state event)
+  at_words = ap (λ (w : StateOf ℕ). stepped words trees bounds.frames w event) has.are.are ∙ carries bounds.frames has.state event has.are.typed
+
+  enabled_is : is_enabled_of words trees bounds.frames has.at event ≡ is_enabled trees bounds.frames has.state event
+  enabled_is = (reported trees (linked_of files trees accepted.linkable.spelled accepted.linkable.no_refusal).rooted carries bounds.frames has.at has.state has.are).enabled event
+
+  longer : (new : Shared) (cost : Cost) (next : StateOf ℕ) (within : limit_in trees bounds crowded has.at.world cost ≡ None) (shown : IsShown trees p bounds (inflated_by cost (inflated trees bounds.frames events)) new next)
+      → stepped words trees bounds.frames has.at event ≡ Next cost next
+      → (y : SteppedOf State) → stepped values trees bounds.frames has.state event ≡ y → map_stepped words_of y ≡ Next cost next
+      → HasRun trees p bounds new (events ++ event ∷ [])
+  longer new cost next within shown is NotEnabled q e = absurd cc
+  longer new cost next within shown is WrongKind q e = absurd cc
+  longer new cost next within shown is (Next c s) q e =
+      record {
+        state = s;
+        reached = run.reached;
+        within = within_more trees bounds event events (opening values trees) [] has.state has.reached has.within stands;
+        at = next;
+        are = record { typed = kept files trees accepted bounds.frames has.state event s has.are.typed (ap next_by q); are = sym (same_next c cost (words_of s) next e) };
+        shown = subst (λ l. IsShown trees p bounds l new next) (sym (run.inflated_are ∙ ap (λ k. inflated_by k (inflated trees bounds.frames events)) (same_cost c cost (words_of s) next e))) shown;
+      }
+    where
+      run : IsLonger trees bounds.frames events event c s
+      run = runs_longer trees bounds.frames events has.state event c s has.reached q
+
+      stands : limit_at trees bounds crowded has.state (stepped values trees bounds.frames has.state event) ≡ None
+      stands = sym (limits_carried files trees accepted.linkable bounds crowded bounds.frames has.at has.state event has.are) ∙ ap (limit_by trees bounds crowded has.at) is ∙ within
+
+  -- nothing has changed
+  still : (new : Shared) → IsSame old new → HasRun trees p bounds new events
+  still new same =
+      record {
+        state = has.state;
+        reached = has.reached;
+        within = has.within;
+        at = has.at;
+        are = has.are;
+        shown = shown_still trees p bounds (inflated trees bounds.frames events) old new has.at has.shown same;
+      }
+
+  told_after : (cost : Cost) (next : StateOf ℕ) → stepped words trees bounds.frames has.at event ≡ Next cost next → (o : Option RunCause) → limit_in trees bounds crowded has.at.world cost ≡ o
+      → limit_after trees bounds events event ≡ o
+  told_after cost next is o e =
+      sym (limits_standing files trees accepted.linkable bounds events has.at has.state event has.reached has.are) ∙ ap (limit_by trees bounds crowded has.at) is ∙ e
+
+  refused_after : (cost : Cost) (next : StateOf ℕ) → stepped words trees bounds.frames has.at event ≡ Next cost next → (told : Refusal)
+      → MayBeRefused trees bounds (inflated trees bounds.frames events) has.at.world cost told → IsRefusedAfter trees bounds events event told
+  refused_after cost next is refusal.Objects may = told_after cost next is _ may
+  refused_after cost next is refusal.Cells may = told_after cost next is _ may
+  refused_after cost next is refusal.Monitors may = told_after cost next is _ may
+  refused_after cost next is refusal.Threads may = told_after cost next is _ may
+  refused_after cost next is refusal.LockCount may = told_after cost next is _ may
+  refused_after cost next is refusal.Memory may = tt
+
+  pub going_on : (new : Shared) (result : Result Answer Refusal) → Turns trees p bounds (inflated trees bounds.frames events) has.at event result old new
+      → GoesOn trees p bounds events has.state event result new
+  going_on new (Ok answer.Done) t = longer new t.cost t.next t.within t.shown t.is (stepped values trees bounds.frames has.state event) refl (sym at_words ∙ t.is)
+  going_on new (Ok answer.NotEnabled) t = (sym enabled_is ∙ ap is_enabled_by t.0, still new t.1)
+  going_on new (Err told) t = (sym enabled_is ∙ ap is_enabled_by t.0.is, refused_after t.0.cost t.0.next t.0.is told t.0.may, still new t.1)
+
+pub runs_going_on : AreRunsGoingOn
+runs_going_on files trees accepted p bounds events old new has event result turns = going_on files trees accepted p bounds events old has event new result turns

@@ -1,0 +1,16 @@
+//! Runs of accepted files whose words are shown, event by event, are runs by the definitions. Each function here is a theorem, and
+//! does nothing.
+#![tactic(auto)]
+
+ghost use Rattle.shown_runs.specs.Runs.{AreRunsOpened, AreRunsGoingOn};
+
+/// Where the opening state is shown, a run of no events is.
+pub fn runs_are_opened()
+    ensures holds { AreRunsOpened }
+{}
+
+/// What becomes of an event in the words that are shown is what becomes of it in the run: it is done, and the run is one event
+/// longer, it is not enabled, or it is enabled and refused, where a limit stands or memory is wanted.
+pub fn runs_go_on()
+    ensures holds { AreRunsGoingOn }
+{}
