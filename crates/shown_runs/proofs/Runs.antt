@@ -1,5 +1,5 @@
 -- A run that is shown goes on.
-use Rattle.std.proofs.Common.{◌≡◌, ℕ, List, [], ◌∷◌, ◌++◌, Option, None, Result, Ok, Err, Bool, refl, sym, ap, subst, ◌∙◌}
+use Rattle.std.proofs.Common.{true, false, ◌≡◌, ℕ, List, [], Option, None, Result, Ok, Err, Bool, refl, sym, ap, subst, ◌∙◌}
 use Rattle.model.specs.declared.event.Event.{Event}
 use Rattle.model.specs.declared.end.RunCause.{RunCause}
 use Rattle.model.specs.Accepted.{IsAccepted}
@@ -31,18 +31,20 @@ use Rattle.machine_state.specs.declared.refusals.Refusal.TheVariants as refusal
 use Rattle.machine_state.specs.declared.state.Shared.{Shared}
 use Rattle.machine_state.specs.Events.{MayBeRefused}
 use Rattle.state_events.specs.Whole.{IsShown, IsSame, Turns}
-use Rattle.shown_runs.specs.Runs.{HasRun, GoesOn, IsRefusedAfter, AreRunsOpened, AreRunsGoingOn}
+use Rattle.shown_runs.specs.Runs.{LeadTo, HasRun, LeadsOn, GoesOn, IsRefusedAfter, AreRunsOpened, AreRunsLonger, AreRunsGoingOn}
 use Rattle.shown_runs.proofs.Limits.{within_more}
 use Rattle.shown_runs.proofs.Same.{shown_still}
 
 pub runs_opened : AreRunsOpened
 runs_opened trees p bounds shared h =
     record {
-      state = opening values trees;
-      reached = refl;
-      within = refl;
       at = opening words trees;
-      are = record { typed = opening_typed trees; are = opened_words trees };
+      lead = record {
+        state = opening values trees;
+        reached = refl;
+        within = refl;
+        are = record { typed = opening_typed trees; are = opened_words trees };
+      };
       shown = h;
     }
 
@@ -54,7 +56,7 @@ same_next c cost s next e = cc
 
 -- ---- one more event
 
-module _ (files : List (List ℕ)) (trees : Program) (accepted : IsAccepted files trees) (p : LinkedProgram) (bounds : Bounds) (events : List Event) (old : Shared) (has : HasRun trees p bounds old events) (event : Event) where
+module _ (files : List (List ℕ)) (trees : Program) (accepted : IsAccepted files trees) (bounds : Bounds) (events : List Event) (at : StateOf ℕ) (lead : LeadTo trees bounds events at) (event : Event) where
   abbrev pub crowded : ℕ → Bool
   crowded = is_crowded bounds.monitors (inflated trees bounds.frames events)
 
@@ -62,53 +64,50 @@ module _ (files : List (List ℕ)) (trees : Program) (accepted : IsAccepted file
   carries = carried trees (linked_of files trees accepted.linkable.spelled accepted.linkable.no_refusal).rooted
 
   -- over words the event becomes what it becomes over values
-  at_words : stepped words trees bounds.frames has.at event ≡ map_stepped words_of (stepped values trees bounds.frames has.state event)
-  at_words = ap (λ (w : StateOf ℕ). stepped words trees bounds.frames w event) has.are.are ∙ carries bounds.frames has.state event has.are.typed
+  at_words : stepped words trees bounds.frames at event ≡ map_stepped words_of (stepped values trees bounds.frames lead.state event)
+  at_words = ap (λ (w : StateOf ℕ). stepped words trees bounds.frames w event) lead.are.are ∙ carries bounds.frames lead.state event lead.are.typed
 
-  enabled_is : is_enabled_of words trees bounds.frames has.at event ≡ is_enabled trees bounds.frames has.state event
-  enabled_is = (reported trees (linked_of files trees accepted.linkable.spelled accepted.linkable.no_refusal).rooted carries bounds.frames has.at has.state has.are).enabled event
+  enabled_is : is_enabled_of words trees bounds.frames at event ≡ is_enabled trees bounds.frames lead.state event
+  enabled_is = (reported trees (linked_of files trees accepted.linkable.spelled accepted.linkable.no_refusal).rooted carries bounds.frames at lead.state lead.are).enabled event
 
-  longer : (new : Shared) (cost : Cost) (next : StateOf ℕ) (within : limit_in trees bounds crowded has.at.world cost ≡ None) (shown : IsShown trees p bounds (inflated_by cost (inflated trees bounds.frames events)) new next)
-      → stepped words trees bounds.frames has.at event ≡ Next cost next
-      → (y : SteppedOf State) → stepped values trees bounds.frames has.state event ≡ y → map_stepped words_of y ≡ Next cost next
-      → HasRun trees p bounds new (events ++ event ∷ [])
-  longer new cost next within shown is NotEnabled q e = absurd cc
-  longer new cost next within shown is WrongKind q e = absurd cc
-  longer new cost next within shown is (Next c s) q e =
+  longer : (cost : Cost) (next : StateOf ℕ) → stepped words trees bounds.frames at event ≡ Next cost next → limit_in trees bounds crowded at.world cost ≡ None
+      → (y : SteppedOf State) → stepped values trees bounds.frames lead.state event ≡ y → map_stepped words_of y ≡ Next cost next
+      → LeadsOn trees bounds events event cost next
+  longer cost next is within NotEnabled q e = absurd cc
+  longer cost next is within WrongKind q e = absurd cc
+  longer cost next is within (Next c s) q e =
       record {
-        state = s;
-        reached = run.reached;
-        within = within_more trees bounds event events (opening values trees) [] has.state has.reached has.within stands;
-        at = next;
-        are = record { typed = kept files trees accepted bounds.frames has.state event s has.are.typed (ap next_by q); are = sym (same_next c cost (words_of s) next e) };
-        shown = subst (λ l. IsShown trees p bounds l new next) (sym (run.inflated_are ∙ ap (λ k. inflated_by k (inflated trees bounds.frames events)) (same_cost c cost (words_of s) next e))) shown;
+        lead = record {
+          state = s;
+          reached = run.reached;
+          within = within_more trees bounds event events (opening values trees) [] lead.state lead.reached lead.within stands;
+          are = record { typed = kept files trees accepted bounds.frames lead.state event s lead.are.typed (ap next_by q); are = sym (same_next c cost (words_of s) next e) };
+        };
+        inflated_are = run.inflated_are ∙ ap (λ k. inflated_by k (inflated trees bounds.frames events)) (same_cost c cost (words_of s) next e);
       }
     where
       run : IsLonger trees bounds.frames events event c s
-      run = runs_longer trees bounds.frames events has.state event c s has.reached q
+      run = runs_longer trees bounds.frames events lead.state event c s lead.reached q
 
-      stands : limit_at trees bounds crowded has.state (stepped values trees bounds.frames has.state event) ≡ None
-      stands = sym (limits_carried files trees accepted.linkable bounds crowded bounds.frames has.at has.state event has.are) ∙ ap (limit_by trees bounds crowded has.at) is ∙ within
+      stands : limit_at trees bounds crowded lead.state (stepped values trees bounds.frames lead.state event) ≡ None
+      stands = sym (limits_carried files trees accepted.linkable bounds crowded bounds.frames at lead.state event lead.are) ∙ ap (limit_by trees bounds crowded at) is ∙ within
 
-  -- nothing has changed
-  still : (new : Shared) → IsSame old new → HasRun trees p bounds new events
-  still new same =
-      record {
-        state = has.state;
-        reached = has.reached;
-        within = has.within;
-        at = has.at;
-        are = has.are;
-        shown = shown_still trees p bounds (inflated trees bounds.frames events) old new has.at has.shown same;
-      }
+  pub leads_on : (cost : Cost) (next : StateOf ℕ) → stepped words trees bounds.frames at event ≡ Next cost next → limit_in trees bounds crowded at.world cost ≡ None → LeadsOn trees bounds events event cost next
+  leads_on cost next is within = longer cost next is within (stepped values trees bounds.frames lead.state event) refl (sym at_words ∙ is)
 
-  told_after : (cost : Cost) (next : StateOf ℕ) → stepped words trees bounds.frames has.at event ≡ Next cost next → (o : Option RunCause) → limit_in trees bounds crowded has.at.world cost ≡ o
+  pub not_enabled : stepped words trees bounds.frames at event ≡ NotEnabled → is_enabled trees bounds.frames lead.state event ≡ false
+  not_enabled e = sym enabled_is ∙ ap is_enabled_by e
+
+  pub enabled : (cost : Cost) (next : StateOf ℕ) → stepped words trees bounds.frames at event ≡ Next cost next → is_enabled trees bounds.frames lead.state event ≡ true
+  enabled cost next e = sym enabled_is ∙ ap is_enabled_by e
+
+  told_after : (cost : Cost) (next : StateOf ℕ) → stepped words trees bounds.frames at event ≡ Next cost next → (o : Option RunCause) → limit_in trees bounds crowded at.world cost ≡ o
       → limit_after trees bounds events event ≡ o
   told_after cost next is o e =
-      sym (limits_standing files trees accepted.linkable bounds events has.at has.state event has.reached has.are) ∙ ap (limit_by trees bounds crowded has.at) is ∙ e
+      sym (limits_standing files trees accepted.linkable bounds events at lead.state event lead.reached lead.are) ∙ ap (limit_by trees bounds crowded at) is ∙ e
 
-  refused_after : (cost : Cost) (next : StateOf ℕ) → stepped words trees bounds.frames has.at event ≡ Next cost next → (told : Refusal)
-      → MayBeRefused trees bounds (inflated trees bounds.frames events) has.at.world cost told → IsRefusedAfter trees bounds events event told
+  pub refused_after : (cost : Cost) (next : StateOf ℕ) → stepped words trees bounds.frames at event ≡ Next cost next → (told : Refusal)
+      → MayBeRefused trees bounds (inflated trees bounds.frames events) at.world cost told → IsRefusedAfter trees bounds events event told
   refused_after cost next is refusal.Objects may = told_after cost next is _ may
   refused_after cost next is refusal.Cells may = told_after cost next is _ may
   refused_after cost next is refusal.Monitors may = told_after cost next is _ may
@@ -116,11 +115,27 @@ module _ (files : List (List ℕ)) (trees : Program) (accepted : IsAccepted file
   refused_after cost next is refusal.LockCount may = told_after cost next is _ may
   refused_after cost next is refusal.Memory may = tt
 
+pub runs_longer_by_one : AreRunsLonger
+runs_longer_by_one files trees accepted bounds events at lead event cost next is within = leads_on files trees accepted bounds events at lead event cost next is within
+
+-- ---- what is shown
+
+module _ (files : List (List ℕ)) (trees : Program) (accepted : IsAccepted files trees) (p : LinkedProgram) (bounds : Bounds) (events : List Event) (old : Shared) (has : HasRun trees p bounds old events) (event : Event) where
+  -- nothing has changed
+  pub still : (new : Shared) → IsSame old new → HasRun trees p bounds new events
+  still new same = record { at = has.at; lead = has.lead; shown = shown_still trees p bounds (inflated trees bounds.frames events) old new has.at has.shown same }
+
   pub going_on : (new : Shared) (result : Result Answer Refusal) → Turns trees p bounds (inflated trees bounds.frames events) has.at event result old new
-      → GoesOn trees p bounds events has.state event result new
-  going_on new (Ok answer.Done) t = longer new t.cost t.next t.within t.shown t.is (stepped values trees bounds.frames has.state event) refl (sym at_words ∙ t.is)
-  going_on new (Ok answer.NotEnabled) t = (sym enabled_is ∙ ap is_enabled_by t.0, still new t.1)
-  going_on new (Err told) t = (sym enabled_is ∙ ap is_enabled_by t.0.is, refused_after t.0.cost t.0.next t.0.is told t.0.may, still new t.1)
+      → GoesOn trees p bounds events has.lead.state event result new
+  going_on new (Ok answer.Done) t =
+      let on = leads_on files trees accepted bounds events has.at has.lead event t.cost t.next t.is t.within in
+      record { at = t.next; lead = on.lead; shown = subst (λ l. IsShown trees p bounds l new t.next) (sym on.inflated_are) t.shown }
+  going_on new (Ok answer.NotEnabled) t = (not_enabled files trees accepted bounds events has.at has.lead event t.0, still new t.1)
+  going_on new (Err told) t = (
+    enabled files trees accepted bounds events has.at has.lead event t.0.cost t.0.next t.0.is,
+    refused_after files trees accepted bounds events has.at has.lead event t.0.cost t.0.next t.0.is told t.0.may,
+    still new t.1,
+  )
 
 pub runs_going_on : AreRunsGoingOn
 runs_going_on files trees accepted p bounds events old new has event result turns = going_on files trees accepted p bounds events old has event new result turns

@@ -1,14 +1,15 @@
 -- A run of accepted files whose state is shown (own): what led there, and what an answer says of one more event.
-use Rattle.std.specs.Prelude.{◌≡◌, ℕ, List, [], ◌∷◌, ◌++◌, Some, Result, Ok, Err, IsTrue, IsFalse}
+use Rattle.std.specs.Prelude.{◌≡◌, ℕ, List, [], ◌∷◌, ◌++◌, Some, None, Result, Ok, Err, IsTrue, IsFalse}
 use Rattle.model.specs.declared.event.Event.{Event}
 use Rattle.model.specs.Accepted.{IsAccepted}
 use Rattle.model.specs.Classes.{Program}
-use Rattle.model.specs.LimitStands.{Bounds, inflated, limit_after, within_limits}
+use Rattle.model.specs.LimitStands.{Bounds, inflated, inflated_by, limit_after, within_limits}
 use Rattle.model.specs.Opening.{opening}
 use Rattle.model.specs.Operands.{words}
+use Rattle.model.specs.Outcomes.{Cost}
 use Rattle.model.specs.Run.{run}
 use Rattle.model.specs.State.{State, StateOf}
-use Rattle.model.specs.Step.{is_enabled}
+use Rattle.model.specs.Step.{Next, stepped, is_enabled}
 use Rattle.model.specs.Words.{AreWordsOf}
 use Rattle.linked_code.specs.declared.program.LinkedProgram.{LinkedProgram}
 use Rattle.machine_state.specs.declared.answers.Answer.{Answer}
@@ -17,16 +18,20 @@ use Rattle.machine_state.specs.declared.refusals.Refusal.{Refusal}
 use Rattle.machine_state.specs.declared.refusals.Refusal.TheVariants as refusal
 use Rattle.machine_state.specs.declared.state.Shared.{Shared}
 use Rattle.machine_state.specs.Refusals.{limit_told}
+use Rattle.machine_state.specs.Events.{limit_of}
 use Rattle.state_events.specs.Whole.{IsShown, Turns}
 
--- These events led from the opening state to the one whose words are shown, and at none of them a limit stood; the locks that they
--- inflated are fat.
-pub record HasRun (trees : Program) (p : LinkedProgram) (bounds : Bounds) (shared : Shared) (events : List Event) : Type 0 where
+-- These events led from the opening state to one with these words, and at none of them a limit stood.
+pub record LeadTo (trees : Program) (bounds : Bounds) (events : List Event) (at : StateOf ℕ) : Type 0 where
   pub state : State
   pub reached : run trees bounds.frames events ≡ Some state
   pub within : IsTrue (within_limits trees bounds events)
-  pub at : StateOf ℕ
   pub are : AreWordsOf trees at state
+
+-- The words to which they led are shown, and the locks that they inflated are fat.
+pub record HasRun (trees : Program) (p : LinkedProgram) (bounds : Bounds) (shared : Shared) (events : List Event) : Type 0 where
+  pub at : StateOf ℕ
+  pub lead : LeadTo trees bounds events at
   pub shown : IsShown trees p bounds (inflated trees bounds.frames events) shared at
 
 -- before any event
@@ -35,6 +40,18 @@ AreRunsOpened =
     (trees : Program) (p : LinkedProgram) (bounds : Bounds) (shared : Shared) → IsShown trees p bounds [] shared (opening words trees) → HasRun trees p bounds shared []
 
 -- ---- one more event
+
+-- it leads on, where no limit stands, and inflates by what it takes
+pub record LeadsOn (trees : Program) (bounds : Bounds) (events : List Event) (event : Event) (cost : Cost) (next : StateOf ℕ) : Type 0 where
+  pub lead : LeadTo trees bounds (events ++ event ∷ []) next
+  pub inflated_are : inflated trees bounds.frames (events ++ event ∷ []) ≡ inflated_by cost (inflated trees bounds.frames events)
+
+abbrev pub AreRunsLonger : Type 0
+AreRunsLonger =
+    (files : List (List ℕ)) (trees : Program) → IsAccepted files trees
+    → (bounds : Bounds) (events : List Event) (at : StateOf ℕ) → LeadTo trees bounds events at
+    → (event : Event) (cost : Cost) (next : StateOf ℕ) → stepped words trees bounds.frames at event ≡ Next cost next → limit_of trees bounds (inflated trees bounds.frames events) at.world cost ≡ None
+    → LeadsOn trees bounds events event cost next
 
 -- an enabled event that was refused: where memory wasn't wanted, the limit that is told stands
 abbrev pub IsRefusedAfter : Program → Bounds → List Event → Event → Refusal → Type 0
@@ -54,4 +71,4 @@ AreRunsGoingOn =
     (files : List (List ℕ)) (trees : Program) → IsAccepted files trees
     → (p : LinkedProgram) (bounds : Bounds) (events : List Event) (old new : Shared) (has : HasRun trees p bounds old events) (event : Event) (result : Result Answer Refusal)
     → Turns trees p bounds (inflated trees bounds.frames events) has.at event result old new
-    → GoesOn trees p bounds events has.state event result new
+    → GoesOn trees p bounds events has.lead.state event result new

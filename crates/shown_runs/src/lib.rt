@@ -2,11 +2,16 @@
 //! does nothing.
 #![tactic(auto)]
 
-ghost use Rattle.shown_runs.specs.Runs.{AreRunsOpened, AreRunsGoingOn};
+ghost use Rattle.shown_runs.specs.Runs.{AreRunsOpened, AreRunsLonger, AreRunsGoingOn};
 
 /// Where the opening state is shown, a run of no events is.
 pub fn runs_are_opened()
     ensures holds { AreRunsOpened }
+{}
+
+/// An event that is done in the words to which a run led, with no limit in its way, makes a run that is one event longer.
+pub fn runs_are_longer()
+    ensures holds { AreRunsLonger }
 {}
 
 /// What becomes of an event in the words that are shown is what becomes of it in the run: it is done, and the run is one event
