@@ -1,0 +1,7 @@
+mod RunMethods
+mod BuiltIns
+mod Calling
+mod Receivers
+mod Selecting
+mod ClassObjects
+mod Prints
