@@ -27,16 +27,17 @@ front (x ∷ xs) ys zero h = refl
 front (x ∷ xs) ys (suc k) h = front xs ys k (omega arith)
 
 -- where one alone passes, it is the first
-only_at : {A : Type 0} (test : A → Bool) (xs : List A) (k : ℕ) (x : A) → slice_get xs k ≡ Some x → test x ≡ true → ((j : ℕ) (y : A) → slice_get xs j ≡ Some y → test y ≡ true → j ≡ k) → position_or_len test xs ≡ k
-only_at test [] k x at passes only = absurd cc
-only_at test (y ∷ ys) zero x at passes only = let same : y ≡ x = cc in rw (same, passes) refl
-only_at test (y ∷ ys) (suc k) x at passes only = by (λ u. only_at test ys k x at passes u) (test y) refl
-  where
-    by : (((j : ℕ) (z : A) → slice_get ys j ≡ Some z → test z ≡ true → j ≡ k) → position_or_len test ys ≡ k) → (b : Bool) → test y ≡ b → position_or_len test (y ∷ ys) ≡ suc k
-    by rest true e = let first = only 0 y refl e in absurd (omega (arith, first))
-    by rest false e =
-        let later = rest (λ j z q h. let s = only (suc j) z q h in omega (arith, s)) in
-        rw e (omega (arith, later))
+module _ {A : Type 0} where
+  only_at : (test : A → Bool) (xs : List A) (k : ℕ) (x : A) → slice_get xs k ≡ Some x → test x ≡ true → ((j : ℕ) (y : A) → slice_get xs j ≡ Some y → test y ≡ true → j ≡ k) → position_or_len test xs ≡ k
+  only_at test [] k x at passes only = absurd cc
+  only_at test (y ∷ ys) zero x at passes only = let same : y ≡ x = cc in rw (same, passes) refl
+  only_at test (y ∷ ys) (suc k) x at passes only = by (λ u. only_at test ys k x at passes u) (test y) refl
+    where
+      by : (((j : ℕ) (z : A) → slice_get ys j ≡ Some z → test z ≡ true → j ≡ k) → position_or_len test ys ≡ k) → (b : Bool) → test y ≡ b → position_or_len test (y ∷ ys) ≡ suc k
+      by rest true e = let first = only 0 y refl e in absurd (omega (arith, first))
+      by rest false e =
+          let later = rest (λ j z q h. let s = only (suc j) z q h in omega (arith, s)) in
+          rw e (omega (arith, later))
 
 -- ---- classes
 
