@@ -1,12 +1,11 @@
 -- A call on a receiver: what it finds, and what becomes of its event.
-use Rattle.std.proofs.Common.{◌≡◌, ◌<◌, ◌+◌, ◌^◌, ◌==◌, ℕ, zero, suc, List, [], ◌∷◌, ◌++◌, length, take, drop, map, reverse, Bool, true, false, Option, Some, None, Result, Ok, refl, sym, ap, subst, ◌∙◌, arith}
+use Rattle.std.proofs.Common.{◌≡◌, ◌<◌, ◌+◌, ◌^◌, ℕ, zero, suc, List, [], ◌∷◌, ◌++◌, length, take, map, reverse, Bool, true, false, Option, Some, None, Ok, refl, sym, ap, subst, ◌∙◌, arith}
 use Rattle.std.specs.Prelude.{slice_get, slice_index_or, unwrap_or}
 use Rattle.std.specs.Option.{option_map_or}
 use Rattle.std.proofs.lemmas.Bool.{false≢true, and_parts}
 use Rattle.std.proofs.lemmas.List.{length-map, length-reverse}
 use Rattle.std.proofs.lemmas.Option.{slice_get_within, same_Some}
-use Rattle.model.specs.declared.event.Event.{Event}
-use Rattle.model.specs.Names.{Member, java_lang_thread, println_int}
+use Rattle.model.specs.Names.{Member, java_lang_thread}
 use Rattle.model.specs.Classes.{Program}
 use Rattle.model.specs.LimitStands.{Bounds}
 use Rattle.model.specs.Types.{Want}
@@ -41,7 +40,6 @@ use Rattle.machine_state.specs.Instructions.{Does, instruction_event}
 use Rattle.linked_frames.specs.Frames.{IsRunning}
 use Rattle.linked_frames.proofs.Frames.{top_shown, finds, meaning_is, event_is, offset_is}
 use Rattle.thread_methods.specs.Called.{RefersTo, AreArguments}
-use Rattle.called_methods.specs.declared.running.Call.{Call}
 use Rattle.called_methods.specs.Frames.{object_under, raised_by}
 use Rattle.called_methods.specs.Invoked.{IsInvoking, invoked_event}
 use Rattle.called_methods.proofs.BuiltIns.{target_constructor, member_for, known}

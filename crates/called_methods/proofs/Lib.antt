@@ -5,3 +5,5 @@ mod Receivers
 mod Selecting
 mod ClassObjects
 mod Prints
+mod Directs
+mod Statics

@@ -1,13 +1,13 @@
 -- The method that a call runs, by the row of its number.
-use Rattle.std.proofs.Common.{◌≡◌, ◌<◌, ◌+◌, ◌==◌, ◌^◌, ℕ, List, ◌∷◌, take, drop, reverse, Bool, true, false, Option, Some, None, if◌then◌else◌, Result, Ok, refl, sym, ap, subst, ◌∙◌, arith, length}
+use Rattle.std.proofs.Common.{◌≡◌, ◌+◌, ◌==◌, ℕ, List, ◌∷◌, take, drop, reverse, Bool, true, false, Option, Some, None, if◌then◌else◌, Ok, refl, sym, ap, subst, ◌∙◌}
 use Rattle.std.specs.Prelude.{slice_get}
 use Rattle.std.specs.Option.{option_map_or}
 use Rattle.std.proofs.lemmas.Bool.{eqb-true}
 use Rattle.std.proofs.lemmas.Option.{same_Some}
 use Rattle.model.specs.declared.event.Event.{Event}
 use Rattle.model.specs.Names.{Member}
-use Rattle.model.specs.Classes.{Program, Body, body_of}
-use Rattle.model.specs.Frames.{frame_with, at_call, entered_by, is_synchronized_one}
+use Rattle.model.specs.Classes.{Program, Body}
+use Rattle.model.specs.Frames.{frame_with, at_call, entered_by}
 use Rattle.model.specs.Lookup.{is_abstract_method}
 use Rattle.model.specs.LimitStands.{Bounds}
 use Rattle.model.specs.Operands.{words}
@@ -26,7 +26,7 @@ use Rattle.linked_code.specs.declared.method.MethodBody.{MethodBody}
 use Rattle.linked_code.specs.declared.method.MethodBody.TheVariants as body
 use Rattle.linked_code.specs.declared.program.LinkedProgram.{LinkedProgram}
 use Rattle.linked_code.specs.Linked.{no_offset, offset_in}
-use Rattle.linked_code.specs.Methods.{IsCode, IsLinkedMethod, built_in_of}
+use Rattle.linked_code.specs.Methods.{IsLinkedMethod}
 use Rattle.linked_code.specs.Numbers.{IsMethodAt}
 use Rattle.thread_stacks.specs.declared.frame.Callee.{Callee}
 use Rattle.thread_stacks.specs.Stacks.{ShownEntry}
@@ -40,7 +40,7 @@ use Rattle.machine_state.specs.Instructions.{Does, shown_exception}
 use Rattle.entries.specs.Entered.{IsShared}
 use Rattle.invocations.specs.Entering.{IsThere}
 use Rattle.method_selection.specs.Run.{RunsBody, IsRun, AreMethodsRun}
-use Rattle.thread_methods.specs.Called.{IsCalling, CanCall, call_event}
+use Rattle.thread_methods.specs.Called.{IsCalling, call_event}
 use Rattle.called_methods.specs.declared.running.Call.{Call}
 use Rattle.called_methods.specs.Frames.{IsPlaceBehind, raised_by}
 use Rattle.called_methods.specs.Invoked.{IsInvoking, invoked_event}

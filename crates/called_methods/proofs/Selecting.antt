@@ -2,7 +2,6 @@
 use Rattle.std.proofs.Common.{◌≡◌, ℕ, List, Option, Some, None, refl, sym, ap, subst, ◌∙◌}
 use Rattle.std.specs.Prelude.{slice_get, option_map}
 use Rattle.std.proofs.lemmas.Option.{same_Some}
-use Rattle.model.specs.Names.{Name, Member}
 use Rattle.model.specs.Classes.{Program}
 use Rattle.model.specs.ReferenceTypes.{ClassType, is_subtype}
 use Rattle.model.specs.State.{ObjectOf, Instance, Primitives, References, type_of}
@@ -15,12 +14,11 @@ use Rattle.linked_code.specs.Numbers.{IsClassAt}
 use Rattle.linked_code.specs.Selection.{receiver_class}
 use Rattle.shown_objects.specs.Shown.{IsKindOf, ShowsObject, ShowsObjects}
 use Rattle.shown_objects.proofs.Objects.{shown_at}
-use Rattle.machine_state.specs.Shown.{IsProgram}
 use Rattle.method_selection.specs.Receivers.{IsReceiverClass}
 use Rattle.method_selection.specs.Selected.{IsChosenBy, IsChosenOr, SelectsVirtual, SelectsInterface}
 use Rattle.called_methods.specs.Selected.{ChoosesVirtual, ChoosesInterface}
 
-class_same : (m : ObjectOf ℕ) → receiver_class (type_of m) ≡ class_of_object m
+pub class_same : (m : ObjectOf ℕ) → receiver_class (type_of m) ≡ class_of_object m
 class_same (Instance class fields) = refl
 class_same (Primitives of elements) = refl
 class_same (References of elements) = refl

@@ -3,9 +3,11 @@
 #![tactic(auto)]
 
 mod calls;
+mod direct_calls;
 mod frames;
 mod printing;
 mod running;
 
-pub use calls::{invoke_interface, invoke_special, invoke_static, invoke_virtual};
+pub use calls::{invoke_interface, invoke_virtual};
+pub use direct_calls::{invoke_special, invoke_static};
 pub use printing::println;

@@ -30,5 +30,13 @@ pub fn println(
         return Ok(raised(pick, MachineException::NullPointer));
     }
     let next = place_behind(stack);
-    run_built_in(shared, stack, thread, pick, BuiltInMethod::PrintStreamPrintln, 2, next)
+    run_built_in(
+        shared,
+        stack,
+        thread,
+        pick,
+        BuiltInMethod::PrintStreamPrintln,
+        2,
+        next,
+    )
 }

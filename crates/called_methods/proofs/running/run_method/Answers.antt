@@ -1,9 +1,9 @@
-use Rattle.std.proofs.Common.{Ok, None, ◌∷◌, refl, sym, ap, subst, if◌then◌else◌, Some}
+use Rattle.std.proofs.Common.{None, ◌∷◌, refl, sym, subst, if◌then◌else◌, Some}
 use Rattle.model.specs.State.{Invocation}
 use Rattle.model.specs.Step.{SteppedOf, PartOf}
 use Rattle.std.specs.Prelude.{ℕ}
 use Rattle.machine_state.specs.Instructions.{Does}
-use Rattle.called_methods.proofs.RunMethods.{missing, fails, calling, built_in_done, is_callee, the_body, monitor_there, not_picked, pushes_is, is_shared}
+use Rattle.called_methods.proofs.RunMethods.{missing, fails, calling, built_in_done, is_callee, the_body, not_picked, pushes_is, is_shared}
 use Rattle.called_methods.proofs.running.run_method.Goals as goal
 
 -- src/running.rt:52:9
@@ -32,7 +32,7 @@ run_built_in-requires c =
 pub returns-then-pick-ne0 : goal.returns-then-pick-ne0
 returns-then-pick-ne0 c = λ trees bounds inflated state frame rest site chosen is. (
   not_picked c.methods_are_run.ensures.holds trees c.args.program.now bounds inflated c.args.thread c.args.shared.now c.args.stack.now state frame rest site c.args.call chosen is
-  c.in-Some.row.now (sym c.in-Some.ensures) c.in-Code.code c.in-Code.is (if c.in-Some.row.now.is_synchronized then Some c.args.call.object else None) refl c.args.frames c.args.pick c.if-pick-ne0.true,
+      c.in-Some.row.now (sym c.in-Some.ensures) c.in-Code.code c.in-Code.is (if c.in-Some.row.now.is_synchronized then Some c.args.call.object else None) refl c.args.frames c.args.pick c.if-pick-ne0.true,
   record { shared = refl; stack = refl },
 )
 

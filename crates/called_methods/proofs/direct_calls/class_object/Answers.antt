@@ -1,6 +1,6 @@
 use Rattle.std.proofs.Common.{sym}
 use Rattle.called_methods.proofs.ClassObjects.{class_object_is, missing}
-use Rattle.called_methods.proofs.calls.class_object.Goals as goal
+use Rattle.called_methods.proofs.direct_calls.class_object.Goals as goal
 
 pub returns-in-Some : goal.returns-in-Some
 returns-in-Some c = λ trees program callee at.
