@@ -1,4 +1,4 @@
-use Rattle.std.proofs.Common.{◌≡◌, ◌∷◌, ◌+◌, ℕ, sym, ap, subst}
+use Rattle.std.proofs.Common.{◌∷◌, ◌+◌, ℕ, sym, ap, subst}
 use Rattle.model.specs.State.{Invocation}
 use Rattle.model.specs.Step.{SteppedOf, PartOf}
 use Rattle.machine_state.specs.Instructions.{Does}
