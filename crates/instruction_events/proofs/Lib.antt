@@ -1,0 +1,3 @@
+mod Families
+pub mod Picks
+pub mod Classes
