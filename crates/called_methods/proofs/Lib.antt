@@ -1,0 +1,9 @@
+mod RunMethods
+mod BuiltIns
+mod Calling
+mod Receivers
+mod Selecting
+mod ClassObjects
+mod Prints
+mod Directs
+mod Statics
