@@ -1,5 +1,5 @@
 -- The call of main, whose class is ready.
-use Rattle.std.proofs.Common.{◌≡◌, ◌<◌, ◌+◌, ℕ, List, [], ◌∷◌, Option, Some, None, length, refl, sym, ap, subst, ◌∙◌}
+use Rattle.std.proofs.Common.{◌≡◌, ◌<◌, ◌+◌, ℕ, List, [], ◌∷◌, Option, Some, None, length, sym, ap, subst, ◌∙◌}
 use Rattle.model.specs.Names.{Member, main_of}
 use Rattle.model.specs.Classes.{Program, body_of}
 use Rattle.model.specs.Frames.{entered_by, frame_with}
@@ -19,7 +19,7 @@ use Rattle.machine_state.specs.declared.state.Shared.{Shared}
 use Rattle.machine_state.specs.Shown.{IsProgram, IsLent}
 use Rattle.entries.specs.Entered.{IsShared}
 use Rattle.invocations.specs.Entering.{IsThere}
-use Rattle.thread_begins.specs.Callees.{IsCalleeOf, IsFirstCallee, MayEnter}
+use Rattle.thread_begins.specs.Callees.{IsFirstCallee, MayEnter}
 use Rattle.thread_begins.proofs.Placed.{class_object, class_object_there}
 
 abbrev pub main : Program → Member
@@ -54,6 +54,6 @@ module _ (trees : Program) (p : LinkedProgram) (program : IsProgram trees p) (fr
       ≡ pushed frames 0 world (with_begun world 0) [] [] (frame_with words (main trees) (words.reference arguments_reference ∷ []) callee.entered h.body)
   calls n at object is callee h =
       let e : entered_by trees (main trees) (class_reference trees (initial_class trees)) ≡ callee.entered =
-          ap (entered_by trees (main trees)) (sym (is ∙ class_object trees p program n at)) ∙ sym h.entered in
+      ap (entered_by trees (main trees)) (sym (is ∙ class_object trees p program n at)) ∙ sym h.entered in
       ap (main_frame words trees frames world (main trees)) h.is_body
       ∙ ap (λ entered. pushed frames 0 world (with_begun world 0) [] [] (frame_with words (main trees) (words.reference arguments_reference ∷ []) entered h.body)) e

@@ -58,8 +58,8 @@ fn call_first(
     }
 }
 
-/// The main thread calls `main` of the initial class, by the number of that; a synchronized `main` enters the monitor of the
-/// Class object.
+/// The main thread calls `main` of the initial class, by the number of that; a synchronized `main` enters the monitor
+/// of the Class object.
 fn call_main(
     shared: &mut Shared,
     stack: &mut ThreadStack,
@@ -78,13 +78,14 @@ fn call_main(
 }
 
 /// The main thread begins: it calls `main` of the initial class by the rules of `invokestatic` (JVMS 5.2, 6.5), so the
-/// initialisation of that class comes first (JVMS 5.5). Where a stack may have no frame, a StackOverflowError is pending. While
-/// another thread is at the class or owns its monitor, the event isn't enabled.
+/// initialisation of that class comes first (JVMS 5.5). Where a stack may have no frame, a StackOverflowError is
+/// pending. While another thread initialises the class, or owns the monitor that a synchronized `main` enters, the
+/// event isn't enabled.
 ///
 /// # Errors
 ///
-/// At the limits of fat locks and of the entries of an owner, where an exception can't be made, or where there is no memory.
-/// Nothing has changed then.
+/// At the limits of fat locks and of the entries of an owner, where an exception can't be made, or where there is no
+/// memory. Nothing has changed then.
 pub fn begin_main(
     shared: &mut Shared,
     stack: &mut ThreadStack,

@@ -29,14 +29,14 @@ fn begin_started(
     }
 }
 
-/// A thread that has not begun, with an empty stack, calls the method that it runs: the main thread `main` of the initial class
-/// (JVMS 5.2), any other `run` of its Thread object (JLS 17). Where the method isn't called, the thread has not begun: the
-/// initial class is initialised first, the event isn't enabled, or an exception is pending.
+/// A thread that has not begun, with an empty stack, calls the method that it runs: the main thread `main` of the
+/// initial class (JVMS 5.2), any other `run` of its Thread object (JLS 17). Where the method isn't called, the thread
+/// has not begun: the initial class is initialised first, the event isn't enabled, or an exception is pending.
 ///
 /// # Errors
 ///
-/// At the limits of fat locks and of the entries of an owner, where an exception can't be made, or where there is no memory.
-/// Nothing has changed then.
+/// At the limits of fat locks and of the entries of an owner, where an exception can't be made, or where there is no
+/// memory. Nothing has changed then.
 pub fn begin_thread(
     shared: &mut Shared,
     stack: &mut ThreadStack,
