@@ -1,8 +1,10 @@
-//! The events of a thread of which nothing is chosen (JVMS 2.10, 5.2, 5.5; JLS 17), and the end of a thread, after its event.
+//! The event of a thread (JVMS 2.6, 2.10, 5.5; JLS 17): by what the thread is about, by the exception that is pending in it, and by
+//! what is on top of its stack.
 #![tactic(auto)]
 
+mod events;
+mod running;
 mod settling;
 mod unpicked;
 
-pub use settling::settle_event;
-pub use unpicked::{begin, initialisation, pending, relock};
+pub use events::thread_event;

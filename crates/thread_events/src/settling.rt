@@ -12,7 +12,7 @@ use thread_wakes::settle;
 /// # Errors
 ///
 /// Where the event was refused. Nothing changes then, nor where it is not enabled.
-pub fn settle_event(
+pub(crate) fn settle_event(
     shared: &mut Shared,
     stack: &ThreadStack,
     thread: u16,

@@ -18,11 +18,7 @@ use thread_stacks::{Phase, ThreadStack};
 use thread_wakes::relock_event;
 
 /// The event of a thread that has left the wait set of an object (JLS 17.2.1).
-///
-/// # Errors
-///
-/// Where a limit stands, or there is no memory. Nothing has changed then.
-pub fn relock(
+pub(crate) fn relock(
     shared: &mut Shared,
     stack: &mut ThreadStack,
     program: &LinkedProgram,
@@ -44,11 +40,7 @@ pub fn relock(
 }
 
 /// The event of a thread in which an exception is pending (JVMS 2.10).
-///
-/// # Errors
-///
-/// Where a limit stands, or there is no memory. Nothing has changed then.
-pub fn pending(
+pub(crate) fn pending(
     shared: &mut Shared,
     stack: &mut ThreadStack,
     program: &LinkedProgram,
@@ -67,11 +59,7 @@ pub fn pending(
 }
 
 /// The event of a thread with a class on top, by its number and its phase (JVMS 5.5).
-///
-/// # Errors
-///
-/// Where a limit stands, or there is no memory. Nothing has changed then.
-pub fn initialisation(
+pub(crate) fn initialisation(
     shared: &mut Shared,
     stack: &mut ThreadStack,
     program: &LinkedProgram,
@@ -91,11 +79,7 @@ pub fn initialisation(
 }
 
 /// The event of a thread with an empty stack: it begins (JVMS 5.2; JLS 17).
-///
-/// # Errors
-///
-/// Where a limit stands, or there is no memory. Nothing has changed then.
-pub fn begin(
+pub(crate) fn begin(
     shared: &mut Shared,
     stack: &mut ThreadStack,
     program: &LinkedProgram,
