@@ -1,14 +1,15 @@
 #!/usr/bin/env python3
 """Measures linking on class files that it makes.
 
-    link.py [--program PROGRAM] [--command COMMAND] [--whole] [--runs N] [--chain N] [--depth N] [--rungs N] [NAME..]
+    link.py [--program PROGRAM] [--command COMMAND] [--whole] [--runs N] [--files N] [--chain N] [--depth N]
+            [--rungs N] [NAME..]
 
 PROGRAM is the built program `linker_bench` [default: crates/linker_bench/out/linker_bench, which `rt run` leaves]. With
 a COMMAND it is run as `PROGRAM COMMAND FILE..`, as `jvm verify`, which does more than to link. One line is printed for
 each program of class files [default: all]: files a second of the processor, and the peak resident memory, also for each
 byte of the files. The files are read and decoded too. The programs are:
 
-many_files    10,000 classes and interfaces with 100,000 methods, which call each other
+many_files    N classes and interfaces [default: 10,000] with 10 methods each, which call each other
 chain         N superclasses above each other [default: 5000], which redeclare a method
 many_methods  a class of 65,535 methods, which call each other
 many_fields   a class of 65,535 fields
@@ -102,22 +103,24 @@ class Maker:
         return head + u2(0)
 
 
-def many_files(_options):
-    """9,000 classes, each below another and below an interface, with 10 methods, and 1,000 interfaces of 10 methods."""
-    for number in range(9_000):
+def many_files(options):
+    """Of ten files nine are classes, each below another and below an interface, with 10 methods, and one an interface of 10."""
+    interfaces = options.files // 10
+    classes = options.files - interfaces
+    for number in range(classes):
         above = f"C{number // 8}" if number >= 8 else "java/lang/Object"
-        made = Maker(f"C{number}", above, [f"I{number % 1_000}"], PUBLIC | ABSTRACT)
+        made = Maker(f"C{number}", above, [f"I{number % interfaces}"], PUBLIC | ABSTRACT)
         made.field(PUBLIC | STATIC, "count")
         made.field(PUBLIC, f"field{number}")
         if number == 0:
             made.main()
         for method in range(10 - (number == 0)):
-            other = (number * 7 + method * 1_001 + 1) % 9_000
+            other = (number * 7 + method * 1_001 + 1) % classes
             code = made.calls(f"C{other}", f"s{(method + 1) % 9}") + made.increments(f"C{other}", "count")
-            code += made.calls_on_null(f"I{other % 1_000}", "m0_0")
+            code += made.calls_on_null(f"I{other % interfaces}", "m0_0")
             made.method(PUBLIC | STATIC, f"s{method}", "()V", code + RETURN)
         yield f"C{number}", made
-    for number in range(1_000):
+    for number in range(interfaces):
         above = sorted({f"I{number // 2}", f"I{number // 3}"}) if number else []
         made = Maker(f"I{number}", "java/lang/Object", above, PUBLIC | INTERFACE | ABSTRACT)
         for method in range(10):
@@ -249,6 +252,7 @@ def main():
     parser.add_argument("--command")
     parser.add_argument("--whole", action="store_true")
     parser.add_argument("--runs", type=int, default=5)
+    parser.add_argument("--files", type=int, default=10_000)
     parser.add_argument("--chain", type=int, default=5_000)
     parser.add_argument("--depth", type=int, default=400)
     parser.add_argument("--rungs", type=int, default=1_000)
