@@ -104,7 +104,7 @@ class Maker:
 
 
 def many_files(options):
-    """Of ten files nine are classes, each below another and below an interface, with 10 methods, and one an interface of 10."""
+    """Of ten files nine are classes of 10 methods, below another class and an interface, and one an interface of 10."""
     interfaces = options.files // 10
     classes = options.files - interfaces
     for number in range(classes):
@@ -229,8 +229,8 @@ def least(command, folder, runs):
 def told(names, size, seconds, peak):
     """What one run says."""
     return (
-        f"{size / 1e6:.1f} MB in {seconds:.3f} s: {len(names) / seconds:.0f} files a second, {peak / 1e3:.0f} MB of memory, "
-        f"{peak * 1024 / size:.1f} bytes a byte"
+        f"{size / 1e6:.1f} MB in {seconds:.3f} s: {len(names) / seconds:.0f} files a second, "
+        f"{peak / 1e3:.0f} MB of memory, {peak * 1024 / size:.1f} bytes a byte"
     )
 
 

@@ -24,7 +24,11 @@ fn tell_linked(rt: &HostRuntime, linked: &Linked, is_whole: bool) -> Result<()> 
         return Ok(());
     }
     let program = linked_program(rt.alloc(), linked)?;
-    println!(rt; "linked {} with {} methods", linked.file_count(), program.methods.len())?;
+    println!(rt;
+        "linked {} with {} methods",
+        linked.file_count(),
+        program.methods.len()
+    )?;
     Ok(())
 }
 
