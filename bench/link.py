@@ -1,17 +1,19 @@
 #!/usr/bin/env python3
 """Measures linking on class files that it makes.
 
-    link.py [--program PROGRAM] [--command COMMAND] [--chain N] [--rungs N] [NAME..]
+    link.py [--program PROGRAM] [--command COMMAND] [--whole] [--runs N] [--files N] [--chain N] [--depth N]
+            [--rungs N] [NAME..]
 
 PROGRAM is the built program `linker_bench` [default: crates/linker_bench/out/linker_bench, which `rt run` leaves]. With
 a COMMAND it is run as `PROGRAM COMMAND FILE..`, as `jvm verify`, which does more than to link. One line is printed for
 each program of class files [default: all]: files a second of the processor, and the peak resident memory, also for each
 byte of the files. The files are read and decoded too. The programs are:
 
-many_files    10,000 classes and interfaces with 100,000 methods, which call each other
+many_files    N classes and interfaces [default: 10,000] with 10 methods each, which call each other
 chain         N superclasses above each other [default: 5000], which redeclare a method
 many_methods  a class of 65,535 methods, which call each other
 many_fields   a class of 65,535 fields
+selections    N classes below each other [default: 400] with 10 methods each, all of which are called by invokevirtual
 ladder        two interfaces a rung, each of which stands on both of the rung below, of N rungs [default: 1000]
 """
 
@@ -66,6 +68,10 @@ class Maker:
         """An invokestatic."""
         return b"\xb8" + u2(self.member(10, owner, name, descriptor))
 
+    def calls_virtual_on_null(self, owner, name):
+        """An invokevirtual of a method without parameters on null."""
+        return b"\x01\xb6" + u2(self.member(10, owner, name, "()V"))
+
     def calls_on_null(self, owner, name):
         """An invokeinterface of a method without parameters on null."""
         return b"\x01\xb9" + u2(self.member(11, owner, name, "()V")) + b"\x01\x00"
@@ -97,22 +103,24 @@ class Maker:
         return head + u2(0)
 
 
-def many_files(_options):
-    """9,000 classes, each below another and below an interface, with 10 methods, and 1,000 interfaces of 10 methods."""
-    for number in range(9_000):
+def many_files(options):
+    """Of ten files nine are classes of 10 methods, below another class and an interface, and one an interface of 10."""
+    interfaces = options.files // 10
+    classes = options.files - interfaces
+    for number in range(classes):
         above = f"C{number // 8}" if number >= 8 else "java/lang/Object"
-        made = Maker(f"C{number}", above, [f"I{number % 1_000}"], PUBLIC | ABSTRACT)
+        made = Maker(f"C{number}", above, [f"I{number % interfaces}"], PUBLIC | ABSTRACT)
         made.field(PUBLIC | STATIC, "count")
         made.field(PUBLIC, f"field{number}")
         if number == 0:
             made.main()
         for method in range(10 - (number == 0)):
-            other = (number * 7 + method * 1_001 + 1) % 9_000
+            other = (number * 7 + method * 1_001 + 1) % classes
             code = made.calls(f"C{other}", f"s{(method + 1) % 9}") + made.increments(f"C{other}", "count")
-            code += made.calls_on_null(f"I{other % 1_000}", "m0_0")
+            code += made.calls_on_null(f"I{other % interfaces}", "m0_0")
             made.method(PUBLIC | STATIC, f"s{method}", "()V", code + RETURN)
         yield f"C{number}", made
-    for number in range(1_000):
+    for number in range(interfaces):
         above = sorted({f"I{number // 2}", f"I{number // 3}"}) if number else []
         made = Maker(f"I{number}", "java/lang/Object", above, PUBLIC | INTERFACE | ABSTRACT)
         for method in range(10):
@@ -132,6 +140,20 @@ def chain(options):
         if is_last:
             made.field(PUBLIC | STATIC, "count")
             made.method(PUBLIC | STATIC, "top", "()V", RETURN)
+        yield f"C{number}", made
+
+
+def selections(options):
+    """Classes, each below the next, with 10 methods each and one that calls these on null."""
+    for number in range(options.depth):
+        above = "java/lang/Object" if number + 1 == options.depth else f"C{number + 1}"
+        made = Maker(f"C{number}", above)
+        if number == 0:
+            made.main()
+        for method in range(10):
+            made.method(PUBLIC, f"m{number}_{method}", "()V", RETURN)
+        code = b"".join(made.calls_virtual_on_null(f"C{number}", f"m{number}_{method}") for method in range(10))
+        made.method(PUBLIC | STATIC, "calls", "()V", code + RETURN)
         yield f"C{number}", made
 
 
@@ -197,7 +219,30 @@ def measured(command, folder):
     return after.ru_utime + after.ru_stime - before.ru_utime - before.ru_stime, peak
 
 
-PROGRAMS = (many_files, chain, many_methods, many_fields, ladder)
+def least(command, folder, runs):
+    """The two forms of a command in turn: the least seconds and the peak kilobytes of each."""
+    forms = (command, [*command, "whole"])
+    found = [[measured(form, folder) for form in forms] for _ in range(runs)]
+    return [(min(run[form][0] for run in found), max(run[form][1] for run in found)) for form in range(len(forms))]
+
+
+def told(names, size, seconds, peak):
+    """What one run says."""
+    return (
+        f"{size / 1e6:.1f} MB in {seconds:.3f} s: {len(names) / seconds:.0f} files a second, "
+        f"{peak / 1e3:.0f} MB of memory, {peak * 1024 / size:.1f} bytes a byte"
+    )
+
+
+def told_whole(alone, whole):
+    """What the runs of both forms say."""
+    return (
+        f"linking {alone[0]:.3f} s, {alone[1] / 1e3:.0f} MB; with the linked program {whole[0]:.3f} s, "
+        f"{whole[1] / 1e3:.0f} MB: {whole[0] / alone[0]:.2f} times as long"
+    )
+
+
+PROGRAMS = (many_files, chain, selections, many_methods, many_fields, ladder)
 
 
 def main():
@@ -205,7 +250,11 @@ def main():
     parser = argparse.ArgumentParser(description=__doc__, formatter_class=argparse.RawDescriptionHelpFormatter)
     parser.add_argument("--program", default=built)
     parser.add_argument("--command")
+    parser.add_argument("--whole", action="store_true")
+    parser.add_argument("--runs", type=int, default=5)
+    parser.add_argument("--files", type=int, default=10_000)
     parser.add_argument("--chain", type=int, default=5_000)
+    parser.add_argument("--depth", type=int, default=400)
     parser.add_argument("--rungs", type=int, default=1_000)
     parser.add_argument("names", nargs="*", metavar="NAME")
     options = parser.parse_args()
@@ -218,12 +267,11 @@ def main():
             with open(os.path.join(folder, "sets"), "w") as file:
                 file.write(" ".join(names) + "\n")
             command = [program, options.command, *names] if options.command else [program, "sets"]
-            seconds, peak = measured(command, folder)
-        print(
-            f"{made.__name__}: {len(names)} files, {methods} methods, {size / 1e6:.1f} MB in {seconds:.3f} s: "
-            f"{len(names) / seconds:.0f} files a second, {peak / 1e3:.0f} MB of memory, {peak * 1024 / size:.1f} bytes a byte",
-            flush=True,
-        )
+            if options.whole:
+                said = told_whole(*least(command, folder, options.runs))
+            else:
+                said = told(names, size, *measured(command, folder))
+        print(f"{made.__name__}: {len(names)} files, {methods} methods, {said}", flush=True)
 
 
 if __name__ == "__main__":

@@ -1,9 +1,11 @@
-//! Links class files. Each line of the file that the argument names has the names of class files, parted by spaces, and
-//! makes one program: of each it is told how many files were linked, or why they are refused. `bench/link.py` times it.
+//! Links class files. Each line of the file that the first argument names has the names of class files, parted by
+//! spaces, and makes one program: of each it is told how many files were linked, or why they are refused. With a second
+//! argument `whole` the linked program is made too, and told how many methods it has. `bench/link.py` times both.
 #![tactic(auto)]
 
 use anyhow::{Context, Result};
-use linker::link;
+use linked_program::linked_program;
+use linker::{Linked, link};
 use std::{env, fs, io};
 
 /// The bytes of the files that a line names.
@@ -15,11 +17,26 @@ fn files_of(rt: &HostRuntime, line: &str) -> Result<Vec<Vec<u8>>> {
     Ok(files)
 }
 
+/// Tells what is linked, and if this is wanted what its linked program has.
+fn tell_linked(rt: &HostRuntime, linked: &Linked, is_whole: bool) -> Result<()> {
+    if !is_whole {
+        println!(rt; "linked {}", linked.file_count())?;
+        return Ok(());
+    }
+    let program = linked_program(rt.alloc(), linked)?;
+    println!(rt;
+        "linked {} with {} methods",
+        linked.file_count(),
+        program.methods.len()
+    )?;
+    Ok(())
+}
+
 /// Tells what is linked of the files that a line names.
-fn tell(rt: &HostRuntime, line: &str) -> Result<()> {
+fn tell(rt: &HostRuntime, line: &str, is_whole: bool) -> Result<()> {
     let files = files_of(rt, line)?;
     match link(rt.alloc(), &files) {
-        Ok(linked) => println!(rt; "linked {}", linked.file_count())?,
+        Ok(linked) => tell_linked(rt, &linked, is_whole)?,
         Err(refusal) => {
             refusal.write_line(&mut io::writer(rt))?;
             println!(rt; "")?;
@@ -31,9 +48,13 @@ fn tell(rt: &HostRuntime, line: &str) -> Result<()> {
 fn main(rt: HostRuntime) -> Result<()> {
     let mut args = env::args(&rt)?;
     let path = args.nth(1).context("which file")?;
+    let is_whole = match args.next() {
+        Some(word) => word.as_str() == "whole",
+        None => false,
+    };
     let lines = fs::read_to_string(&rt, path.as_str())?;
     for line in lines.lines() {
-        tell(&rt, line)?;
+        tell(&rt, line, is_whole)?;
     }
     Ok(())
 }

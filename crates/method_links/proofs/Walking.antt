@@ -36,7 +36,7 @@ module _ (files : Program) (f : Name → Option Member) where
           let found : above (n - i) file ≡ Some m = ap (first_found f) (lineage_step files n i (name_of file) lt) ∙ ap (λ o. option_or o (first_found f rest)) e in
           subst (Names files (Some j)) (sym found) h
 
-  none_here : (file : FileTree) → Names files None (f (name_of file)) → f (name_of file) ≡ None
+  pub none_here : (file : FileTree) → Names files None (f (name_of file)) → f (name_of file) ≡ None
   none_here file h = by (f (name_of file)) h
     where
       by : (o : Option Member) → Names files None o → o ≡ None
@@ -65,7 +65,7 @@ module _ (files : Program) (file : FileTree) (next : ℕ) where
   abbrev pub Above : Type 0
   Above = (super : FileTree) × (class_at files next ≡ Some super) × (superclass_of files (name_of file) ≡ Some (name_of super))
 
-  above_at : superclass_place files file ≡ Some next → Above
+  pub above_at : superclass_place files file ≡ Some next → Above
   above_at h = by (superclass_of files (name_of file)) refl h
     where
       there : (s : Name) → superclass_of files (name_of file) ≡ Some s → place_of files s ≡ Some next → (o : Option FileTree) → class_at files next ≡ o → Above
@@ -89,7 +89,7 @@ module _ (table : SelectionTable) (first number : ℕ) where
   unfolding superclass_places
   count_is files e = ap length e ∙ length-map (classes_of files) (superclass_place files)
 
-  place_is : (files : Program) → table.superclasses ≡ superclass_places files → (class : ℕ) (file : FileTree) → class_at files class ≡ Some file → get_or table.superclasses class None ≡ superclass_place files file
+  pub place_is : (files : Program) → table.superclasses ≡ superclass_places files → (class : ℕ) (file : FileTree) → class_at files class ≡ Some file → get_or table.superclasses class None ≡ superclass_place files file
   unfolding superclass_places
   place_is files e class file c =
       ap (λ (l : List (Option ℕ)). get_or l class None) e

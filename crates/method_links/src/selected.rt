@@ -91,16 +91,17 @@ impl SelectedMethods {
         })
     }
 
-    /// The number of the method with the name and the descriptor of the one of a number that a class itself declares.
-    fn declared_by(&self, class: usize, method: usize) -> Option<usize>
+    /// The number of the method with the name and the descriptor of the one of a number that the class at a place itself
+    /// declares, static and private ones aside. One search in a hash table; takes no memory.
+    pub fn declared_by(&self, class: usize, method: usize) -> Option<usize>
         ensures { result ≡ declared_number self.now class method }
     {
         let key = key_of(&self.names, &self.descriptors, class, method);
         self.declared.get(&key).copied()
     }
 
-    /// The place of the superclass of the class at a place.
-    fn superclass(&self, class: usize) -> Option<usize>
+    /// The place of the superclass of the class at a place. Takes no memory.
+    pub fn superclass(&self, class: usize) -> Option<usize>
         ensures { result ≡ slice_index_or self.now.superclasses class None }
     {
         match self.superclasses.get(class) {

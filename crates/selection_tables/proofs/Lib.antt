@@ -7,3 +7,5 @@ pub mod Fitting
 pub mod Tabling
 pub mod Rooting
 pub mod Layouts
+pub mod Inheriting
+pub mod MadeRows
