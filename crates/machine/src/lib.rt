@@ -1,0 +1,7 @@
+//! The machine: a linked program, the limits of a run and all that its threads share.
+#![tactic(auto)]
+
+mod machine;
+mod stacks;
+
+pub use machine::{Machine, Stopped};

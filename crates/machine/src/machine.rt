@@ -1,0 +1,134 @@
+//! A machine.
+
+ghost use Rattle.std.specs.Prelude.{◌≡◌, IfOk};
+ghost use Rattle.std.specs.Arc.{arc_value};
+ghost use Rattle.machine.specs.Machines.{IsMachine, IsOfAccepted, Opens, Steps, Repeats};
+
+use crate::stacks::{give_back, lend};
+use linked_code::LinkedProgram;
+use machine_opening::opening_state;
+use machine_state::{Answer, Refusal, Shared};
+use model::{Event, Limits};
+use state_events::{events_are_whole, stacks_are_lent};
+use std::alloc::{AllocError, Global};
+use std::marker::Model;
+use std::sync::Arc;
+use thread_events::thread_event;
+
+/// Why an event was not done once more.
+#[derive(Clone, Copy, Debug, PartialEq, Eq)]
+pub enum Stopped {
+    /// It was done as often as was asked for.
+    Most,
+    /// It is not enabled.
+    NotEnabled,
+    /// A limit forbids it, or memory is wanted.
+    Refused(Refusal),
+}
+
+/// A Java Virtual Machine that runs a linked program (JVMS 2.5): always in a state that the program's files can reach by
+/// what types allow.
+#[derive(Drop)]
+pub struct Machine {
+    program: Arc<LinkedProgram>,
+    limits: Limits,
+    shared: Shared,
+}
+
+impl Model for Machine {
+    ghost use Rattle.std.specs.Arc.{arc_value};
+    ghost use Rattle.machine.specs.Machines.{MachineOf, IsMachine};
+
+    ghost Value = { MachineOf };
+
+    ghost view = { λ m. record { program = arc_value m.program; limits = m.limits; shared = m.shared } };
+
+    ghost invariant = { λ m. IsMachine (record { program = arc_value m.program; limits = m.limits; shared = m.shared }) };
+}
+
+impl Machine {
+    /// The machine of a program before any event: the main thread alone is there, and has not begun. The only error is a want of
+    /// memory.
+    pub fn open(
+        alloc: Global,
+        program: Arc<LinkedProgram>,
+        limits: Limits,
+    ) -> Result<Machine, AllocError>
+        requires { IsOfAccepted (arc_value program) }
+        ensures { IfOk result (Opens (arc_value program) limits) }
+    {
+        let shared = opening_state(alloc, &program, limits)?;
+        Ok(Machine {
+            program,
+            limits,
+            shared,
+        })
+    }
+
+    /// The program that it runs.
+    pub fn program(&self) -> &Arc<LinkedProgram>
+        ensures { arc_value result.now ≡ self.now.program }
+    {
+        &self.program
+    }
+
+    /// The limits of the run.
+    pub fn limits(&self) -> Limits
+        ensures { result ≡ self.now.limits }
+    {
+        self.limits
+    }
+
+    /// What its threads share, and their stacks.
+    pub fn shared(&self) -> &Shared
+        ensures same { result.now ≡ self.now.shared }
+        ensures known { IsMachine self.now }
+    {
+        &self.shared
+    }
+
+    /// Does an event, if it is enabled. `NotEnabled` where it isn't; an error where a limit forbids it, or memory is wanted. In both
+    /// cases nothing has changed.
+    pub fn step(&mut self, event: Event) -> Result<Answer, Refusal>
+        ensures { Steps result event self.old self.new }
+    {
+        stacks_are_lent();
+        events_are_whole();
+        let _numbered = self.shared.threads.len();
+        let Some(mut stack) = lend(&mut self.shared.stacks, event.thread) else {
+            return Ok(Answer::NotEnabled);
+        };
+        let result = thread_event(
+            &mut self.shared,
+            &mut stack,
+            &self.program,
+            event.thread,
+            event.pick,
+            self.limits.frames as usize,
+        );
+        give_back(&mut self.shared.stacks, event.thread, stack);
+        result
+    }
+
+    /// Does an event again and again, up to so many times. Returns how often it was done, and why no more.
+    pub fn repeat(&mut self, event: Event, most: u32) -> (u32, Stopped)
+        ensures { Repeats result event most self.old self.new }
+    {
+        for done in 0..most {
+            match self.step(event) {
+                Ok(Answer::Done) => {}
+                Ok(Answer::NotEnabled) => return (done, Stopped::NotEnabled),
+                Err(refusal) => return (done, Stopped::Refused(refusal)),
+            }
+        }
+        (most, Stopped::Most)
+    }
+
+    /// Does up to so many events of a thread, one after another, none of which picks a waiter. Returns how many were done, and why
+    /// no more.
+    pub fn steps(&mut self, thread: u16, most: u32) -> (u32, Stopped)
+        ensures { Repeats result (record { thread = thread; pick = 0 }) most self.old self.new }
+    {
+        self.repeat(Event { thread, pick: 0 }, most)
+    }
+}
