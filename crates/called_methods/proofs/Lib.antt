@@ -1,9 +1,9 @@
-mod RunMethods
+pub mod RunMethods
 mod BuiltIns
-mod Calling
-mod Receivers
-mod Selecting
-mod ClassObjects
+pub mod Calling
+pub mod Receivers
+pub mod Selecting
+pub mod ClassObjects
 mod Prints
-mod Directs
+pub mod Directs
 mod Statics
