@@ -2,9 +2,9 @@
 
 ghost use Rattle.thread_standings.specs.Standings.{StandsSo, MaySo};
 
-use crate::kinds::Standing;
 use linked_code::LinkedProgram;
 use machine_state::Shared;
+use waiting_instructions::Standing;
 
 /// How a thread stands, where a stack has at most so many frames.
 pub fn standing_of(shared: &Shared, program: &LinkedProgram, thread: u16, frames: usize) -> Standing

@@ -1,0 +1,20 @@
+//! For what an instruction waits.
+
+ghost use Rattle.waiting_instructions.specs.Waits.{StandsAtIt};
+
+use crate::kinds::Standing;
+use linked_code::LinkedProgram;
+use machine_state::Shared;
+use thread_stacks::ThreadStack;
+
+/// How a thread stands that runs, with no exception pending, and has a frame on top of its stack.
+pub fn instruction_standing(
+    shared: &Shared,
+    stack: &ThreadStack,
+    program: &LinkedProgram,
+    thread: u16,
+) -> Standing
+    ensures { StandsAtIt program.now shared.now stack.now thread result }
+{
+    Standing::Runnable
+}
