@@ -1,0 +1,175 @@
+#!/usr/bin/env python3
+"""Measures the machine next to `java -Xint`, on programs in Java.
+
+    machine.py [--program PROGRAM] [--runs N] [NAME..]
+
+PROGRAM is the built program `machine_bench` [default: crates/machine_bench/out/machine_bench, which `rt run` leaves]. A
+line is printed for each program [default: all of them]: how many events it has, the nanoseconds of the machine for one of
+them, those of `java -Xint`, and how many times as long the machine takes. All run in turn, the machine and java one
+after the other, N times over [default: 20], and the least of each counts. A JDK that knows `--release 8` has to be there.
+
+The sources stand in bench/java; `tools/java-classes` compiles them to class files of version 49.0, which both run. An
+event is a bytecode; but to enter a class, to call main, and to look for the handler of an exception in a frame are events
+too. So what java takes is divided by the same number, though an exception is one bytecode for it.
+
+Of the machine the events alone are timed, from the first event of main on, by the clock. Of java it is the time of the
+processor that the thread of main takes from the call of main to its return (`bench/java/Timed.java`): the least of five
+such calls behind a first one, which isn't counted. The numbers that both print are compared. The programs:
+
+count     a loop of ints
+sieve     primes by an array of ints
+fields    a list of objects, whose fields are read and written
+fib       a static method that calls itself
+virtual   calls of a method that two classes have
+locks     a synchronized method and a synchronized block, which no other thread wants
+throws    an exception that a method throws and its caller catches
+turns     two threads that do the same. Under the schedule they change at each event. In java they run side by side, each on
+          a processor, and main's time is taken twice
+"""
+
+import argparse
+import dataclasses
+import pathlib
+import subprocess
+import sys
+import tempfile
+
+sys.dont_write_bytecode = True
+
+ROOT = pathlib.Path(__file__).resolve().parent.parent
+sys.path.insert(0, str(ROOT / "tools"))
+
+from class_files import u2, u4
+
+PROGRAMS = ("count", "sieve", "fields", "fib", "virtual", "locks", "throws", "turns")
+
+# More events than any of the programs has.
+ALL = 4_294_967_295
+
+# So many events of main come first where two threads take turns; the other thread is started among them.
+FIRST = 100
+
+# So many calls of main does a run of java time.
+CALLS = 5
+
+NOT_ENABLED, ALL_DONE = "the next is not enabled", "all were done"
+
+
+@dataclasses.dataclass
+class Ran:
+    """A run of the machine: what it printed, how many events it did, why no more, and the microseconds."""
+
+    printed: list
+    events: int
+    why: str
+    microseconds: int
+
+
+@dataclasses.dataclass
+class Bench:
+    """A program to time: the name of its class, its class files, the word that says which events to do, how many these
+    are and what they print, and how many threads share the work."""
+
+    name: str
+    files: list
+    word: str
+    events: int
+    printed: list
+    threads: int
+
+
+def compiled(name, folder):
+    """The class files of a source, that of its name first."""
+    source = ROOT / "bench/java" / f"{name}.java"
+    command = [ROOT / "tools/java-classes", source, "--into", folder]
+    return subprocess.run(command, check=True, stdout=subprocess.PIPE, text=True).stdout.splitlines()
+
+
+def on_machine(program, word, files):
+    ran = subprocess.run([program, word, *files], capture_output=True, text=True)
+    said = ran.stdout.splitlines()
+    told = ran.stderr.split()
+    if ran.returncode != 0 or len(said) < 2 or not said[-2].startswith("events ") or told[1:] != ["microseconds"]:
+        sys.exit(f"{files[0]}: status {ran.returncode}: {ran.stdout}{ran.stderr}")
+    return Ran(said[:-2], int(said[-2].split()[1]), said[-1], int(told[0]))
+
+
+def on_java(bench, folder):
+    """The nanoseconds of main's thread."""
+    command = ["java", "-Xint", "-cp", folder, "Timed", bench.name, str(CALLS)]
+    ran = subprocess.run(command, capture_output=True, text=True)
+    if ran.returncode != 0 or ran.stdout.splitlines() != bench.printed * (CALLS + 1):
+        sys.exit(f"{bench.name}: java: status {ran.returncode}: {ran.stdout}{ran.stderr}")
+    return int(ran.stderr.split()[0])
+
+
+def write_schedule(path, entries):
+    """Writes a schedule file of entries, each a thread and how many events of it."""
+    shown = [u2(thread) + u2(0) + u4(events) for thread, events in entries if events]
+    path.write_bytes(b"JSCH\x01" + u4(len(shown)) + b"".join(shown))
+
+
+def events_after(program, files, path, entries, thread):
+    """How many events a thread has after these entries, alone."""
+    write_schedule(path, [*entries, (thread, ALL)])
+    ran = on_machine(program, str(path), files)
+    if ran.why != NOT_ENABLED:
+        sys.exit(f"{files[0]}: {ran.why}")
+    return ran.events - sum(events for _, events in entries)
+
+
+def write_turns(program, files, path):
+    """Writes the schedule by which main and the thread that it starts take turns, an event each."""
+    ahead = events_after(program, files, path, [], 0)
+    other = events_after(program, files, path, [(0, ahead)], 1)
+    behind = events_after(program, files, path, [(0, ahead), (1, other)], 0)
+    turns = min(ahead - FIRST, other)
+    rest = [(0, ahead - FIRST - turns), (1, other - turns), (0, behind)]
+    write_schedule(path, [(0, FIRST), *[(1, 1), (0, 1)] * turns, *rest])
+
+
+def prepared(program, name, folder):
+    """Compiles a program, and runs it once to learn its events."""
+    files = compiled(name.capitalize(), folder)
+    word, wanted = str(ALL), NOT_ENABLED
+    if name == "turns":
+        path = pathlib.Path(folder) / "schedule"
+        write_turns(program, files, path)
+        word, wanted = str(path), ALL_DONE
+    ran = on_machine(program, word, files)
+    if ran.why != wanted:
+        sys.exit(f"{name}: {ran.events} events, {ran.why}")
+    return Bench(name.capitalize(), files, word, ran.events, ran.printed, 2 if name == "turns" else 1)
+
+
+def measured(program, folder, benches, runs):
+    """The least nanoseconds for an event of the machine and of java, by the names of the classes."""
+    found = {bench.name: ([], []) for bench in benches}
+    for _ in range(runs):
+        for bench in benches:
+            machine, java = found[bench.name]
+            machine.append(1_000 * on_machine(program, bench.word, bench.files).microseconds / bench.events)
+            java.append(bench.threads * on_java(bench, folder) / bench.events)
+    return {name: (min(machine), min(java)) for name, (machine, java) in found.items()}
+
+
+def main():
+    built = ROOT / "crates/machine_bench/out/machine_bench"
+    parser = argparse.ArgumentParser(description=__doc__, formatter_class=argparse.RawDescriptionHelpFormatter)
+    parser.add_argument("--program", type=pathlib.Path, default=built)
+    parser.add_argument("--runs", type=int, default=20)
+    parser.add_argument("names", nargs="*", choices=[[], *PROGRAMS], metavar="NAME")
+    options = parser.parse_args()
+    program = options.program.resolve()
+    with tempfile.TemporaryDirectory() as folder:
+        compiled("Timed", folder)
+        benches = [prepared(program, name, folder) for name in options.names or PROGRAMS]
+        found = measured(program, folder, benches, options.runs)
+    print("program      events   machine  java -Xint  ratio")
+    for bench in benches:
+        machine, java = found[bench.name]
+        print(f"{bench.name.lower():8}{bench.events:11} {machine:6.1f} ns   {java:6.2f} ns  {machine / java:5.1f}")
+
+
+if __name__ == "__main__":
+    main()
