@@ -16,7 +16,7 @@ thread_turns-result-requires-clause-able c =
 pub thread_turns-result-requires-clause-there : goal.thread_turns-result-requires-clause-there
 thread_turns-result-requires-clause-there c =
     let some = c.in-Some.ensures in
-    has_place _ _ c.deref.ensures c.args.thread _ some.0 _ (record { rest = refl; stacks = some.1 })
+    has_place _ _ c.args.thread _ some.0 some.1
 
 pub invariant_of-self-2 : goal.invariant_of-self-2
 invariant_of-self-2 c =
