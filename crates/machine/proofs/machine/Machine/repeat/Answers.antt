@@ -1,5 +1,4 @@
-use Rattle.std.proofs.Common.{◌≡◌, Ok, Err, refl, sym, ap, subst, ◌∙◌, arith}
-use Rattle.machine_state.specs.declared.answers.Answer.TheVariants as answer
+use Rattle.std.proofs.Common.{Ok, refl, ap, subst, ◌∙◌, arith}
 use Rattle.machine.specs.Machines.{Steps}
 use Rattle.machine.proofs.Repeating.{begins, goes_on_by, not_enabled, refused, all_done}
 use Rattle.machine.proofs.Lent.{of_event}
