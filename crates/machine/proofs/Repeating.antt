@@ -1,5 +1,5 @@
 -- An event again and again.
-use Rattle.std.proofs.Common.{◌≡◌, ◌<◌, ◌≤◌, ◌+◌, ℕ, zero, suc, List, Result, Ok, Err, refl, sym, ap, subst, ◌∙◌, arith}
+use Rattle.std.proofs.Common.{◌≡◌, ◌<◌, ◌+◌, ℕ, suc, List, Result, Ok, Err, refl, sym, subst, arith}
 use Rattle.model.specs.declared.event.Event.{Event}
 use Rattle.model.specs.Classes.{Program}
 use Rattle.model.specs.LimitStands.{bounds_of, inflated_by}
@@ -8,10 +8,8 @@ use Rattle.machine_state.specs.declared.answers.Answer.{Answer}
 use Rattle.machine_state.specs.declared.answers.Answer.TheVariants as answer
 use Rattle.machine_state.specs.declared.refusals.Refusal.{Refusal}
 use Rattle.machine_state.specs.declared.state.Shared.{Shared}
-use Rattle.state_events.specs.Whole.{Turns}
-use Rattle.machine.specs.declared.machine.Stopped.{Stopped}
 use Rattle.machine.specs.declared.machine.Stopped.TheVariants as stopped
-use Rattle.machine.specs.Machines.{MachineOf, Shows, Steps, IsRepeated, StopsBy, HasRepeated, Repeats}
+use Rattle.machine.specs.Machines.{MachineOf, Shows, Steps, IsRepeated, HasRepeated, Repeats}
 use Rattle.shown_runs.proofs.Same.{shown_still}
 use Rattle.machine.proofs.Turning.{with_shared}
 

@@ -1,5 +1,6 @@
 -- A machine, and what becomes of it by an event (JVMS 2.5, 2.6; JLS 17).
 use Rattle.std.specs.Prelude.{◌≡◌, ◌<◌, ◌≤◌, ℕ, zero, suc, List, [], Option, Some, None, Result, slice_get, slice_set}
+use Rattle.std.specs.Vec.{with_item}
 use Rattle.model.specs.declared.event.Event.{Event}
 use Rattle.model.specs.declared.limits.Limits.{Limits}
 use Rattle.model.specs.Accepted.{IsAccepted}
@@ -68,6 +69,10 @@ Steps result event old new =
 abbrev pub Lends : (t : ℕ) → Option (List ShownEntry) → (old new : List (List ShownEntry)) → Type 0
 Lends t (Some from) old new = (slice_get old t ≡ Some from) × (new ≡ slice_set old t [])
 Lends t None old new = (slice_get old t ≡ None) × (new ≡ old)
+
+-- the machine once a stack stands in the place of a thread's
+abbrev pub placed : LinkedProgram → Limits → (t : ℕ) → Shared → List ShownEntry → MachineOf
+placed p limits t shared stack = record { program = p; limits = limits; shared = record shared { stacks = with_item shared.stacks t stack } }
 
 -- ---- one event again and again
 

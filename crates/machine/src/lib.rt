@@ -3,5 +3,6 @@
 
 mod machine;
 mod stacks;
+mod turns;
 
 pub use machine::{Machine, Stopped};

@@ -5,6 +5,7 @@ ghost use Rattle.std.specs.Arc.{arc_value};
 ghost use Rattle.machine.specs.Machines.{IsMachine, IsOfAccepted, Opens, Steps, Repeats};
 
 use crate::stacks::{give_back, lend};
+use crate::turns::thread_turns;
 use linked_code::LinkedProgram;
 use machine_opening::opening_state;
 use machine_state::{Answer, Refusal, Shared};
@@ -114,6 +115,9 @@ impl Machine {
     pub fn repeat(&mut self, event: Event, most: u32) -> (u32, Stopped)
         ensures { Repeats result event most self.old self.new }
     {
+        if event.pick == 0 {
+            return self.steps(event.thread, most);
+        }
         for done in 0..most {
             match self.step(event) {
                 Ok(Answer::Done) => {}
@@ -129,6 +133,21 @@ impl Machine {
     pub fn steps(&mut self, thread: u16, most: u32) -> (u32, Stopped)
         ensures { Repeats result (record { thread = thread; pick = 0 }) most self.old self.new }
     {
-        self.repeat(Event { thread, pick: 0 }, most)
+        if most == 0 {
+            return (0, Stopped::Most);
+        }
+        let Some(mut stack) = lend(&mut self.shared.stacks, thread) else {
+            return (0, Stopped::NotEnabled);
+        };
+        let result = thread_turns(
+            &mut self.shared,
+            &mut stack,
+            &self.program,
+            self.limits,
+            thread,
+            most,
+        );
+        give_back(&mut self.shared.stacks, thread, stack);
+        result
     }
 }

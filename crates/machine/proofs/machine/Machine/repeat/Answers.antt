@@ -1,8 +1,11 @@
-use Rattle.std.proofs.Common.{◌≡◌, Ok, Err, refl, sym, ap, subst, ◌∙◌, arith}
-use Rattle.machine_state.specs.declared.answers.Answer.TheVariants as answer
+use Rattle.std.proofs.Common.{Ok, refl, ap, subst, ◌∙◌, arith}
 use Rattle.machine.specs.Machines.{Steps}
 use Rattle.machine.proofs.Repeating.{begins, goes_on_by, not_enabled, refused, all_done}
+use Rattle.machine.proofs.Lent.{of_event}
 use Rattle.machine.proofs.machine.Machine.repeat.Goals as goal
+
+pub returns-then-event-eq0 : goal.returns-then-event-eq0
+returns-then-event-eq0 c = of_event c.steps.result c.args.event c.args.most c.args.self.now c.steps.new.self c.if-event-eq0.true c.steps.ensures
 
 pub loop-done-init : goal.loop-done-init
 loop-done-init c = begins c.args.event c.args.self.now

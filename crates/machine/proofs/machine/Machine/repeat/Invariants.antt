@@ -1,4 +1,3 @@
-use Rattle.std.proofs.Common.{◌≡◌}
 use Rattle.machine.proofs.Repeating.{IsSoFar}
 use Rattle.machine.proofs.machine.Machine.repeat.Given as goal
 
