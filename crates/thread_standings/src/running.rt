@@ -40,7 +40,7 @@ fn frame_standing(
     ensures { StandsAtFrame program.now shared.now stack.now thread frames result }
 {
     frames_stand();
-    instruction_standing(shared, stack, program, thread)
+    instruction_standing(shared, stack, program, thread, frames)
 }
 
 /// How a thread stands in which no exception is pending, by what is on top of its stack.
