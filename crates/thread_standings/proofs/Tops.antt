@@ -73,7 +73,7 @@ module _ (p : LinkedProgram) (shared : Shared) (t frames : ℕ) (result : Standi
   begins (Initialisation n ph ∷ others) e stands trees bounds inflated state own program lent = absurd cc
 
   pub runs_frame : (row_at shared.threads.threads t).status ≡ Running → (row_at shared.threads.threads t).pending ≡ None
-      → (stack : List ShownEntry) → top.Invocation ≡ top_of stack → StandsAtFrame p shared stack t result → StandsGoing p shared stack t frames result
+      → (stack : List ShownEntry) → top.Invocation ≡ top_of stack → StandsAtFrame p shared stack t frames result → StandsGoing p shared stack t frames result
   runs_frame runs goes_on [] e stands trees bounds inflated state own program lent = absurd cc
   runs_frame runs goes_on (Initialisation n ph ∷ others) e stands trees bounds inflated state own program lent = absurd cc
   runs_frame runs goes_on (Invocation f ∷ others) e stands trees bounds inflated state [] program lent = absurd lent.shows_stack
@@ -87,7 +87,6 @@ module _ (p : LinkedProgram) (shared : Shared) (t frames : ℕ) (result : Standi
         runs = sym (ap (λ (thread : Thread). thread.status) is) ∙ runs;
         pending = sym (ap (λ (thread : Thread). thread.pending) is) ∙ goes_on;
       })
-      frames
 
   pub initialises : (number : ℕ) (at : Phase) (stack : List ShownEntry) → top.Initialisation number at ≡ top_of stack → StandsInitialising p shared t number at result
       → StandsGoing p shared stack t frames result

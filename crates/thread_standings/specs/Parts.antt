@@ -132,11 +132,10 @@ StandsPending p shared stack t result =
     → StandsIn p shared stack t (λ trees state own. end_by (pending_event words trees t exception thrown state.world own) (held_end_of words trees state.world t own)) result
 
 -- no exception is pending, and a frame is on top
-abbrev pub StandsAtFrame : LinkedProgram → Shared → List ShownEntry → (t : ℕ) → Standing → Type 0
-StandsAtFrame p shared stack t result =
+abbrev pub StandsAtFrame : LinkedProgram → Shared → List ShownEntry → (t frames : ℕ) → Standing → Type 0
+StandsAtFrame p shared stack t frames result =
     (trees : Program) (bounds : Bounds) (inflated : List ℕ) (state : StateOf ℕ) (frame : FrameOf ℕ) (rest : StackOf ℕ) → IsProgram trees p
     → IsLent trees p bounds inflated t shared stack state (model.Invocation frame ∷ rest) → IsOnTop state t frame
-    → (frames : ℕ)
     → IsEnd trees result (end_by (bytecode_event words trees frames (event_of t) state.world frame rest) (frame_end_of words trees state.world t frame (body_of trees frame.method)))
 
 -- no exception is pending

@@ -5,8 +5,8 @@ mod begins;
 mod callees;
 mod classes;
 mod monitors;
-mod runs;
 mod running;
+mod runs;
 mod threads;
 
 pub use threads::{may_step, standing_of};

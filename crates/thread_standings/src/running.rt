@@ -35,11 +35,12 @@ fn frame_standing(
     stack: &ThreadStack,
     program: &LinkedProgram,
     thread: u16,
+    frames: usize,
 ) -> Standing
-    ensures { StandsAtFrame program.now shared.now stack.now thread result }
+    ensures { StandsAtFrame program.now shared.now stack.now thread frames result }
 {
     frames_stand();
-    instruction_standing(shared, stack, program, thread)
+    instruction_standing(shared, stack, program, thread, frames)
 }
 
 /// How a thread stands in which no exception is pending, by what is on top of its stack.
@@ -56,7 +57,7 @@ fn going_standing(
 {
     match stack.top() {
         Top::Empty => begin_standing(shared, program, thread, frames),
-        Top::Invocation => frame_standing(shared, stack, program, thread),
+        Top::Invocation => frame_standing(shared, stack, program, thread, frames),
         Top::Initialisation { class, phase } => {
             initialisation_standing(shared, program, thread, class, phase)
         }

@@ -63,7 +63,7 @@ fn stack_of(shared: &Shared, thread: u16) -> Option<&ThreadStack>
     shared.stacks.get(usize::from(thread))
 }
 
-/// How a thread stands, where a stack has at most so many frames.
+/// How a thread stands, where a stack has at most so many frames. One that is not there counts as ended.
 pub fn standing_of(shared: &Shared, program: &LinkedProgram, thread: u16, frames: usize) -> Standing
     ensures { StandsSo program.now shared.now thread frames result }
 {
@@ -80,7 +80,7 @@ fn is_runnable(standing: Standing) -> bool
     matches!(standing, Standing::Runnable)
 }
 
-/// Whether a thread has an event that is enabled.
+/// Whether a thread has an event that is enabled, where a stack has at most so many frames. One that is not there has none.
 pub fn may_step(shared: &Shared, program: &LinkedProgram, thread: u16, frames: usize) -> bool
     ensures { MaySo program.now shared.now thread frames result }
 {

@@ -30,10 +30,10 @@ IsEnd trees standing.Joining end = end ≡ report.Joining
 IsEnd trees standing.Initialising end = end ≡ report.Initialising
 IsEnd trees standing.Runnable end = end ≡ report.Runnable
 
--- in whatever state the thread runs at an instruction, it may do its event, or stands as the instruction lets it
-abbrev pub StandsAtIt : LinkedProgram → Shared → List ShownEntry → (t : ℕ) → Standing → Type 0
-StandsAtIt p shared stack t result =
+-- In whatever state the thread runs at an instruction, it may do its event, or stands as the instruction lets it. A thread has at
+-- most so many frames.
+abbrev pub StandsAtIt : LinkedProgram → Shared → List ShownEntry → (t frames : ℕ) → Standing → Type 0
+StandsAtIt p shared stack t frames result =
     (trees : Program) (bounds : Bounds) (inflated : List ℕ) (state : StateOf ℕ) (frame : FrameOf ℕ) (rest : StackOf ℕ) (code : LinkedCode) (site : Site) (meaning : MeaningOf ℕ) (instruction : LinkedInstruction)
     → IsRunning trees p bounds inflated t shared stack state frame rest code site meaning instruction
-    → (frames : ℕ)
     → IsEnd trees result (if is_enabled_by (bytecode_event words trees frames (event_of t) state.world frame rest) then report.Runnable else frame_end_of words trees state.world t frame (body_of trees frame.method))

@@ -1,4 +1,4 @@
-use Rattle.std.proofs.Common.{[], refl, ap, sym, ◌∙◌}
+use Rattle.std.proofs.Common.{refl, ap, sym, ◌∙◌}
 use Rattle.model.specs.Operands.{words}
 use Rattle.model.specs.Step.{is_enabled_by, run_event}
 use Rattle.thread_begins.proofs.Starting.{object_is, instance, calls, fails}

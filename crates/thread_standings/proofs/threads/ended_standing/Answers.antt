@@ -1,4 +1,4 @@
-use Rattle.std.proofs.Common.{refl, ap, subst, sym, Option, ℕ}
+use Rattle.std.proofs.Common.{subst, sym, Option, ℕ}
 use Rattle.model.specs.Meaning.{ended_by}
 use Rattle.waiting_instructions.specs.declared.kinds.Standing.TheVariants as standing
 use Rattle.waiting_instructions.specs.Waits.{IsEnd}
