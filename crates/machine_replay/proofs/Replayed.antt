@@ -1,5 +1,5 @@
 -- A machine that has gone through a schedule has replayed it.
-use Rattle.std.proofs.Common.{◌≡◌, ℕ, List, [], ◌∷◌, ◌++◌, length, map, Bool, true, false, Some, Result, Ok, Err, sym, ap, subst, ◌∙◌}
+use Rattle.std.proofs.Common.{◌≡◌, ℕ, List, [], ◌∷◌, length, map, Bool, true, false, Some, Result, Ok, Err, sym, ap, subst, ◌∙◌}
 use Rattle.std.specs.Prelude.{IfOk}
 use Rattle.std.proofs.lemmas.Bool.{true≢false}
 use Rattle.model.specs.declared.end.End.{End}
@@ -26,7 +26,7 @@ use Rattle.machine.specs.Machines.{MachineOf}
 use Rattle.schedule_runs.specs.Done as done
 use Rattle.schedule_runs.specs.Done.{EndsBy, HasGone, GoesThrough}
 use Rattle.machine_reports.specs.Told.{ReportsOn}
-use Rattle.machine_replay.specs.Replays.{IsRefusedFor, OfNext, EndFits, IsNeverWrong, IsReplay}
+use Rattle.machine_replay.specs.Replays.{IsRefusedFor, OfNext, EndFits, IsRight, AreOperandsFound, IsReplay}
 use Rattle.machine_replay.specs.Shown.{IsOpened, Tells, end_of}
 
 -- ---- the end
@@ -53,8 +53,19 @@ module _ (trees : Program) (bounds : Bounds) (state : State) (front : List Event
 
 -- ---- no operand is of a wrong kind
 
-never_wrong : IsNoEventWrong → (files : List (List ℕ)) (trees : Program) → IsAccepted files trees → (frames : ℕ) (events : List Event) → IsNeverWrong trees frames events
-never_wrong sound files trees accepted frames events front event left state are reached wrong =
+is_right : (why : Stopped) (n : ℕ) (quiet : Bool) → IsRight (end_of why n quiet)
+is_right stopped.Most n true = tt
+is_right stopped.Most n false = tt
+is_right stopped.NotEnabled n quiet = tt
+is_right (stopped.Refused refusal.Objects) n quiet = tt
+is_right (stopped.Refused refusal.Cells) n quiet = tt
+is_right (stopped.Refused refusal.Monitors) n quiet = tt
+is_right (stopped.Refused refusal.Threads) n quiet = tt
+is_right (stopped.Refused refusal.LockCount) n quiet = tt
+is_right (stopped.Refused refusal.Memory) n quiet = tt
+
+operands_found : IsNoEventWrong → (files : List (List ℕ)) (trees : Program) → IsAccepted files trees → (frames : ℕ) (events : List Event) → AreOperandsFound trees frames events
+operands_found sound files trees accepted frames events front event left state are reached wrong =
     true≢false (sym (ap is_wrong wrong) ∙ sound files trees accepted frames front state event reached)
 
 -- ---- the replay
@@ -87,7 +98,8 @@ module _ (files : List (List ℕ)) (trees : Program) (m : MachineOf) (schedule :
         means = same.report gone.front end has.lead.reached ∙ ap Some (told_of m.limits.frames has.at state gone.front same gone.count on end);
         ended = subst (EndFits trees (bounds_of m.limits) state gone.front gone.left) (sym tells.end_is)
             (fits trees (bounds_of m.limits) state gone.front why n tells.quiet gone.left gone.count quiet gone.ends);
-        right = never_wrong sound files trees gone.done.accepted m.limits.frames schedule;
+        right = subst IsRight (sym tells.end_is) (is_right why n tells.quiet);
+        found = operands_found sound files trees gone.done.accepted m.limits.frames schedule;
       }
 
 -- of a machine that was opened

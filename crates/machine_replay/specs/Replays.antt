@@ -47,10 +47,15 @@ EndFits trees bounds state done left ends.Budget = ⊥
 
 -- ---- what a run never meets
 
--- At each of these events to which a run by those before it comes, the next one to be done too, its thread finds the instruction
--- and the operands that are wanted.
-abbrev pub IsNeverWrong : Program → ℕ → List Event → Type 0
-IsNeverWrong trees frames events =
+-- no operand was of a wrong kind
+abbrev pub IsRight : End → Type 0
+IsRight (ends.Refused i cause.WrongKind) = ⊥
+IsRight end = Unit {0}
+
+-- At each of these events to which a run by those before it comes, the one behind the last that was done too, its thread finds its
+-- instruction, and the operands as they are wanted.
+abbrev pub AreOperandsFound : Program → (frames : ℕ) → List Event → Type 0
+AreOperandsFound trees frames events =
     (done : List Event) (event : Event) (left : List Event) (state : State) → events ≡ done ++ event ∷ left → run trees frames done ≡ Some state
     → stepped values trees frames state event ≡ WrongKind → ⊥
 
@@ -59,8 +64,8 @@ IsNeverWrong trees frames events =
 abbrev pub text_of : Report → End → List ℕ
 text_of r end = report_text r.printed.items (map end_state_of r.threads.items) r.events end
 
--- A front of the events was done, at none of which a limit stood; the report is its meaning; and the end says why it is not longer.
--- No event of it, nor the next one, met an operand of a wrong kind.
+-- A front of the events was done, at none of which a limit stood; the report is its meaning; and the end says why it is not longer,
+-- which is never an operand of a wrong kind: neither an event of the front nor the next one met any.
 pub record IsReplay (trees : Program) (events : List Event) (limits : Limits) (r : Report) (end : End) : Type 0 where
   pub front : List Event
   pub left : List Event
@@ -73,4 +78,5 @@ pub record IsReplay (trees : Program) (events : List Event) (limits : Limits) (r
   pub count : r.events ≡ length front
   pub means : meaning trees limits.frames front end ≡ Some (text_of r end)
   pub ended : EndFits trees (bounds_of limits) state front left end
-  pub right : IsNeverWrong trees limits.frames events
+  pub right : IsRight end
+  pub found : AreOperandsFound trees limits.frames events

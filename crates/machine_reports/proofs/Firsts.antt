@@ -1,5 +1,5 @@
 -- How the first threads of a state that is shown stand.
-use Rattle.std.proofs.Common.{◌≡◌, ◌<◌, ◌≤◌, ℕ, zero, suc, ◌+◌, List, [], ◌∷◌, ◌++◌, length, map, take, get_or, Some, refl, sym, ap, ◌∙◌, subst, arith}
+use Rattle.std.proofs.Common.{◌≡◌, ◌<◌, ◌≤◌, ℕ, zero, suc, ◌+◌, List, [], ◌∷◌, ◌++◌, length, map, take, get_or, Some, refl, sym, ap, ◌∙◌, arith}
 use Rattle.std.specs.Prelude.{slice_get}
 use Rattle.std.proofs.lemmas.List.{take_more, take_all, map_push}
 use Rattle.std.proofs.lemmas.Option.{slice_get-get_or}
@@ -18,7 +18,7 @@ use Rattle.machine_state.specs.Shown.{IsProgram}
 use Rattle.state_events.specs.Whole.{IsShown}
 use Rattle.waiting_instructions.specs.declared.kinds.Standing.{Standing}
 use Rattle.thread_standings.specs.Standings.{StandsSo}
-use Rattle.machine_reports.specs.Told.{IsTold, TellEnds, ReportsOn, Reports}
+use Rattle.machine_reports.specs.Told.{IsTold, TellEnds, Reports}
 
 -- so many of them stand so
 abbrev pub TellFirst : Program → LinkedProgram → Shared → (frames k : ℕ) → List EndState → Type 0

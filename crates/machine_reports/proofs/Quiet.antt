@@ -1,5 +1,5 @@
 -- A state is quiet where no thread stands so that it may go on.
-use Rattle.std.proofs.Common.{◌≡◌, ℕ, zero, suc, ◌+◌, List, [], ◌∷◌, length, map, Bool, true, false, not, ◌&&◌, ◌||◌, if◌then◌else◌, Option, Some, None, refl, sym, ap, ◌∙◌, subst, arith}
+use Rattle.std.proofs.Common.{◌≡◌, ℕ, suc, ◌+◌, List, [], ◌∷◌, length, map, Bool, true, false, not, ◌&&◌, ◌||◌, if◌then◌else◌, Option, Some, None, refl, sym, ap, ◌∙◌, subst, arith}
 use Rattle.std.specs.Prelude.{slice_get, slice_index_or}
 use Rattle.std.specs.Option.{option_map_or}
 use Rattle.std.specs.List.{list_all, list_any}
@@ -9,7 +9,7 @@ use Rattle.model.specs.declared.instr.Instr.{Instr}
 use Rattle.model.specs.declared.instr.Instr.TheVariants as instr
 use Rattle.model.specs.declared.report.EndState.{EndState}
 use Rattle.model.specs.Classes.{Program, Body, body_of}
-use Rattle.model.specs.Operands.{Carrier, words}
+use Rattle.model.specs.Operands.{words}
 use Rattle.model.specs.Rows.{counting}
 use Rattle.model.specs.State as state
 use Rattle.model.specs.State.{FrameOf, Invocation, Initialisation, StackOf, Thread, ThreadStatus, WorldOf, StateOf}
@@ -17,10 +17,10 @@ use Rattle.model.specs.Worlds.{no_thread, thread_at}
 use Rattle.model.specs.ClassInitialisation.{look_at, is_held}
 use Rattle.model.specs.Sites.{MeaningOf, Site, site_at}
 use Rattle.model.specs.Meanings.{meaning_of}
-use Rattle.model.specs.Step.{SteppedOf, NotEnabled, PartOf, settled, thread_event, with_part, event_of, is_enabled_by, ops_of}
-use Rattle.model.specs.Report.{ThreadEnd, Threw, Blocked, Joining, Initialising, Runnable, end_state_of}
+use Rattle.model.specs.Step.{NotEnabled, settled, thread_event, with_part, event_of, is_enabled_by, ops_of}
+use Rattle.model.specs.Report.{ThreadEnd, Blocked, Initialising, Runnable, end_state_of}
 use Rattle.model.specs.Meaning.{ended_by, waiting_at, begin_class}
-use Rattle.word_reports.specs.Reports.{is_enabled_of, may_step_of, is_quiet_of, instruction_end_of, site_end_of, frame_end_of, held_end_of, thread_end_of, ends_from_of, thread_ends_of}
+use Rattle.word_reports.specs.Reports.{may_step_of, is_quiet_of, instruction_end_of, site_end_of, frame_end_of, held_end_of, thread_end_of, ends_from_of, thread_ends_of}
 use Rattle.machine_reports.specs.Told.{is_runnable, are_quiet, AreQuietAt}
 
 -- ---- what holds a thread

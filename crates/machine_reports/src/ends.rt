@@ -24,11 +24,7 @@ fn class_name(classes: &ClassSet, class: u32) -> &[u8]
 }
 
 /// How a thread stands, with the name of its exception's class in place of the number.
-fn end_state(
-    alloc: Global,
-    classes: &ClassSet,
-    standing: Standing,
-) -> Result<EndState, AllocError>
+fn end_state(alloc: Global, classes: &ClassSet, standing: Standing) -> Result<EndState, AllocError>
     ensures { IfOk result (IsTold classes.now standing) }
 {
     Ok(match standing {

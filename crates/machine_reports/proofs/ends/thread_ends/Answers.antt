@@ -1,4 +1,4 @@
-use Rattle.std.proofs.Common.{◌≡◌, ◌<◌, ◌≤◌, ◌+◌, length, map, sym, ap, subst, arith}
+use Rattle.std.proofs.Common.{◌<◌, ◌≤◌, ◌+◌, length, map, sym, ap, subst, arith}
 use Rattle.model.specs.Report.{end_state_of}
 use Rattle.machine_reports.proofs.Firsts.{TellFirst, tell_more, tell_all}
 use Rattle.machine_reports.proofs.ends.thread_ends.Goals as goal
