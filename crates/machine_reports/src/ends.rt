@@ -40,7 +40,8 @@ fn end_state(alloc: Global, classes: &ClassSet, standing: Standing) -> Result<En
     })
 }
 
-/// How each thread stands, by its number, where a stack has at most so many frames. The classes are those of the program's files.
+/// How each thread stands, by its number, where a stack has at most so many frames (JVMS 2.5.2, 2.10, 5.5; JLS 17). The classes are
+/// those of the program's files.
 pub fn thread_ends(
     alloc: Global,
     classes: &ClassSet,
@@ -72,7 +73,7 @@ fn any_goes_on(threads: &[EndState]) -> bool
     threads.iter().any(may_go_on)
 }
 
-/// Whether none of the threads has an event that is enabled.
+/// Whether none of the threads has an event that is enabled (JLS 17).
 pub fn is_quiet(threads: &[EndState]) -> bool
     ensures told { result ≡ are_quiet (map end_state_of threads.now) }
     // Where these are the threads of a state, it is quiet then, and only then.
