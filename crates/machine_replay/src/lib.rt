@@ -1,0 +1,6 @@
+//! Replaying a schedule: the machine of many threads, over any class files that are accepted.
+#![tactic(auto)]
+
+mod run;
+
+pub use run::replay;
