@@ -24,7 +24,7 @@ returns-in_err-verified-clause-faulty g c =
     let p = err_from_is_err_and c.from_residual-in_err-verified.result c.from_residual-in_err-verified.ensures.1 in
     let schedule = c.in_ok-schedule.ensures.read in
     let refused = subst (λ files. IsRefused (map vec_items files) c.in_err-verified.field-0.0) c.as_slice.ensures.value c.in_err-verified.ensures.refused in
-    rw (p.1, p.2) (refusal_is_faulty _ _ _ _ _ _ _ _ refused schedule.1 c.in_ok-files.ensures.read schedule.2)
+    rw (p.1, p.2) (refusal_is_faulty _ _ _ c.args.limits.now _ _ _ _ refused schedule.1 c.in_ok-files.ensures.read schedule.2)
 
 pub returns-in_err-verified-clause-counted : goal.returns-in_err-verified-clause-counted
 returns-in_err-verified-clause-counted g c =
