@@ -10,19 +10,10 @@ use Rattle.model.specs.Schedule.{ScheduleFile}
 use Rattle.schedule.specs.declared.fault.ScheduleFault.{ScheduleFault}
 use Rattle.schedule.specs.declared.fault.ScheduleFault.TheVariants as schedules
 use Rattle.schedule.specs.Outcomes.{StandsIn, IsFaultOf}
-use Rattle.model.specs.Tree.{FileTree}
 use Rattle.refusal.specs.declared.why.Refusal.{Refusal}
-use Rattle.refusal.specs.declared.why.RefusalKind.{RefusalKind}
-use Rattle.refusal.specs.declared.why.RefusalKind.TheVariants as kinds
-use Rattle.model.specs.Classes.{Program}
-use Rattle.model.specs.Linkable.{IsLinkable}
-use Rattle.model.specs.Typing.{AreTyped}
-use Rattle.verifier.specs.Places.{Refuses}
-use Rattle.replay.specs.Profile.{is_outside}
-use Rattle.replay.specs.Taking.{IsTaken, MayLeave, program_of}
-use Rattle.replay.proofs.Refusals.{typed_is_verified, taken_is_kept}
 use Rattle.engines.specs.Devices.{fault_of}
-use Rattle.engines.specs.Engines.{Reads, ReadsEach, MayRefuse, WritesPart, IsFaulty, CountsWith}
+use Rattle.engines.specs.Engines.{Reads, ReadsEach, WritesPart, IsFaulty, CountsWith}
+use Rattle.engines.specs.Refusals.{IsRefused}
 use Rattle.command_line.specs.declared.options.LimitOptions.{LimitOptions}
 use Rattle.engines.specs.declared.fault.Fault.{Fault}
 use Rattle.engines.specs.declared.fault.Fault.TheVariants as faults
@@ -78,52 +69,7 @@ pub schedule_is_faulty : (fault : ScheduleFault) (left : Option (List ℕ)) (byt
 schedule_is_faulty fault left bytes read only (inl memory) = inl memory
 schedule_is_faulty fault left bytes read only (inr stands) = inr (bytes, read, (λ events h. subst (StandsIn bytes) (only events h) stands), stands)
 
--- whether it was for want of memory
-is_memory : (kind : RefusalKind) → (kind ≡ kinds.OutOfMemory) ⊎ (kind ≡ kinds.OutOfMemory → ⊥)
-is_memory kinds.OutOfMemory = inl refl
-is_memory kinds.Malformed = inr (λ e. cc)
-is_memory kinds.OutsideProfile = inr (λ e. cc)
-is_memory kinds.DuplicateClass = inr (λ e. cc)
-is_memory kinds.Unresolved = inr (λ e. cc)
-is_memory kinds.BadHierarchy = inr (λ e. cc)
-is_memory kinds.Unverified = inr (λ e. cc)
-is_memory kinds.NoMain = inr (λ e. cc)
-is_memory kinds.TooLarge = inr (λ e. cc)
-
--- class files that are refused, and are taken at most where there was no memory
+-- class files that are refused
 pub refusal_is_faulty : (refusal : Refusal) (left : Option (List ℕ)) (lefts : List (Option (List ℕ))) (options : LimitOptions) (sink : Option (List ℕ)) (schedule : List ℕ) (files : List (List ℕ)) (events : List Event)
-    → ((file : FileTree) → IsTaken files file → refusal.kind ≡ kinds.OutOfMemory) → MayRefuse files refusal → Reads left schedule → ReadsEach lefts files → ScheduleFile schedule None events → IsFaulty left lefts options sink sink (faults.Refusal refusal)
-refusal_is_faulty refusal left lefts options sink schedule files events only may read reads spelled = (
-  refl,
-  elim (is_memory refusal.kind) [
-    | inl e ↦ inl e
-    | inr other ↦ inr (schedule, files, events, read, reads, spelled, λ file a. other (only file a), may)
-  ],
-)
-
--- ---- the class files of a program that is taken
-
-pub is_taken : (files : List (List ℕ)) (linked verified : Program) (file : FileTree) → IsLinkable files linked → verified ≡ linked → AreTyped verified → verified ≡ program_of file → is_outside file ≡ false → IsTaken files file
-is_taken files linked verified file linkable same typed one inside = record {
-  accepted = record {
-    linkable = subst (IsLinkable files) (sym same ∙ one) linkable;
-    typed = subst AreTyped one typed;
-  };
-  inside = inside;
-}
-
--- files of a program in which a method has no typing are not taken
-pub untyped_is_faulty : (refusal : Refusal) (left : Option (List ℕ)) (lefts : List (Option (List ℕ))) (options : LimitOptions) (sink : Option (List ℕ)) (schedule : List ℕ) (files : List (List ℕ)) (events : List Event) (linked : Program)
-    → IsLinkable files linked → ((trees : Program) → IsLinkable files trees → linked ≡ trees) → Refuses linked refusal → Reads left schedule → ReadsEach lefts files → ScheduleFile schedule None events → IsFaulty left lefts options sink sink (faults.Refusal refusal)
-untyped_is_faulty refusal left lefts options sink schedule files events linked linkable only refused =
-    refusal_is_faulty refusal left lefts options sink schedule files events
-    (λ file t. typed_is_verified linked refusal (files, linkable) (subst AreTyped (sym (only (program_of file) t.accepted.linkable)) t.accepted.typed) refused)
-    (inr (inl (linked, linkable, refused)))
-
--- and those of an accepted one that the machine doesn't take
-pub left_is_faulty : (refusal : Refusal) (left : Option (List ℕ)) (lefts : List (Option (List ℕ))) (options : LimitOptions) (sink : Option (List ℕ)) (schedule : List ℕ) (files : List (List ℕ)) (events : List Event) (linked verified : Program)
-    → IsLinkable files linked → ((trees : Program) → IsLinkable files trees → linked ≡ trees) → verified ≡ linked → AreTyped verified → MayLeave verified refusal.kind refusal.file → Reads left schedule → ReadsEach lefts files → ScheduleFile schedule None events → IsFaulty left lefts options sink sink (faults.Refusal refusal)
-left_is_faulty refusal left lefts options sink schedule files events linked verified linkable only same typed refused =
-    refusal_is_faulty refusal left lefts options sink schedule files events
-    (λ file t. taken_is_kept verified file refusal.kind refusal.file (same ∙ only (program_of file) t.accepted.linkable) t.inside refused)
-    (inr (inr (verified, record { linkable = subst (IsLinkable files) (sym same) linkable; typed = typed }, refused)))
+    → IsRefused files refusal → Reads left schedule → ReadsEach lefts files → ScheduleFile schedule None events → IsFaulty left lefts options sink sink (faults.Refusal refusal)
+refusal_is_faulty refusal left lefts options sink schedule files events refused read reads spelled = (refl, inr (schedule, files, events, read, reads, spelled, refused))

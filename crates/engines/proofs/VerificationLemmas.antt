@@ -22,7 +22,8 @@ use Rattle.refusal.specs.declared.why.Refusal.{Refusal}
 use Rattle.refusal.specs.declared.why.RefusalKind.TheVariants as kinds
 use Rattle.engines.specs.Devices.{fault_of}
 use Rattle.engines.specs.Engines.{IsOfFile}
-use Rattle.engines.specs.Verifications.{IsRefused, IsUnaccepted, VerifiesFront}
+use Rattle.engines.specs.Refusals.{IsRefused}
+use Rattle.engines.specs.Verifications.{IsUnaccepted, VerifiesFront}
 use Rattle.engines.specs.declared.fault.Fault.{Fault}
 use Rattle.engines.specs.declared.fault.Fault.TheVariants as faults
 

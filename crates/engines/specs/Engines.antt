@@ -5,16 +5,12 @@ use Rattle.model.specs.declared.event.Event.{Event}
 use Rattle.model.specs.declared.limits.Limits.{Limits}
 use Rattle.model.specs.declared.report.Report.{Report}
 use Rattle.model.specs.Devices.{AppendsFront}
-use Rattle.model.specs.Tree.{FileTree}
 use Rattle.model.specs.Classes.{Program}
-use Rattle.model.specs.Linkable.{IsLinkable}
 use Rattle.model.specs.Accepted.{IsAccepted}
 use Rattle.model.specs.Schedule.{ScheduleFile}
-use Rattle.linker.specs.Linking as linking
-use Rattle.verifier.specs.Places.{Refuses}
-use Rattle.replay.specs.Taking.{IsTaken, MayLeave, program_of}
-use Rattle.replay.specs.Replay.{IsReplay, text_of}
+use Rattle.machine_replay.specs.Replays.{IsReplay, text_of}
 use Rattle.command_line.specs.Choices.{AreChosen}
+use Rattle.engines.specs.Refusals.{IsRefused}
 use Rattle.engines.specs.Statuses.{status_of}
 use Rattle.command_line.specs.declared.options.LimitOptions.{LimitOptions}
 use Rattle.model.specs.declared.end.End.{End}
@@ -37,8 +33,8 @@ ReadsEach (left ∷ lefts) (bytes ∷ files) = Reads left bytes × ReadsEach lef
 ReadsEach [] (bytes ∷ files) = ⊥
 ReadsEach (left ∷ lefts) [] = ⊥
 
--- The schedule file spells events, and the class files link, pass verification and are taken; their program has this report
--- under the events within the limits; and this is its text and its status.
+-- The schedule file spells events, and the class files are accepted; their program has this report under the events within the
+-- limits; and this is its text and its status.
 pub record IsReplayed (schedule : List ℕ) (files : List (List ℕ)) (options : LimitOptions) (text : List ℕ) (status : Status) : Type 0 where
   pub events : List Event
   pub spelled : ScheduleFile schedule None events
@@ -46,9 +42,9 @@ pub record IsReplayed (schedule : List ℕ) (files : List (List ℕ)) (options :
   pub chosen : AreChosen options limits
   pub report : Report
   pub end : End
-  pub file : FileTree
-  pub taken : IsTaken files file
-  pub replayed : IsReplay (program_of file) events limits report end
+  pub trees : Program
+  pub accepted : IsAccepted files trees
+  pub replayed : IsReplay trees events limits report end
   pub told : text ≡ text_of report end
   pub ended : status ≡ status_of report.threads.items end
 
@@ -61,13 +57,6 @@ abbrev pub WritesPart : Option (List ℕ) → List (Option (List ℕ)) → Limit
 WritesPart left lefts options old new = (new ≡ old)
     ⊎ ((text : List ℕ) × (status : Status) × Replays left lefts options text status × AppendsFront old new text)
 
--- why class files may be refused: they don't link; they link, and a method has no typing; or they are accepted, and the
--- machine doesn't take them
-abbrev pub MayRefuse : List (List ℕ) → Refusal → Type 0
-MayRefuse files refusal = linking.MayRefuse files refusal.kind refusal.file refusal.offset refusal.cause
-    ⊎ (((trees : Program) × IsLinkable files trees × Refuses trees refusal)
-    ⊎ ((trees : Program) × IsAccepted files trees × MayLeave trees refusal.kind refusal.file))
-
 -- When a fault is answered, and what is written then.
 abbrev pub IsFaulty : Option (List ℕ) → List (Option (List ℕ)) → LimitOptions → Option (List ℕ) → Option (List ℕ) → Fault → Type 0
 IsFaulty left lefts options old new faults.Device = WritesPart left lefts options old new
@@ -75,10 +64,10 @@ IsFaulty left lefts options old new faults.Memory = WritesPart left lefts option
 -- memory apart, the schedule file spells no events, and the fault stands in it
 IsFaulty left lefts options old new (faults.Schedule fault) = (new ≡ old) × ((fault ≡ schedules.OutOfMemory)
     ⊎ ((schedule : List ℕ) × Reads left schedule × ((events : List Event) → ScheduleFile schedule None events → ⊥) × StandsIn schedule fault))
--- memory apart, it spells events, and the class files are not taken and may be refused so
+-- memory apart, it spells events, and the class files are refused
 IsFaulty left lefts options old new (faults.Refusal refusal) = (new ≡ old) × ((refusal.kind ≡ kinds.OutOfMemory)
     ⊎ ((schedule : List ℕ) × (files : List (List ℕ)) × (events : List Event) × Reads left schedule × ReadsEach lefts files × ScheduleFile schedule None events
-    × ((file : FileTree) → IsTaken files file → ⊥) × MayRefuse files refusal))
+    × IsRefused files refusal))
 
 -- the fault is one of the schedule file's
 abbrev pub IsOfSchedule : Fault → Type 0

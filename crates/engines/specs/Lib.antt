@@ -2,5 +2,6 @@ pub mod Complaints
 pub mod Devices
 pub mod Engines
 pub mod Listings
+pub mod Refusals
 pub mod Statuses
 pub mod Verifications

@@ -4,29 +4,16 @@ use Rattle.std.specs.Prelude.{◌≡◌, ◌⊎◌, ℕ, ◌<◌, List, ◌++◌
 use Rattle.model.specs.Accepted.{IsAccepted}
 use Rattle.model.specs.Classes.{Program}
 use Rattle.model.specs.Devices.{AppendsFront}
-use Rattle.model.specs.Linkable.{IsLinkable}
 use Rattle.model.specs.Report.{number}
-use Rattle.linker.specs.Linking.{MayRefuse}
-use Rattle.verifier.specs.Places.{Refuses}
 use Rattle.refusal.specs.declared.why.Refusal.{Refusal}
-use Rattle.refusal.specs.declared.why.RefusalKind.TheVariants as kinds
 use Rattle.engines.specs.Engines.{ReadsEach, no_memory}
+use Rattle.engines.specs.Refusals.{IsRefused}
 use Rattle.engines.specs.declared.fault.Fault.{Fault}
 use Rattle.engines.specs.declared.fault.Fault.TheVariants as faults
-
--- ---- class files
-
--- Accepted class files are refused for want of memory alone. Others are refused as linking refuses them, or as verification
--- refuses what is linked.
-pub record IsRefused (files : List (List ℕ)) (refusal : Refusal) : Type 0 where
-  pub memory : (trees : Program) → IsAccepted files trees → refusal.kind ≡ kinds.OutOfMemory
-  pub stands : MayRefuse files refusal.kind refusal.file refusal.offset refusal.cause ⊎ ((trees : Program) × IsLinkable files trees × Refuses trees refusal)
 
 -- `verified N classes` and a line feed
 abbrev pub verified_line : ℕ → List ℕ
 verified_line count = codes "verified " ++ (number count ++ codes " classes\n")
-
--- ---- the engine
 
 -- the sources hold the bytes of class files that are accepted, and this is the line of their number
 abbrev pub Verifies : List (Option (List ℕ)) → List ℕ → Type 0

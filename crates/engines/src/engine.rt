@@ -1,24 +1,22 @@
 //! What the program does, over any readers and writers.
 
 ghost use Rattle.std.specs.Prelude.{◌≡◌, ◌+◌, ◌<◌, Some, None, IfOk, IfErr, length, map, sum_by, vec_items};
-ghost use Rattle.std.specs.Arc.{arc_value};
 ghost use Rattle.std.specs.Io.KnownBytes.{Appends};
 ghost use Rattle.engines.specs.Engines.{Reads, ReadsEach, Replays, IsReplayed, IsFaulty, IsOfFile, IsOfSchedule, CountsFailure, no_memory};
 ghost use Rattle.model.specs.Schedule.{ScheduleFile, events_of};
-ghost use Rattle.replay.specs.Taking.{IsTaken};
+ghost use Rattle.model.specs.Accepted.{IsAccepted};
 
 use crate::fault::Fault;
 use crate::status::Status;
+use crate::verification::accepted;
 use command_line::LimitOptions;
-use linker::link;
+use machine_replay::replay;
 use model::{DeviceFault, Sink, Source};
 use refusal::{Refusal, RefusalKind};
-use replay::{Taken, replay, take};
 use report::text;
 use schedule::{Schedule, ScheduleFault, read_schedule};
 use std::alloc::{AllocError, Global};
-use std::sync::Arc;
-use verifier::verify;
+use verifier::Verified;
 
 /// Runs the class files under the schedule, writes the report and answers its status.
 ///
@@ -44,8 +42,8 @@ pub fn replay_engine<S: Source, W: Sink>(
 {
     let schedule = read_schedule_file(alloc, schedule)?;
     let files = read_class_files(alloc, files)?;
-    let taken = shared(alloc, files.as_slice())?;
-    let (text, status) = replayed(alloc, &taken, &schedule, limits)?;
+    let verified = accepted(alloc, files.as_slice())?;
+    let (text, status) = replayed(alloc, &verified, &schedule, limits)?;
     report.write_all(text.as_slice())?;
     Ok(status)
 }
@@ -119,48 +117,18 @@ pub(crate) fn out_of_memory(file: usize) -> Refusal
     }
 }
 
-/// The program of the class files: linked, then verified, then taken by the machine.
-fn taken(alloc: Global, files: &[Vec<u8>]) -> Result<Taken, Fault>
-    ensures taken { IfOk result (IsTaken (map vec_items files.now)) }
-    ensures faulty { IfErr result (λ fault. (left : _) (lefts : _) (options : _) (sink : _) (schedule : _) (events : _)
-        → Reads left schedule → ReadsEach lefts (map vec_items files.now) → ScheduleFile schedule None events
-        → IsFaulty left lefts options sink sink fault) }
-    ensures of_files { IfErr result (λ fault. IsOfSchedule fault → ⊥) }
-    ensures counted { (count : _) → CountsFailure result count count }
-{
-    let linked = link(alloc, files)?;
-    let verified = verify(alloc, linked)?;
-    // what verification found out
-    let _ = verified.linked();
-    let taken = take(alloc, verified)?;
-    Ok(taken)
-}
-
-/// The program of the class files, to be shared.
-fn shared(alloc: Global, files: &[Vec<u8>]) -> Result<Arc<Taken>, Fault>
-    ensures taken { IfOk result (λ taken. IsTaken (map vec_items files.now) (arc_value taken)) }
-    ensures faulty { IfErr result (λ fault. (left : _) (lefts : _) (options : _) (sink : _) (schedule : _) (events : _)
-        → Reads left schedule → ReadsEach lefts (map vec_items files.now) → ScheduleFile schedule None events
-        → IsFaulty left lefts options sink sink fault) }
-    ensures of_files { IfErr result (λ fault. IsOfSchedule fault → ⊥) }
-    ensures counted { (count : _) → CountsFailure result count count }
-{
-    let taken = taken(alloc, files)?;
-    Ok(Arc::new(alloc, taken)?)
-}
-
 /// The text and the status of what the class files do under the schedule.
 fn replayed(
     alloc: Global,
-    taken: &Arc<Taken>,
+    verified: &Verified,
     schedule: &Schedule,
     limits: &LimitOptions,
 ) -> Result<(Vec<u8>, Status), AllocError>
     ensures { IfOk result (λ told. (bytes : _) (files : _) → ScheduleFile bytes None (events_of schedule.now)
-        → IsTaken files (arc_value taken.now)
+        → IsAccepted files verified.now
         → IsReplayed bytes files limits.now told.0.items told.1) }
 {
-    let (report, end) = replay(alloc, taken, schedule, limits.limits())?;
+    let (report, end) = replay(alloc, verified, schedule, limits.limits())?;
     let text = text(alloc, &report, &end)?;
     Ok((text, Status::of(&report, end)))
 }

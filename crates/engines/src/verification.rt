@@ -5,7 +5,8 @@ ghost use Rattle.std.specs.Io.KnownBytes.{Appends};
 ghost use Rattle.model.specs.Accepted.{IsAccepted};
 ghost use Rattle.model.specs.Classes.{Program};
 ghost use Rattle.engines.specs.Engines.{CountsFailure};
-ghost use Rattle.engines.specs.Verifications.{IsRefused, IsUnaccepted, Verifies, verified_line};
+ghost use Rattle.engines.specs.Refusals.{IsRefused};
+ghost use Rattle.engines.specs.Verifications.{IsUnaccepted, Verifies, verified_line};
 
 use crate::engine::read_class_files;
 use crate::fault::Fault;
@@ -14,7 +15,7 @@ use linker::link;
 use model::{Sink, Source};
 use refusal::Refusal;
 use std::alloc::{AllocError, Global};
-use verifier::verify;
+use verifier::{Verified, verify};
 
 /// Links and verifies the class files, writes a line with their number, and answers the status of what is done.
 ///
@@ -41,14 +42,25 @@ pub fn verify_engine<S: Source, W: Sink>(
     Ok(Status::Returned)
 }
 
-/// How many class files these are, where linking and verification accept them.
+/// The class files, where linking and verification accept them.
+pub(crate) fn accepted(alloc: Global, files: &[Vec<u8>]) -> Result<Verified, Refusal>
+    ensures accepted { IfOk result (IsAccepted (map vec_items files.now)) }
+    ensures refused { IfErr result (IsRefused (map vec_items files.now)) }
+{
+    let linked = link(alloc, files)?;
+    let verified = verify(alloc, linked)?;
+    // what verification found out
+    let _ = verified.linked();
+    Ok(verified)
+}
+
+/// How many class files these are, where they are accepted.
 fn accepted_count(alloc: Global, files: &[Vec<u8>]) -> Result<usize, Refusal>
     ensures accepted { IfOk result (λ count. (trees : Program)
         × IsAccepted (map vec_items files.now) trees × (count ≡ length files.now)) }
     ensures refused { IfErr result (IsRefused (map vec_items files.now)) }
 {
-    let linked = link(alloc, files)?;
-    let verified = verify(alloc, linked)?;
+    let verified = accepted(alloc, files)?;
     Ok(verified.linked().file_count())
 }
 

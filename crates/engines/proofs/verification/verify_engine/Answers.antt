@@ -4,7 +4,8 @@ use Rattle.std.proofs.lemmas.Result.{err_from_is_err_and}
 use Rattle.std.specs.Io.KnownBytes.{Appends}
 use Rattle.model.specs.Devices.{AppendsFront}
 use Rattle.model.specs.Accepted.{IsAccepted}
-use Rattle.engines.specs.Verifications.{IsRefused, verified_line}
+use Rattle.engines.specs.Refusals.{IsRefused}
+use Rattle.engines.specs.Verifications.{verified_line}
 use Rattle.engines.proofs.VerificationLemmas.{unread_is_unaccepted, none_written, front_is_unaccepted}
 use Rattle.engines.proofs.verification.verify_engine.Goals as goal
 

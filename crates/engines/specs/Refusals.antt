@@ -1,0 +1,15 @@
+-- Why class files are refused (JVMS 4.8, 4.10, 5.4).
+use Rattle.std.specs.Prelude.{◌≡◌, ◌⊎◌, ℕ, List}
+use Rattle.model.specs.Accepted.{IsAccepted}
+use Rattle.model.specs.Classes.{Program}
+use Rattle.model.specs.Linkable.{IsLinkable}
+use Rattle.linker.specs.Linking.{MayRefuse}
+use Rattle.verifier.specs.Places.{Refuses}
+use Rattle.refusal.specs.declared.why.Refusal.{Refusal}
+use Rattle.refusal.specs.declared.why.RefusalKind.TheVariants as kinds
+
+-- Accepted class files are refused for want of memory alone. Others are refused as linking refuses them, or as verification
+-- refuses what is linked.
+pub record IsRefused (files : List (List ℕ)) (refusal : Refusal) : Type 0 where
+  pub memory : (trees : Program) → IsAccepted files trees → refusal.kind ≡ kinds.OutOfMemory
+  pub stands : MayRefuse files refusal.kind refusal.file refusal.offset refusal.cause ⊎ ((trees : Program) × IsLinkable files trees × Refuses trees refusal)
