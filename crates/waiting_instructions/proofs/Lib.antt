@@ -1,1 +1,7 @@
-
+mod Quick
+mod BuiltIns
+mod Meant
+mod Enabled
+mod Instructed
+mod PrintedMember
+mod Statics
