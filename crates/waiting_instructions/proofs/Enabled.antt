@@ -5,9 +5,9 @@ use Rattle.model.specs.Classes.{Program}
 use Rattle.model.specs.LimitStands.{Bounds}
 use Rattle.model.specs.Outcomes.{OutcomeOf, Goes, Raises, Throws, Interrupts, Calls, Returns, Waits, StackOverflow}
 use Rattle.model.specs.State.{FrameOf, StackOf, WorldOf, Invocation}
-use Rattle.model.specs.Worlds.{may_enter}
+use Rattle.model.specs.Worlds.{may_enter, with_entry, entry_cost}
 use Rattle.model.specs.Frames as frames
-use Rattle.model.specs.Step.{SteppedOf, Next, PartOf, is_enabled_by, enabled_if, raised, entering, pushed, become}
+use Rattle.model.specs.Step.{SteppedOf, Next, PartOf, part, is_enabled_by, enabled_if, raised, entering, pushed, become}
 use Rattle.linked_code.specs.declared.program.LinkedProgram.{LinkedProgram}
 use Rattle.thread_stacks.specs.Stacks.{ShownEntry, frame_count}
 use Rattle.shown_stacks.specs.Shown.{ShowsStack}
@@ -28,11 +28,11 @@ overflows limit t world after own rest frame full =
 
 entering_enabled : (t : ℕ) (world : WorldOf ℕ) (rest : StackOf ℕ) (frame : FrameOf ℕ) (entered : Option ℕ) → is_enabled_by (entering t world rest frame entered) ≡ may_begin world t entered
 entering_enabled t world rest frame None = refl
-entering_enabled t world rest frame (Some object) = by (may_enter world t object) _
+entering_enabled t world rest frame (Some object) = by (may_enter world t object)
   where
-    by : (b : Bool) (next : SteppedOf (PartOf ℕ)) → is_enabled_by next ≡ true → is_enabled_by (enabled_if b next) ≡ b
-    by true next h = h
-    by false next h = refl
+    by : (b : Bool) → is_enabled_by (enabled_if b (Next (entry_cost world object) (part (with_entry world t object) (Invocation frame ∷ rest)))) ≡ b
+    by true = refl
+    by false = refl
 
 -- where there is room, by its monitor
 pub entering_is : (limit t : ℕ) (world : WorldOf ℕ) (own rest : StackOf ℕ) (frame : FrameOf ℕ) → frames.frame_count own < limit → is_enabled_by (pushed limit t world world own rest frame) ≡ may_begin world t frame.entered

@@ -5,3 +5,5 @@ mod Enabled
 mod Instructed
 mod PrintedMember
 mod Statics
+mod Tops
+mod Ends

@@ -1,11 +1,11 @@
 -- The instructions that never wait once their class is ready: those that enter no monitor and call nothing.
-use Rattle.std.proofs.Common.{◌≡◌, ℕ, List, Option, Some, None, Bool, true, false, if◌then◌else◌, refl, sym, ap, subst, ◌∙◌}
+use Rattle.std.proofs.Common.{◌≡◌, ℕ, List, [], ◌∷◌, length, Option, Some, None, Bool, true, false, if◌then◌else◌, refl, sym, ap, subst, ◌∙◌}
 use Rattle.model.specs.declared.instr.ArrayKind.{ArrayKind}
 use Rattle.model.specs.declared.instr.ArrayKind.TheVariants as array_kind
 use Rattle.model.specs.declared.instr.Returned.{Returned}
 use Rattle.model.specs.declared.instr.Returned.TheVariants as returned
 use Rattle.model.specs.Names.{Name, Member}
-use Rattle.model.specs.Arrays.{made_array, array_meaning, array_length_meaning, load_meaning, store_int_meaning, store_reference_meaning, if_storable, at_index, load_of, store_of}
+use Rattle.model.specs.Arrays.{made_array, array_meaning, array_length_meaning, load_meaning, store_int_meaning, store_reference_meaning, if_storable, at_index, in_range, element_at, stored, kept_by, may_stand_in, load_of, store_of}
 use Rattle.model.specs.Calls.{return_of}
 use Rattle.model.specs.Classes.{Program}
 use Rattle.model.specs.MonitorMeanings.{left, monitor_exit_meaning}
@@ -15,11 +15,13 @@ use Rattle.model.specs.Operands.{Slots, words}
 use Rattle.model.specs.Outcomes.{OutcomeOf, Goes, Raises, Throws, Interrupts, Calls, Returns, Waits, Arithmetic, IllegalMonitorState, not_null}
 use Rattle.model.specs.ReferenceTypes.{ReferenceType}
 use Rattle.model.specs.Rows.{Row}
-use Rattle.model.specs.Sites.{MeaningOf, Site}
+use Rattle.model.specs.Opening.{first_of}
+use Rattle.model.specs.BuiltInMethods.{with_printed}
+use Rattle.model.specs.Sites.{MeaningOf, Site, pushing, operand, referent, int_operand}
 use Rattle.model.specs.State.{ObjectOf, FrameOf, StackOf, WorldOf}
 use Rattle.model.specs.Types.{Want, VerificationType}
 use Rattle.model.specs.ThrowMeaning.{throw_meaning}
-use Rattle.model.specs.Worlds.{is_owner, with_exit}
+use Rattle.model.specs.Worlds.{is_owner, with_exit, object_at, with_object, value_in, fields_of, with_field, put_value, elements_of}
 use Rattle.model.specs.Step.{SteppedOf, PartOf, is_enabled_by, on_to, raised, leaving, become}
 use Rattle.linked_frames.specs.Frames.{event_of}
 
@@ -89,13 +91,13 @@ module _ (trees : Program) (site : Site) (next : ℕ) where
   quick_put_static field = record { may = λ t world ops. refl; stays = λ t world slots ops rest. tt }
 
   pub quick_get_field : (named : Name) (field : Member) → IsQuick (get_field_of words trees next named field)
-  quick_get_field named field = record { may = λ t world ops. refl; stays = λ t world slots ops rest. not_null_stays _ _ (λ r. tt) }
+  quick_get_field named field = record { may = λ t world ops. refl; stays = λ t world slots ops rest. not_null_stays (referent words ops 0) (λ r. pushing next (value_in (first_of words) field (fields_of (object_at world r)) ∷ []) world slots rest) (λ r. tt) }
 
   pub quick_put_field : (named : Name) (field : Member) → IsQuick (put_field_of words trees next named field)
-  quick_put_field named field = record { may = λ t world ops. refl; stays = λ t world slots ops rest. not_null_stays _ _ (λ r. tt) }
+  quick_put_field named field = record { may = λ t world ops. refl; stays = λ t world slots ops rest. not_null_stays (referent words ops 1) (λ r. pushing next [] (with_object world r (with_field field (put_value words field (operand words ops 0)) (object_at world r))) slots rest) (λ r. tt) }
 
   pub quick_println : IsQuick (println_meaning words next)
-  quick_println = record { may = λ t world ops. refl; stays = λ t world slots ops rest. not_null_stays _ _ (λ r. tt) }
+  quick_println = record { may = λ t world ops. refl; stays = λ t world slots ops rest. not_null_stays (referent words ops 1) (λ r. pushing next [] (with_printed world (int_operand words ops 0)) slots rest) (λ r. tt) }
 
   pub quick_return : (descriptor : Name) (kind : Returned) → IsQuick (return_of words trees descriptor kind)
   quick_return descriptor returned.Nothing = record { may = λ t world ops. refl; stays = λ t world slots ops rest. tt }
@@ -116,10 +118,10 @@ module _ (trees : Program) (site : Site) (next : ℕ) where
   quick_array type array first = record { may = λ t world ops. refl; stays = λ t world slots ops rest. made_stays _ site.next _ array first world slots rest }
 
   pub quick_length : IsQuick (array_length_meaning words site)
-  quick_length = record { may = λ t world ops. refl; stays = λ t world slots ops rest. not_null_stays _ _ (λ r. tt) }
+  quick_length = record { may = λ t world ops. refl; stays = λ t world slots ops rest. not_null_stays (referent words ops 0) (λ r. pushing site.next (words.int (length (elements_of (object_at world r))) ∷ []) world slots rest) (λ r. tt) }
 
   quick_load_by : (array : Want) (first : ℕ) (type : List VerificationType → VerificationType) → IsQuick (load_meaning words site array first type)
-  quick_load_by array first type = record { may = λ t world ops. refl; stays = λ t world slots ops rest. not_null_stays _ _ (λ r. at_index_stays _ _ tt) }
+  quick_load_by array first type = record { may = λ t world ops. refl; stays = λ t world slots ops rest. not_null_stays (referent words ops 1) (λ r. at_index (in_range world r (int_operand words ops 0)) (pushing site.next (element_at first world r (int_operand words ops 0) ∷ []) world slots rest)) (λ r. at_index_stays (in_range world r (int_operand words ops 0)) (pushing site.next (element_at first world r (int_operand words ops 0) ∷ []) world slots rest) tt) }
 
   pub quick_load : (kind : ArrayKind) → IsQuick (load_of words trees site kind)
   quick_load array_kind.Int = quick_load_by _ _ _
@@ -129,11 +131,11 @@ module _ (trees : Program) (site : Site) (next : ℕ) where
   quick_load array_kind.Short = quick_load_by _ _ _
 
   quick_store_int : (array : Want) → IsQuick (store_int_meaning words site array)
-  quick_store_int array = record { may = λ t world ops. refl; stays = λ t world slots ops rest. not_null_stays _ _ (λ r. at_index_stays _ _ tt) }
+  quick_store_int array = record { may = λ t world ops. refl; stays = λ t world slots ops rest. not_null_stays (referent words ops 2) (λ r. at_index (in_range world r (int_operand words ops 1)) (stored site.next world r (int_operand words ops 1) (kept_by words (object_at world r) (operand words ops 0)) slots rest)) (λ r. at_index_stays (in_range world r (int_operand words ops 1)) (stored site.next world r (int_operand words ops 1) (kept_by words (object_at world r) (operand words ops 0)) slots rest) tt) }
 
   pub quick_store : (kind : ArrayKind) → IsQuick (store_of words trees site kind)
   quick_store array_kind.Int = quick_store_int _
-  quick_store array_kind.Reference = record { may = λ t world ops. refl; stays = λ t world slots ops rest. not_null_stays _ _ (λ r. at_index_stays _ _ (if_storable_stays _ _ tt)) }
+  quick_store array_kind.Reference = record { may = λ t world ops. refl; stays = λ t world slots ops rest. not_null_stays (referent words ops 2) (λ r. at_index (in_range world r (int_operand words ops 1)) (if_storable (may_stand_in words trees world (object_at world r) (operand words ops 0)) (stored site.next world r (int_operand words ops 1) (operand words ops 0) slots rest))) (λ r. at_index_stays (in_range world r (int_operand words ops 1)) (if_storable (may_stand_in words trees world (object_at world r) (operand words ops 0)) (stored site.next world r (int_operand words ops 1) (operand words ops 0) slots rest)) (if_storable_stays (may_stand_in words trees world (object_at world r) (operand words ops 0)) (stored site.next world r (int_operand words ops 1) (operand words ops 0) slots rest) tt)) }
   quick_store array_kind.ByteOrBoolean = quick_store_int _
   quick_store array_kind.Char = quick_store_int _
   quick_store array_kind.Short = quick_store_int _
@@ -149,11 +151,11 @@ module _ (trees : Program) (site : Site) (next : ℕ) where
   quick_instance type = record { may = λ t world ops. refl; stays = λ t world slots ops rest. tt }
 
   pub quick_throw : IsQuick (throw_meaning words)
-  quick_throw = record { may = λ t world ops. refl; stays = λ t world slots ops rest. not_null_stays _ _ (λ r. tt) }
+  quick_throw = record { may = λ t world ops. refl; stays = λ t world slots ops rest. not_null_stays (referent words ops 0) (λ r. Throws r) (λ r. tt) }
 
   left_stays : (b : Bool) (to t r : ℕ) (world : WorldOf ℕ) (slots : Slots ℕ) (rest : List ℕ) → Stays (left b to t r world slots rest)
   left_stays true to t r world slots rest = tt
   left_stays false to t r world slots rest = tt
 
   pub quick_exit : IsQuick (monitor_exit_meaning words site)
-  quick_exit = record { may = λ t world ops. refl; stays = λ t world slots ops rest. not_null_stays _ _ (λ r. left_stays _ _ _ _ _ _ _) }
+  quick_exit = record { may = λ t world ops. refl; stays = λ t world slots ops rest. not_null_stays (referent words ops 0) (λ r. left (is_owner world t r) site.next t r world slots rest) (λ r. left_stays (is_owner world t r) site.next t r world slots rest) }

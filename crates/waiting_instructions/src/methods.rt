@@ -6,11 +6,12 @@ ghost use Rattle.waiting_instructions.specs.Held.{StandsInJoin, StandsInBuiltIn,
 
 use crate::frames::object_on_top;
 use crate::kinds::Standing;
+use crate::monitors::may_enter_there;
 use heap::Heap;
 use linked_code::{BuiltInMethod, LinkedProgram, MethodBody};
 use machine_state::Shared;
 use method_selection::{method_at, methods_are_run};
-use monitor_events::{is_alive, may_enter};
+use monitor_events::is_alive;
 use thread_stacks::ThreadStack;
 
 /// `Thread.join` waits while the target is alive, unless the thread itself is interrupted (JLS 17.2.3).
@@ -53,8 +54,8 @@ fn may_begin(heap: &Heap, thread: u16, entered: Option<u32>) -> bool
     ensures { IsThere entered heap.now → SaysMayBegin result thread entered heap.now }
 {
     match entered {
-        Some(object) if object < heap.len() => may_enter(heap, object, thread),
-        _ => true,
+        Some(object) => may_enter_there(heap, object, thread),
+        None => true,
     }
 }
 

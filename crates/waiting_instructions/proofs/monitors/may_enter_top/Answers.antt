@@ -1,13 +1,14 @@
-use Rattle.std.proofs.Common.{rules, ℕ, true, ◌≡◌, ◌+◌, ◌-◌, ◌*◌, ◌<◌, ◌≤◌, length, ◌/◌, ◌%◌, Bool, false, nat_eq, nat_lt, List, [], ◌∷◌, ◌++◌, slice_index_or, slice_set, bit_and, bit_or, Fits, w8, w32, w64, Bor, MutBor}
-use Rattle.linked_code.specs.declared.instruction.LinkedInstruction.TheVariants as linked
-use Rattle.linked_code.specs.declared.program.LinkedProgram.{LinkedProgram}
-use Rattle.waiting_instructions.specs.Held.{SaysMayEnterTop}
+use Rattle.std.proofs.Common.{Some, None, sym, ◌∙◌}
+use Rattle.waiting_instructions.proofs.Tops.{may_top, top_there, says_top}
 use Rattle.waiting_instructions.proofs.monitors.may_enter_top.Goals as goal
 
--- src/monitors.rt:14:1
 pub returns-in-Some : goal.returns-in-Some
-returns-in-Some c = ?
+returns-in-Some c = λ trees p bounds inflated state frame rest code site meaning is.
+    let found = sym c.in-Some.is ∙ c.receiver.ensures in
+    may_top trees p bounds inflated c.args.thread c.args.shared.now c.args.stack.now state frame rest code site meaning is (Some c.in-Some.object) found
+    ∙ says_top trees p bounds inflated c.args.thread c.args.shared.now c.args.stack.now state frame rest code site meaning is c.in-Some.object c.may_enter_there.result
+    (c.may_enter_there.ensures (top_there trees p bounds inflated c.args.thread c.args.shared.now c.args.stack.now state frame rest code site meaning is c.in-Some.object found))
 
--- src/monitors.rt:14:1
-pub returns-in_default : goal.returns-in_default
-returns-in_default c = ?
+pub returns-in-None : goal.returns-in-None
+returns-in-None c = λ trees p bounds inflated state frame rest code site meaning is.
+    may_top trees p bounds inflated c.args.thread c.args.shared.now c.args.stack.now state frame rest code site meaning is None (sym c.in-None.is ∙ c.receiver.ensures)
