@@ -104,7 +104,10 @@ module _ (trees : Program) (limit t : ℕ) (world : WorldOf ℕ) (frame : FrameO
       ap (λ (s : SteppedOf (PartOf ℕ)). if is_enabled_by s then Runnable else waits) (whole_is ∙ ap (enabled_if may) (held_by trees t world (Invocation frame ∷ rest) finished meaning.looks held) ∙ never may)
       ∙ waits_is ∙ ap (λ (look : Look). if is_held look then Initialising else if may then Blocked else waiting_at site.instr) held
     where
-      never : (b : Bool) → enabled_if b (NotEnabled {S = PartOf ℕ}) ≡ NotEnabled
+      none : SteppedOf (PartOf ℕ)
+      none = NotEnabled
+
+      never : (b : Bool) → enabled_if b none ≡ NotEnabled
       never true = refl
       never false = refl
 

@@ -21,6 +21,7 @@ use Rattle.linked_code.specs.declared.method.LinkedCode.{LinkedCode}
 use Rattle.linked_code.specs.declared.program.LinkedProgram.{LinkedProgram}
 use Rattle.linked_code.specs.Calls.{IsDirectCall, CallsConstructor, CallsSpecial, CallsOnly}
 use Rattle.linked_code.specs.Linked.{IsLinked}
+use Rattle.linked_code.specs.Numbers.{primitive_of}
 use Rattle.thread_stacks.specs.Stacks.{ShownEntry}
 use Rattle.machine_state.specs.declared.state.Shared.{Shared}
 use Rattle.machine_state.specs.Instructions.{instruction_event}
@@ -29,8 +30,8 @@ use Rattle.waiting_instructions.specs.declared.kinds.Standing.{Standing}
 use Rattle.waiting_instructions.specs.declared.kinds.Standing.TheVariants as standing
 use Rattle.waiting_instructions.specs.Waits.{IsEnd}
 use Rattle.waiting_instructions.specs.Held.{StandsBy, ready_end}
-use Rattle.waiting_instructions.proofs.Quick.{IsQuick, stays_enabled, quick_row, quick_system_out, quick_get_static, quick_put_static, quick_get_field, quick_put_field, quick_println, quick_return, quick_object, quick_new, quick_array, quick_length, quick_load, quick_store, quick_cast, quick_instance, quick_throw, quick_exit}
-use Rattle.waiting_instructions.proofs.Meant.{IsCall, calls_on, calls_static, joins, enters}
+use Rattle.waiting_instructions.proofs.Quick.{IsQuick, stays_enabled, quick_row, quick_system_out, quick_get_static, quick_put_static, quick_get_field, quick_put_field, quick_println, quick_return, quick_object, quick_new, quick_primitives, quick_references, quick_length, quick_load, quick_store, quick_cast, quick_instance, quick_throw, quick_exit}
+use Rattle.waiting_instructions.proofs.Meant.{IsCall, calls_static, calls_virtual, calls_interface, calls_special, calls_constructor, joins, enters}
 use Rattle.waiting_instructions.proofs.Enabled.{may_by}
 use Rattle.std.proofs.lemmas.Option.{same_Some}
 
@@ -67,8 +68,8 @@ module _ (trees : Program) (p : LinkedProgram) (at : ℕ → ℕ) (code : List L
   quick_of linked.ArrayLength l n0 n1 n2 n3 n4 = quick _ l.is (quick_length trees site 0)
   quick_of (linked.LoadObject word) l n0 n1 n2 n3 n4 = quick _ l.is (quick_object trees site 0 _ _)
   quick_of (linked.New class fields) l n0 n1 n2 n3 n4 = quick _ l.is (quick_new trees site 0 _)
-  quick_of (linked.NewArray type) l n0 n1 n2 n3 n4 = quick _ l.is (quick_array trees site 0 _ _ _)
-  quick_of (linked.NewReferenceArray number) l n0 n1 n2 n3 n4 = quick _ l.is (quick_array trees site 0 _ _ _)
+  quick_of (linked.NewArray type) l n0 n1 n2 n3 n4 = quick _ l.is (quick_primitives trees site 0 (primitive_of type))
+  quick_of (linked.NewReferenceArray number) l n0 n1 n2 n3 n4 = quick _ l.is (quick_references trees site 0 l.of)
   quick_of (linked.CheckCast type) l n0 n1 n2 n3 n4 = quick _ l.0.is (quick_cast trees site 0 _)
   quick_of (linked.InstanceOf type) l n0 n1 n2 n3 n4 = quick _ l.0.is (quick_instance trees site 0 _)
   quick_of linked.Throw l n0 n1 n2 n3 n4 = quick _ l (quick_throw trees site 0)
@@ -89,15 +90,15 @@ module _ (trees : Program) (p : LinkedProgram) (at : ℕ → ℕ) (code : List L
   static_calls parameters class method l = of (IsCall trees site) _ l.is (calls_static trees site l.callee)
 
   pub virtual_calls : (parameters place : ℕ) → IsLinked trees p at code site k (linked.InvokeVirtual parameters place) → IsCall trees site meaning
-  virtual_calls parameters place l = of (IsCall trees site) _ l.is (calls_on trees site _ _ _ _)
+  virtual_calls parameters place l = of (IsCall trees site) _ l.is (calls_virtual trees site l.named l.callee)
 
   pub interface_calls : (parameters selector : ℕ) → IsLinked trees p at code site k (linked.InvokeInterface parameters selector) → IsCall trees site meaning
-  interface_calls parameters selector l = of (IsCall trees site) _ l.is (calls_on trees site _ _ _ _)
+  interface_calls parameters selector l = of (IsCall trees site) _ l.is (calls_interface trees site l.named l.callee)
 
   direct_calls : (parameters method : ℕ) → IsDirectCall trees site parameters method → IsCall trees site meaning
-  direct_calls parameters method (CallsConstructor callee is counted instance constructs numbered) = of (IsCall trees site) _ is (calls_on trees site _ _ _ _)
-  direct_calls parameters method (CallsSpecial named callee is counted other found numbered) = of (IsCall trees site) _ is (calls_on trees site _ _ _ _)
-  direct_calls parameters method (CallsOnly named callee is counted numbered) = of (IsCall trees site) _ is (calls_on trees site _ _ _ _)
+  direct_calls parameters method (CallsConstructor callee is counted instance constructs numbered) = of (IsCall trees site) _ is (calls_constructor trees site callee)
+  direct_calls parameters method (CallsSpecial named callee is counted other found numbered) = of (IsCall trees site) _ is (calls_special trees site named.class callee)
+  direct_calls parameters method (CallsOnly named callee is counted numbered) = of (IsCall trees site) _ is (calls_virtual trees site named callee)
 
   pub special_calls : (parameters method : ℕ) → IsLinked trees p at code site k (linked.InvokeSpecial parameters method) → IsCall trees site meaning
   special_calls parameters method l = direct_calls parameters method l.calls

@@ -7,25 +7,28 @@ use Rattle.std.proofs.lemmas.Bool.{true≢false, false≢true}
 use Rattle.std.proofs.lemmas.Option.{same_Some}
 use Rattle.model.specs.declared.instr.Instr.TheVariants as instr
 use Rattle.model.specs.declared.instr.Invocation.TheVariants as invocation
-use Rattle.model.specs.Names.{Name, Member, name_eq}
+use Rattle.model.specs.Names.{Name, Member, name_eq, java_lang_class, java_lang_string}
 use Rattle.model.specs.BuiltIn.{built_in_classes}
 use Rattle.model.specs.BuiltInMethods.{BuiltInMethod, Construct, built_in_methods, is_row_of, built_in_method, built_in_may}
-use Rattle.model.specs.Calls.{Chosen, Runs, may_run, may_invoke, invoked, of_receiver, call_on, static_call, leads_after}
+use Rattle.model.specs.Calls.{Chosen, Runs, may_run, may_invoke, invoked, selected, its_class, if_implements, of_class, special_class, call_on, static_call, virtual_call, interface_call, special_call, constructor_call, leads_after, constructed_leads}
 use Rattle.model.specs.Classes.{Program, Body, body_of, is_built_in}
 use Rattle.model.specs.Meaning.{waiting_at}
 use Rattle.model.specs.Meanings.{meaning_of}
 use Rattle.model.specs.MonitorMeanings.{monitor_enter_meaning}
 use Rattle.model.specs.Operands.{Slots, words}
 use Rattle.model.specs.Outcomes.{OutcomeOf, Goes, Raises, Interrupts, not_null}
-use Rattle.model.specs.ReferenceTypes.{ReferenceType}
+use Rattle.model.specs.Opening.{class_reference, string_reference}
+use Rattle.model.specs.ReferenceTypes.{ClassType, is_subtype}
 use Rattle.model.specs.Report.{ThreadEnd, Blocked, Joining}
 use Rattle.model.specs.Sites.{Leads, MeaningOf, Site, referent}
-use Rattle.model.specs.State.{WorldOf}
-use Rattle.model.specs.Types.{Want}
+use Rattle.model.specs.State.{WorldOf, type_of}
+use Rattle.model.specs.Worlds.{object_at}
+use Rattle.model.specs.DescribedTypes.{type_named}
+use Rattle.model.specs.Types.{Want, AReceiver}
 use Rattle.laws.proofs.Classes.{names_same}
 use Rattle.laws.proofs.Operations.{Operation, OfRow, GetSystemOut, GetStatic, PutStatic, GetField, PutField, Println, CallVirtual, CallConstructor, CallSpecial, CallStatic, CallInterface, Return, LoadClass, LoadString, New, NewArray, NewReferenceArray, ArrayLength, LoadElement, StoreElement, CheckCast, InstanceOf, Throw, MonitorEnter, MonitorExit, operation, OfMeaning, each_meaning}
 use Rattle.linked_frames.specs.Frames.{event_of}
-use Rattle.waiting_instructions.proofs.Quick.{IsQuick, quick_row, quick_system_out, quick_get_static, quick_put_static, quick_get_field, quick_put_field, quick_println, quick_return, quick_object, quick_new, quick_array, quick_length, quick_load, quick_store, quick_cast, quick_instance, quick_throw, quick_exit}
+use Rattle.waiting_instructions.proofs.Quick.{IsQuick, quick_row, quick_system_out, quick_get_static, quick_put_static, quick_get_field, quick_put_field, quick_println, quick_return, quick_object, quick_new, quick_primitives, quick_references, quick_length, quick_load, quick_store, quick_cast, quick_instance, quick_throw, quick_exit}
 use Rattle.waiting_instructions.proofs.BuiltIns.{invocation_held}
 
 -- ---- a static method of a class of a file: it is none of the built-in ones
@@ -85,12 +88,25 @@ calls_on trees site callee wants leads choose = record {
 
 pub calls_static : (trees : Program) (site : Site) (callee : Member) → IsCall trees site (static_call words trees site callee)
 calls_static trees site callee = record {
-  chosen = _;
-  object = _;
+  chosen = λ t world ops. Runs callee;
+  object = λ t world ops. class_reference trees callee.class;
   may = λ t world ops. refl;
   does = λ t world slots ops rest. refl;
   by_class = λ class looks file t world ops. let same : callee.class ≡ class = same_Some callee.class class looks in run_allowed t world ops callee (ap is_built_in same ∙ file) (body_of trees callee);
 }
+
+pub calls_virtual : (trees : Program) (site : Site) (named : Name) (callee : Member) → IsCall trees site (virtual_call words trees site named callee)
+calls_virtual trees site named callee = calls_on trees site callee (of_class trees named ∷ []) (leads_after trees site callee) (λ world r. selected trees (its_class world r) callee)
+
+pub calls_interface : (trees : Program) (site : Site) (named : Name) (callee : Member) → IsCall trees site (interface_call words trees site named callee)
+calls_interface trees site named callee =
+    calls_on trees site callee (of_class trees named ∷ []) (leads_after trees site callee) (λ world r. if_implements (is_subtype trees (type_of (object_at world r)) (ClassType named)) (selected trees (its_class world r) callee))
+
+pub calls_special : (trees : Program) (site : Site) (named : Name) (callee : Member) → IsCall trees site (special_call words trees site named callee)
+calls_special trees site named callee = calls_on trees site callee (of_class trees site.method.class ∷ []) (leads_after trees site callee) (λ world r. selected trees (special_class trees site.method.class named) callee)
+
+pub calls_constructor : (trees : Program) (site : Site) (callee : Member) → IsCall trees site (constructor_call words trees site callee)
+calls_constructor trees site callee = calls_on trees site callee (AReceiver callee.class ∷ []) (constructed_leads site callee) (λ world r. Runs callee)
 
 -- ---- each instruction
 
@@ -108,22 +124,22 @@ module _ (trees : Program) (site : Site) where
   each (GetField f) = Quick (quick_get_field trees site site.next f.named.class f.field)
   each (PutField f) = Quick (quick_put_field trees site site.next f.named.class f.field)
   each (Println call e) = Quick (quick_println trees site site.next)
-  each (CallVirtual call e m) = Invokes (ap waiting_at call.instruction) (calls_on trees site _ _ _ _)
-  each (CallConstructor call e p) = Invokes (ap waiting_at call.instruction) (calls_on trees site _ _ _ _)
-  each (CallSpecial call e m) = Invokes (ap waiting_at call.instruction) (calls_on trees site _ _ _ _)
+  each (CallVirtual call e m) = Invokes (ap waiting_at call.instruction) (calls_virtual trees site call.named.class m.method)
+  each (CallConstructor call e p) = Invokes (ap waiting_at call.instruction) (calls_constructor trees site call.named)
+  each (CallSpecial call e m) = Invokes (ap waiting_at call.instruction) (calls_special trees site call.named.class m.method)
   each (CallStatic index i m) = Invokes (ap waiting_at i) (calls_static trees site m.method)
-  each (CallInterface call m) = Invokes (ap waiting_at call.instruction) (calls_on trees site _ _ _ _)
+  each (CallInterface call m) = Invokes (ap waiting_at call.instruction) (calls_interface trees site call.named.class m.method)
   each (Return kind i) = Quick (quick_return trees site 0 site.method.descriptor kind)
-  each (LoadClass constant file e) = Quick (quick_object trees site 0 _ _)
-  each (LoadString constant) = Quick (quick_object trees site 0 _ _)
+  each (LoadClass constant file e) = Quick (quick_object trees site 0 java_lang_class (class_reference trees constant.text))
+  each (LoadString constant) = Quick (quick_object trees site 0 java_lang_string (string_reference trees constant.text))
   each (New class file e) = Quick (quick_new trees site 0 class.name)
-  each (NewArray code of i e) = Quick (quick_array trees site 0 _ _ _)
-  each (NewReferenceArray class) = Quick (quick_array trees site 0 _ _ _)
+  each (NewArray code of i e) = Quick (quick_primitives trees site 0 of)
+  each (NewReferenceArray class) = Quick (quick_references trees site 0 (type_named class.name))
   each (ArrayLength i) = Quick (quick_length trees site 0)
   each (LoadElement kind i) = Quick (quick_load trees site 0 kind)
   each (StoreElement kind i) = Quick (quick_store trees site 0 kind)
-  each (CheckCast class) = Quick (quick_cast trees site 0 _)
-  each (InstanceOf class) = Quick (quick_instance trees site 0 _)
+  each (CheckCast class) = Quick (quick_cast trees site 0 (type_named class.name))
+  each (InstanceOf class) = Quick (quick_instance trees site 0 (type_named class.name))
   each (Throw i) = Quick (quick_throw trees site 0)
   each (MonitorEnter i) = Enters (ap waiting_at i) refl
   each (MonitorExit i) = Quick (quick_exit trees site 0)

@@ -5,7 +5,7 @@ use Rattle.model.specs.declared.instr.ArrayKind.TheVariants as array_kind
 use Rattle.model.specs.declared.instr.Returned.{Returned}
 use Rattle.model.specs.declared.instr.Returned.TheVariants as returned
 use Rattle.model.specs.Names.{Name, Member}
-use Rattle.model.specs.Arrays.{made_array, array_meaning, array_length_meaning, load_meaning, store_int_meaning, store_reference_meaning, if_storable, at_index, in_range, element_at, stored, kept_by, may_stand_in, load_of, store_of}
+use Rattle.model.specs.Arrays.{made_array, array_meaning, primitive_array_meaning, reference_array_meaning, array_length_meaning, load_meaning, store_int_meaning, store_reference_meaning, if_storable, at_index, in_range, element_at, stored, kept_by, may_stand_in, load_of, store_of}
 use Rattle.model.specs.Calls.{return_of}
 use Rattle.model.specs.Classes.{Program}
 use Rattle.model.specs.MonitorMeanings.{left, monitor_exit_meaning}
@@ -13,12 +13,12 @@ use Rattle.model.specs.Meanings.{does_row, local_meaning, system_out_meaning, ge
 use Rattle.model.specs.Objects.{cast, new_meaning, check_cast_meaning, instance_of_meaning, object_meaning}
 use Rattle.model.specs.Operands.{Slots, words}
 use Rattle.model.specs.Outcomes.{OutcomeOf, Goes, Raises, Throws, Interrupts, Calls, Returns, Waits, Arithmetic, IllegalMonitorState, not_null}
-use Rattle.model.specs.ReferenceTypes.{ReferenceType}
+use Rattle.model.specs.ReferenceTypes.{Primitive, ReferenceType, PrimitiveArray, ReferenceArray}
 use Rattle.model.specs.Rows.{Row}
 use Rattle.model.specs.Opening.{first_of}
 use Rattle.model.specs.BuiltInMethods.{with_printed}
 use Rattle.model.specs.Sites.{MeaningOf, Site, pushing, operand, referent, int_operand}
-use Rattle.model.specs.State.{ObjectOf, FrameOf, StackOf, WorldOf}
+use Rattle.model.specs.State.{ObjectOf, Primitives, References, FrameOf, StackOf, WorldOf}
 use Rattle.model.specs.Types.{Want, VerificationType}
 use Rattle.model.specs.ThrowMeaning.{throw_meaning}
 use Rattle.model.specs.Worlds.{is_owner, with_exit, object_at, with_object, value_in, fields_of, with_field, put_value, elements_of}
@@ -91,7 +91,7 @@ module _ (trees : Program) (site : Site) (next : ℕ) where
   quick_put_static field = record { may = λ t world ops. refl; stays = λ t world slots ops rest. tt }
 
   pub quick_get_field : (named : Name) (field : Member) → IsQuick (get_field_of words trees next named field)
-  quick_get_field named field = record { may = λ t world ops. refl; stays = λ t world slots ops rest. not_null_stays (referent words ops 0) (λ r. pushing next (value_in (first_of words) field (fields_of (object_at world r)) ∷ []) world slots rest) (λ r. tt) }
+  quick_get_field named field = record { may = λ t world ops. refl; stays = λ t world slots ops rest. not_null_stays (referent words ops 0) (λ r. pushing next (value_in (first_of words field) field (fields_of (object_at world r)) ∷ []) world slots rest) (λ r. tt) }
 
   pub quick_put_field : (named : Name) (field : Member) → IsQuick (put_field_of words trees next named field)
   quick_put_field named field = record { may = λ t world ops. refl; stays = λ t world slots ops rest. not_null_stays (referent words ops 1) (λ r. pushing next [] (with_object world r (with_field field (put_value words field (operand words ops 0)) (object_at world r))) slots rest) (λ r. tt) }
@@ -114,8 +114,14 @@ module _ (trees : Program) (site : Site) (next : ℕ) where
   made_stays true to count array first world slots rest = tt
   made_stays false to count array first world slots rest = tt
 
-  pub quick_array : (type : ReferenceType) (array : List ℕ → ObjectOf ℕ) (first : ℕ) → IsQuick (array_meaning words trees site type array first)
+  quick_array : (type : ReferenceType) (array : List ℕ → ObjectOf ℕ) (first : ℕ) → IsQuick (array_meaning words trees site type array first)
   quick_array type array first = record { may = λ t world ops. refl; stays = λ t world slots ops rest. made_stays _ site.next _ array first world slots rest }
+
+  pub quick_primitives : (of : Primitive) → IsQuick (primitive_array_meaning words trees site of)
+  quick_primitives of = quick_array (PrimitiveArray of) (λ elements. Primitives of elements) (words.int 0)
+
+  pub quick_references : (of : ReferenceType) → IsQuick (reference_array_meaning words trees site of)
+  quick_references of = quick_array (ReferenceArray of) (λ elements. References of elements) words.over.null
 
   pub quick_length : IsQuick (array_length_meaning words site)
   quick_length = record { may = λ t world ops. refl; stays = λ t world slots ops rest. not_null_stays (referent words ops 0) (λ r. pushing site.next (words.int (length (elements_of (object_at world r))) ∷ []) world slots rest) (λ r. tt) }

@@ -9,7 +9,7 @@ use crate::ready::ready_standing;
 use class_initialisation::ClassLook;
 use linked_code::{LinkedInstruction, LinkedProgram};
 use linked_frames::instruction_at;
-use machine_state::Shared;
+use machine_state::{Shared, instructions_are_done};
 use thread_stacks::ThreadStack;
 
 /// How a thread stands at an instruction. Its class comes first: while another thread initialises it, the thread waits (JVMS 5.5);
@@ -24,6 +24,7 @@ fn standing_at(
 ) -> Standing
     ensures { StandsAt program.now instruction frames thread result shared.now stack.now }
 {
+    instructions_are_done();
     match look_of(shared, thread, instruction) {
         ClassLook::Ready => ready_standing(shared, stack, program, thread, frames, instruction),
         ClassLook::Held => Standing::Initialising,

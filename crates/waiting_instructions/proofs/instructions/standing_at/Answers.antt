@@ -1,16 +1,25 @@
-use Rattle.std.proofs.Common.{rules, ◌≡◌, ℕ, ◌+◌, ◌-◌, ◌*◌, ◌<◌, ◌≤◌, length, ◌/◌, ◌%◌, Bool, true, false, nat_eq, nat_lt, List, [], ◌∷◌, ◌++◌, slice_index_or, slice_set, bit_and, bit_or, Fits, w8, w32, w64, Bor, MutBor}
-use Rattle.waiting_instructions.specs.Waits.{StandsAtIt}
-use Rattle.waiting_instructions.specs.Held.{StandsAt}
+use Rattle.std.proofs.Common.{inl, inr, sym, ap, subst, ◌∙◌}
+use Rattle.class_initialisation.specs.Statuses.{shown_look}
+use Rattle.waiting_instructions.specs.Waits.{IsEnd}
+use Rattle.waiting_instructions.proofs.Ends.{ready_stands, held_stands, new_stands, failed_stands}
 use Rattle.waiting_instructions.proofs.instructions.standing_at.Goals as goal
 
--- src/instructions.rt:17:1
 pub returns-in-Ready : goal.returns-in-Ready
-returns-in-Ready c = ?
+returns-in-Ready c = λ trees bounds inflated state frame rest code site meaning is.
+    subst (IsEnd trees c.ready_standing.result)
+    (sym (ready_stands trees c.args.frames c.args.thread state.world frame rest site meaning is.stands.at c.instructions_are_done.ensures.holds
+    (sym (c.look_of.ensures trees c.args.program.now bounds inflated c.args.stack.now state frame rest code site meaning is) ∙ ap shown_look c.in-Ready.is)))
+    (c.ready_standing.ensures trees bounds inflated state frame rest code site meaning is)
 
--- src/instructions.rt:17:1
 pub returns-in-Held : goal.returns-in-Held
-returns-in-Held c = ?
+returns-in-Held c = λ trees bounds inflated state frame rest code site meaning is.
+    held_stands trees c.args.frames c.args.thread state.world frame rest site meaning is.stands.at
+    (sym (c.look_of.ensures trees c.args.program.now bounds inflated c.args.stack.now state frame rest code site meaning is) ∙ ap shown_look c.in-Held.is)
 
--- src/instructions.rt:17:1
 pub returns-in-New : goal.returns-in-New
-returns-in-New c = ?
+returns-in-New c = λ trees bounds inflated state frame rest code site meaning is.
+    let looks = sym (c.look_of.ensures trees c.args.program.now bounds inflated c.args.stack.now state frame rest code site meaning is) in
+    elim c.in-New.is [
+    | inl e ↦ new_stands trees c.args.frames c.args.thread state.world frame rest site meaning is.stands.at (looks ∙ ap shown_look e)
+    | inr e ↦ failed_stands trees c.args.frames c.args.thread state.world frame rest site meaning is.stands.at (looks ∙ ap shown_look e)
+    ]

@@ -1,11 +1,13 @@
-use Rattle.std.proofs.Common.{rules, ◌≡◌, ℕ, ◌+◌, ◌-◌, ◌*◌, ◌<◌, ◌≤◌, length, ◌/◌, ◌%◌, Bool, true, false, nat_eq, nat_lt, List, [], ◌∷◌, ◌++◌, slice_index_or, slice_set, bit_and, bit_or, Fits, w8, w32, w64, Bor, MutBor}
-use Rattle.waiting_instructions.specs.Held.{IsLookOf}
+use Rattle.std.proofs.Common.{sym, ap, ◌∙◌}
+use Rattle.linked_code.specs.Linked.{offset_in}
+use Rattle.model.specs.ClassInitialisation.{look_at}
 use Rattle.waiting_instructions.proofs.looks.look_of.Goals as goal
 
--- src/looks.rt:11:1
 pub returns-in-Some : goal.returns-in-Some
-returns-in-Some c = ?
+returns-in-Some c = λ trees p bounds inflated stack state frame rest code site meaning is.
+    let n = c.in-Some.ensures trees p (offset_in code.starts.items) code.instructions.items site is.shown.place meaning is.stands.linked is.stands.at.means in
+    c.look.ensures trees p bounds state.world is.program is.lent.represents n.0 n.2 ∙ sym (ap (look_at c.args.thread state.world) n.1)
 
--- src/looks.rt:11:1
 pub returns-in-None : goal.returns-in-None
-returns-in-None c = ?
+returns-in-None c = λ trees p bounds inflated stack state frame rest code site meaning is.
+    sym (c.in-None.ensures trees p (offset_in code.starts.items) code.instructions.items site is.shown.place meaning is.stands.linked is.stands.at.means c.args.thread state.world)
