@@ -20,6 +20,6 @@ pub returns-in-New : goal.returns-in-New
 returns-in-New c = λ trees bounds inflated state frame rest code site meaning is.
     let looks = sym (c.look_of.ensures trees c.args.program.now bounds inflated c.args.stack.now state frame rest code site meaning is) in
     elim c.in-New.is [
-    | inl e ↦ new_stands trees c.args.frames c.args.thread state.world frame rest site meaning is.stands.at (looks ∙ ap shown_look e)
-    | inr e ↦ failed_stands trees c.args.frames c.args.thread state.world frame rest site meaning is.stands.at (looks ∙ ap shown_look e)
+      | inl e ↦ new_stands trees c.args.frames c.args.thread state.world frame rest site meaning is.stands.at (looks ∙ ap shown_look e)
+      | inr e ↦ failed_stands trees c.args.frames c.args.thread state.world frame rest site meaning is.stands.at (looks ∙ ap shown_look e)
     ]

@@ -32,6 +32,6 @@ pub returns-in-Code : goal.returns-in-Code
 returns-in-Code c = λ trees bounds inflated state frame rest site chosen operands is.
     let run = c.methods_are_run.ensures.holds in
     stands_same c.code_standing.result c.args.frames _ _
-    (λ n. sym (pushes_is run trees c.args.program.now bounds inflated c.args.thread c.args.shared.now c.args.stack.now state frame rest site (record { method = c.args.method; object = c.args.object; operands = operands }) chosen is c.in-Some.row.now (sym c.in-Some.ensures) c.in-Code.field-0 c.in-Code.is c.entered.result c.entered.ensures n 0 refl))
+    (λ n. sym (pushes_is run trees c.args.program.now bounds inflated c.args.thread c.args.shared.now c.args.stack.now state frame rest site (record { method = c.args.method; object = c.args.object; operands = operands }) chosen is c.in-Some.row.now (sym c.in-Some.ensures) c.in-Code.field-0 c.in-Code.is c.entered-entered.result c.entered-entered.ensures n 0 refl))
     (c.code_standing.ensures trees c.args.program.now bounds state.world (Invocation frame ∷ rest) (Invocation (at_call frame (drop operands frame.place.slots.stack)) ∷ rest) _ is.lent.represents is.lent.shows_stack
-    (monitor_there run trees c.args.program.now bounds inflated c.args.thread c.args.shared.now c.args.stack.now state frame rest site (record { method = c.args.method; object = c.args.object; operands = operands }) chosen is c.in-Some.row.now (sym c.in-Some.ensures) c.in-Code.field-0 c.in-Code.is c.entered.result c.entered.ensures) refl)
+    (monitor_there run trees c.args.program.now bounds inflated c.args.thread c.args.shared.now c.args.stack.now state frame rest site (record { method = c.args.method; object = c.args.object; operands = operands }) chosen is c.in-Some.row.now (sym c.in-Some.ensures) c.in-Code.field-0 c.in-Code.is c.entered-entered.result c.entered-entered.ensures) refl)
