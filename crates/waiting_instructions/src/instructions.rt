@@ -1,11 +1,36 @@
 //! For what an instruction waits.
 
 ghost use Rattle.waiting_instructions.specs.Waits.{StandsAtIt};
+ghost use Rattle.waiting_instructions.specs.Held.{StandsAt};
 
 use crate::kinds::Standing;
-use linked_code::LinkedProgram;
-use machine_state::Shared;
+use crate::looks::look_of;
+use crate::ready::ready_standing;
+use class_initialisation::ClassLook;
+use linked_code::{LinkedInstruction, LinkedProgram};
+use linked_frames::instruction_at;
+use machine_state::{Shared, instructions_are_done};
 use thread_stacks::ThreadStack;
+
+/// How a thread stands at an instruction. Its class comes first: while another thread initialises it, the thread waits (JVMS 5.5);
+/// the event is the begin of its initialisation, where it is new, and a NoClassDefFoundError, where that has failed.
+fn standing_at(
+    shared: &Shared,
+    stack: &ThreadStack,
+    program: &LinkedProgram,
+    thread: u16,
+    frames: usize,
+    instruction: LinkedInstruction,
+) -> Standing
+    ensures { StandsAt program.now instruction frames thread result shared.now stack.now }
+{
+    instructions_are_done();
+    match look_of(shared, thread, instruction) {
+        ClassLook::Ready => ready_standing(shared, stack, program, thread, frames, instruction),
+        ClassLook::Held => Standing::Initialising,
+        ClassLook::New | ClassLook::Failed => Standing::Runnable,
+    }
+}
 
 /// How a thread stands that runs, with no exception pending, and has a frame on top of its stack. A thread has at most so many
 /// frames.
@@ -18,5 +43,8 @@ pub fn instruction_standing(
 ) -> Standing
     ensures { StandsAtIt program.now shared.now stack.now thread frames result }
 {
-    Standing::Runnable
+    match instruction_at(program, stack) {
+        Some(instruction) => standing_at(shared, stack, program, thread, frames, instruction),
+        None => Standing::Runnable,
+    }
 }

@@ -2,8 +2,15 @@
 //! JLS 17).
 #![tactic(auto)]
 
+mod calls;
+mod direct_calls;
+mod frames;
 mod instructions;
 mod kinds;
+mod looks;
+mod methods;
+mod monitors;
+mod ready;
 
 pub use instructions::instruction_standing;
 pub use kinds::Standing;
