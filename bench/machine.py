@@ -4,13 +4,14 @@
     machine.py [--program PROGRAM] [--runs N] [NAME..]
 
 PROGRAM is the built program `machine_bench` [default: crates/machine_bench/out/machine_bench, which `rt run` leaves]. A
-line is printed for each program [default: all of them]: how many events it has, the nanoseconds of the machine for one of
-them, those of `java -Xint`, and how many times as long the machine takes. All run in turn, the machine and java one
-after the other, N times over [default: 20], and the least of each counts. A JDK that knows `--release 8` has to be there.
+line is printed for each program [default: all of them]: how many events it has, the nanoseconds of the machine for one
+of them, those of `java -Xint`, and how many times as long the machine takes. All run in turn, the machine and java one
+after the other, N times over [default: 20], and the least of each counts. A JDK that knows `--release 8` has to be
+there.
 
 The sources stand in bench/java; `tools/java-classes` compiles them to class files of version 49.0, which both run. An
-event is a bytecode; but to enter a class, to call main, and to look for the handler of an exception in a frame are events
-too. So what java takes is divided by the same number, though an exception is one bytecode for it.
+event is a bytecode; but to enter a class, to call main, and to look for the handler of an exception in a frame are
+events too. So what java takes is divided by the same number, though an exception is one bytecode for it.
 
 Of the machine the events alone are timed, from the first event of main on, by the clock. Of java it is the time of the
 processor that the thread of main takes from the call of main to its return (`bench/java/Timed.java`): the least of five
@@ -23,8 +24,8 @@ fib       a static method that calls itself
 virtual   calls of a method that two classes have
 locks     a synchronized method and a synchronized block, which no other thread wants
 throws    an exception that a method throws and its caller catches
-turns     two threads that do the same. Under the schedule they change at each event. In java they run side by side, each on
-          a processor, and main's time is taken twice
+turns     two threads that do the same. Under the schedule they change at each event. In java they run side by side,
+          each on a processor, and main's time is taken twice
 """
 
 import argparse
@@ -158,8 +159,11 @@ def main():
     parser = argparse.ArgumentParser(description=__doc__, formatter_class=argparse.RawDescriptionHelpFormatter)
     parser.add_argument("--program", type=pathlib.Path, default=built)
     parser.add_argument("--runs", type=int, default=20)
-    parser.add_argument("names", nargs="*", choices=[[], *PROGRAMS], metavar="NAME")
+    parser.add_argument("names", nargs="*", metavar="NAME")
     options = parser.parse_args()
+    for name in options.names:
+        if name not in PROGRAMS:
+            parser.error(f"{name!r} is none of {', '.join(PROGRAMS)}")
     program = options.program.resolve()
     with tempfile.TemporaryDirectory() as folder:
         compiled("Timed", folder)
