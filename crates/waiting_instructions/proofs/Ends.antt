@@ -1,14 +1,11 @@
 -- How a thread stands at an instruction, with the look at the class that it needs.
-use Rattle.std.proofs.Common.{◌≡◌, ℕ, List, ◌∷◌, Option, Some, None, Bool, true, false, if◌then◌else◌, refl, sym, ap, subst, ◌∙◌}
+use Rattle.std.proofs.Common.{◌≡◌, ℕ, List, ◌∷◌, Option, Some, None, Bool, true, false, if◌then◌else◌, refl, sym, ap, ◌∙◌}
 use Rattle.std.specs.Option.{option_map_or, option_and_then}
-use Rattle.std.proofs.lemmas.Bool.{true≢false, false≢true}
-use Rattle.std.proofs.lemmas.Option.{same_Some}
 use Rattle.model.specs.Names.{Name}
-use Rattle.model.specs.Classes.{Program, Body, body_of, is_built_in}
+use Rattle.model.specs.Classes.{Program, body_of, is_built_in}
 use Rattle.model.specs.ClassInitialisation.{Look, IsReady, IsNew, IsHeld, HasFailed, look_at, look_by, is_held, status_in}
 use Rattle.model.specs.Meaning.{waiting_at}
 use Rattle.model.specs.Meanings.{meaning_of}
-use Rattle.model.specs.MonitorMeanings.{monitor_enter_meaning}
 use Rattle.model.specs.Operands.{words}
 use Rattle.model.specs.Report.{ThreadEnd, Runnable, Blocked, Initialising}
 use Rattle.model.specs.Sites.{MeaningOf, Site}

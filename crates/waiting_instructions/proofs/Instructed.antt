@@ -1,31 +1,26 @@
 -- How a thread stands at an instruction whose class is ready.
-use Rattle.std.proofs.Common.{◌≡◌, ℕ, List, [], ◌∷◌, Option, Some, None, Bool, true, false, if◌then◌else◌, refl, sym, ap, subst, ◌∙◌}
-use Rattle.std.proofs.lemmas.Bool.{true≢false, false≢true}
+use Rattle.std.proofs.Common.{◌≡◌, ℕ, List, [], Option, Some, None, Bool, true, false, if◌then◌else◌, refl, sym, ap, subst, ◌∙◌}
 use Rattle.model.specs.declared.instr.ArrayKind.TheVariants as array_kind
 use Rattle.model.specs.declared.instr.Returned.TheVariants as returned
 use Rattle.model.specs.Classes.{Program}
-use Rattle.model.specs.LimitStands.{Bounds}
 use Rattle.model.specs.Meaning.{waiting_at}
 use Rattle.model.specs.Meanings.{local_or, meaning_of}
 use Rattle.model.specs.MonitorMeanings.{monitor_enter_meaning}
 use Rattle.model.specs.Operands.{words, under}
 use Rattle.model.specs.Outcomes.{OutcomeOf, not_null}
-use Rattle.model.specs.Report.{ThreadEnd, Runnable, Blocked, Joining}
+use Rattle.model.specs.Report.{ThreadEnd, Runnable, Blocked}
 use Rattle.model.specs.Sites.{MeaningOf, Site, referent, pushing_at}
 use Rattle.model.specs.Worlds.{entry_cost, with_entry}
-use Rattle.model.specs.State.{FrameOf, StackOf, WorldOf, StateOf}
+use Rattle.model.specs.State.{FrameOf, StackOf, WorldOf}
 use Rattle.model.specs.Step.{SteppedOf, PartOf, is_enabled_by, enabled_if, ops_of, become, done}
 use Rattle.linked_code.specs.declared.instruction.LinkedInstruction.{LinkedInstruction}
 use Rattle.linked_code.specs.declared.instruction.LinkedInstruction.TheVariants as linked
-use Rattle.linked_code.specs.declared.method.LinkedCode.{LinkedCode}
 use Rattle.linked_code.specs.declared.program.LinkedProgram.{LinkedProgram}
 use Rattle.linked_code.specs.Calls.{IsDirectCall, CallsConstructor, CallsSpecial, CallsOnly}
 use Rattle.linked_code.specs.Linked.{IsLinked}
 use Rattle.linked_code.specs.Numbers.{primitive_of}
-use Rattle.thread_stacks.specs.Stacks.{ShownEntry}
-use Rattle.machine_state.specs.declared.state.Shared.{Shared}
 use Rattle.machine_state.specs.Instructions.{instruction_event}
-use Rattle.linked_frames.specs.Frames.{IsRunning, event_of}
+use Rattle.linked_frames.specs.Frames.{event_of}
 use Rattle.waiting_instructions.specs.declared.kinds.Standing.{Standing}
 use Rattle.waiting_instructions.specs.declared.kinds.Standing.TheVariants as standing
 use Rattle.waiting_instructions.specs.Waits.{IsEnd}

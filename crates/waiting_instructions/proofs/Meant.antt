@@ -1,12 +1,10 @@
 -- What the instruction of a site may wait for: nothing, the monitor of monitorenter, or what a call waits for.
-use Rattle.std.proofs.Common.{◌≡◌, ◌==◌, ◌&&◌, ℕ, List, [], ◌∷◌, Option, Some, None, Bool, true, false, refl, sym, ap, subst, ◌∙◌}
+use Rattle.std.proofs.Common.{◌≡◌, ◌&&◌, ℕ, List, [], ◌∷◌, Option, Some, None, Bool, true, false, refl, sym, ap, subst, ◌∙◌}
 use Rattle.std.specs.Prelude.{find, unwrap_or, if◌then◌else◌}
 use Rattle.std.specs.Option.{option_map}
 use Rattle.std.specs.List.{AllByRecursion}
-use Rattle.std.proofs.lemmas.Bool.{true≢false, false≢true}
+use Rattle.std.proofs.lemmas.Bool.{true≢false}
 use Rattle.std.proofs.lemmas.Option.{same_Some}
-use Rattle.model.specs.declared.instr.Instr.TheVariants as instr
-use Rattle.model.specs.declared.instr.Invocation.TheVariants as invocation
 use Rattle.model.specs.Names.{Name, Member, name_eq, java_lang_class, java_lang_string}
 use Rattle.model.specs.BuiltIn.{built_in_classes}
 use Rattle.model.specs.BuiltInMethods.{BuiltInMethod, Construct, built_in_methods, is_row_of, built_in_method, built_in_may}
@@ -16,10 +14,10 @@ use Rattle.model.specs.Meaning.{waiting_at}
 use Rattle.model.specs.Meanings.{meaning_of}
 use Rattle.model.specs.MonitorMeanings.{monitor_enter_meaning}
 use Rattle.model.specs.Operands.{Slots, words}
-use Rattle.model.specs.Outcomes.{OutcomeOf, Goes, Raises, Interrupts, not_null}
+use Rattle.model.specs.Outcomes.{OutcomeOf, Interrupts, not_null}
 use Rattle.model.specs.Opening.{class_reference, string_reference}
 use Rattle.model.specs.ReferenceTypes.{ClassType, is_subtype}
-use Rattle.model.specs.Report.{ThreadEnd, Blocked, Joining}
+use Rattle.model.specs.Report.{Blocked, Joining}
 use Rattle.model.specs.Sites.{Leads, MeaningOf, Site, referent}
 use Rattle.model.specs.State.{WorldOf, type_of}
 use Rattle.model.specs.Worlds.{object_at}

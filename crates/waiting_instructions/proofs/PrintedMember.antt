@@ -1,5 +1,5 @@
 -- Which member println is among the built-in methods.
-use Rattle.std.proofs.Common.{◌≡◌, find, Bool, true, false, Option, Some, None, option_map, refl, sym, ap, ◌∙◌}
+use Rattle.std.proofs.Common.{◌≡◌, find, Bool, true, Option, Some, None, option_map, refl, sym, ap, ◌∙◌}
 use Rattle.std.specs.Prelude.{unwrap_or}
 use Rattle.std.specs.Option.{option_map_or}
 use Rattle.std.specs.List.{list_all}

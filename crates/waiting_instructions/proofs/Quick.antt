@@ -1,15 +1,15 @@
 -- The instructions that never wait once their class is ready: those that enter no monitor and call nothing.
-use Rattle.std.proofs.Common.{◌≡◌, ℕ, List, [], ◌∷◌, length, Option, Some, None, Bool, true, false, if◌then◌else◌, refl, sym, ap, subst, ◌∙◌}
+use Rattle.std.proofs.Common.{◌≡◌, ℕ, List, [], ◌∷◌, length, Option, Some, None, Bool, true, false, if◌then◌else◌, refl}
 use Rattle.model.specs.declared.instr.ArrayKind.{ArrayKind}
 use Rattle.model.specs.declared.instr.ArrayKind.TheVariants as array_kind
 use Rattle.model.specs.declared.instr.Returned.{Returned}
 use Rattle.model.specs.declared.instr.Returned.TheVariants as returned
 use Rattle.model.specs.Names.{Name, Member}
-use Rattle.model.specs.Arrays.{made_array, array_meaning, primitive_array_meaning, reference_array_meaning, array_length_meaning, load_meaning, store_int_meaning, store_reference_meaning, if_storable, at_index, in_range, element_at, stored, kept_by, may_stand_in, load_of, store_of}
+use Rattle.model.specs.Arrays.{made_array, array_meaning, primitive_array_meaning, reference_array_meaning, array_length_meaning, load_meaning, store_int_meaning, if_storable, at_index, in_range, element_at, stored, kept_by, may_stand_in, load_of, store_of}
 use Rattle.model.specs.Calls.{return_of}
 use Rattle.model.specs.Classes.{Program}
 use Rattle.model.specs.MonitorMeanings.{left, monitor_exit_meaning}
-use Rattle.model.specs.Meanings.{does_row, local_meaning, system_out_meaning, get_static_of, put_static_of, get_field_of, put_field_of, println_meaning}
+use Rattle.model.specs.Meanings.{local_meaning, system_out_meaning, get_static_of, put_static_of, get_field_of, put_field_of, println_meaning}
 use Rattle.model.specs.Objects.{cast, new_meaning, check_cast_meaning, instance_of_meaning, object_meaning}
 use Rattle.model.specs.Operands.{Slots, words}
 use Rattle.model.specs.Outcomes.{OutcomeOf, Goes, Raises, Throws, Interrupts, Calls, Returns, Waits, Arithmetic, IllegalMonitorState, not_null}
@@ -22,7 +22,7 @@ use Rattle.model.specs.State.{ObjectOf, Primitives, References, FrameOf, StackOf
 use Rattle.model.specs.Types.{Want, VerificationType}
 use Rattle.model.specs.ThrowMeaning.{throw_meaning}
 use Rattle.model.specs.Worlds.{is_owner, with_exit, object_at, with_object, value_in, fields_of, with_field, put_value, elements_of}
-use Rattle.model.specs.Step.{SteppedOf, PartOf, is_enabled_by, on_to, raised, leaving, become}
+use Rattle.model.specs.Step.{is_enabled_by, on_to, raised, leaving, become}
 use Rattle.linked_frames.specs.Frames.{event_of}
 
 -- ---- outcomes

@@ -1,6 +1,6 @@
 -- For what an instruction waits, in parts: the class that it needs, the monitor that it enters, and the end of a thread (JVMS 2.11.10,
 -- 5.5, 6.5; JLS 17). No public clause cites this module.
-use Rattle.std.specs.Prelude.{◌≡◌, ℕ, List, ◌∷◌, Option, Bool, true, false, if◌then◌else◌}
+use Rattle.std.specs.Prelude.{◌≡◌, ℕ, List, Option, Bool, true, false, if◌then◌else◌}
 use Rattle.model.specs.Classes.{Program, body_of}
 use Rattle.model.specs.LimitStands.{Bounds}
 use Rattle.model.specs.ClassInitialisation.{look_at}
@@ -10,7 +10,6 @@ use Rattle.model.specs.Report as report
 use Rattle.model.specs.Report.{ThreadEnd}
 use Rattle.model.specs.Meaning.{waiting_at}
 use Rattle.model.specs.Sites.{MeaningOf, Site}
-use Rattle.model.specs.State as model
 use Rattle.model.specs.State.{FrameOf, StackOf, WorldOf, StateOf}
 use Rattle.model.specs.Step.{SteppedOf, PartOf, is_enabled_by, ops_of, pushed, bytecode_event}
 use Rattle.word_reports.specs.Reports.{frame_end_of}

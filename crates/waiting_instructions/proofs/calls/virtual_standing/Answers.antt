@@ -1,4 +1,4 @@
-use Rattle.std.proofs.Common.{ℕ, ◌+◌, refl, sym, ap}
+use Rattle.std.proofs.Common.{◌+◌, refl, sym, ap}
 use Rattle.model.specs.Step.{is_enabled_by}
 use Rattle.machine_state.specs.declared.answers.MachineException.TheVariants as exception
 use Rattle.machine_state.specs.declared.answers.Effect.TheVariants as effect

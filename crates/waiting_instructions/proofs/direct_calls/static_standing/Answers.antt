@@ -1,4 +1,4 @@
-use Rattle.std.proofs.Common.{ℕ, refl, sym}
+use Rattle.std.proofs.Common.{refl, sym}
 use Rattle.model.specs.Calls.{Runs}
 use Rattle.waiting_instructions.proofs.Statics.{callee, invoking, static_event}
 use Rattle.waiting_instructions.proofs.Enabled.{stands_same}

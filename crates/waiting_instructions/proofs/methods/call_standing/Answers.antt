@@ -1,10 +1,10 @@
-use Rattle.std.proofs.Common.{ℕ, ◌+◌, ◌∷◌, drop, refl, sym, ap, subst, if◌then◌else◌, Some, None}
+use Rattle.std.proofs.Common.{◌+◌, ◌∷◌, drop, refl, sym, ap, subst}
 use Rattle.model.specs.State.{Invocation}
-use Rattle.model.specs.Frames.{at_call, frame_with}
+use Rattle.model.specs.Frames.{at_call}
 use Rattle.model.specs.Step.{is_enabled_by}
 use Rattle.linked_code.specs.declared.method.MethodBody.TheVariants as body
 use Rattle.called_methods.specs.Frames.{IsPlaceBehind}
-use Rattle.called_methods.proofs.RunMethods.{missing, runs_body, calling, built_in_done, pushes, pushes_is, monitor_there, event_of}
+use Rattle.called_methods.proofs.RunMethods.{missing, runs_body, calling, built_in_done, pushes_is, monitor_there, event_of}
 use Rattle.waiting_instructions.proofs.Enabled.{stands_same}
 use Rattle.waiting_instructions.proofs.methods.call_standing.Goals as goal
 

@@ -1,4 +1,4 @@
-use Rattle.std.proofs.Common.{ℕ, Option, sym, ap, subst, ◌∙◌, ◌<◌, ◌≤◌, arith}
+use Rattle.std.proofs.Common.{ap, subst, ◌∙◌, ◌<◌, ◌≤◌, arith}
 use Rattle.invocations.specs.Entering.{may_begin}
 use Rattle.waiting_instructions.proofs.Enabled.{overflows, entering_is, may_is, count_is}
 use Rattle.waiting_instructions.proofs.methods.code_standing.Goals as goal

@@ -1,4 +1,4 @@
-use Rattle.std.proofs.Common.{sym, ap, subst, refl, ◌∙◌}
+use Rattle.std.proofs.Common.{sym, ap, subst, ◌∙◌}
 use Rattle.invocations.specs.Entering.{IsThere, may_begin}
 use Rattle.monitor_events.specs.Tables.{over}
 use Rattle.waiting_instructions.proofs.methods.may_begin.Goals as goal

@@ -1,5 +1,4 @@
 use Rattle.std.proofs.Common.{sym, subst, ◌∙◌}
-use Rattle.linked_code.specs.declared.instruction.LinkedInstruction.TheVariants as linked
 use Rattle.linked_code.specs.Linked.{offset_in}
 use Rattle.waiting_instructions.specs.declared.kinds.Standing.TheVariants as standing
 use Rattle.waiting_instructions.specs.Held.{StandsReady}
