@@ -19,6 +19,7 @@ such calls behind a first one, which isn't counted. The numbers that both print 
 
 count     a loop of ints
 sieve     primes by an array of ints
+quicksort an array of ints, by recursion
 fields    a list of objects, whose fields are read and written
 fib       a static method that calls itself
 virtual   calls of a method that two classes have
@@ -26,6 +27,9 @@ locks     a synchronized method and a synchronized block, which no other thread 
 throws    an exception that a method throws and its caller catches
 turns     two threads that do the same. Under the schedule they change at each event. In java they run side by side,
           each on a processor, and main's time is taken twice
+buffer    two threads that put numbers into a ring of 16 places and two that take them, by wait and notifyAll. Under the
+          schedule, which bench/plain_machine.py makes, each goes on as long as it can. Of java it is the time of the
+          processor that all threads take together, on average of 20 calls
 """
 
 import argparse
@@ -41,8 +45,9 @@ ROOT = pathlib.Path(__file__).resolve().parent.parent
 sys.path.insert(0, str(ROOT / "tools"))
 
 from class_files import u2, u4
+from plain_machine import Machine, NotEnabled
 
-PROGRAMS = ("count", "sieve", "fields", "fib", "virtual", "locks", "throws", "turns")
+PROGRAMS = ("count", "sieve", "quicksort", "fields", "fib", "virtual", "locks", "throws", "turns", "buffer")
 
 # More events than any of the programs has.
 ALL = 4_294_967_295
@@ -50,8 +55,9 @@ ALL = 4_294_967_295
 # So many events of main come first where two threads take turns; the other thread is started among them.
 FIRST = 100
 
-# So many calls of main does a run of java time.
-CALLS = 5
+# So many calls of main does a run of java time; and so many where the time of all threads counts, which goes by steps
+# of 10 ms.
+CALLS, CALLS_OF_ALL = 5, 20
 
 NOT_ENABLED, ALL_DONE = "the next is not enabled", "all were done"
 
@@ -69,14 +75,14 @@ class Ran:
 @dataclasses.dataclass
 class Bench:
     """A program to time: the name of its class, its class files, the word that says which events to do, how many these
-    are and what they print, and how many threads share the work."""
+    are and what they print, and how many times the time of java's main is taken (0: the time of all its threads)."""
 
     name: str
     files: list
     word: str
     events: int
     printed: list
-    threads: int
+    times: int
 
 
 def compiled(name, folder):
@@ -96,12 +102,13 @@ def on_machine(program, word, files):
 
 
 def on_java(bench, folder):
-    """The nanoseconds of main's thread."""
-    command = ["java", "-Xint", "-cp", folder, "Timed", bench.name, str(CALLS)]
+    """The nanoseconds that count of java."""
+    calls, words = (CALLS, []) if bench.times else (CALLS_OF_ALL, ["all"])
+    command = ["java", "-Xint", "-cp", folder, "Timed", bench.name, str(calls), *words]
     ran = subprocess.run(command, capture_output=True, text=True)
-    if ran.returncode != 0 or ran.stdout.splitlines() != bench.printed * (CALLS + 1):
+    if ran.returncode != 0 or ran.stdout.splitlines() != bench.printed * (calls + 1):
         sys.exit(f"{bench.name}: java: status {ran.returncode}: {ran.stdout}{ran.stderr}")
-    return int(ran.stderr.split()[0])
+    return max(bench.times, 1) * int(ran.stderr.split()[0])
 
 
 def write_schedule(path, entries):
@@ -129,18 +136,37 @@ def write_turns(program, files, path):
     write_schedule(path, [(0, FIRST), *[(1, 1), (0, 1)] * turns, *rest])
 
 
+def write_whole(files, path):
+    """Writes the schedule by which each thread goes on as long as it can, and then the next one that can."""
+    machine, entries, thread, idle = Machine([pathlib.Path(file).read_bytes() for file in files]), [], 0, 0
+    while idle < len(machine.threads):
+        before = machine.done
+        try:
+            while True:
+                machine.step(thread)
+        except NotEnabled:
+            entries.append((thread, machine.done - before))
+        idle = 0 if machine.done > before else idle + 1
+        thread = (thread + 1) % len(machine.threads)
+    write_schedule(path, entries)
+
+
 def prepared(program, name, folder):
     """Compiles a program, and runs it once to learn its events."""
     files = compiled(name.capitalize(), folder)
     word, wanted = str(ALL), NOT_ENABLED
-    if name == "turns":
-        path = pathlib.Path(folder) / "schedule"
-        write_turns(program, files, path)
+    if name in ("turns", "buffer"):
+        path = pathlib.Path(folder) / f"{name}.schedule"
+        if name == "turns":
+            write_turns(program, files, path)
+        else:
+            write_whole(files, path)
         word, wanted = str(path), ALL_DONE
     ran = on_machine(program, word, files)
     if ran.why != wanted:
         sys.exit(f"{name}: {ran.events} events, {ran.why}")
-    return Bench(name.capitalize(), files, word, ran.events, ran.printed, 2 if name == "turns" else 1)
+    times = {"turns": 2, "buffer": 0}.get(name, 1)
+    return Bench(name.capitalize(), files, word, ran.events, ran.printed, times)
 
 
 def measured(program, folder, benches, runs):
@@ -150,7 +176,7 @@ def measured(program, folder, benches, runs):
         for bench in benches:
             machine, java = found[bench.name]
             machine.append(1_000 * on_machine(program, bench.word, bench.files).microseconds / bench.events)
-            java.append(bench.threads * on_java(bench, folder) / bench.events)
+            java.append(on_java(bench, folder) / bench.events)
     return {name: (min(machine), min(java)) for name, (machine, java) in found.items()}
 
 
@@ -169,10 +195,10 @@ def main():
         compiled("Timed", folder)
         benches = [prepared(program, name, folder) for name in options.names or PROGRAMS]
         found = measured(program, folder, benches, options.runs)
-    print("program      events   machine  java -Xint  ratio")
+    print("program       events   machine  java -Xint  ratio")
     for bench in benches:
         machine, java = found[bench.name]
-        print(f"{bench.name.lower():8}{bench.events:11} {machine:6.1f} ns   {java:6.2f} ns  {machine / java:5.1f}")
+        print(f"{bench.name.lower():9}{bench.events:11} {machine:6.1f} ns   {java:6.2f} ns  {machine / java:5.1f}")
 
 
 if __name__ == "__main__":

@@ -5,12 +5,12 @@
 
 Each program [default: all of them] is compiled by `tools/java-classes`, run by `java`, and run under several schedules
 by `bench/plain_machine.py`, which is the machine once more, written by the rules alone. What each run prints, and the
-exceptions that end its threads, have to be those of `java`; but not of a program that races, as its first line says, and
-not of a run whose schedule or limit ends it before its threads.
+exceptions that end its threads, have to be those of `java`; but not of a program that races, as its first line says,
+and not of a run whose schedule or limit ends it before its threads.
 
-The cases that come of it are compared with crates/conformance: the class files, the schedules and what they must print.
-With --write they are written there, into the files java-TOPIC.cases and into stdout. A line is printed for each program.
-The status is 1 where `java` or a case differs.
+The cases that come of it are compared with crates/conformance: the class files, the schedules and what they must
+print. With --write they are written there, into the files java-TOPIC.cases and into stdout. A line is printed for each
+program. The status is 1 where `java` or a case differs.
 
 The schedules are made by running the program:
 
@@ -33,7 +33,8 @@ import tempfile
 
 sys.dont_write_bytecode = True
 
-from plain_machine import Frame, Machine, NotEnabled, Refused, replay
+from plain_frames import Frame
+from plain_machine import Machine, NotEnabled, Refused, replay
 
 ROOT = pathlib.Path(__file__).resolve().parent.parent
 CONFORMANCE = ROOT / "crates/conformance"
@@ -42,7 +43,8 @@ TOPICS = {
     "values": "Quicksort NarrowTypes Switches Matrices Texts",
     "objects": "Shapes InnerClasses Shadowed LinkedObjects Initialisers",
     "exceptions": "FailingReferences Finally Recursions Uncaught Misused",
-    "locks": "SafeCounter RacingCounter Philosophers LeftForks OppositeOrders DoubleChecked LazyTwice Peterson StopFlag",
+    "locks": "SafeCounter RacingCounter Philosophers LeftForks OppositeOrders DoubleChecked LazyTwice Peterson"
+    " StopFlag",
     "waiting": "OneSlot BoundedBuffer PingPong Barrier Semaphore NestedEntries Notified ReadersWriter Workers",
     "threads": "Interrupts InterruptedJoin Holder FailingInitialisers CrossedInitialisers",
 }
@@ -264,7 +266,8 @@ def written(texts, printed):
     """Writes cases and what they must print: those of these files behind those of programs.cases."""
     stdout = (CONFORMANCE / "stdout").read_bytes().decode("latin-1")
     own = {name for one in printed.values() for name in blocks_of(one)}
-    programs = [line[5:] for line in (CONFORMANCE / "data/programs.cases").read_text().splitlines() if line[:5] == "case "]
+    lines = (CONFORMANCE / "data/programs.cases").read_text().splitlines()
+    programs = [line[5:] for line in lines if line.startswith("case ")]
     blocks = []
     for name, block in blocks_of(stdout).items():
         if name not in own:

@@ -1,25 +1,45 @@
 #!/usr/bin/env python3
-"""Measures `jvm replay` on one entry of many events of thread 0, in a loop of local instructions.
+"""Measures the program `jvm replay`, process and all.
 
-    replay.py [PROGRAM [EVENTS]]
+    replay.py [--program PROGRAM] [NAME..]
 
-PROGRAM is the built program [default: crates/jvm/out/jvm, which `rt run` leaves], EVENTS the number of events
-[default: 10000000]. One line is printed: events a second, and the peak resident memory. The class file and the
-schedule file are made anew in a temporary folder. The report and the status are compared with what they must be.
+PROGRAM is the built program [default: crates/jvm/out/jvm, which `rt run` leaves]. A line is printed for each NAME
+[default: all of them]. The class files and the schedules are made anew in a temporary folder. The reports and statuses
+are compared with what they must be.
+
+start     the eight events of the class file of 241 bytes: the least milliseconds of 200 runs, from the start of the
+          process to its end, next to those of a program that does nothing (`true`)
+loop      10,000,000 events of one thread in a loop of local instructions: events a second, and peak resident memory
+long      the same with 1,000,000,000 events
+switches  10,000,000 events of two threads, another thread at each: the nanoseconds of a switch beyond those of an
+          event, by a run of as many events with one switch, and peak resident memory. `javac` has to be there
 """
 
-import os
+import argparse
+import pathlib
 import subprocess
 import sys
 import tempfile
 import time
 
-ROOT = os.path.dirname(os.path.dirname(os.path.abspath(__file__)))
+sys.dont_write_bytecode = True
+
+ROOT = pathlib.Path(__file__).resolve().parent.parent
+sys.path.insert(0, str(ROOT / "tools"))
+
+from class_files import u2, u4
 
 # 0 iconst_0, 1 istore_1, 2 iinc 1 1, 5 iload_1, 6 pop, 7 goto 2
 LOOP = "03 3c 840101 1b 57 a7fffb"
 
-# The schedule is used up while main can go on.
+STARTS = 200
+
+SWITCHES = 10_000_000
+
+# So many events of main come first where there are two threads; the other one is started among them.
+FIRST = 20
+
+# The schedule is used up while a thread can go on.
 USED_UP = 5
 
 
@@ -38,34 +58,96 @@ def peak_kilobytes(process):
 def made(path, tool, *words):
     """Writes what a tool of this repository makes to a file."""
     with open(path, "wb") as file:
-        subprocess.run([os.path.join(ROOT, "tools", tool), *words], stdout=file, check=True)
+        subprocess.run([ROOT / "tools" / tool, *words], stdout=file, check=True)
 
 
-def measured(program, folder, events):
-    """Seconds and peak kilobytes of one run."""
-    made(os.path.join(folder, "A.class"), "class-file", "--stack", "1", "--locals", "2", LOOP)
-    made(os.path.join(folder, "schedule"), "schedule-file", f"0*{events}")
+def write_schedule(path, entries):
+    """Writes a schedule file of entries, each the bytes of one."""
+    path.write_bytes(b"JSCH\x01" + u4(len(entries)) + b"".join(entries))
+
+
+def entry(thread, events):
+    return u2(thread) + u2(0) + u4(events)
+
+
+def replayed(program, folder, file, threads, events):
+    """Seconds and peak kilobytes of a run of so many events, whose threads all go on."""
     peak = 0
     begin = time.monotonic()
-    command = [program, "replay", "--schedule", "schedule", "A.class"]
+    command = [program, "replay", "--schedule", "schedule", file]
     with subprocess.Popen(command, cwd=folder, stdout=subprocess.PIPE) as process:
         while process.poll() is None:
             peak = max(peak, peak_kilobytes(process))
             time.sleep(0.002)
         seconds = time.monotonic() - begin
         report = process.stdout.read().decode()
-    wanted = f"thread 0 runnable\nevents {events}\nend schedule\n"
-    if process.returncode != USED_UP or report != wanted:
+    states = "".join(f"thread {number} runnable\n" for number in range(threads))
+    if process.returncode != USED_UP or report != f"{states}events {events}\nend schedule\n":
         sys.exit(f"status {process.returncode}, report:\n{report}")
     return seconds, peak
 
 
-def main():
-    program = os.path.abspath(sys.argv[1]) if len(sys.argv) > 1 else os.path.join(ROOT, "crates/jvm/out/jvm")
-    events = int(sys.argv[2]) if len(sys.argv) > 2 else 10_000_000
-    with tempfile.TemporaryDirectory() as folder:
-        seconds, peak = measured(program, folder, events)
+def milliseconds(command, folder, wanted):
+    """The time of one process."""
+    begin = time.monotonic()
+    ran = subprocess.run(command, cwd=folder, stdout=subprocess.PIPE)
+    elapsed = 1_000 * (time.monotonic() - begin)
+    if ran.returncode != 0 or ran.stdout.decode() != wanted:
+        sys.exit(f"status {ran.returncode}, report:\n{ran.stdout.decode()}")
+    return elapsed
+
+
+def start(program, _folder):
+    data = ROOT / "crates/jvm/data"
+    command = [program, "replay", "--schedule", "prints-seven.schedule", "A.class"]
+    least = nothing = float("inf")
+    for _ in range(STARTS):
+        least = min(least, milliseconds(command, data, "7\nthread 0 ended\nevents 8\nend quiet\n"))
+        nothing = min(nothing, milliseconds(["true"], data, ""))
+    print(f"start: {least:.2f} ms, a program that does nothing {nothing:.2f} ms")
+
+
+def loop(program, folder, events=10_000_000):
+    made(folder / "A.class", "class-file", "--stack", "1", "--locals", "2", LOOP)
+    made(folder / "schedule", "schedule-file", f"0*{events}")
+    seconds, peak = replayed(program, folder, "A.class", 1, events)
     print(f"{events} events in {seconds:.3f} s: {events / seconds:.0f} events a second, peak resident memory {peak} kB")
+
+
+def long(program, folder):
+    loop(program, folder, 1_000_000_000)
+
+
+def switches(program, folder):
+    source = ROOT / "bench/java/Spins.java"
+    subprocess.run([ROOT / "tools/java-classes", source, "--into", folder], check=True, stdout=subprocess.DEVNULL)
+    half, events = SWITCHES // 2, FIRST + SWITCHES
+    write_schedule(folder / "schedule", [entry(0, FIRST + half), entry(1, half)])
+    few, _ = replayed(program, folder, "Spins.class", 2, events)
+    write_schedule(folder / "schedule", [entry(0, FIRST), *[entry(1, 1), entry(0, 1)] * half])
+    many, peak = replayed(program, folder, "Spins.class", 2, events)
+    size = (folder / "schedule").stat().st_size
+    nanoseconds = 1e9 * (many - few) / SWITCHES
+    print(
+        f"{SWITCHES} switches in {many:.3f} s, as many events with one switch in {few:.3f} s: {nanoseconds:.1f} ns a"
+        f" switch, peak resident memory {peak} kB at a schedule file of {size // 1_000} kB"
+    )
+
+
+MEASURES = {"start": start, "loop": loop, "long": long, "switches": switches}
+
+
+def main():
+    parser = argparse.ArgumentParser(description=__doc__, formatter_class=argparse.RawDescriptionHelpFormatter)
+    parser.add_argument("--program", type=pathlib.Path, default=ROOT / "crates/jvm/out/jvm")
+    parser.add_argument("names", nargs="*", metavar="NAME")
+    options = parser.parse_args()
+    for name in options.names:
+        if name not in MEASURES:
+            parser.error(f"{name!r} is none of {', '.join(MEASURES)}")
+    for name in options.names or MEASURES:
+        with tempfile.TemporaryDirectory() as folder:
+            MEASURES[name](options.program.resolve(), pathlib.Path(folder))
 
 
 if __name__ == "__main__":
