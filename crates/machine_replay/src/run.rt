@@ -20,7 +20,7 @@ use verifier::Verified;
 use word_reports::reports_of_words;
 
 /// The machine of verified class files before any event.
-fn opened(alloc: Global, verified: &Verified, limits: Limits) -> Result<Machine, AllocError>
+pub fn opened(alloc: Global, verified: &Verified, limits: Limits) -> Result<Machine, AllocError>
     ensures { IfOk result (IsOpened verified.now limits) }
 {
     runs_are_opened();
