@@ -5,7 +5,7 @@ ghost use Rattle.std.specs.Arc.{arc_value};
 ghost use Rattle.worlds.specs.Worlds.{Holds, IsNew};
 
 use machine::Machine;
-use machine_replay::opened;
+use machine_replay::open_machine;
 use model::{End, Limits};
 use recorded_events::RecordedEvents;
 use std::alloc::{AllocError, Global};
@@ -44,7 +44,7 @@ impl World {
     ) -> Result<World, AllocError>
         ensures { IfOk result (IsNew (arc_value verified) limits budget) }
     {
-        let machine = opened(alloc, &verified, limits)?;
+        let machine = open_machine(alloc, &verified, limits)?;
         Ok(World {
             verified,
             budget,
