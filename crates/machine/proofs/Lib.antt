@@ -1,3 +1,4 @@
 pub mod Turning
 pub mod Repeating
 pub mod Lent
+pub mod Advancing

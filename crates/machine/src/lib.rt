@@ -3,6 +3,7 @@
 
 mod machine;
 mod stacks;
+mod tops;
 mod turns;
 
 pub use machine::{Machine, Stopped};

@@ -31,9 +31,9 @@ pub enum Stopped {
 /// what types allow.
 #[derive(Drop)]
 pub struct Machine {
-    program: Arc<LinkedProgram>,
+    pub(crate) program: Arc<LinkedProgram>,
     limits: Limits,
-    shared: Shared,
+    pub(crate) shared: Shared,
 }
 
 impl Model for Machine {

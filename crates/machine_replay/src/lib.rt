@@ -3,4 +3,4 @@
 
 mod run;
 
-pub use run::replay;
+pub use run::{open_machine, replay};

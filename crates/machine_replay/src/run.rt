@@ -20,7 +20,7 @@ use verifier::Verified;
 use word_reports::reports_of_words;
 
 /// The machine of verified class files before any event.
-fn opened(alloc: Global, verified: &Verified, limits: Limits) -> Result<Machine, AllocError>
+pub fn open_machine(alloc: Global, verified: &Verified, limits: Limits) -> Result<Machine, AllocError>
     ensures { IfOk result (IsOpened verified.now limits) }
 {
     runs_are_opened();
@@ -76,7 +76,7 @@ pub fn replay(
 {
     reports_of_words();
     no_event_is_wrong();
-    let mut machine = opened(alloc, verified, limits)?;
+    let mut machine = open_machine(alloc, verified, limits)?;
     let (done, why) = run_schedule(&mut machine, schedule);
     told(alloc, &machine, verified.linked().set(), done, why)
 }

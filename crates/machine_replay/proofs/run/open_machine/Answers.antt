@@ -1,6 +1,6 @@
 use Rattle.std.specs.Arc.{arc_value}
 use Rattle.machine_replay.proofs.Opened.{opened_if}
-use Rattle.machine_replay.proofs.run.opened.Goals as goal
+use Rattle.machine_replay.proofs.run.open_machine.Goals as goal
 
 pub returns : goal.returns
 returns c =
