@@ -6,14 +6,14 @@ use Rattle.model.specs.declared.device.DeviceFault.{DeviceFault}
 use Rattle.model.specs.declared.device.DeviceFault.TheVariants as devices
 use Rattle.model.specs.Devices.{CountsFault}
 use Rattle.model.specs.declared.event.Event.{Event}
-use Rattle.model.specs.Schedule.{ScheduleFile}
+use Rattle.model.specs.Schedule.{Recording, ScheduleFile}
 use Rattle.schedule.specs.declared.fault.ScheduleFault.{ScheduleFault}
 use Rattle.schedule.specs.declared.fault.ScheduleFault.TheVariants as schedules
 use Rattle.schedule.specs.Outcomes.{StandsIn, IsFaultOf}
 use Rattle.refusal.specs.declared.why.Refusal.{Refusal}
 use Rattle.engines.specs.Devices.{fault_of}
-use Rattle.engines.specs.Engines.{Reads, ReadsEach, WritesPart, IsFaulty, CountsWith}
-use Rattle.engines.specs.Refusals.{IsRefused}
+use Rattle.engines.specs.Engines.{Reads, ReadsEach, WritesPart, IsFaulty, IsUnfit, IsUnlinked, IsUnspelled, CountsWith}
+use Rattle.engines.specs.Recordings.{Disagrees}
 use Rattle.command_line.specs.declared.options.LimitOptions.{LimitOptions}
 use Rattle.engines.specs.declared.fault.Fault.{Fault}
 use Rattle.engines.specs.declared.fault.Fault.TheVariants as faults
@@ -64,12 +64,20 @@ counts_write devices.Device a b c d old new first second counted = omega (arith,
 counts_write devices.Memory a b c d old new first second counted = omega (arith, first, second, counted)
 
 -- a fault of a schedule file whose bytes spell nothing, memory aside
-pub schedule_is_faulty : (fault : ScheduleFault) (left : Option (List ℕ)) (bytes : List ℕ) → Reads left bytes → ((events : List Event) → ScheduleFile bytes None events → fault ≡ schedules.OutOfMemory) → IsFaultOf bytes fault
-    → (fault ≡ schedules.OutOfMemory) ⊎ ((schedule : List ℕ) × Reads left schedule × ((events : List Event) → ScheduleFile schedule None events → ⊥) × StandsIn schedule fault)
-schedule_is_faulty fault left bytes read only (inl memory) = inl memory
-schedule_is_faulty fault left bytes read only (inr stands) = inr (bytes, read, (λ events h. subst (StandsIn bytes) (only events h) stands), stands)
+pub schedule_is_faulty : (fault : ScheduleFault) (left : Option (List ℕ)) (lefts : List (Option (List ℕ))) (options : LimitOptions) (bytes : List ℕ)
+    → Reads left bytes → ((recorded : Option Recording) (events : List Event) → ScheduleFile bytes recorded events → fault ≡ schedules.OutOfMemory) → IsFaultOf bytes fault
+    → (fault ≡ schedules.OutOfMemory) ⊎ IsUnspelled left fault ⊎ IsUnfit left lefts options fault
+schedule_is_faulty fault left lefts options bytes read only (inl memory) = inl memory
+schedule_is_faulty fault left lefts options bytes read only (inr stands) = inr (inl (bytes, read, (λ recorded events h. subst (StandsIn bytes) (only recorded events h) stands), stands))
+
+-- what was recorded with the events doesn't fit
+pub unfit : (fault : ScheduleFault) (left : Option (List ℕ)) (lefts : List (Option (List ℕ))) (options : LimitOptions) (schedule : List ℕ) (files : List (List ℕ)) (recorded : Option Recording) (events : List Event)
+    → Disagrees recorded files options fault → Reads left schedule → ReadsEach lefts files → ScheduleFile schedule recorded events → IsUnfit left lefts options fault
+unfit fault left lefts options schedule files recorded events disagrees read reads spelled = (schedule, files, recorded, events, read, reads, spelled, disagrees)
+
+pub unfit_is_faulty : (fault : ScheduleFault) (left : Option (List ℕ)) (lefts : List (Option (List ℕ))) (options : LimitOptions) (sink : Option (List ℕ)) → IsUnfit left lefts options fault → IsFaulty left lefts options sink sink (faults.Schedule fault)
+unfit_is_faulty fault left lefts options sink is_unfit = (refl, inr (inr is_unfit))
 
 -- class files that are refused
-pub refusal_is_faulty : (refusal : Refusal) (left : Option (List ℕ)) (lefts : List (Option (List ℕ))) (options : LimitOptions) (sink : Option (List ℕ)) (schedule : List ℕ) (files : List (List ℕ)) (events : List Event)
-    → IsRefused files refusal → Reads left schedule → ReadsEach lefts files → ScheduleFile schedule None events → IsFaulty left lefts options sink sink (faults.Refusal refusal)
-refusal_is_faulty refusal left lefts options sink schedule files events refused read reads spelled = (refl, inr (schedule, files, events, read, reads, spelled, refused))
+pub refusal_is_faulty : (refusal : Refusal) (left : Option (List ℕ)) (lefts : List (Option (List ℕ))) (options : LimitOptions) (sink : Option (List ℕ)) → IsUnlinked left lefts options refusal → IsFaulty left lefts options sink sink (faults.Refusal refusal)
+refusal_is_faulty refusal left lefts options sink unlinked = (refl, inr unlinked)
