@@ -10,10 +10,8 @@ use Rattle.model.specs.Schedule.{Recording, ScheduleFile}
 use Rattle.schedule.specs.declared.fault.ScheduleFault.{ScheduleFault}
 use Rattle.schedule.specs.declared.fault.ScheduleFault.TheVariants as schedules
 use Rattle.schedule.specs.Outcomes.{StandsIn, IsFaultOf}
-use Rattle.refusal.specs.declared.why.Refusal.{Refusal}
 use Rattle.engines.specs.Devices.{fault_of}
-use Rattle.engines.specs.Engines.{Reads, ReadsEach, WritesPart, IsFaulty, IsUnfit, IsUnlinked, IsUnspelled, CountsWith}
-use Rattle.engines.specs.Recordings.{Disagrees}
+use Rattle.engines.specs.Engines.{Reads, ReadsEach, WritesPart, IsFaulty, IsOfSchedule, IsUnfit, IsUnspelled, CountsWith}
 use Rattle.command_line.specs.declared.options.LimitOptions.{LimitOptions}
 use Rattle.engines.specs.declared.fault.Fault.{Fault}
 use Rattle.engines.specs.declared.fault.Fault.TheVariants as faults
@@ -51,12 +49,10 @@ pub part_is_faulty : (fault : DeviceFault) (left : Option (List ℕ)) (lefts : L
 part_is_faulty devices.Device left lefts options old new part = part
 part_is_faulty devices.Memory left lefts options old new part = part
 
--- where nothing counts a failure, the sum of the counts stays
-pub counts_sum : (fault : Fault) (a b c d sum : ℕ) → a ≡ c → b ≡ d → CountsWith fault sum sum → CountsWith fault (c + d + sum) (a + b + sum)
-counts_sum faults.Device a b c d sum first second counted = absurd (omega (arith, counted))
-counts_sum faults.Memory a b c d sum first second counted = omega (arith, first, second)
-counts_sum (faults.Schedule fault) a b c d sum first second counted = omega (arith, first, second)
-counts_sum (faults.Refusal refusal) a b c d sum first second counted = omega (arith, first, second)
+-- it is no fault of a schedule file
+pub of_no_schedule : (fault : DeviceFault) → IsOfSchedule (fault_of fault) → ⊥
+of_no_schedule devices.Device of_schedule = of_schedule
+of_no_schedule devices.Memory of_schedule = of_schedule
 
 -- where a write failed and nothing before it did, the sum of the counts is what it counted
 pub counts_write : (fault : DeviceFault) (a b c d old new : ℕ) → a ≡ c → b ≡ d → CountsFault fault old new → CountsWith (fault_of fault) (c + d + old) (a + b + new)
@@ -69,15 +65,3 @@ pub schedule_is_faulty : (fault : ScheduleFault) (left : Option (List ℕ)) (lef
     → (fault ≡ schedules.OutOfMemory) ⊎ IsUnspelled left fault ⊎ IsUnfit left lefts options fault
 schedule_is_faulty fault left lefts options bytes read only (inl memory) = inl memory
 schedule_is_faulty fault left lefts options bytes read only (inr stands) = inr (inl (bytes, read, (λ recorded events h. subst (StandsIn bytes) (only recorded events h) stands), stands))
-
--- what was recorded with the events doesn't fit
-pub unfit : (fault : ScheduleFault) (left : Option (List ℕ)) (lefts : List (Option (List ℕ))) (options : LimitOptions) (schedule : List ℕ) (files : List (List ℕ)) (recorded : Option Recording) (events : List Event)
-    → Disagrees recorded files options fault → Reads left schedule → ReadsEach lefts files → ScheduleFile schedule recorded events → IsUnfit left lefts options fault
-unfit fault left lefts options schedule files recorded events disagrees read reads spelled = (schedule, files, recorded, events, read, reads, spelled, disagrees)
-
-pub unfit_is_faulty : (fault : ScheduleFault) (left : Option (List ℕ)) (lefts : List (Option (List ℕ))) (options : LimitOptions) (sink : Option (List ℕ)) → IsUnfit left lefts options fault → IsFaulty left lefts options sink sink (faults.Schedule fault)
-unfit_is_faulty fault left lefts options sink is_unfit = (refl, inr (inr is_unfit))
-
--- class files that are refused
-pub refusal_is_faulty : (refusal : Refusal) (left : Option (List ℕ)) (lefts : List (Option (List ℕ))) (options : LimitOptions) (sink : Option (List ℕ)) → IsUnlinked left lefts options refusal → IsFaulty left lefts options sink sink (faults.Refusal refusal)
-refusal_is_faulty refusal left lefts options sink unlinked = (refl, inr unlinked)
