@@ -20,7 +20,11 @@ use verifier::Verified;
 use word_reports::reports_of_words;
 
 /// The machine of verified class files before any event.
-pub fn open_machine(alloc: Global, verified: &Verified, limits: Limits) -> Result<Machine, AllocError>
+pub fn open_machine(
+    alloc: Global,
+    verified: &Verified,
+    limits: Limits,
+) -> Result<Machine, AllocError>
     ensures { IfOk result (IsOpened verified.now limits) }
 {
     runs_are_opened();

@@ -1,0 +1,51 @@
+-- A world (own; JVMS 2.6; JLS 17): what has been done, and why no more.
+use Rattle.std.specs.Prelude.{◌≡◌, ◌<◌, ◌≤◌, ℕ, List, [], Option, Some, None, IsTrue, IsFalse, length}
+use Rattle.model.specs.declared.end.End.{End}
+use Rattle.model.specs.declared.end.End.TheVariants as ends
+use Rattle.model.specs.declared.event.Event.{Event}
+use Rattle.model.specs.declared.limits.Limits.{Limits}
+use Rattle.model.specs.Classes.{Program}
+use Rattle.model.specs.LimitStands.{Bounds, bounds_of}
+use Rattle.model.specs.Run.{is_quiet}
+use Rattle.model.specs.State.{State}
+use Rattle.model.specs.Step.{is_enabled}
+use Rattle.machine.specs.Machines.{MachineOf}
+use Rattle.machine_replay.specs.Replays.{IsRefusedFor}
+use Rattle.schedule_runs.specs.Done.{HasDone}
+
+-- the trees of its class files, how many events it may do, those that it has done, its machine, and why it does no more
+pub record WorldOf : Type 0 where
+  pub trees : Program
+  pub budget : ℕ
+  pub events : List Event
+  pub machine : MachineOf
+  pub end : Option End
+
+-- Why no more events are done, in the state to which those led that were: no thread may go on; or the budget is used up, and some
+-- thread may; or an enabled event is refused.
+abbrev pub EndFits : Program → Bounds → State → (budget : ℕ) → List Event → Option End → Type 0
+EndFits trees bounds state budget events None = Unit {0}
+EndFits trees bounds state budget events (Some ends.Quiet) = IsTrue (is_quiet trees bounds.frames state)
+EndFits trees bounds state budget events (Some ends.Budget) = (length events ≡ budget) × IsFalse (is_quiet trees bounds.frames state)
+EndFits trees bounds state budget events (Some (ends.Refused i cause)) =
+    (i ≡ length events) × (i < budget) × ((event : Event) × IsTrue (is_enabled trees bounds.frames state event) × IsRefusedFor trees bounds events event cause)
+EndFits trees bounds state budget events (Some ends.Schedule) = ⊥
+EndFits trees bounds state budget events (Some (ends.NotEnabled i)) = ⊥
+
+-- The machine shows where its events led: a run of accepted files with these trees, at none of whose events a limit stood. They are no
+-- more than the budget, and the end fits.
+pub record Holds (w : WorldOf) : Type 0 where
+  pub files : List (List ℕ)
+  pub done : HasDone w.machine files w.trees w.events
+  pub within : length w.events ≤ w.budget
+  pub fits : EndFits w.trees (bounds_of w.machine.limits) done.run.lead.state w.budget w.events w.end
+
+-- ---- a new world
+
+-- of these files, under these limits and with this budget, before any event
+pub record IsNew (trees : Program) (limits : Limits) (budget : ℕ) (w : WorldOf) : Type 0 where
+  pub trees_are : w.trees ≡ trees
+  pub limits_are : w.machine.limits ≡ limits
+  pub budget_is : w.budget ≡ budget
+  pub none : w.events ≡ []
+  pub on : w.end ≡ None
