@@ -1,6 +1,7 @@
 -- Finding the first thread that may go on.
 use Rattle.std.proofs.Common.{◌≡◌, ◌⊎◌, ◌<◌, ◌≤◌, ◌+◌, ℕ, Option, Some, None, Bool, true, false, length, sym, subst, inl, inr, arith}
-use Rattle.std.proofs.Math.Nat.{eq-or-lt_of_le}
+use Rattle.std.specs.Prelude.{min}
+use Rattle.std.proofs.Math.Nat.{eq-or-lt_of_le, min-le_left, min-le_right, min-eq_left, min-eq_right}
 use Rattle.std.proofs.Math.Decide.{dec_lt}
 use Rattle.linked_code.specs.declared.program.LinkedProgram.{LinkedProgram}
 use Rattle.machine_state.specs.declared.state.Shared.{Shared}
@@ -25,22 +26,43 @@ none_to m from t to none all u low high = none u low (omega (arith, high, all))
 pub found_first : (m : MachineOf) (from t to : ℕ) → from ≤ t → t < to → MayStep m t true → MayNone m from t → IsFirst m from to (Some t)
 found_first m from t to low high may none = (low, high, may, none)
 
--- from the number on at which the rotation begins
-pub found_above : (m : MachineOf) (from t count : ℕ) → IsFirst m from count (Some t) → IsFound m from (Some t)
-found_above m from t count first = (first.2, inl (first.0, first.3))
+module _ (m : MachineOf) (from count : ℕ) (all : count ≡ length m.shared.threads.threads) where
+  -- from the number on at which the rotation begins
+  pub found_above : (t : ℕ) → IsFirst m from count (Some t) → IsFound m from (Some t)
+  found_above t first = (subst (λ n. t < n) all first.1, first.2, inl (first.0, first.3))
 
--- below it, where there is none from it up
-found_below : (m : MachineOf) (from t count : ℕ) → count ≡ length m.shared.threads.threads → IsFirst m from count None → IsFirst m 0 from (Some t) → IsFound m from (Some t)
-found_below m from t count all none first = (first.2, inr (first.1, subst (MayNone m from) all none, first.3))
+  -- below it, where there is none from it up
+  found_below : (t : ℕ) → IsFirst m from count None → IsFirst m 0 (min from count) (Some t) → IsFound m from (Some t)
+  found_below t none first =
+      let left : min from count ≤ from = min-le_left from count in
+      let right : min from count ≤ count = min-le_right from count in
+      let low : t < min from count = first.1 in
+      let within : t < count = omega arith in
+      let below : t < from = omega arith in
+      (subst (λ n. t < n) all within, first.2, inr (below, subst (MayNone m from) all none, first.3))
 
-none_found : (m : MachineOf) (from count : ℕ) → count ≡ length m.shared.threads.threads → IsFirst m from count None → IsFirst m 0 from None → IsFound m from None
-none_found m from count all above below u low high = case (dec_lt u from)
-  where
-    case : Dec (u < from) → MayStep m u false
-    case (yes lt) = below u low lt
-    case (no ge) = above u (omega (arith, ge)) (omega (arith, high, all))
+  is_below : (u : ℕ) → u < from → u < count → u < min from count
+  is_below u a b = case (dec_lt from count)
+    where
+      case : Dec (from < count) → u < min from count
+      case (yes lt) =
+          let le : from ≤ count = omega (arith, lt) in
+          subst (λ k. u < k) (sym (min-eq_left le)) a
+      case (no ge) =
+          let le : count ≤ from = omega (arith, ge) in
+          subst (λ k. u < k) (sym (min-eq_right le)) b
 
--- by what is found below it
-pub found_rest : (m : MachineOf) (from count : ℕ) → count ≡ length m.shared.threads.threads → IsFirst m from count None → (r : Option ℕ) → IsFirst m 0 from r → IsFound m from r
-found_rest m from count all none (Some t) first = found_below m from t count all none first
-found_rest m from count all none None first = none_found m from count all none first
+  none_found : IsFirst m from count None → IsFirst m 0 (min from count) None → IsFound m from None
+  none_found above below u low high = case (dec_lt u from)
+    where
+      within : u < count
+      within = omega (arith, high, all)
+
+      case : Dec (u < from) → MayStep m u false
+      case (yes lt) = below u low (is_below u lt within)
+      case (no ge) = above u (omega (arith, ge)) within
+
+  -- by what is found below it
+  pub found_rest : IsFirst m from count None → (r : Option ℕ) → IsFirst m 0 (min from count) r → IsFound m from r
+  found_rest none (Some t) first = found_below t none first
+  found_rest none None first = none_found none first

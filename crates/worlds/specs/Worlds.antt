@@ -1,5 +1,5 @@
 -- A world (own; JVMS 2.6; JLS 17): what has been done, and why no more.
-use Rattle.std.specs.Prelude.{◌≡◌, ◌<◌, ◌≤◌, ℕ, List, [], Option, Some, None, IsTrue, IsFalse, length}
+use Rattle.std.specs.Prelude.{◌≡◌, ◌<◌, ◌≤◌, ◌-◌, ◌++◌, ℕ, List, [], Option, Some, None, IsTrue, IsFalse, length, replicate, min}
 use Rattle.model.specs.declared.end.End.{End}
 use Rattle.model.specs.declared.end.End.TheVariants as ends
 use Rattle.model.specs.declared.event.Event.{Event}
@@ -9,9 +9,14 @@ use Rattle.model.specs.LimitStands.{Bounds, bounds_of}
 use Rattle.model.specs.Run.{is_quiet}
 use Rattle.model.specs.State.{State}
 use Rattle.model.specs.Step.{is_enabled}
+use Rattle.machine_state.specs.Refusals.{cause_of}
 use Rattle.machine.specs.Machines.{MachineOf}
+use Rattle.machine.specs.Tops.{plain}
+use Rattle.machine.specs.declared.machine.Stopped.{Stopped}
+use Rattle.machine.specs.declared.machine.Stopped.TheVariants as stopped
 use Rattle.machine_replay.specs.Replays.{IsRefusedFor}
-use Rattle.schedule_runs.specs.Done.{HasDone}
+use Rattle.schedule_runs.specs.Done.{HasDone, HasGone}
+use Rattle.worlds.specs.Turns.{IsNext}
 
 -- the trees of its class files, how many events it may do, those that it has done, its machine, and why it does no more
 pub record WorldOf : Type 0 where
@@ -49,3 +54,45 @@ pub record IsNew (trees : Program) (limits : Limits) (budget : ℕ) (w : WorldOf
   pub budget_is : w.budget ≡ budget
   pub none : w.events ≡ []
   pub on : w.end ≡ None
+
+-- ---- a turn
+
+-- files, limits and budget stay
+pub record IsOfSame (old new : WorldOf) : Type 0 where
+  pub trees : new.trees ≡ old.trees
+  pub budget : new.budget ≡ old.budget
+  pub limits : new.machine.limits ≡ old.machine.limits
+
+-- Of as many events of a thread that pick nothing as were asked for and the budget has left, at least one is done, and after these the
+-- next is not, for this reason.
+pub record HasShared (old new : WorldOf) (t most : ℕ) : Type 0 where
+  pub same : IsOfSame old new
+  pub files : List (List ℕ)
+  pub asked : ℕ
+  pub asked_is : asked ≡ min most (old.budget - length old.events)
+  pub count : ℕ
+  pub some : 0 < count
+  pub why : Stopped
+  pub gone : HasGone new.machine files old.trees old.events (replicate asked (plain t)) count why
+  pub events : new.events ≡ old.events ++ replicate count (plain t)
+  pub on : new.end ≡ None
+
+-- an end is set, and nothing is done
+pub record HasEnded (old new : WorldOf) : Type 0 where
+  pub same : IsOfSame old new
+  pub events : new.events ≡ old.events
+  pub end : End
+  pub is : new.end ≡ Some end
+
+-- what a turn comes to, from a number up: nothing, where an end is set
+abbrev pub TakesTurn : (from most : ℕ) → (end : Option End) → Option ℕ → (old new : WorldOf) → Type 0
+TakesTurn from most (Some end) result old new = (result ≡ None) × (new ≡ old)
+TakesTurn from most None (Some t) old new =
+    ((holds : Holds old) → IsNext old.trees old.machine.limits.frames holds.done.run.lead.state from t) × HasShared old new t most
+TakesTurn from most None None old new = HasEnded old new
+
+-- the end where the next event is refused after so many
+abbrev pub stopped_end : Stopped → ℕ → Option End
+stopped_end stopped.Most i = None
+stopped_end stopped.NotEnabled i = None
+stopped_end (stopped.Refused told) i = Some (ends.Refused i (cause_of told))

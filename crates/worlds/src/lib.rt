@@ -1,6 +1,7 @@
 //! A world: verified class files, a machine that runs them, and the events that it has done so far, which are their schedule.
 #![tactic(auto)]
 
+mod sharing;
 mod turns;
 mod world;
 

@@ -26,13 +26,12 @@ fn first_between(machine: &Machine, from: u16, to: u16) -> Option<u16>
 }
 
 /// The first thread that has an event which is enabled, in rotation: from a number up, and then from 0.
-#[tactic(auto, using(crate::proofs::Finding::found_above))]
 pub(crate) fn first_enabled(machine: &Machine, from: u16) -> Option<u16>
     ensures { IsFound machine.now from result }
 {
     let count = machine.shared().threads.len() as u16;
     match first_between(machine, from, count) {
         Some(thread) => Some(thread),
-        None => first_between(machine, 0, from),
+        None => first_between(machine, 0, from.min(count)),
     }
 }

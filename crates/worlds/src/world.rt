@@ -2,10 +2,8 @@
 
 ghost use Rattle.std.specs.Prelude.{◌≡◌, length, IfOk};
 ghost use Rattle.std.specs.Arc.{arc_value};
-ghost use Rattle.worlds.specs.Turns.{IsFound};
 ghost use Rattle.worlds.specs.Worlds.{Holds, IsNew};
 
-use crate::turns::first_enabled;
 use machine::Machine;
 use machine_replay::open_machine;
 use model::{End, Limits};
@@ -19,10 +17,10 @@ use verifier::Verified;
 #[derive(Drop)]
 pub struct World {
     verified: Arc<Verified>,
-    budget: u32,
-    recorded: RecordedEvents,
-    machine: Machine,
-    end: Option<End>,
+    pub(crate) budget: u32,
+    pub(crate) recorded: RecordedEvents,
+    pub(crate) machine: Machine,
+    pub(crate) end: Option<End>,
 }
 
 impl Model for World {
@@ -90,13 +88,5 @@ impl World {
         ensures holds { Holds self.now }
     {
         self.end
-    }
-
-    /// The first thread that has an event which is enabled, in rotation: from a number up, and then from 0. None where no thread has
-    /// one.
-    pub fn next_thread(&self, from: u16) -> Option<u16>
-        ensures { IsFound self.now.machine from result }
-    {
-        first_enabled(&self.machine, from)
     }
 }
