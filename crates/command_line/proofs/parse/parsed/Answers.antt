@@ -1,6 +1,6 @@
 use Rattle.std.proofs.Common.{◌≡◌, map, string_bytes, subst, true}
 use Rattle.std.proofs.lemmas.Result.{err_from_is_err_and}
-use Rattle.clap.specs.Words.{FailsBy, HasKind, HasMatchesOf, fault_of, is_simple_and_free, kind_of, takes}
+use Rattle.clap.specs.Words.{HasKind, HasMatchesOf, fault_of, is_simple_and_free, kind_of, takes}
 use Rattle.clap.specs.declared.error.kind.ErrorKind.TheVariants.{OutOfMemory}
 use Rattle.command_line.proofs.CommandLineLemmas.{memory_fails, parser_fails}
 use Rattle.command_line.proofs.parse.parsed.Goals as goal

@@ -4,7 +4,7 @@ use Rattle.std.proofs.lemmas.Result.{IfOk-weaker}
 use Rattle.clap.specs.Simple.{app_of_fields}
 use Rattle.clap.specs.Words.{with_rule}
 use Rattle.command_line.specs.CommandLine.{IsLocal}
-use Rattle.command_line.proofs.parse.verify_parser.Goals as goal
+use Rattle.command_line.proofs.parsers.verify_parser.Goals as goal
 
 pub returns : goal.returns
 returns c =

@@ -1,6 +1,6 @@
 use Rattle.std.proofs.Common.{Some, None}
 use Rattle.command_line.proofs.CommandLineLemmas.{first_is, is_number, no_number, refuses}
-use Rattle.command_line.proofs.parse.NumberOption.number.Goals as goal
+use Rattle.command_line.proofs.numbers.NumberOption.number.Goals as goal
 
 pub returns-in-None-clause-number : goal.returns-in-None-clause-number
 returns-in-None-clause-number c = rw (first_is c.args.matches.now c.args.self.name.now None c.in-None.ensures) tt
