@@ -6,14 +6,14 @@ use Rattle.std.proofs.lemmas.Bool.{cases_lt}
 use Rattle.std.proofs.lemmas.Bool.Decides.{nat_tests}
 use Rattle.std.proofs.lemmas.List.{drop_at, get_or_past, take-append-drop, length-append, length-take, get_or-drop, get_or-take, append-nil, nil_from_length}
 use Rattle.std.proofs.lemmas.List.Concat.{flat_map-cons}
-use Rattle.std.proofs.lemmas.Nat.{be_bytes_2, be_bytes_4}
+use Rattle.std.proofs.lemmas.Nat.{be_bytes_2, be_bytes_4, be_bytes_8}
 use Rattle.byteorder.specs.Endian.{big_number, big_bytes}
 use Rattle.byteorder.specs.Numbers.{big_number-reads_back, big_from-lt, length-bytes_high_first, big_from-append}
 use Rattle.model.specs.declared.event.ScheduleEntry.{ScheduleEntry}
 use Rattle.model.specs.Schedule.{EntryFits, AreEntries, entry, table}
 use Rattle.schedule.specs.declared.fault.ScheduleFault.{ScheduleFault}
 use Rattle.schedule.specs.declared.fault.ScheduleFault.TheVariants as faults
-use Rattle.schedule.specs.Reading.{◌>>=◌, Read, number_at, is_repeat, entry_at, entries_at, table_at}
+use Rattle.schedule.specs.Reading.{◌>>=◌, Read, number_at, is_repeat, entry_at, many_at, table_at}
 
 abbrev pub IsBytes : List ℕ → Type 0
 IsBytes bytes = (i : ℕ) → get_or bytes i 0 < 256
@@ -64,7 +64,7 @@ pub guard_ok : {A : Type 0} (b : Bool) (d : ScheduleFault) (x y : A) → cond b 
 guard_ok true d x y e = absurd cc
 guard_ok false d x y e = (refl, cc)
 
-guard_err : {A : Type 0} (b : Bool) (d f : ScheduleFault) (x : A) → cond b (failed d) (done x) ≡ Err f → d ≡ f
+pub guard_err : {A : Type 0} (b : Bool) (d f : ScheduleFault) (x : A) → cond b (failed d) (done x) ≡ Err f → d ≡ f
 guard_err {A = A} true d f x e = err_is {B = A} d f e
 guard_err false d f x e = absurd cc
 
@@ -83,8 +83,11 @@ back1 [] len small = absurd cc
 back1 (b ∷ []) len small = let e : (b * 1 + 0) % 256 ≡ b = omega (arith, small 0) in ap (λ (k : ℕ). k ∷ []) e
 back1 (b ∷ c ∷ bytes) len small = absurd cc
 
-back2 : IsBack 2
+pub back2 : IsBack 2
 back2 bytes len small = be_bytes_2 bytes (big_number 2 bytes) len small (omega arith)
+
+pub back8 : IsBack 8
+back8 bytes len small = be_bytes_8 bytes (big_number 8 bytes) len small (omega arith)
 
 pub back4 : IsBack 4
 back4 bytes len small = be_bytes_4 bytes (big_number 4 bytes) len small (omega arith)
@@ -153,65 +156,90 @@ entry_again x rest f =
     append_assoc (big_bytes 2 x.event.thread) (big_bytes 2 x.event.pick ++ big_bytes 4 x.repeat) rest ∙ ap (λ (l : List ℕ). big_bytes 2 x.event.thread ++ l) (append_assoc (big_bytes 2 x.event.pick) (big_bytes 4 x.repeat) rest) in
     ap entry_at regrouped ∙ rw (number_again 2 x.event.thread (big_bytes 2 x.event.pick ++ (big_bytes 4 x.repeat ++ rest)) f.thread, number_again 2 x.event.pick (big_bytes 4 x.repeat ++ rest) f.pick, number_again 4 x.repeat rest f.repeat.1, test) refl
 
--- the faults within a table
-abbrev pub is_entry_fault : ScheduleFault → Bool
-is_entry_fault faults.Truncated = true
-is_entry_fault faults.Repeat = true
-is_entry_fault f = false
+-- the faults of fields
+abbrev pub is_field_fault : ScheduleFault → Bool
+is_field_fault faults.Truncated = true
+is_field_fault faults.Repeat = true
+is_field_fault faults.Limits = true
+is_field_fault f = false
 
-as_entry_fault : (d f : ScheduleFault) → IsTrue (is_entry_fault d) → d ≡ f → IsTrue (is_entry_fault f)
-as_entry_fault d f h e = subst (λ (m : ScheduleFault). IsTrue (is_entry_fault m)) e h
+pub as_field_fault : (d f : ScheduleFault) → IsTrue (is_field_fault d) → d ≡ f → IsTrue (is_field_fault f)
+as_field_fault d f h e = subst (λ (m : ScheduleFault). IsTrue (is_field_fault m)) e h
 
-entry_stops : (bytes : List ℕ) (f : ScheduleFault) → entry_at bytes ≡ Err f → IsTrue (is_entry_fault f)
+-- reading a part stops at a fault of a field alone
+abbrev pub Stops : {A : Type 0} → (List ℕ → Read A) → Type 0
+Stops part = (bytes : List ℕ) (f : ScheduleFault) → part bytes ≡ Err f → IsTrue (is_field_fault f)
+
+entry_stops : Stops entry_at
 unfolding entry_at
 entry_stops bytes f e =
     elim (bind_err (number_at 2 bytes) (λ thread. number_at 2 thread.1 >>= λ pick. number_at 4 pick.1 >>= λ repeat. made thread.0 pick.0 repeat) f e) [
-      | inl h ↦ as_entry_fault faults.Truncated f refl (number_stops 2 bytes f h)
+      | inl h ↦ as_field_fault faults.Truncated f refl (number_stops 2 bytes f h)
       | inr h ↦ elim (bind_err (number_at 2 h.0.1) (λ pick. number_at 4 pick.1 >>= λ repeat. made h.0.0 pick.0 repeat) f h.2) [
-        | inl g ↦ as_entry_fault faults.Truncated f refl (number_stops 2 h.0.1 f g)
+        | inl g ↦ as_field_fault faults.Truncated f refl (number_stops 2 h.0.1 f g)
         | inr g ↦ elim (bind_err (number_at 4 g.0.1) (λ repeat. made h.0.0 g.0.0 repeat) f g.2) [
-          | inl k ↦ as_entry_fault faults.Truncated f refl (number_stops 4 g.0.1 f k)
-          | inr k ↦ as_entry_fault faults.Repeat f refl (unpassed (is_repeat g.0.0 k.0.0) faults.Repeat f (entry_of h.0.0 g.0.0 k.0.0, k.0.1) k.2)
+          | inl k ↦ as_field_fault faults.Truncated f refl (number_stops 4 g.0.1 f k)
+          | inr k ↦ as_field_fault faults.Repeat f refl (unpassed (is_repeat g.0.0 k.0.0) faults.Repeat f (entry_of h.0.0 g.0.0 k.0.0, k.0.1) k.2)
         ]
       ]
     ]
 
-pub entries_take : (n : ℕ) (bytes : List ℕ) (xs : List ScheduleEntry) (rest : List ℕ) → IsBytes bytes → entries_at n bytes ≡ Ok (xs, rest)
-    → Takes bytes (flat_map entry xs) rest × ((length xs ≡ n) × AllByRecursion EntryFits xs)
-unfolding entries_at
-entries_take zero bytes xs rest small e =
-    subst (λ (p : List ScheduleEntry × List ℕ). Takes bytes (flat_map entry p.0) p.1 × ((length p.0 ≡ 0) × AllByRecursion EntryFits p.0)) (ok_is ([], bytes) (xs, rest) e)
+-- ---- so many parts
+
+-- what is read of a part is its text
+abbrev pub Reads : {A : Type 0} → (List ℕ → Read A) → (A → List ℕ) → (A → Type 0) → Type 0
+Reads {A = A} part text Fits = (bytes : List ℕ) (x : A) (rest : List ℕ) → IsBytes bytes → part bytes ≡ Ok (x, rest) → Takes bytes (text x) rest × Fits x
+
+-- and the text of a part is read again
+abbrev pub ReadsBack : {A : Type 0} → (List ℕ → Read A) → (A → List ℕ) → (A → Type 0) → Type 0
+ReadsBack {A = A} part text Fits = (x : A) (rest : List ℕ) → Fits x → part (text x ++ rest) ≡ Ok (x, rest)
+
+pub many_take : {A : Type 0} (part : List ℕ → Read A) (text : A → List ℕ) (Fits : A → Type 0) → Reads part text Fits → (n : ℕ) (bytes : List ℕ) (xs : List A) (rest : List ℕ) → IsBytes bytes
+    → many_at part n bytes ≡ Ok (xs, rest) → Takes bytes (flat_map text xs) rest × ((length xs ≡ n) × AllByRecursion Fits xs)
+unfolding many_at
+many_take {A = A} part text Fits reads zero bytes xs rest small e =
+    subst (λ (p : List A × List ℕ). Takes bytes (flat_map text p.0) p.1 × ((length p.0 ≡ 0) × AllByRecursion Fits p.0)) (ok_is ([], bytes) (xs, rest) e)
     (record { parts = refl; rest_fits = small }, (refl, tt))
-entries_take (suc n) bytes xs rest small e =
-    let a = bind_ok (entry_at bytes) (λ first. entries_at n first.1 >>= λ others. Ok (first.0 ∷ others.0, others.1)) (xs, rest) e in
-    let b = bind_ok (entries_at n a.0.1) (λ others. Ok (a.0.0 ∷ others.0, others.1)) (xs, rest) a.2 in
-    let t = entry_takes bytes a.0.0 a.0.1 small a.1 in
-    let u = entries_take n a.0.1 b.0.0 b.0.1 t.0.rest_fits b.1 in
-    let taken : Takes bytes (flat_map entry (a.0.0 ∷ b.0.0)) b.0.1 = record {
-      parts = t.0.parts ∙ ap (λ (l : List ℕ). entry a.0.0 ++ l) u.0.parts ∙ sym (append_assoc (entry a.0.0) (flat_map entry b.0.0) b.0.1) ∙ ap (λ (l : List ℕ). l ++ b.0.1) (sym (flat_map-cons entry a.0.0 b.0.0));
+many_take {A = A} part text Fits reads (suc n) bytes xs rest small e =
+    let a = bind_ok (part bytes) (λ first. many_at part n first.1 >>= λ others. Ok (first.0 ∷ others.0, others.1)) (xs, rest) e in
+    let b = bind_ok (many_at part n a.0.1) (λ others. Ok (a.0.0 ∷ others.0, others.1)) (xs, rest) a.2 in
+    let t = reads bytes a.0.0 a.0.1 small a.1 in
+    let u = many_take part text Fits reads n a.0.1 b.0.0 b.0.1 t.0.rest_fits b.1 in
+    let taken : Takes bytes (flat_map text (a.0.0 ∷ b.0.0)) b.0.1 = record {
+      parts = t.0.parts ∙ ap (λ (l : List ℕ). text a.0.0 ++ l) u.0.parts ∙ sym (append_assoc (text a.0.0) (flat_map text b.0.0) b.0.1) ∙ ap (λ (l : List ℕ). l ++ b.0.1) (sym (flat_map-cons text a.0.0 b.0.0));
       rest_fits = u.0.rest_fits;
     } in
-    subst (λ (p : List ScheduleEntry × List ℕ). Takes bytes (flat_map entry p.0) p.1 × ((length p.0 ≡ suc n) × AllByRecursion EntryFits p.0)) (ok_is (a.0.0 ∷ b.0.0, b.0.1) (xs, rest) b.2)
+    subst (λ (p : List A × List ℕ). Takes bytes (flat_map text p.0) p.1 × ((length p.0 ≡ suc n) × AllByRecursion Fits p.0)) (ok_is (a.0.0 ∷ b.0.0, b.0.1) (xs, rest) b.2)
     (taken, (ap suc u.1.0, (t.1, u.1.1)))
 
-pub entries_again : (xs : List ScheduleEntry) (rest : List ℕ) → AllByRecursion EntryFits xs → entries_at (length xs) (flat_map entry xs ++ rest) ≡ Ok (xs, rest)
-unfolding entries_at
-entries_again [] rest f = refl
-entries_again (x ∷ xs) rest f =
-    let regrouped : flat_map entry (x ∷ xs) ++ rest ≡ entry x ++ (flat_map entry xs ++ rest) = ap (λ (l : List ℕ). l ++ rest) (flat_map-cons entry x xs) ∙ append_assoc (entry x) (flat_map entry xs) rest in
-    ap (λ (l : List ℕ). entries_at (suc (length xs)) l) regrouped ∙ rw (entry_again x (flat_map entry xs ++ rest) f.0, entries_again xs rest f.1) refl
+pub many_again : {A : Type 0} (part : List ℕ → Read A) (text : A → List ℕ) (Fits : A → Type 0) → ReadsBack part text Fits → (xs : List A) (rest : List ℕ) → AllByRecursion Fits xs
+    → many_at part (length xs) (flat_map text xs ++ rest) ≡ Ok (xs, rest)
+unfolding many_at
+many_again part text Fits back [] rest f = refl
+many_again part text Fits back (x ∷ xs) rest f =
+    let regrouped : flat_map text (x ∷ xs) ++ rest ≡ text x ++ (flat_map text xs ++ rest) = ap (λ (l : List ℕ). l ++ rest) (flat_map-cons text x xs) ∙ append_assoc (text x) (flat_map text xs) rest in
+    ap (λ (l : List ℕ). many_at part (suc (length xs)) l) regrouped ∙ rw (back x (flat_map text xs ++ rest) f.0, many_again part text Fits back xs rest f.1) refl
 
-entries_stop : (n : ℕ) (bytes : List ℕ) (f : ScheduleFault) → entries_at n bytes ≡ Err f → IsTrue (is_entry_fault f)
-unfolding entries_at
-entries_stop zero bytes f e = absurd cc
-entries_stop (suc n) bytes f e =
-    elim (bind_err (entry_at bytes) (λ first. entries_at n first.1 >>= λ others. done (first.0 ∷ others.0, others.1)) f e) [
-      | inl h ↦ entry_stops bytes f h
-      | inr h ↦ elim (bind_err (entries_at n h.0.1) (λ others. done (h.0.0 ∷ others.0, others.1)) f h.2) [
-        | inl g ↦ entries_stop n h.0.1 f g
+pub many_stop : {A : Type 0} (part : List ℕ → Read A) → Stops part → (n : ℕ) → Stops (many_at part n)
+unfolding many_at
+many_stop part stops zero bytes f e = absurd cc
+many_stop part stops (suc n) bytes f e =
+    elim (bind_err (part bytes) (λ first. many_at part n first.1 >>= λ others. done (first.0 ∷ others.0, others.1)) f e) [
+      | inl h ↦ stops bytes f h
+      | inr h ↦ elim (bind_err (many_at part n h.0.1) (λ others. done (h.0.0 ∷ others.0, others.1)) f h.2) [
+        | inl g ↦ many_stop part stops n h.0.1 f g
         | inr g ↦ absurd cc
       ]
     ]
+
+-- as many as were asked for
+pub many_count : {A : Type 0} (part : List ℕ → Read A) (n : ℕ) (bytes : List ℕ) (xs : List A) (rest : List ℕ) → many_at part n bytes ≡ Ok (xs, rest) → length xs ≡ n
+unfolding many_at
+many_count part zero bytes xs rest e = ap (λ (p : List _ × List ℕ). length p.0) (sym (ok_is ([], bytes) (xs, rest) e))
+many_count part (suc n) bytes xs rest e =
+    let a = bind_ok (part bytes) (λ first. many_at part n first.1 >>= λ others. Ok (first.0 ∷ others.0, others.1)) (xs, rest) e in
+    let b = bind_ok (many_at part n a.0.1) (λ others. Ok (a.0.0 ∷ others.0, others.1)) (xs, rest) a.2 in
+    ap (λ (p : List _ × List ℕ). length p.0) (sym (ok_is (a.0.0 ∷ b.0.0, b.0.1) (xs, rest) b.2)) ∙ ap suc (many_count part n a.0.1 b.0.0 b.0.1 b.1)
 
 -- ---- the table
 
@@ -221,10 +249,10 @@ ends x = cond (eqb (length x.1) 0) (done x.0) (failed faults.Trailing)
 pub table_takes : (bytes : List ℕ) (xs : List ScheduleEntry) → IsBytes bytes → table_at bytes ≡ Ok xs → (bytes ≡ table xs) × AreEntries xs
 unfolding table_at
 table_takes bytes xs small e =
-    let a = bind_ok (number_at 4 bytes) (λ count. entries_at count.0 count.1 >>= λ x. ends x) xs e in
-    let b = bind_ok (entries_at a.0.0 a.0.1) (λ x. ends x) xs a.2 in
+    let a = bind_ok (number_at 4 bytes) (λ count. many_at entry_at count.0 count.1 >>= λ x. ends x) xs e in
+    let b = bind_ok (many_at entry_at a.0.0 a.0.1) (λ x. ends x) xs a.2 in
     let t = number_takes 4 back4 bytes a.0.0 a.0.1 small a.1 in
-    let u = entries_take a.0.0 a.0.1 b.0.0 b.0.1 t.0.rest_fits b.1 in
+    let u = many_take entry_at entry EntryFits entry_takes a.0.0 a.0.1 b.0.0 b.0.1 t.0.rest_fits b.1 in
     let g = passed (eqb (length b.0.1) 0) faults.Trailing b.0.0 xs b.2 in
     let nothing : b.0.1 ≡ [] = nil_from_length b.0.1 (eqb-true _ _ g.0) in
     let whole : bytes ≡ table b.0.0 =
@@ -235,7 +263,7 @@ table_takes bytes xs small e =
 pub table_again : (xs : List ScheduleEntry) → AreEntries xs → table_at (table xs) ≡ Ok xs
 unfolding table_at
 table_again xs f =
-    let all : entries_at (length xs) (flat_map entry xs) ≡ Ok (xs, []) = ap (λ (l : List ℕ). entries_at (length xs) l) (sym (append-nil (flat_map entry xs))) ∙ entries_again xs [] f.each in
+    let all : many_at entry_at (length xs) (flat_map entry xs) ≡ Ok (xs, []) = ap (λ (l : List ℕ). many_at entry_at (length xs) l) (sym (append-nil (flat_map entry xs))) ∙ many_again entry_at entry EntryFits entry_again xs [] f.each in
     rw (number_again 4 (length xs) (flat_map entry xs) f.count, all) refl
 
 unended : (n : ℕ) (xs : List ScheduleEntry) → cond (eqb n 0) (done xs) (failed faults.Trailing) ≡ Err faults.Trailing → 0 < n
@@ -245,23 +273,25 @@ unended (suc n) xs e = omega arith
 -- the faults behind the version
 abbrev pub is_table_fault : ScheduleFault → Bool
 is_table_fault faults.Trailing = true
-is_table_fault f = is_entry_fault f
+is_table_fault f = is_field_fault f
 
-of_entry : (f : ScheduleFault) → IsTrue (is_entry_fault f) → IsTrue (is_table_fault f)
-of_entry faults.Truncated h = h
-of_entry faults.Magic h = h
-of_entry faults.Version h = h
-of_entry faults.Repeat h = h
-of_entry faults.Trailing h = refl
-of_entry faults.OutOfMemory h = h
+of_field : (f : ScheduleFault) → IsTrue (is_field_fault f) → IsTrue (is_table_fault f)
+of_field faults.Truncated h = h
+of_field faults.Magic h = h
+of_field faults.Version h = h
+of_field faults.Repeat h = h
+of_field faults.Trailing h = refl
+of_field faults.OutOfMemory h = h
+of_field faults.Limits h = h
+of_field faults.Files h = h
 
 pub table_stops : (bytes : List ℕ) (f : ScheduleFault) → table_at bytes ≡ Err f → IsTrue (is_table_fault f)
 unfolding table_at
 table_stops bytes f e =
-    elim (bind_err (number_at 4 bytes) (λ count. entries_at count.0 count.1 >>= λ x. ends x) f e) [
-      | inl h ↦ of_entry f (as_entry_fault faults.Truncated f refl (number_stops 4 bytes f h))
-      | inr h ↦ elim (bind_err (entries_at h.0.0 h.0.1) (λ x. ends x) f h.2) [
-        | inl g ↦ of_entry f (entries_stop h.0.0 h.0.1 f g)
+    elim (bind_err (number_at 4 bytes) (λ count. many_at entry_at count.0 count.1 >>= λ x. ends x) f e) [
+      | inl h ↦ of_field f (as_field_fault faults.Truncated f refl (number_stops 4 bytes f h))
+      | inr h ↦ elim (bind_err (many_at entry_at h.0.0 h.0.1) (λ x. ends x) f h.2) [
+        | inl g ↦ of_field f (many_stop entry_at entry_stops h.0.0 h.0.1 f g)
         | inr g ↦ subst (λ (m : ScheduleFault). IsTrue (is_table_fault m)) (unpassed (eqb (length g.0.1) 0) faults.Trailing f g.0.0 g.2) refl
       ]
     ]
@@ -270,13 +300,13 @@ table_stops bytes f e =
 pub table_trailing : (bytes : List ℕ) → IsBytes bytes → table_at bytes ≡ Err faults.Trailing → (xs : List ScheduleEntry) × (rest : List ℕ) × AreEntries xs × (0 < length rest) × (bytes ≡ table xs ++ rest)
 unfolding table_at
 table_trailing bytes small e =
-    elim (bind_err (number_at 4 bytes) (λ count. entries_at count.0 count.1 >>= λ x. ends x) faults.Trailing e) [
+    elim (bind_err (number_at 4 bytes) (λ count. many_at entry_at count.0 count.1 >>= λ x. ends x) faults.Trailing e) [
       | inl h ↦ (let clash = number_stops 4 bytes faults.Trailing h in absurd cc)
-      | inr h ↦ elim (bind_err (entries_at h.0.0 h.0.1) (λ x. ends x) faults.Trailing h.2) [
-        | inl g ↦ (let clash : false ≡ true = entries_stop h.0.0 h.0.1 faults.Trailing g in absurd cc)
+      | inr h ↦ elim (bind_err (many_at entry_at h.0.0 h.0.1) (λ x. ends x) faults.Trailing h.2) [
+        | inl g ↦ (let clash : false ≡ true = many_stop entry_at entry_stops h.0.0 h.0.1 faults.Trailing g in absurd cc)
         | inr g ↦
             (let t = number_takes 4 back4 bytes h.0.0 h.0.1 small h.1 in
-            let u = entries_take h.0.0 h.0.1 g.0.0 g.0.1 t.0.rest_fits g.1 in
+            let u = many_take entry_at entry EntryFits entry_takes h.0.0 h.0.1 g.0.0 g.0.1 t.0.rest_fits g.1 in
             let fits : AreEntries g.0.0 = record { count = rw u.1.0 t.1; each = u.1.1 } in
             let left : 0 < length g.0.1 = unended (length g.0.1) g.0.0 g.2 in
             let whole : bytes ≡ table g.0.0 ++ g.0.1 =

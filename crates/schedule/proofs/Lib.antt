@@ -1,4 +1,6 @@
 pub mod Laws
 pub mod Loop
 pub mod OneList
+pub mod Recordings
+pub mod Texts
 pub mod Whole

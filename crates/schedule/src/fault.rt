@@ -13,13 +13,18 @@ pub enum ScheduleFault {
     Truncated,
     /// The first four bytes aren't `JSCH`.
     Magic,
-    /// The version is another than 1.
+    /// The version is neither 1 nor 2.
     Version,
     /// An entry stands for no event, or for several equal events with a pick that isn't 0.
     Repeat,
     /// Bytes follow the last entry.
     Trailing,
     OutOfMemory,
+    /// A limit is outside its range, or another one than was asked for.
+    Limits,
+    /// The class files are not as many as the file says, or one has another length. Reading the file alone never
+    /// answers it.
+    Files,
 }
 
 /// The name of the fault, as `Truncated`.
@@ -37,6 +42,8 @@ impl fmt::Display for ScheduleFault {
             ScheduleFault::Repeat => f.write_str("Repeat"),
             ScheduleFault::Trailing => f.write_str("Trailing"),
             ScheduleFault::OutOfMemory => f.write_str("OutOfMemory"),
+            ScheduleFault::Limits => f.write_str("Limits"),
+            ScheduleFault::Files => f.write_str("Files"),
         }
     }
 }

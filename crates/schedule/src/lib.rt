@@ -4,6 +4,7 @@
 mod fault;
 mod read;
 mod reader;
+mod recording;
 mod runs;
 mod spelling;
 mod write;
@@ -11,6 +12,7 @@ mod write;
 pub use fault::ScheduleFault;
 pub use model::{Event, ScheduleEntry};
 pub use read::read_schedule;
+pub use recording::Recording;
 pub use runs::Schedule;
 pub use spelling::bytes_spell_one_list;
 pub use write::write_schedule;

@@ -1,21 +1,21 @@
-//! Schedule files of version 1.
+//! Reading schedule files.
 
-ghost use Rattle.std.specs.Prelude.{List, IfOk, IfErr, None};
-ghost use Rattle.model.specs.Schedule.{ScheduleFile, events_of};
+ghost use Rattle.std.specs.Prelude.{◌≡◌, ◌≤◌, ◌<◌, ◌^◌, List, Option, IfOk, IfErr, length};
+ghost use Rattle.std.specs.Option.{option_map};
+ghost use Rattle.model.specs.Schedule.{AreEntries, Recording as Recorded, ScheduleFile, events_of};
 ghost use Rattle.model.specs.declared.event.Event.{Event};
 ghost use Rattle.schedule.specs.Outcomes.{Answers, IsFaultOf};
-ghost use Rattle.schedule.specs.Reading.{Gives, entry_at, entries_at, schedule_at};
+ghost use Rattle.schedule.specs.Reading.{Gives, entry_at, limit_at, limit_numbers, limit_ranges, limits_at, many_at, number_at, numbers_of, recording_at, schedule_at, table_at, version_at};
 
 use crate::fault::ScheduleFault;
 use crate::reader::Reader;
+use crate::recording::Recording;
 use crate::runs::Schedule;
-use model::{Event, ScheduleEntry};
+use model::{Event, Limits, ScheduleEntry};
 use std::alloc::Global;
 
 /// The first four bytes, `JSCH`.
 const MAGIC: u32 = 0x4a53_4348;
-
-const VERSION: u8 = 1;
 
 #[tactic(auto, unfolding(crate::specs::Reading::entry_at))]
 fn read_entry(reader: &mut Reader<'_>) -> Result<ScheduleEntry, ScheduleFault>
@@ -39,7 +39,7 @@ fn read_entries(
     count: u32,
     reader: &mut Reader<'_>,
 ) -> Result<Vec<ScheduleEntry>, ScheduleFault>
-    ensures { Gives (λ v. (v.items, reader.new)) result (entries_at count reader.old) }
+    ensures { Gives (λ v. (v.items, reader.new)) result (many_at entry_at count reader.old) }
 {
     let mut entries = Vec::new(alloc);
     'entries: for _ in 0..count {
@@ -48,40 +48,128 @@ fn read_entries(
     Ok(entries)
 }
 
-#[tactic(auto, unfolding(crate::specs::Reading::schedule_at, crate::specs::Reading::version_at, crate::specs::Reading::table_at))]
-fn read_all(alloc: Global, bytes: &[u8]) -> Result<Vec<ScheduleEntry>, ScheduleFault>
-    ensures { Gives (λ v. v.items) result (schedule_at bytes.now) }
+/// The entries, behind which nothing follows.
+#[tactic(auto, unfolding(crate::specs::Reading::table_at))]
+fn read_table(alloc: Global, reader: &mut Reader<'_>) -> Result<Vec<ScheduleEntry>, ScheduleFault>
+    ensures { Gives (λ v. v.items) result (table_at reader.old) }
 {
-    let mut reader = Reader::new(bytes);
-    if reader.u32()? != MAGIC {
-        return Err(ScheduleFault::Magic);
-    }
-    if reader.u8()? != VERSION {
-        return Err(ScheduleFault::Version);
-    }
     let count = reader.u32()?;
-    let entries = read_entries(alloc, count, &mut reader)?;
+    let entries = read_entries(alloc, count, reader)?;
     if !reader.is_at_end() {
         return Err(ScheduleFault::Trailing);
     }
     Ok(entries)
 }
 
-/// The schedule that a file of version 1 spells: the bytes `JSCH`, the version in one byte, the number of entries
-/// in four, and the entries, each a thread and a pick of two bytes and a repeat of four, all big-endian.
+/// A limit between these two.
+#[tactic(auto, unfolding(crate::specs::Reading::limit_at))]
+fn read_limit(reader: &mut Reader<'_>, least: u32, most: u32) -> Result<u32, ScheduleFault>
+    ensures read { Gives (λ n. (n, reader.new)) result (limit_at least most reader.old) }
+    ensures within { IfOk result (λ n. (least ≤ n) × (n ≤ most)) }
+{
+    let limit = reader.u32()?;
+    if limit < least || most < limit {
+        return Err(ScheduleFault::Limits);
+    }
+    Ok(limit)
+}
+
+#[tactic(auto, unfolding(crate::specs::Reading::limits_at))]
+fn read_limits(reader: &mut Reader<'_>) -> Result<Limits, ScheduleFault>
+    ensures { Gives (λ l. (limit_numbers l, reader.new)) result (limits_at limit_ranges reader.old) }
+{
+    let objects = read_limit(reader, 0, 4_000_000_000)?;
+    let cells = read_limit(reader, 0, u32::MAX)?;
+    let monitors = read_limit(reader, 0, 8_388_608)?;
+    let threads = read_limit(reader, 1, 32_767)?;
+    let frames = read_limit(reader, 1, 65_535)?;
+    Ok(Limits {
+        objects,
+        cells,
+        monitors,
+        threads,
+        frames,
+    })
+}
+
+/// So many lengths. The count is one that the bytes claim, so room is made as they come.
+fn read_lengths(
+    alloc: Global,
+    count: u32,
+    reader: &mut Reader<'_>,
+) -> Result<Vec<u64>, ScheduleFault>
+    ensures read { Gives (λ v. (v.items, reader.new)) result (many_at (number_at 8) count reader.old) }
+    ensures count { IfOk result (λ v. length v.items ≡ count) }
+{
+    let mut lengths = Vec::new(alloc);
+    'lengths: for _ in 0..count {
+        lengths.push(reader.u64()?)?;
+    }
+    Ok(lengths)
+}
+
+#[tactic(auto, unfolding(crate::specs::Reading::recording_at))]
+fn read_recording(alloc: Global, reader: &mut Reader<'_>) -> Result<Recording, ScheduleFault>
+    ensures { Gives (λ r. (numbers_of r, reader.new)) result (recording_at reader.old) }
+{
+    let limits = read_limits(reader)?;
+    let count = reader.u32()?;
+    let lengths = read_lengths(alloc, count, reader)?;
+    Ok(Recording::new(limits, lengths))
+}
+
+/// The version, and with what the events were recorded where it is 2.
+#[tactic(auto, unfolding(crate::specs::Reading::version_at))]
+fn read_version(alloc: Global, reader: &mut Reader<'_>) -> Result<Option<Recording>, ScheduleFault>
+    ensures { Gives (λ r. (option_map numbers_of r, reader.new)) result (version_at reader.old) }
+{
+    match reader.u8()? {
+        1 => Ok(None),
+        2 => Ok(Some(read_recording(alloc, reader)?)),
+        _ => Err(ScheduleFault::Version),
+    }
+}
+
+#[tactic(auto, unfolding(crate::specs::Reading::schedule_at, crate::specs::Reading::body_at))]
+fn read_all(
+    alloc: Global,
+    bytes: &[u8],
+) -> Result<(Vec<ScheduleEntry>, Option<Recording>), ScheduleFault>
+    ensures { Gives (λ v. (v.0.items, option_map numbers_of v.1)) result (schedule_at bytes.now) }
+{
+    let mut reader = Reader::new(bytes);
+    if reader.u32()? != MAGIC {
+        return Err(ScheduleFault::Magic);
+    }
+    let recorded = read_version(alloc, &mut reader)?;
+    let entries = read_table(alloc, &mut reader)?;
+    Ok((entries, recorded))
+}
+
+/// The schedule that a file spells, and with what it was recorded, where the file is of version 2.
+///
+/// All numbers are big-endian. A file of version 1 has the bytes `JSCH`, the version in one byte, the number of entries in
+/// four, and the entries, each a thread and a pick of two bytes and a repeat of four. One of version 2 has between the
+/// version and the number of entries five limits (objects, cells, monitors, threads, frames) and the number of class files
+/// in four bytes each, and the length of each class file in eight.
 ///
 /// # Errors
 ///
 /// The first fault in the order of the file: `Truncated` where a field is cut, `Magic` and `Version` where these
-/// are others, `Repeat` at an entry with a repeat of 0, or with one above 1 and a pick that isn't 0, `Trailing`
-/// where bytes follow the last entry, and `OutOfMemory`.
-pub fn read_schedule(alloc: Global, bytes: &[u8]) -> Result<Schedule, ScheduleFault>
+/// are others, `Limits` at a limit outside its range, `Repeat` at an entry with a repeat of 0, or with one above 1 and a
+/// pick that isn't 0, `Trailing` where bytes follow the last entry, and `OutOfMemory`.
+pub fn read_schedule(
+    alloc: Global,
+    bytes: &[u8],
+) -> Result<(Schedule, Option<Recording>), ScheduleFault>
     // What is read is spelled so.
-    ensures found { IfOk result (λ s. ScheduleFile bytes.now None (events_of s)) }
+    ensures found { IfOk result (λ read. ScheduleFile bytes.now read.1 (events_of read.0)) }
     // What is spelled so is read, unless memory runs out.
-    ensures only { (events : List Event) → ScheduleFile bytes.now None events → Answers result events }
+    ensures only { (recorded : Option Recorded) (events : List Event) → ScheduleFile bytes.now recorded events
+        → Answers result recorded events }
     // A fault stands in the bytes, unless memory ran out.
     ensures refused { IfErr result (IsFaultOf bytes.now) }
 {
-    Ok(Schedule::of_entries(read_all(alloc, bytes)?))
+    let (entries, recorded) = read_all(alloc, bytes)?;
+    Ok((Schedule::of_entries(entries), recorded))
 }

@@ -64,4 +64,15 @@ impl<'a> Reader<'a> {
         self.rest = &self.rest[4..];
         Ok(number)
     }
+
+    pub(crate) fn u64(&mut self) -> Result<u64, ScheduleFault>
+        ensures { Gives (λ n. (n, self.new)) result (number_at 8 self.old) }
+    {
+        if self.rest.len() < 8 {
+            return Err(ScheduleFault::Truncated);
+        }
+        let number = BigEndian::read_u64(self.rest);
+        self.rest = &self.rest[8..];
+        Ok(number)
+    }
 }

@@ -27,7 +27,7 @@ impl Model for Schedule {
 
 impl Schedule {
     /// The schedule of these entries.
-    pub(crate) fn of_entries(entries: Vec<ScheduleEntry>) -> Schedule
+    pub fn of_entries(entries: Vec<ScheduleEntry>) -> Schedule
         requires { AreEntries entries.items }
         ensures { result ≡ entries.items }
     {
