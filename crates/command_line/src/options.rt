@@ -1,6 +1,6 @@
 //! What the program is asked to do.
 
-ghost use Rattle.std.specs.Prelude.{◌≡◌, ◌≤◌, unwrap_or};
+ghost use Rattle.std.specs.Prelude.{◌≡◌, ◌≤◌, ◌↔◌, IsTrue, unwrap_or};
 
 use model::Limits;
 
@@ -109,7 +109,7 @@ pub struct LimitOptions {
 }
 
 impl LimitOptions {
-    ghost use Rattle.command_line.specs.Choices.{AreChosen};
+    ghost use Rattle.command_line.specs.Choices.{AreAsked, AreChosen, IsAsked};
 
     /// The limits of the run.
     pub fn limits(&self) -> Limits
@@ -121,6 +121,27 @@ impl LimitOptions {
             monitors: self.monitors.unwrap_or(65_536),
             threads: self.threads.unwrap_or(256),
             frames: self.frames.unwrap_or(1024),
+        }
+    }
+
+    /// Whether no limit is asked for that is another one than this.
+    pub fn allow(&self, limits: &Limits) -> bool
+        ensures { IsTrue result ↔ AreAsked self.now limits.now }
+    {
+        LimitOptions::is_asked(self.objects, limits.objects)
+            && LimitOptions::is_asked(self.cells, limits.cells)
+            && LimitOptions::is_asked(self.monitors, limits.monitors)
+            && LimitOptions::is_asked(self.threads, limits.threads)
+            && LimitOptions::is_asked(self.frames, limits.frames)
+    }
+
+    /// Whether a limit is the number that is asked for, if one is.
+    fn is_asked(option: Option<u32>, limit: u32) -> bool
+        ensures { IsTrue result ↔ IsAsked option limit }
+    {
+        match option {
+            Some(number) => number == limit,
+            None => true,
         }
     }
 }

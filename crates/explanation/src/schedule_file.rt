@@ -8,11 +8,15 @@ fn words_of(fault: ScheduleFault) -> &'static str {
     match fault {
         ScheduleFault::Truncated => ": the file ends within a field",
         ScheduleFault::Magic => ": the first four bytes are not those of a schedule file",
-        ScheduleFault::Version => ": the version byte is another than 1",
+        ScheduleFault::Version => ": the version byte is neither 1 nor 2",
         ScheduleFault::Repeat =>
             ": an entry has repeat 0, or repeat above 1 with a pick that isn't 0",
         ScheduleFault::Trailing => ": bytes follow the last entry",
         ScheduleFault::OutOfMemory => ": there is no memory for it",
+        ScheduleFault::Limits =>
+            ": a limit that it was recorded with is out of range, or another one is asked for",
+        ScheduleFault::Files =>
+            ": it was recorded over another number of class files, or over files of other lengths",
     }
 }
 
