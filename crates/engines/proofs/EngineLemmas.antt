@@ -1,19 +1,17 @@
 -- Sources that are read one after another.
-use Rattle.std.proofs.Common.{arith, ◌≡◌, ℕ, ◌+◌, ◌<◌, List, [], ◌∷◌, ◌++◌, length, take, drop, map, sum_by, get_or, set, Option, None, false, ◌⊎◌, inl, inr, refl, sym, subst, ◌∙◌}
+use Rattle.std.proofs.Common.{arith, ◌≡◌, ℕ, ◌+◌, ◌<◌, List, [], ◌∷◌, ◌++◌, length, take, drop, map, sum_by, get_or, set, Option, ◌⊎◌, inl, inr, sym, subst, ◌∙◌}
 use Rattle.std.proofs.lemmas.List.{drop_more, take_more, map-append}
 use Rattle.std.proofs.lemmas.List.Sums.{sum_by-set}
 use Rattle.model.specs.declared.device.DeviceFault.{DeviceFault}
 use Rattle.model.specs.declared.device.DeviceFault.TheVariants as devices
 use Rattle.model.specs.Devices.{CountsFault}
 use Rattle.model.specs.declared.event.Event.{Event}
-use Rattle.model.specs.Schedule.{ScheduleFile}
+use Rattle.model.specs.Schedule.{Recording, ScheduleFile}
 use Rattle.schedule.specs.declared.fault.ScheduleFault.{ScheduleFault}
 use Rattle.schedule.specs.declared.fault.ScheduleFault.TheVariants as schedules
 use Rattle.schedule.specs.Outcomes.{StandsIn, IsFaultOf}
-use Rattle.refusal.specs.declared.why.Refusal.{Refusal}
 use Rattle.engines.specs.Devices.{fault_of}
-use Rattle.engines.specs.Engines.{Reads, ReadsEach, WritesPart, IsFaulty, CountsWith}
-use Rattle.engines.specs.Refusals.{IsRefused}
+use Rattle.engines.specs.Engines.{Reads, ReadsEach, WritesPart, IsFaulty, IsOfSchedule, IsUnfit, IsUnspelled, CountsWith}
 use Rattle.command_line.specs.declared.options.LimitOptions.{LimitOptions}
 use Rattle.engines.specs.declared.fault.Fault.{Fault}
 use Rattle.engines.specs.declared.fault.Fault.TheVariants as faults
@@ -51,12 +49,10 @@ pub part_is_faulty : (fault : DeviceFault) (left : Option (List ℕ)) (lefts : L
 part_is_faulty devices.Device left lefts options old new part = part
 part_is_faulty devices.Memory left lefts options old new part = part
 
--- where nothing counts a failure, the sum of the counts stays
-pub counts_sum : (fault : Fault) (a b c d sum : ℕ) → a ≡ c → b ≡ d → CountsWith fault sum sum → CountsWith fault (c + d + sum) (a + b + sum)
-counts_sum faults.Device a b c d sum first second counted = absurd (omega (arith, counted))
-counts_sum faults.Memory a b c d sum first second counted = omega (arith, first, second)
-counts_sum (faults.Schedule fault) a b c d sum first second counted = omega (arith, first, second)
-counts_sum (faults.Refusal refusal) a b c d sum first second counted = omega (arith, first, second)
+-- it is no fault of a schedule file
+pub of_no_schedule : (fault : DeviceFault) → IsOfSchedule (fault_of fault) → ⊥
+of_no_schedule devices.Device of_schedule = of_schedule
+of_no_schedule devices.Memory of_schedule = of_schedule
 
 -- where a write failed and nothing before it did, the sum of the counts is what it counted
 pub counts_write : (fault : DeviceFault) (a b c d old new : ℕ) → a ≡ c → b ≡ d → CountsFault fault old new → CountsWith (fault_of fault) (c + d + old) (a + b + new)
@@ -64,12 +60,8 @@ counts_write devices.Device a b c d old new first second counted = omega (arith,
 counts_write devices.Memory a b c d old new first second counted = omega (arith, first, second, counted)
 
 -- a fault of a schedule file whose bytes spell nothing, memory aside
-pub schedule_is_faulty : (fault : ScheduleFault) (left : Option (List ℕ)) (bytes : List ℕ) → Reads left bytes → ((events : List Event) → ScheduleFile bytes None events → fault ≡ schedules.OutOfMemory) → IsFaultOf bytes fault
-    → (fault ≡ schedules.OutOfMemory) ⊎ ((schedule : List ℕ) × Reads left schedule × ((events : List Event) → ScheduleFile schedule None events → ⊥) × StandsIn schedule fault)
-schedule_is_faulty fault left bytes read only (inl memory) = inl memory
-schedule_is_faulty fault left bytes read only (inr stands) = inr (bytes, read, (λ events h. subst (StandsIn bytes) (only events h) stands), stands)
-
--- class files that are refused
-pub refusal_is_faulty : (refusal : Refusal) (left : Option (List ℕ)) (lefts : List (Option (List ℕ))) (options : LimitOptions) (sink : Option (List ℕ)) (schedule : List ℕ) (files : List (List ℕ)) (events : List Event)
-    → IsRefused files refusal → Reads left schedule → ReadsEach lefts files → ScheduleFile schedule None events → IsFaulty left lefts options sink sink (faults.Refusal refusal)
-refusal_is_faulty refusal left lefts options sink schedule files events refused read reads spelled = (refl, inr (schedule, files, events, read, reads, spelled, refused))
+pub schedule_is_faulty : (fault : ScheduleFault) (left : Option (List ℕ)) (lefts : List (Option (List ℕ))) (options : LimitOptions) (bytes : List ℕ)
+    → Reads left bytes → ((recorded : Option Recording) (events : List Event) → ScheduleFile bytes recorded events → fault ≡ schedules.OutOfMemory) → IsFaultOf bytes fault
+    → (fault ≡ schedules.OutOfMemory) ⊎ IsUnspelled left fault ⊎ IsUnfit left lefts options fault
+schedule_is_faulty fault left lefts options bytes read only (inl memory) = inl memory
+schedule_is_faulty fault left lefts options bytes read only (inr stands) = inr (inl (bytes, read, (λ recorded events h. subst (StandsIn bytes) (only recorded events h) stands), stands))

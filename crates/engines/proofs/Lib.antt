@@ -1,4 +1,5 @@
 pub mod DeviceLemmas
 pub mod EngineLemmas
 pub mod ListingLemmas
+pub mod RecordingLemmas
 pub mod VerificationLemmas

@@ -1,27 +1,32 @@
 //! What the program does, over any readers and writers.
 
-ghost use Rattle.std.specs.Prelude.{◌≡◌, ◌+◌, ◌<◌, Some, None, IfOk, IfErr, length, map, sum_by, vec_items};
+ghost use Rattle.std.specs.Prelude.{◌≡◌, ◌+◌, ◌<◌, ◌⊎◌, Some, None, IfOk, IfErr, length, map, sum_by, vec_items};
 ghost use Rattle.std.specs.Io.KnownBytes.{Appends};
-ghost use Rattle.engines.specs.Engines.{Reads, ReadsEach, Replays, IsReplayed, IsFaulty, IsOfFile, IsOfSchedule, CountsFailure, no_memory};
+ghost use Rattle.engines.specs.Engines.{Reads, ReadsEach, Replays, IsReplayed, IsFaulty, IsAfterFiles, IsOfFile, IsOfSchedule, CountsFailure, no_memory};
+ghost use Rattle.engines.specs.Recordings.{FitsFiles, FitsOptions, HasLimits};
 ghost use Rattle.model.specs.Schedule.{ScheduleFile, events_of};
 ghost use Rattle.model.specs.Accepted.{IsAccepted};
 
 use crate::fault::Fault;
+use crate::recording::limits_of;
 use crate::status::Status;
 use crate::verification::accepted;
 use command_line::LimitOptions;
 use machine_replay::replay;
-use model::{DeviceFault, Sink, Source};
+use model::{DeviceFault, Limits, Sink, Source};
 use refusal::{Refusal, RefusalKind};
 use report::text;
-use schedule::{Schedule, ScheduleFault, read_schedule};
+use schedule::{Recording, Schedule, ScheduleFault, read_schedule};
 use std::alloc::{AllocError, Global};
 use verifier::Verified;
 
 /// Runs the class files under the schedule, writes the report and answers its status.
 ///
 /// A fault of the schedule file is answered before a class file is read, and one of the class files before
-/// anything runs. Where the schedule file or a class file is refused, nothing is written.
+/// anything runs. A schedule file of version 2 says with which limits it was recorded, and over how many class files, how
+/// long each: where they are others, or another limit is asked for, that is its fault, and it is answered once the class
+/// files are read and before one is decoded. The run has its limits. Where the schedule file or a class file is refused,
+/// nothing is written.
 pub fn replay_engine<S: Source, W: Sink>(
     alloc: Global,
     schedule: &mut S,
@@ -35,23 +40,28 @@ pub fn replay_engine<S: Source, W: Sink>(
         × Appends (W.contents report.old) (W.contents report.new) text) }
     ensures faulty { IfErr result (IsFaulty (S.remaining schedule.old) (map S.remaining files.old) limits.now
         (W.contents report.old) (W.contents report.new)) }
-    ensures schedule_first { IfErr result (λ fault. IsOfSchedule fault → files.new ≡ files.old) }
+    ensures schedule_first { IfErr result (λ fault. IsOfSchedule fault → (files.new ≡ files.old)
+        ⊎ IsAfterFiles (S.remaining schedule.old) (map S.remaining files.old) limits.now fault) }
     ensures counted { CountsFailure result
         (S.failures schedule.old + sum_by S.failures files.old + W.failures report.old)
         (S.failures schedule.new + sum_by S.failures files.new + W.failures report.new) }
 {
-    let schedule = read_schedule_file(alloc, schedule)?;
+    let (schedule, recorded) = read_schedule_file(alloc, schedule)?;
     let files = read_class_files(alloc, files)?;
+    let limits = limits_of(&recorded, files.as_slice(), limits)?;
     let verified = accepted(alloc, files.as_slice())?;
     let (text, status) = replayed(alloc, &verified, &schedule, limits)?;
     report.write_all(text.as_slice())?;
     Ok(status)
 }
 
-/// The schedule of a schedule file.
-fn read_schedule_file<S: Source>(alloc: Global, file: &mut S) -> Result<Schedule, Fault>
-    ensures read { IfOk result (λ schedule. (bytes : _) × Reads (S.remaining file.old) bytes
-        × ScheduleFile bytes None (events_of schedule)) }
+/// The schedule of a schedule file, and with what it was recorded.
+fn read_schedule_file<S: Source>(
+    alloc: Global,
+    file: &mut S,
+) -> Result<(Schedule, Option<Recording>), Fault>
+    ensures read { IfOk result (λ read. (bytes : _) × Reads (S.remaining file.old) bytes
+        × ScheduleFile bytes read.1 (events_of read.0)) }
     ensures faulty { IfErr result (λ fault. (lefts : _) (options : _) (sink : _)
         → IsFaulty (S.remaining file.old) lefts options sink sink fault) }
     ensures counted { CountsFailure result (S.failures file.old) (S.failures file.new) }
@@ -122,13 +132,17 @@ fn replayed(
     alloc: Global,
     verified: &Verified,
     schedule: &Schedule,
-    limits: &LimitOptions,
+    limits: Limits,
 ) -> Result<(Vec<u8>, Status), AllocError>
-    ensures { IfOk result (λ told. (bytes : _) (files : _) → ScheduleFile bytes None (events_of schedule.now)
+    ensures { IfOk result (λ told. (bytes : _) (files : _) (recorded : _) (options : _)
+        → ScheduleFile bytes recorded (events_of schedule.now)
+        → FitsFiles recorded files
+        → FitsOptions recorded options
+        → HasLimits recorded options limits
         → IsAccepted files verified.now
-        → IsReplayed bytes files limits.now told.0.items told.1) }
+        → IsReplayed bytes files options told.0.items told.1) }
 {
-    let (report, end) = replay(alloc, verified, schedule, limits.limits())?;
+    let (report, end) = replay(alloc, verified, schedule, limits)?;
     let text = text(alloc, &report, &end)?;
     Ok((text, Status::of(&report, end)))
 }

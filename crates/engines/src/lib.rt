@@ -9,6 +9,7 @@ mod fault;
 mod folder;
 mod listing;
 mod program;
+mod recording;
 mod status;
 mod verification;
 

@@ -52,7 +52,7 @@ fn run(rt: &HostRuntime, machine: &mut Machine, word: &str) -> Result<(u64, Stop
         return Ok((u64::from(done), why));
     }
     let bytes = bytes_of(rt, word)?;
-    let schedule = read_schedule(rt.alloc(), bytes.as_slice())
+    let (schedule, _) = read_schedule(rt.alloc(), bytes.as_slice())
         .ok()
         .context("the schedule")?;
     let start = Instant::now(rt);

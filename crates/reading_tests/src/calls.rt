@@ -138,26 +138,44 @@ fn instructions_have_lengths(rt: HostRuntime) {
 
 #[test]
 fn schedules_are_written_back(rt: HostRuntime) -> Result<(), Fail> {
-    // a file, and how many entries and events it has
-    let rows: [(&[u8], usize, u64); 3] = [
-        (b"JSCH\x01\0\0\0\0", 0, 0),
+    // a file, and how many entries and events it has, and class files, if it says so
+    let rows: [(&[u8], usize, u64, Option<usize>); 5] = [
+        (b"JSCH\x01\0\0\0\0", 0, 0, None),
         (
             b"JSCH\x01\0\0\0\x01\0\0\0\0\xff\xff\xff\xff",
             1,
             4_294_967_295,
+            None,
         ),
         (
             b"JSCH\x01\0\0\0\x03\0\0\0\0\0\0\0\x16\0\0\0\x01\0\0\0\x01\xff\xff\0\0\0\0\0\x0e",
             3,
             37,
+            None,
+        ),
+        (
+            b"JSCH\x02\0\x0f\x42\x40\0\xf4\x24\0\0\x01\0\0\0\0\x01\0\0\0\x04\0\0\0\0\x01\0\0\0\0\0\0\0\xf1\0\0\0\x01\0\0\0\0\0\0\0\x08",
+            1,
+            8,
+            Some(1),
+        ),
+        (
+            b"JSCH\x02\0\0\0\0\xff\xff\xff\xff\0\x80\0\0\0\0\0\x01\0\0\xff\xff\0\0\0\x02\xff\xff\xff\xff\xff\xff\xff\xff\0\0\0\0\0\0\0\0\0\0\0\0",
+            0,
+            0,
+            Some(2),
         ),
     ];
-    for (bytes, entries, events) in rows {
-        let schedule = read_schedule(rt.alloc(), bytes)?;
-        let written = write_schedule(rt.alloc(), &schedule)?;
+    for (bytes, entries, events, files) in rows {
+        let (schedule, recording) = read_schedule(rt.alloc(), bytes)?;
+        let written = write_schedule(rt.alloc(), &schedule, recording.as_ref())?;
         let is_counted = schedule.len() == entries && schedule.count() == events;
+        let recorded = match &recording {
+            Some(recording) => Some(recording.lengths().len()),
+            None => None,
+        };
         assert!(rt;
-            is_counted && written.as_slice() == bytes,
+            is_counted && recorded == files && written.as_slice() == bytes,
             "{entries} entries"
         );
     }

@@ -1,12 +1,10 @@
-use Rattle.std.proofs.Common.{map, vec_items, inr, refl, subst}
+use Rattle.std.proofs.Common.{map, vec_items, inr, subst}
 use Rattle.std.proofs.lemmas.Result.{err_from_is_err_and}
 use Rattle.std.specs.Io.KnownBytes.{Appends}
 use Rattle.model.specs.Devices.{AppendsFront}
-use Rattle.engines.specs.Engines.{ReadsEach}
 use Rattle.model.specs.Accepted.{IsAccepted}
-use Rattle.engines.specs.Refusals.{IsRefused}
-use Rattle.engines.specs.declared.fault.Fault.TheVariants as faults
-use Rattle.engines.proofs.EngineLemmas.{refusal_is_faulty, part_is_faulty, counts_sum, counts_write}
+use Rattle.engines.specs.Recordings.{FitsFiles}
+use Rattle.engines.proofs.EngineLemmas.{part_is_faulty, counts_write, of_no_schedule}
 use Rattle.engines.proofs.engine.replay_engine.Goals as goal
 
 pub returns-in_err-schedule-clause-faulty : goal.returns-in_err-schedule-clause-faulty
@@ -19,27 +17,22 @@ returns-in_err-files-clause-faulty g c =
     let p = err_from_is_err_and c.from_residual-in_err-files.result c.from_residual-in_err-files.ensures.1 in
     rw (p.1, p.2) (c.in_err-files.ensures.faulty _ _ _)
 
-pub returns-in_err-verified-clause-faulty : goal.returns-in_err-verified-clause-faulty
-returns-in_err-verified-clause-faulty g c =
-    let p = err_from_is_err_and c.from_residual-in_err-verified.result c.from_residual-in_err-verified.ensures.1 in
-    let schedule = c.in_ok-schedule.ensures.read in
-    let refused = subst (λ files. IsRefused (map vec_items files) c.in_err-verified.field-0.0) c.as_slice.ensures.value c.in_err-verified.ensures.refused in
-    rw (p.1, p.2) (refusal_is_faulty _ _ _ c.args.limits.now _ _ _ _ refused schedule.1 c.in_ok-files.ensures.read schedule.2)
-
-pub returns-in_err-verified-clause-counted : goal.returns-in_err-verified-clause-counted
-returns-in_err-verified-clause-counted g c =
-    let p = err_from_is_err_and c.from_residual-in_err-verified.result c.from_residual-in_err-verified.ensures.1 in
-    rw (p.1, p.2) (counts_sum (faults.Refusal c.in_err-verified.field-0.0) _ _ _ _ _ c.in_ok-schedule.ensures.counted c.in_ok-files.ensures.counted refl)
-
 pub returns-in_err-write_all-clause-faulty : goal.returns-in_err-write_all-clause-faulty
 returns-in_err-write_all-clause-faulty g c =
     let p = err_from_is_err_and c.from_residual-in_err-write_all.result c.from_residual-in_err-write_all.ensures.1 in
     let contents = g.W.Sink.contents in
     let schedule = c.in_ok-schedule.ensures.read in
-    let accepted = subst (λ files. IsAccepted (map vec_items files) c.in_ok-verified.verified) c.as_slice.ensures.value c.in_ok-verified.ensures.accepted in
-    let written = subst (λ text. AppendsFront (contents c.args.report.now) (contents c.write_all.new.self) text) c.as_slice-2.ensures.value c.in_err-write_all.ensures.part in
+    let limits = c.in_ok-limits.ensures in
+    let fits = subst (λ files. FitsFiles c.in_ok-schedule.recorded (map vec_items files)) c.as_slice.ensures.value limits.files in
+    let accepted = subst (λ files. IsAccepted (map vec_items files) c.in_ok-verified.verified) c.as_slice-2.ensures.value c.in_ok-verified.ensures.accepted in
+    let written = subst (λ text. AppendsFront (contents c.args.report.now) (contents c.write_all.new.self) text) c.as_slice-3.ensures.value c.in_err-write_all.ensures.part in
     rw (p.1, p.2) (part_is_faulty _ _ _ _ _ _
-    (inr (_, _, (schedule.0, _, schedule.1, c.in_ok-files.ensures.read, c.in_ok-text.ensures _ _ schedule.2 accepted), written)))
+    (inr (_, _, (schedule.0, _, schedule.1, c.in_ok-files.ensures.read, c.in_ok-text.ensures _ _ _ _ schedule.2 fits limits.options limits.limits accepted), written)))
+
+pub returns-in_err-write_all-clause-schedule_first : goal.returns-in_err-write_all-clause-schedule_first
+returns-in_err-write_all-clause-schedule_first g c =
+    let p = err_from_is_err_and c.from_residual-in_err-write_all.result c.from_residual-in_err-write_all.ensures.1 in
+    rw (p.1, p.2) (λ of_schedule. absurd (of_no_schedule c.in_err-write_all.field-0.0 of_schedule))
 
 pub returns-in_err-write_all-clause-counted : goal.returns-in_err-write_all-clause-counted
 returns-in_err-write_all-clause-counted g c =
@@ -50,6 +43,8 @@ pub returns-clause-replayed : goal.returns-clause-replayed
 returns-clause-replayed g c =
     let contents = g.W.Sink.contents in
     let schedule = c.in_ok-schedule.ensures.read in
-    let accepted = subst (λ files. IsAccepted (map vec_items files) c.in_ok-verified.verified) c.as_slice.ensures.value c.in_ok-verified.ensures.accepted in
-    let written = subst (λ text. Appends (contents c.args.report.now) (contents c.write_all.new.self) text) c.as_slice-2.ensures.value c.in_ok-write_all.ensures.written in
-    (_, (schedule.0, _, schedule.1, c.in_ok-files.ensures.read, c.in_ok-text.ensures _ _ schedule.2 accepted), written)
+    let limits = c.in_ok-limits.ensures in
+    let fits = subst (λ files. FitsFiles c.in_ok-schedule.recorded (map vec_items files)) c.as_slice.ensures.value limits.files in
+    let accepted = subst (λ files. IsAccepted (map vec_items files) c.in_ok-verified.verified) c.as_slice-2.ensures.value c.in_ok-verified.ensures.accepted in
+    let written = subst (λ text. Appends (contents c.args.report.now) (contents c.write_all.new.self) text) c.as_slice-3.ensures.value c.in_ok-write_all.ensures.written in
+    (_, (schedule.0, _, schedule.1, c.in_ok-files.ensures.read, c.in_ok-text.ensures _ _ _ _ schedule.2 fits limits.options limits.limits accepted), written)

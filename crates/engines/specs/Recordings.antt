@@ -1,0 +1,29 @@
+-- A run and with what its schedule was recorded, if the schedule file says so (own).
+use Rattle.std.specs.Prelude.{◌≡◌, ℕ, List, length, map, Option, Some, None}
+use Rattle.model.specs.declared.limits.Limits.{Limits}
+use Rattle.model.specs.Schedule.{Recording}
+use Rattle.command_line.specs.Choices.{AreAsked, AreChosen}
+use Rattle.command_line.specs.declared.options.LimitOptions.{LimitOptions}
+use Rattle.schedule.specs.declared.fault.ScheduleFault.{ScheduleFault}
+use Rattle.schedule.specs.declared.fault.ScheduleFault.TheVariants as schedules
+
+-- the class files are as many as were recorded, each as long
+abbrev pub FitsFiles : Option Recording → List (List ℕ) → Type 0
+FitsFiles None files = Unit {0}
+FitsFiles (Some recorded) files = map length files ≡ recorded.lengths
+
+-- no limit is asked for that is another one than was recorded
+abbrev pub FitsOptions : Option Recording → LimitOptions → Type 0
+FitsOptions None options = Unit {0}
+FitsOptions (Some recorded) options = AreAsked options recorded.limits
+
+-- the limits of the run are those that were recorded, and else those of the options
+abbrev pub HasLimits : Option Recording → LimitOptions → Limits → Type 0
+HasLimits None options limits = AreChosen options limits
+HasLimits (Some recorded) options limits = limits ≡ recorded.limits
+
+-- what was recorded does not fit, and this fault says so: the files come first
+abbrev pub Disagrees : Option Recording → List (List ℕ) → LimitOptions → ScheduleFault → Type 0
+Disagrees recorded files options schedules.Files = FitsFiles recorded files → ⊥
+Disagrees recorded files options schedules.Limits = FitsFiles recorded files × (FitsOptions recorded options → ⊥)
+Disagrees recorded files options fault = ⊥
