@@ -1,2 +1,4 @@
 mod Finding
 mod Shared
+mod Copying
+mod Committing

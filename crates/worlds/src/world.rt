@@ -89,4 +89,18 @@ impl World {
     {
         self.end
     }
+
+    /// Its machine.
+    pub fn machine(&self) -> &Machine
+        ensures { result.now ≡ self.now.machine }
+    {
+        &self.machine
+    }
+
+    /// The events that it has done.
+    pub fn into_events(self) -> RecordedEvents
+        ensures { result.events ≡ self.events }
+    {
+        self.recorded
+    }
 }
