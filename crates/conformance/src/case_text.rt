@@ -20,6 +20,8 @@ pub struct Case {
     pub name: String,
     /// The words of the command line, the program's name first.
     pub words: Vec<String>,
+    /// The name of a file that it records, whose bytes are to be shown.
+    pub shown: Option<String>,
 }
 
 /// What the indented lines belong to.
@@ -104,6 +106,10 @@ impl CaseText {
                 self.begin_case(alloc, name)?;
                 Ok(Section::Case)
             }
+            ["shown", name] => {
+                self.show(alloc, name)?;
+                Ok(Section::None)
+            }
             _ => Err(LineFault::Section),
         }
     }
@@ -141,7 +147,17 @@ impl CaseText {
         let mut words = Vec::new(alloc);
         words.push(String::from_str(alloc, "jvm")?)?;
         let name = String::from_str(alloc, name)?;
-        self.cases.push(Case { name, words })?;
+        let shown = None;
+        self.cases.push(Case { name, words, shown })?;
+        Ok(())
+    }
+
+    /// The file of this name, which the last case records, is to be shown.
+    fn show(&mut self, alloc: Global, name: &str) -> Result<(), LineFault> {
+        let Some(case) = self.cases.last_mut() else {
+            return Err(LineFault::Stray);
+        };
+        case.shown = Some(String::from_str(alloc, name)?);
         Ok(())
     }
 

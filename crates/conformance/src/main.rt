@@ -15,6 +15,8 @@ use outcome::write_outcomes;
 use std::io::{BufWriter, Write};
 use std::process::ExitCode;
 use std::rt::Files;
+use std::sync::Wait;
+use std::thread::Threads;
 use std::{env, fs, io};
 
 fn main(rt: HostRuntime) -> ExitCode {
@@ -28,7 +30,7 @@ fn main(rt: HostRuntime) -> ExitCode {
 }
 
 /// Runs the cases of each text that the words name, behind the program's name.
-fn run_texts<R: Files + env::Env + Print + AllocGlobal>(rt: &R) -> Result<()> {
+fn run_texts<R: Files + env::Env + Print + AllocGlobal + Threads + Wait + Sync>(rt: &R) -> Result<()> {
     let mut output = BufWriter::new(rt.alloc(), io::writer(rt))?;
     let result = run_each(rt, &mut output);
     // What came before a fault is written, too.
@@ -36,7 +38,7 @@ fn run_texts<R: Files + env::Env + Print + AllocGlobal>(rt: &R) -> Result<()> {
     result
 }
 
-fn run_each<R: Files + env::Env + Print + AllocGlobal, W: Write>(
+fn run_each<R: Files + env::Env + Print + AllocGlobal + Threads + Wait + Sync, W: Write>(
     rt: &R,
     output: &mut W,
 ) -> Result<()> {
@@ -48,7 +50,7 @@ fn run_each<R: Files + env::Env + Print + AllocGlobal, W: Write>(
 }
 
 /// Runs the cases of a text. Files that it doesn't give are those of the system.
-fn run_cases<R: Files + Print + AllocGlobal, W: Write>(
+fn run_cases<R: Files + Print + AllocGlobal + Threads + Wait + Sync, W: Write>(
     rt: &R,
     path: &str,
     text: &str,
@@ -59,5 +61,5 @@ fn run_cases<R: Files + Print + AllocGlobal, W: Write>(
         Ok(text) => text,
         Err(fault) => bail!("{path} {fault}"),
     };
-    Ok(write_outcomes(rt.alloc(), &folder, &text, output)?)
+    Ok(write_outcomes(rt, rt.alloc(), &folder, &text, output)?)
 }

@@ -15,7 +15,7 @@ pub struct TextFault {
 /// What is wrong with a line.
 #[derive(Clone, Copy, Debug, PartialEq, Eq, Error)]
 pub enum LineFault {
-    #[error("neither `file NAME` nor `file NAME from OTHER` nor `case NAME`")]
+    #[error("neither `file NAME` nor `file NAME from OTHER` nor `case NAME` nor `shown NAME`")]
     Section,
     #[error("an indented line of no section")]
     Stray,

@@ -40,6 +40,7 @@ counts_among failures faults.Device total sources i y d within so_far counted = 
 counts_among failures faults.Memory total sources i y d within so_far counted = omega (arith, sum_by-set failures sources i y d within, so_far, counted)
 counts_among failures (faults.Schedule fault) total sources i y d within so_far counted = omega (arith, sum_by-set failures sources i y d within, so_far, counted)
 counts_among failures (faults.Refusal refusal) total sources i y d within so_far counted = omega (arith, sum_by-set failures sources i y d within, so_far, counted)
+counts_among failures (faults.Run refusal) total sources i y d within so_far counted = omega (arith, sum_by-set failures sources i y d within, so_far, counted)
 
 pub none_failed : {S : Type 0} (failures : S → ℕ) (total : ℕ) (sources : List S) (i : ℕ) (y d : S) → i < length sources → sum_by failures sources ≡ total → failures y ≡ failures (get_or sources i d) → sum_by failures (set sources i y) ≡ total
 none_failed failures total sources i y d within so_far counted = omega (arith, sum_by-set failures sources i y d within, so_far, counted)

@@ -4,10 +4,16 @@ use Rattle.std.specs.Io.KnownBytes.{Appends}
 use Rattle.model.specs.Report.{line}
 use Rattle.refusal.specs.Lines.{refusal_line}
 use Rattle.schedule.specs.Names.{fault_name}
+use Rattle.workers.specs.declared.RunFault.{RunFault}
+use Rattle.workers.specs.declared.RunFault.TheVariants as runs
 use Rattle.engines.specs.declared.complaint.Complaint.{Complaint}
 use Rattle.engines.specs.declared.complaint.Complaint.TheVariants as complaints
 use Rattle.engines.specs.declared.fault.Fault.{Fault}
 use Rattle.engines.specs.declared.fault.Fault.TheVariants as faults
+
+abbrev pub run_name : RunFault → List ℕ
+run_name runs.Memory = codes "Memory"
+run_name runs.Stranger = codes "Stranger"
 
 -- the line that tells a fault, without its end
 abbrev pub fault_line : Fault → List ℕ
@@ -15,6 +21,7 @@ fault_line faults.Device = codes "device"
 fault_line faults.Memory = codes "run refused Memory"
 fault_line (faults.Refusal refusal) = refusal_line refusal
 fault_line (faults.Schedule fault) = codes "schedule refused " ++ fault_name fault
+fault_line (faults.Run fault) = codes "run refused " ++ run_name fault
 
 -- A fault is told by its line. Of usage faults the parser has the text, and nothing is known of it.
 abbrev pub Tells : Complaint → Option (List ℕ) → Option (List ℕ) → Type 0

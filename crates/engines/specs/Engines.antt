@@ -90,6 +90,7 @@ IsFaulty left lefts options old new faults.Device = WritesPart left lefts option
 IsFaulty left lefts options old new faults.Memory = WritesPart left lefts options old new
 IsFaulty left lefts options old new (faults.Schedule fault) = (new ≡ old) × ((fault ≡ schedules.OutOfMemory) ⊎ IsUnspelled left fault ⊎ IsUnfit left lefts options fault)
 IsFaulty left lefts options old new (faults.Refusal refusal) = (new ≡ old) × ((refusal.kind ≡ kinds.OutOfMemory) ⊎ IsUnlinked left lefts options refusal)
+IsFaulty left lefts options old new (faults.Run fault) = ⊥
 
 -- the class files are read before a fault of the schedule file, which they or the options don't fit
 abbrev pub IsAfterFiles : Option (List ℕ) → List (Option (List ℕ)) → LimitOptions → Fault → Type 0
@@ -97,6 +98,7 @@ IsAfterFiles left lefts options faults.Device = ⊥
 IsAfterFiles left lefts options faults.Memory = ⊥
 IsAfterFiles left lefts options (faults.Schedule fault) = IsUnfit left lefts options fault
 IsAfterFiles left lefts options (faults.Refusal refusal) = ⊥
+IsAfterFiles left lefts options (faults.Run fault) = ⊥
 
 -- the fault is one of the schedule file's
 abbrev pub IsOfSchedule : Fault → Type 0
@@ -104,6 +106,7 @@ IsOfSchedule faults.Device = ⊥
 IsOfSchedule faults.Memory = ⊥
 IsOfSchedule (faults.Schedule fault) = Unit {0}
 IsOfSchedule (faults.Refusal refusal) = ⊥
+IsOfSchedule (faults.Run fault) = ⊥
 
 -- there is no memory for the class file with this number
 abbrev pub no_memory : ℕ → Refusal
@@ -115,6 +118,7 @@ IsOfFile number faults.Device = Unit {0}
 IsOfFile number faults.Memory = ⊥
 IsOfFile number (faults.Schedule fault) = ⊥
 IsOfFile number (faults.Refusal refusal) = refusal ≡ no_memory number
+IsOfFile number (faults.Run fault) = ⊥
 
 -- a failure is counted with the fault Device, and with no other
 abbrev pub CountsWith : Fault → ℕ → ℕ → Type 0
@@ -122,6 +126,7 @@ CountsWith faults.Device old new = new ≡ old + 1
 CountsWith faults.Memory old new = new ≡ old
 CountsWith (faults.Schedule fault) old new = new ≡ old
 CountsWith (faults.Refusal refusal) old new = new ≡ old
+CountsWith (faults.Run fault) old new = new ≡ old
 
 -- and with no status
 abbrev pub CountsFailure : {A : Type 0} → Result A Fault → ℕ → ℕ → Type 0

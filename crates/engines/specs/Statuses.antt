@@ -5,8 +5,8 @@ use Rattle.model.specs.declared.report.EndState.{EndState}
 use Rattle.model.specs.declared.report.EndState.TheVariants.{Ended, Threw, Blocked, Waiting, Joining, Initialising, Runnable}
 use Rattle.model.specs.declared.end.End.{End}
 use Rattle.model.specs.declared.end.End.TheVariants as ends
-use Rattle.command_line.specs.declared.parse.Usage.{Usage}
-use Rattle.command_line.specs.declared.parse.Usage.TheVariants as usages
+use Rattle.command_line.specs.declared.usage.Usage.{Usage}
+use Rattle.command_line.specs.declared.usage.Usage.TheVariants as usages
 use Rattle.engines.specs.declared.complaint.Complaint.{Complaint}
 use Rattle.engines.specs.declared.complaint.Complaint.TheVariants as complaints
 use Rattle.engines.specs.declared.fault.Fault.{Fault}
@@ -51,6 +51,7 @@ fault_status faults.Device = statuses.Unusable
 fault_status faults.Memory = statuses.Stopped
 fault_status (faults.Refusal refusal) = statuses.Refused
 fault_status (faults.Schedule refusal) = statuses.Refused
+fault_status (faults.Run refusal) = statuses.Stopped
 
 -- the status where there is no command: words that ask for help get it
 abbrev pub usage_status : Usage → Status

@@ -2,7 +2,7 @@
 
 ghost use Rattle.std.specs.Prelude.{◌≡◌, OnOk};
 ghost use Rattle.std.specs.Io.KnownBytes.{Appends};
-ghost use Rattle.engines.specs.declared.fault.Fault.TheVariants.{Memory, Refusal, Schedule};
+ghost use Rattle.engines.specs.declared.fault.Fault.TheVariants.{Memory, Refusal, Run, Schedule};
 ghost use Rattle.engines.specs.Devices.{fault_of};
 ghost use Rattle.engines.specs.Complaints.{fault_line};
 
@@ -11,6 +11,7 @@ use schedule::ScheduleFault;
 use std::alloc::{AllocError, AllocFailed};
 use std::io;
 use std::io::Write;
+use workers::RunFault;
 
 /// Why an engine has no status.
 #[derive(Debug, Drop)]
@@ -23,6 +24,8 @@ pub enum Fault {
     Refusal(refusal::Refusal),
     /// The schedule file is refused.
     Schedule(ScheduleFault),
+    /// The workers have nothing to tell.
+    Run(RunFault),
 }
 
 impl Fault {
@@ -35,6 +38,8 @@ impl Fault {
             Fault::Memory => to.write_all(b"run refused Memory"),
             Fault::Refusal(refusal) => refusal.write_line(to),
             Fault::Schedule(fault) => write!(to, "schedule refused {fault}"),
+            Fault::Run(RunFault::Memory) => to.write_all(b"run refused Memory"),
+            Fault::Run(RunFault::Stranger) => to.write_all(b"run refused Stranger"),
         }
     }
 }
@@ -52,6 +57,14 @@ impl From<ScheduleFault> for Fault {
 
     fn from(refusal: ScheduleFault) -> Fault {
         Fault::Schedule(refusal)
+    }
+}
+
+impl From<RunFault> for Fault {
+    ghost from_gives = { λ refusal fault. fault ≡ Run refusal };
+
+    fn from(refusal: RunFault) -> Fault {
+        Fault::Run(refusal)
     }
 }
 

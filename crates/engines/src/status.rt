@@ -68,7 +68,7 @@ impl Status {
     {
         match fault {
             Fault::Device => Status::Unusable,
-            Fault::Memory => Status::Stopped,
+            Fault::Memory | Fault::Run(_) => Status::Stopped,
             Fault::Refusal(_) | Fault::Schedule(_) => Status::Refused,
         }
     }

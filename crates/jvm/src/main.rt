@@ -27,7 +27,7 @@ fn words(rt: &HostRuntime) -> io::Result<Vec<String>> {
 fn done(rt: &HostRuntime, words: &[String]) -> Status {
     let mut output = Counted::new(rt.alloc(), io::writer(rt));
     let folder = SystemFolder::new(rt);
-    let outcome = run(rt.alloc(), &folder, words, &mut output);
+    let outcome = run(rt, rt.alloc(), &folder, words, &mut output);
     let second = match &outcome {
         Ok(_) => None,
         Err(complaint) => second_line(
