@@ -1,7 +1,7 @@
 -- The command line (own), in the words of the crate `clap`: which options there are, and which command the words
 -- spell.
 use Rattle.std.specs.Prelude.{◌≡◌, ◌≤◌, ◌⊎◌, ℕ, ◌-◌, ◌^◌, Bool, List, map, true, false, codes, Option, Some, None, string_bytes}
-use Rattle.std.specs.Option.{option_map_or}
+use Rattle.std.specs.Option.{option_map, option_map_or}
 use Rattle.std.specs.Str.{bytes_eq}
 use Rattle.std.specs.Str.Parse.{IsNumeral, digits_value}
 use Rattle.clap.specs.Words.{App, IsAmong, Row, Rule, Shape, Text, all_of, fault_of, first_of, kind_of, new_app, new_rule, subcommand_of, takes, with_rule, with_subcommand}
@@ -12,13 +12,16 @@ use Rattle.clap.specs.declared.builder.command.Command as parser
 use Rattle.clap.specs.declared.builder.command.Command.TheViews.{out-Command}
 use Rattle.clap.specs.declared.builder.ArgAction.TheVariants.{Set, SetTrue, Append}
 use Rattle.clap.specs.declared.builder.value_parser.ValueParser.TheVariants.{Unsigned}
-use Rattle.command_line.specs.declared.parse.Usage.{Usage}
-use Rattle.command_line.specs.declared.parse.Usage.TheVariants.{Parser, Number, Asked, OutOfMemory}
+use Rattle.command_line.specs.Choices.{IsAlone}
+use Rattle.command_line.specs.declared.usage.Usage.{Usage}
+use Rattle.command_line.specs.declared.usage.Usage.TheVariants.{Parser, Number, Asked, OutOfMemory}
 use Rattle.command_line.specs.declared.options.Command.{Command}
 use Rattle.command_line.specs.declared.options.Command.TheVariants as commands
 use Rattle.command_line.specs.declared.options.Disasm.{Disasm}
 use Rattle.command_line.specs.declared.options.LimitOptions.{LimitOptions}
 use Rattle.command_line.specs.declared.options.Replay.{Replay}
+use Rattle.command_line.specs.declared.options.Run.{Run}
+use Rattle.command_line.specs.declared.options.RunOptions.{RunOptions}
 use Rattle.command_line.specs.declared.options.Verify.{Verify}
 
 -- `--NAME NUMBER`, a number from least to most
@@ -28,6 +31,14 @@ number_option name least most = record (new_rule name) {
   value_names = 1;
   action = Some Set;
   parser = Some (Unsigned least most);
+}
+
+-- `--record FILE`
+abbrev pub record_option : Rule
+record_option = record (new_rule (codes "record")) {
+  long = Some (codes "record");
+  value_names = 1;
+  action = Some Set;
 }
 
 -- `--schedule FILE`, which has to be there
@@ -63,6 +74,17 @@ with_limits app = with_rule (with_rule (with_rule (with_rule (with_rule app
     (number_option (codes "threads") 1 32767))
     (number_option (codes "frames") 1 65535)
 
+-- how many workers, how many events in all and in a row, and by which seed
+abbrev pub with_run_options : App → App
+with_run_options app = with_rule (with_rule (with_rule (with_rule app
+    (number_option (codes "workers") 1 64))
+    (number_option (codes "budget") 0 4294967295))
+    (number_option (codes "quantum") 1 4294967295))
+    (number_option (codes "seed") 0 4294967295)
+
+abbrev pub jvm_run : App
+jvm_run = with_rule (with_rule (with_limits (with_rule (with_run_options (new_app (codes "run"))) record_option)) explain_option) class_files
+
 abbrev pub jvm_replay : App
 jvm_replay = with_rule (with_rule (with_limits (with_rule (new_app (codes "replay")) schedule_option)) explain_option) class_files
 
@@ -85,8 +107,9 @@ abbrev pub with_version : Shape → Shape
 with_version shape = record shape { has_version = true; subcommand_required = true }
 
 abbrev pub jvm : App
-jvm = with_subcommand (with_subcommand (with_subcommand
+jvm = with_subcommand (with_subcommand (with_subcommand (with_subcommand
     (record (new_app (codes "jvm")) { top = with_version (new_app (codes "jvm")).top })
+    jvm_run.top)
     jvm_replay.top)
     jvm_verify.top)
     jvm_disasm.top
@@ -113,6 +136,22 @@ pub record AreLimitNumbers (rows : List Row) (limits : LimitOptions) : Type 0 wh
 abbrev pub is_set : Option Text → Bool
 is_set text = option_map_or (λ text. bytes_eq text (codes "true")) text false
 
+-- the numbers that the words give to a run: with a seed it has one worker
+pub record AreRunNumbers (rows : List Row) (options : RunOptions) : Type 0 where
+  pub workers : IsNumber 1 64 (first_of (codes "workers") rows) options.workers
+  pub budget : IsNumber 0 4294967295 (first_of (codes "budget") rows) options.budget
+  pub quantum : IsNumber 1 4294967295 (first_of (codes "quantum") rows) options.quantum
+  pub seed : IsNumber 0 4294967295 (first_of (codes "seed") rows) options.seed
+  pub alone : IsAlone options.seed options.workers
+
+-- the values that the words give to `jvm run`
+pub record AreRunValues (rows : List Row) (run : Run) : Type 0 where
+  pub options : AreRunNumbers rows run.options
+  pub recording : first_of (codes "record") rows ≡ option_map string_bytes run.record
+  pub limits : AreLimitNumbers rows run.limits
+  pub files : all_of (codes "files") rows ≡ Some (map string_bytes run.files.items)
+  pub explain : run.explain ≡ is_set (first_of (codes "explain") rows)
+
 -- the values that the words give to `jvm replay`
 pub record AreValues (rows : List Row) (replay : Replay) : Type 0 where
   pub schedule : first_of (codes "schedule") rows ≡ Some (string_bytes replay.schedule)
@@ -132,6 +171,7 @@ IsFile rows disasm = (first_of (codes "file") rows ≡ Some (string_bytes disasm
 
 -- the words, the program's name first, spell the command
 abbrev pub Spells : List Text → Command → Type 0
+Spells words (commands.Run run) = (rows : List Row) × (subcommand_of jvm words ≡ Some (codes "run", rows)) × AreRunValues rows run
 Spells words (commands.Replay replay) = (rows : List Row) × (subcommand_of jvm words ≡ Some (codes "replay", rows)) × AreValues rows replay
 Spells words (commands.Verify verify) = (rows : List Row) × (subcommand_of jvm words ≡ Some (codes "verify", rows)) × AreFiles rows verify
 Spells words (commands.Disasm disasm) = (rows : List Row) × (subcommand_of jvm words ≡ Some (codes "disasm", rows)) × IsFile rows disasm

@@ -2,7 +2,7 @@
 
 /// What the program does.
 pub(crate) const ABOUT: &str =
-    "Runs Java class files of version 49.0 under a schedule, verifies them, and lists them";
+    "Runs Java class files of version 49.0, also under a schedule, verifies them, and lists them";
 
 /// The version of the program.
 pub(crate) const VERSION: &str = "0.1.0";
@@ -15,8 +15,9 @@ Statuses:
   2  a class file or the schedule file is refused
   3  an event was not enabled or was refused, or memory was missing
   4  nothing can go on, and a thread hasn't ended
-  5  the schedule is used up, and a thread can go on
+  5  the schedule or the budget is used up, and a thread can go on
   6  the command is wrong, or a file can't be read, or the output not written
 
-Example:
-  jvm replay --schedule eight.schedule A.class";
+Examples:
+  jvm run --record a.schedule A.class
+  jvm replay --schedule a.schedule A.class";

@@ -2,8 +2,12 @@
 #![tactic(auto)]
 
 mod help;
+mod numbers;
 mod options;
 mod parse;
+mod parsers;
+mod usage;
 
-pub use options::{Command, Disasm, LimitOptions, Replay, Verify};
-pub use parse::{Usage, command};
+pub use options::{Command, Disasm, LimitOptions, Replay, Run, RunOptions, Verify};
+pub use parse::command;
+pub use usage::Usage;

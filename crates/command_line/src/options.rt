@@ -7,9 +7,75 @@ use model::Limits;
 /// A subcommand with the values of its options.
 #[derive(Debug, Drop, PartialEq, Eq)]
 pub enum Command {
+    Run(Run),
     Replay(Replay),
     Verify(Verify),
     Disasm(Disasm),
+}
+
+/// `jvm run`: class files are run by workers, and what comes of it is reported.
+#[derive(Debug, Drop, PartialEq, Eq)]
+pub struct Run {
+    pub options: RunOptions,
+    /// The path of the file that the schedule of the run is written to, if any.
+    pub record: Option<String>,
+    pub limits: LimitOptions,
+    /// The paths of the class files. The first holds the class whose `main` is run.
+    pub files: Vec<String>,
+    /// Whether a refusal is explained.
+    pub explain: bool,
+}
+
+/// How class files are run: the numbers that are asked for, each in its range, and `None` for the usual one.
+#[derive(Clone, Copy, Debug, PartialEq, Eq)]
+pub struct RunOptions {
+    /// How many workers there are.
+    pub workers: Option<u32>,
+    /// How many events there may be.
+    pub budget: Option<u32>,
+    /// How many events of a thread a worker may do in a row while it holds the lock.
+    pub quantum: Option<u32>,
+    /// The seed of a run by one worker, which picks by it whose turn it is.
+    pub seed: Option<u32>,
+    pub ghost workers_fit: { (1 ≤ unwrap_or workers 4) × (unwrap_or workers 4 ≤ 64) },
+    pub ghost quantum_fits: { 1 ≤ unwrap_or quantum 1 },
+}
+
+impl RunOptions {
+    ghost use Rattle.command_line.specs.Choices.{IsAlone};
+
+    /// The number of workers of a run without a seed, from 1 to 64.
+    pub fn workers(&self) -> u32
+        ensures value { result ≡ unwrap_or self.now.workers 4 }
+        ensures fits { (1 ≤ result) × (result ≤ 64) }
+    {
+        self.workers.unwrap_or(4)
+    }
+
+    /// The budget, in events.
+    pub fn budget(&self) -> u32
+        ensures { result ≡ unwrap_or self.now.budget 10000000 }
+    {
+        self.budget.unwrap_or(10_000_000)
+    }
+
+    /// The quantum, which is at least 1, in events.
+    pub fn quantum(&self) -> u32
+        ensures value { result ≡ unwrap_or self.now.quantum 1 }
+        ensures fits { 1 ≤ result }
+    {
+        self.quantum.unwrap_or(1)
+    }
+
+    /// Whether beside a seed no other number of workers is asked for than one.
+    pub(crate) fn is_alone(&self) -> bool
+        ensures { IsTrue result ↔ IsAlone self.now.seed self.now.workers }
+    {
+        match self.seed {
+            Some(_) => LimitOptions::is_asked(self.workers, 1),
+            None => true,
+        }
+    }
 }
 
 /// `jvm replay`: class files are run under a schedule, and what comes of it is reported.
@@ -83,7 +149,7 @@ impl LimitOptions {
             && LimitOptions::is_asked(self.frames, limits.frames)
     }
 
-    /// Whether a limit is the number that is asked for, if one is.
+    /// Whether a number is the one that is asked for, if one is.
     fn is_asked(option: Option<u32>, limit: u32) -> bool
         ensures { IsTrue result ↔ IsAsked option limit }
     {

@@ -2,9 +2,11 @@
 //! texts. Each argument names a text of cases. What each case writes, says and ends with goes to standard output.
 #![tactic(auto)]
 
+mod case;
 mod case_folder;
 mod case_text;
 mod change;
+mod comparison;
 mod outcome;
 mod text_fault;
 
@@ -15,6 +17,8 @@ use outcome::write_outcomes;
 use std::io::{BufWriter, Write};
 use std::process::ExitCode;
 use std::rt::Files;
+use std::sync::Wait;
+use std::thread::Threads;
 use std::{env, fs, io};
 
 fn main(rt: HostRuntime) -> ExitCode {
@@ -28,7 +32,9 @@ fn main(rt: HostRuntime) -> ExitCode {
 }
 
 /// Runs the cases of each text that the words name, behind the program's name.
-fn run_texts<R: Files + env::Env + Print + AllocGlobal>(rt: &R) -> Result<()> {
+fn run_texts<R: Files + env::Env + Print + AllocGlobal + Threads + Wait + Sync>(
+    rt: &R,
+) -> Result<()> {
     let mut output = BufWriter::new(rt.alloc(), io::writer(rt))?;
     let result = run_each(rt, &mut output);
     // What came before a fault is written, too.
@@ -36,7 +42,7 @@ fn run_texts<R: Files + env::Env + Print + AllocGlobal>(rt: &R) -> Result<()> {
     result
 }
 
-fn run_each<R: Files + env::Env + Print + AllocGlobal, W: Write>(
+fn run_each<R: Files + env::Env + Print + AllocGlobal + Threads + Wait + Sync, W: Write>(
     rt: &R,
     output: &mut W,
 ) -> Result<()> {
@@ -48,16 +54,16 @@ fn run_each<R: Files + env::Env + Print + AllocGlobal, W: Write>(
 }
 
 /// Runs the cases of a text. Files that it doesn't give are those of the system.
-fn run_cases<R: Files + Print + AllocGlobal, W: Write>(
+fn run_cases<R: Files + Print + AllocGlobal + Threads + Wait + Sync, W: Write>(
     rt: &R,
     path: &str,
     text: &str,
     output: &mut W,
 ) -> Result<()> {
     let folder = SystemFolder::new(rt);
-    let text = match read_cases(rt.alloc(), &folder, text) {
+    let text = match read_cases(rt.alloc(), &folder, path, text) {
         Ok(text) => text,
         Err(fault) => bail!("{path} {fault}"),
     };
-    Ok(write_outcomes(rt.alloc(), &folder, &text, output)?)
+    Ok(write_outcomes(rt, rt.alloc(), &folder, &text, output)?)
 }

@@ -15,13 +15,13 @@ pub struct TextFault {
 /// What is wrong with a line.
 #[derive(Clone, Copy, Debug, PartialEq, Eq, Error)]
 pub enum LineFault {
-    #[error("neither `file NAME` nor `file NAME from OTHER` nor `case NAME`")]
+    #[error("none of `file NAME`, `file NAME from OTHER`, `files OTHER`, `case NAME`, `shown NAME`, `runs`, `recorded NAME`")]
     Section,
     #[error("an indented line of no section")]
     Stray,
     #[error("the file was given before")]
     GivenTwice,
-    #[error("the file that is to be changed can't be read")]
+    #[error("the file that is to be changed, or the other text, can't be read")]
     Unreadable,
     #[error("no pairs of hexadecimal digits")]
     Hexadecimal,
@@ -31,6 +31,10 @@ pub enum LineFault {
     PastEnd,
     #[error("a second command line of a case")]
     SecondLine,
+    #[error("no number of times")]
+    Times,
+    #[error("the text whose files are wanted is no text of cases")]
+    OtherText,
     #[error("no memory")]
     OutOfMemory,
 }

@@ -16,30 +16,48 @@ pub const MANY: u32 = 1000;
 /// A file's path and its bytes.
 pub type File = (&'static str, &'static [u8]);
 
-/// Files of which one fails after some calls, the call that opens it among them.
+/// Files of which one fails after some calls, the call that opens or makes it among them.
 #[derive(Drop)]
 pub struct FailingFolder<'a> {
+    pub alloc: Global,
     pub files: &'a [File],
     /// The path of the file that fails.
     pub failing: &'a str,
     pub calls: u32,
 }
 
-impl<'a> Folder for FailingFolder<'a> {
-    type File = FailingReader<'a>;
-
-    fn open(&self, path: &str) -> io::Result<FailingReader<'a>> {
-        let calls = if path == self.failing {
+impl FailingFolder<'_> {
+    /// How many calls of a file go well.
+    fn calls_of(&self, path: &str) -> u32 {
+        if path == self.failing {
             self.calls
         } else {
             MANY
-        };
+        }
+    }
+}
+
+impl<'a> Folder for FailingFolder<'a> {
+    type File = FailingReader<'a>;
+
+    type Created = FailingWriter;
+
+    fn open(&self, path: &str) -> io::Result<FailingReader<'a>> {
+        let calls = self.calls_of(path);
         for (name, bytes) in self.files {
             if *name == path && calls > 0 {
                 return Ok(FailingReader::new(bytes, calls - 1));
             }
         }
         Err(io::Error::from(ErrorKind::NotFound))
+    }
+
+    fn create(&self, path: &str) -> io::Result<FailingWriter> {
+        let calls = self.calls_of(path);
+        if calls == 0 {
+            return Err(io::Error::from(ErrorKind::PermissionDenied));
+        }
+        Ok(FailingWriter::new(self.alloc, calls - 1))
     }
 }
 

@@ -2,10 +2,12 @@
 
 use crate::devices::{FailingFolder, FailingWriter, File, MANY};
 use class_builder::PRINTS_SEVEN;
-use engines::{Complaint, Counted, Fault, Status, run};
+use engines::{Complaint, Counted, Fault, Open, Status, run};
 use std::alloc::{AllocError, Global};
 use std::process::Abort;
+use std::sync::Wait;
 use std::test::Fail;
+use std::thread::Threads;
 
 /// A class B, which has no member.
 const EMPTY_CLASS: [u8; 53] = [
@@ -31,6 +33,9 @@ const FILES: [File; 4] = [
 /// The name by which these tests call the output.
 const OUTPUT: &str = "output";
 
+/// The path of the file that is recorded.
+const RECORDED: &str = "recorded";
+
 /// Words with what they write.
 struct Done {
     words: &'static [&'static str],
@@ -39,7 +44,12 @@ struct Done {
     devices: &'static [(&'static str, u32)],
 }
 
-const DONE: [Done; 3] = [
+const DONE: [Done; 4] = [
+    Done {
+        words: &["jvm", "run", "--record", RECORDED, "A"],
+        written: "7\nthread 0 ended\nevents 8\nend quiet\n",
+        devices: &[("A", 49), (OUTPUT, 6), (RECORDED, 10)],
+    },
     Done {
         words: &["jvm", "replay", "--schedule", "eight", "A"],
         written: "7\nthread 0 ended\nevents 8\nend quiet\n",
@@ -65,13 +75,15 @@ const DONE: [Done; 3] = [
 /// What is answered and what is written, where a device fails after so many calls.
 type Outcome = (Result<Status, Complaint>, Vec<u8>);
 
-fn outcome(
+fn outcome<R: Threads + Wait + Sync>(
+    rt: &R,
     alloc: Global,
     words: &[&str],
     failing: &str,
     calls: u32,
 ) -> Result<Outcome, AllocError> {
     let folder = FailingFolder {
+        alloc,
         files: &FILES,
         failing,
         calls,
@@ -82,16 +94,24 @@ fn outcome(
     for word in words {
         texts.push(String::from_str(alloc, word)?)?;
     }
-    let answer = run(alloc, &folder, texts.as_slice(), &mut output);
+    let answer = run(rt, alloc, &Open, &folder, texts.as_slice(), &mut output);
     Ok((answer, output.into_inner().written))
 }
 
-/// Whether the answer is that a device failed, and no more is written than a beginning of the text: of a file nothing.
+/// Whether the answer is that a device failed, and no more is written than a beginning of the text: nothing where a file
+/// can't be read, and all of it where one can't be recorded.
 fn is_told(done: &Done, device: &str, outcome: &Outcome) -> bool {
     let (answer, written) = outcome;
-    matches!(answer, Err(Complaint::Fault(Fault::Device)))
-        && done.written.as_bytes().starts_with(written.as_slice())
-        && (device == OUTPUT || written.is_empty())
+    matches!(answer, Err(Complaint::Fault(Fault::Device))) && is_part(done, device, written)
+}
+
+fn is_part(done: &Done, device: &str, written: &[u8]) -> bool {
+    let text = done.written.as_bytes();
+    match device {
+        OUTPUT => text.starts_with(written),
+        RECORDED => text == written,
+        _ => written.is_empty(),
+    }
 }
 
 /// Whether all is written.
@@ -101,14 +121,14 @@ fn is_done(done: &Done, outcome: &Outcome) -> bool {
 }
 
 /// After how many calls of a device, at the least, all is done. Where it fails before, that is told.
-fn calls_wanted(
-    rt: &impl Abort,
+fn calls_wanted<R: Abort + Threads + Wait + Sync>(
+    rt: &R,
     alloc: Global,
     done: &Done,
     device: &str,
 ) -> Result<u32, AllocError> {
     for calls in 0..MANY {
-        let outcome = outcome(alloc, done.words, device, calls)?;
+        let outcome = outcome(rt, alloc, done.words, device, calls)?;
         if is_done(done, &outcome) {
             return Ok(calls);
         }
@@ -141,7 +161,7 @@ struct Order {
     told: &'static str,
 }
 
-const ORDERS: [Order; 6] = [
+const ORDERS: [Order; 9] = [
     // the schedule file is read and refused before a class file is read
     Order {
         words: &["jvm", "replay", "--schedule", "empty", "A"],
@@ -159,6 +179,11 @@ const ORDERS: [Order; 6] = [
         failing: "A",
         told: "device\n",
     },
+    Order {
+        words: &["jvm", "run", "empty", "A"],
+        failing: "A",
+        told: "device\n",
+    },
     // nothing is written where a class file is refused
     Order {
         words: &["jvm", "replay", "--schedule", "eight", "empty"],
@@ -171,6 +196,17 @@ const ORDERS: [Order; 6] = [
         told: "refused 1 Malformed file 1 offset 0 Truncated\n",
     },
     Order {
+        words: &["jvm", "run", "A", "empty"],
+        failing: OUTPUT,
+        told: "refused 1 Malformed file 1 offset 0 Truncated\n",
+    },
+    // the report is written before the schedule is recorded
+    Order {
+        words: &["jvm", "run", "--record", RECORDED, "A"],
+        failing: OUTPUT,
+        told: "device\n",
+    },
+    Order {
         words: &["jvm", "disasm", "empty"],
         failing: OUTPUT,
         told: "refused 1 Malformed file 0 offset 0 Truncated\n",
@@ -180,7 +216,7 @@ const ORDERS: [Order; 6] = [
 #[test]
 fn tells_what_comes_first(rt: HostRuntime) -> Result<(), Fail> {
     for order in &ORDERS {
-        let (answer, written) = outcome(rt.alloc(), order.words, order.failing, 0)?;
+        let (answer, written) = outcome(&rt, rt.alloc(), order.words, order.failing, 0)?;
         let mut told = Vec::new(rt.alloc());
         if let Err(complaint) = answer {
             complaint.write_text(&mut told)?;

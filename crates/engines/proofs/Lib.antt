@@ -2,4 +2,5 @@ pub mod DeviceLemmas
 pub mod EngineLemmas
 pub mod ListingLemmas
 pub mod RecordingLemmas
+pub mod RunLemmas
 pub mod VerificationLemmas

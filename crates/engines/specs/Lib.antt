@@ -4,5 +4,6 @@ pub mod Engines
 pub mod Listings
 pub mod Recordings
 pub mod Refusals
+pub mod Runs
 pub mod Statuses
 pub mod Verifications

@@ -5,8 +5,8 @@ use Rattle.model.specs.declared.report.EndState.{EndState}
 use Rattle.model.specs.declared.report.EndState.TheVariants.{Ended, Threw, Blocked, Waiting, Joining, Initialising, Runnable}
 use Rattle.model.specs.declared.end.End.{End}
 use Rattle.model.specs.declared.end.End.TheVariants as ends
-use Rattle.command_line.specs.declared.parse.Usage.{Usage}
-use Rattle.command_line.specs.declared.parse.Usage.TheVariants as usages
+use Rattle.command_line.specs.declared.usage.Usage.{Usage}
+use Rattle.command_line.specs.declared.usage.Usage.TheVariants as usages
 use Rattle.engines.specs.declared.complaint.Complaint.{Complaint}
 use Rattle.engines.specs.declared.complaint.Complaint.TheVariants as complaints
 use Rattle.engines.specs.declared.fault.Fault.{Fault}

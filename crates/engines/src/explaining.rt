@@ -33,6 +33,7 @@ pub fn second_line<F: Folder>(
 /// Whether the command has `--explain`.
 fn asks(command: &Command) -> bool {
     match command {
+        Command::Run(options) => options.explain,
         Command::Replay(options) => options.explain,
         Command::Verify(options) => options.explain,
         Command::Disasm(options) => options.explain,
@@ -55,10 +56,19 @@ fn schedule_of(command: &Command) -> Option<&str> {
     }
 }
 
+/// The path of the file that is to be recorded.
+fn record_of(command: &Command) -> Option<&str> {
+    match command {
+        Command::Run(options) => options.record.as_deref(),
+        _ => None,
+    }
+}
+
 /// The paths of the class files.
 fn files_of<'a>(alloc: Global, command: &'a Command) -> Result<Vec<&'a str>, AllocError> {
     let mut paths = Vec::new(alloc);
     match command {
+        Command::Run(options) => push_all(&mut paths, &options.files)?,
         Command::Replay(options) => push_all(&mut paths, &options.files)?,
         Command::Verify(options) => push_all(&mut paths, &options.files)?,
         Command::Disasm(options) => paths.push(options.file.as_str())?,
@@ -92,7 +102,10 @@ fn line_of<F: Folder>(
     let paths = files_of(alloc, command)?;
     let schedule = schedule_of(command);
     match fault {
-        Fault::Device => of_device(alloc, folder, schedule, &paths, output),
+        Fault::Device => match of_device(alloc, folder, schedule, &paths, output)? {
+            Some(line) => Ok(Some(line)),
+            None => unrecorded(alloc, record_of(command)),
+        },
         Fault::Memory => Ok(None),
         Fault::Schedule(fault) => match schedule {
             Some(path) => Ok(Some(explain_schedule(alloc, path, *fault)?)),
@@ -102,6 +115,17 @@ fn line_of<F: Folder>(
             Ok(files) => Ok(Some(explain(alloc, refusal, &files)?)),
             Err(_) => Ok(None),
         },
+    }
+}
+
+/// That the file that is to be recorded can't be written.
+fn unrecorded(alloc: Global, path: Option<&str>) -> Result<Option<Vec<u8>>, AllocError> {
+    match path {
+        Some(path) => {
+            let line = format!(in alloc; "{path}: the schedule can't be written")?;
+            Ok(Some(line.into_bytes()))
+        }
+        None => Ok(None),
     }
 }
 

@@ -1,6 +1,6 @@
 //! Files by their paths.
 
-use std::io::Read;
+use std::io::{Read, Write};
 use std::rt::Files;
 use std::{fs, io};
 
@@ -9,8 +9,14 @@ pub trait Folder {
     /// A file that is open for reading.
     type File: Read + Drop;
 
+    /// A file that is open for writing.
+    type Created: Write + Drop;
+
     /// Opens the file at a path. Where there is none, that is an error.
     fn open(&self, path: &str) -> io::Result<Self::File>;
+
+    /// Makes a file at a path, in place of one that is there.
+    fn create(&self, path: &str) -> io::Result<Self::Created>;
 }
 
 /// The files of the system, from the folder on that the program runs in.
@@ -28,8 +34,14 @@ impl<'a, R> SystemFolder<'a, R> {
 impl<R: Files> Folder for SystemFolder<'_, R> {
     type File = R::File;
 
+    type Created = R::File;
+
     fn open(&self, path: &str) -> io::Result<R::File> {
         fs::open(self.files, path)
+    }
+
+    fn create(&self, path: &str) -> io::Result<R::File> {
+        fs::create(self.files, path)
     }
 }
 
@@ -72,5 +84,43 @@ impl<F: Folder> Read for NamedFile<'_, F> {
             self.opened = Opened::Before;
         }
         Ok(count)
+    }
+}
+
+/// The file at a path of a folder, which is made by the first write.
+#[derive(Drop)]
+pub struct CreatedFile<'a, F: Folder> {
+    folder: &'a F,
+    path: &'a str,
+    created: Option<F::Created>,
+}
+
+impl<'a, F: Folder> CreatedFile<'a, F> {
+    /// The file at this path, so far not made.
+    pub fn new(folder: &'a F, path: &'a str) -> CreatedFile<'a, F> {
+        CreatedFile {
+            folder,
+            path,
+            created: None,
+        }
+    }
+}
+
+impl<F: Folder> Write for CreatedFile<'_, F> {
+    fn write(&mut self, buf: &[u8]) -> io::Result<usize> {
+        if self.created.is_none() {
+            self.created = Some(self.folder.create(self.path)?);
+        }
+        match &mut self.created {
+            Some(file) => file.write(buf),
+            None => Ok(0),
+        }
+    }
+
+    fn flush(&mut self) -> io::Result<()> {
+        match &mut self.created {
+            Some(file) => file.flush(),
+            None => Ok(()),
+        }
     }
 }

@@ -1,4 +1,4 @@
-//! What the words of a command line ask for, done over any files and any output: replays, verifications, listings.
+//! What the words of a command line ask for, done over any files and any output: runs, replays, verifications, listings.
 #![tactic(auto)]
 
 mod complaint;
@@ -10,10 +10,11 @@ mod folder;
 mod listing;
 mod program;
 mod recording;
+mod running;
 mod status;
 mod verification;
 
-pub use command_line::{LimitOptions, Usage};
+pub use command_line::{LimitOptions, RunOptions, Usage};
 pub use complaint::Complaint;
 pub use device::Counted;
 pub use engine::replay_engine;
@@ -22,5 +23,7 @@ pub use fault::Fault;
 pub use folder::{Folder, SystemFolder};
 pub use listing::disasm_engine;
 pub use program::run;
+pub use running::run_engine;
 pub use status::Status;
 pub use verification::verify_engine;
+pub use workers::{Gate, Open};

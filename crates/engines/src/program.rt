@@ -4,26 +4,33 @@ use crate::complaint::Complaint;
 use crate::device::Counted;
 use crate::engine::replay_engine;
 use crate::fault::Fault;
-use crate::folder::{Folder, NamedFile};
+use crate::folder::{CreatedFile, Folder, NamedFile};
 use crate::listing::disasm_engine;
+use crate::running::run_engine;
 use crate::status::Status;
 use crate::verification::verify_engine;
-use command_line::{Command, Disasm, Replay, Usage, Verify, command};
+use command_line::{Command, Disasm, Replay, Run, Usage, Verify, command};
 use model::{DeviceFault, Sink};
 use std::alloc::{AllocError, Global};
+use std::sync::Wait;
+use std::thread::Threads;
+use workers::Gate;
 
 /// Does what the words say, the program's name first, and answers the status or why there is none.
 ///
 /// The files that they name are those of the folder. A report, a listing, the line of a verification, or the help or the
-/// version that the words ask for is written to the output, and nothing else. The complaint is for the caller to tell.
-pub fn run<F: Folder, W: Sink>(
+/// version that the words ask for is written to the output, and nothing else but the schedule file of a run, where one is
+/// asked for, to the folder. The gate is told what the workers of a run do. The complaint is for the caller to tell.
+pub fn run<R: Threads + Wait + Sync, G: Gate + Sync, F: Folder, W: Sink>(
+    rt: &R,
     alloc: Global,
+    gate: &G,
     folder: &F,
     words: &[String],
     output: &mut W,
 ) -> Result<Status, Complaint> {
     match command(alloc, words) {
-        Ok(command) => Ok(done(alloc, folder, &command, output)?),
+        Ok(command) => Ok(done(rt, alloc, gate, folder, &command, output)?),
         Err(usage) => told(alloc, usage, output),
     }
 }
@@ -44,17 +51,46 @@ fn told<W: Sink>(alloc: Global, usage: Usage, output: &mut W) -> Result<Status, 
 }
 
 /// Does what a command says.
-fn done<F: Folder, W: Sink>(
+fn done<R: Threads + Wait + Sync, G: Gate + Sync, F: Folder, W: Sink>(
+    rt: &R,
     alloc: Global,
+    gate: &G,
     folder: &F,
     command: &Command,
     output: &mut W,
 ) -> Result<Status, Fault> {
     match command {
+        Command::Run(options) => run_files(rt, alloc, gate, folder, options, output),
         Command::Replay(options) => replay(alloc, folder, options, output),
         Command::Verify(options) => verify(alloc, folder, options, output),
         Command::Disasm(options) => disasm(alloc, folder, options, output),
     }
+}
+
+/// `run`.
+fn run_files<R: Threads + Wait + Sync, G: Gate + Sync, F: Folder, W: Sink>(
+    rt: &R,
+    alloc: Global,
+    gate: &G,
+    folder: &F,
+    options: &Run,
+    output: &mut W,
+) -> Result<Status, Fault> {
+    let mut files = sources(alloc, folder, &options.files)?;
+    let mut record = match &options.record {
+        Some(path) => Some(Counted::new(alloc, CreatedFile::new(folder, path.as_str()))),
+        None => None,
+    };
+    run_engine(
+        rt,
+        alloc,
+        gate,
+        files.as_mut_slice(),
+        &options.limits,
+        &options.options,
+        output,
+        &mut record,
+    )
 }
 
 /// `replay`.

@@ -4,14 +4,23 @@
 ghost use Rattle.std.specs.Prelude.{◌≡◌, MatchResult};
 ghost use Rattle.engines.specs.Statuses.{complaint_status};
 
+mod progress;
+
 use engines::{Complaint, Counted, Fault, Status, SystemFolder, run, second_line};
+use progress::{Cleared, Progress};
 use std::io::{ErrorKind, IsTerminal, Write};
 use std::process::ExitCode;
+use std::rt::{Clock, Files};
+use std::sync::Wait;
+use std::thread::Threads;
 use std::{env, io};
 
 fn main(rt: HostRuntime) -> ExitCode {
     let status = match words(&rt) {
-        Ok(words) => done(&rt, words.as_slice()),
+        Ok(words) => {
+            let (outcome, second) = done(&rt, words.as_slice(), rt.stderr().is_terminal());
+            told(&rt, outcome, second)
+        }
         Err(error) => without_words(&rt, &error),
     };
     ExitCode::from(status.code())
@@ -23,23 +32,30 @@ fn words(rt: &HostRuntime) -> io::Result<Vec<String>> {
     Ok(words.collect(rt.alloc())?)
 }
 
-/// The status of what the words say, which is done over the files of the system and the standard output.
-fn done(rt: &HostRuntime, words: &[String]) -> Status {
-    let mut output = Counted::new(rt.alloc(), io::writer(rt));
+/// What comes of the words, which are done over the files of the system and the standard output, with the second line of
+/// a complaint that there may be. A person reads the standard error if it is a terminal.
+fn done<R: Files + Print + Eprint + Clock + AllocGlobal + Threads + Wait + Sync>(
+    rt: &R,
+    words: &[String],
+    is_terminal: bool,
+) -> (Result<Status, Complaint>, Option<Vec<u8>>) {
+    let progress = Progress::new(rt, is_terminal);
+    let mut output = Counted::new(rt.alloc(), Cleared::new(&progress, io::writer(rt)));
     let folder = SystemFolder::new(rt);
-    let outcome = run(rt.alloc(), &folder, words, &mut output);
+    let outcome = run(rt, rt.alloc(), &progress, &folder, words, &mut output);
+    progress.clear();
     let second = match &outcome {
         Ok(_) => None,
         Err(complaint) => second_line(
             rt.alloc(),
             &folder,
             words,
-            rt.stderr().is_terminal(),
+            is_terminal,
             complaint,
             output.failure(),
         ),
     };
-    told(rt, outcome, second)
+    (outcome, second)
 }
 
 /// The status where the words can't be had: they aren't text, or there is no memory for them.

@@ -1,3 +1,3 @@
 mod Opened
 mod Telling
-mod Replayed
+pub mod Replayed

@@ -15,7 +15,7 @@ use Rattle.model.specs.Run.{is_quiet}
 use Rattle.model.specs.State.{State, StateOf}
 use Rattle.laws.specs.Steps.{is_wrong}
 use Rattle.soundness.specs.Runs.{IsNoEventWrong}
-use Rattle.word_reports.specs.Reports.{thread_ends_of, IsReportedAs, AreReportsOfWords}
+use Rattle.word_reports.specs.Reports.{thread_ends_of, AreReportsOfWords}
 use Rattle.machine_state.specs.declared.refusals.Refusal.{Refusal}
 use Rattle.machine_state.specs.declared.refusals.Refusal.TheVariants as refusal
 use Rattle.machine_state.specs.Refusals.{cause_of}
@@ -32,7 +32,7 @@ use Rattle.machine_replay.specs.Shown.{IsOpened, Tells, end_of}
 -- ---- the end
 
 module _ (trees : Program) (bounds : Bounds) (state : State) (front : List Event) where
-  refused_for : (event : Event) (told : Refusal) → IsRefusedAfter trees bounds front event told → IsRefusedFor trees bounds front event (cause_of told)
+  pub refused_for : (event : Event) (told : Refusal) → IsRefusedAfter trees bounds front event told → IsRefusedFor trees bounds front event (cause_of told)
   refused_for event refusal.Objects h = h
   refused_for event refusal.Cells h = h
   refused_for event refusal.Monitors h = h
@@ -64,20 +64,23 @@ is_right (stopped.Refused refusal.Threads) n quiet = tt
 is_right (stopped.Refused refusal.LockCount) n quiet = tt
 is_right (stopped.Refused refusal.Memory) n quiet = tt
 
-operands_found : IsNoEventWrong → (files : List (List ℕ)) (trees : Program) → IsAccepted files trees → (frames : ℕ) (events : List Event) → AreOperandsFound trees frames events
+pub operands_found : IsNoEventWrong → (files : List (List ℕ)) (trees : Program) → IsAccepted files trees → (frames : ℕ) (events : List Event) → AreOperandsFound trees frames events
 operands_found sound files trees accepted frames events front event left state are reached wrong =
     true≢false (sym (ap is_wrong wrong) ∙ sound files trees accepted frames front state event reached)
+
+-- ---- the report
+
+-- The text of what words show is that of the report.
+pub told_of : (trees : Program) (frames : ℕ) (at : StateOf ℕ) (front : List Event) (n : ℕ) (r : Report) → n ≡ length front → ReportsOn trees frames at n r → (e : End)
+    → report_text at.world.printed (thread_ends_of words trees frames at) (length front) e ≡ report_text r.printed.items (map end_state_of r.threads.items) r.events e
+told_of trees frames at front n r count on e =
+    ap (λ l. report_text l (thread_ends_of words trees frames at) (length front) e) (sym on.printed)
+    ∙ ap (λ l. report_text r.printed.items l (length front) e) (sym on.threads)
+    ∙ ap (λ k. report_text r.printed.items (map end_state_of r.threads.items) k e) (sym (on.count ∙ count))
 
 -- ---- the replay
 
 module _ (files : List (List ℕ)) (trees : Program) (m : MachineOf) (schedule : List Event) (n : ℕ) (why : Stopped) (r : Report) (end : End) where
-  told_of : (frames : ℕ) (at : StateOf ℕ) (state : State) (front : List Event) → IsReportedAs words trees frames at state → n ≡ length front → ReportsOn trees frames at n r → (e : End)
-      → report_text at.world.printed (thread_ends_of words trees frames at) (length front) e ≡ report_text r.printed.items (map end_state_of r.threads.items) r.events e
-  told_of frames at state front same count on e =
-      ap (λ l. report_text l (thread_ends_of words trees frames at) (length front) e) (sym on.printed)
-      ∙ ap (λ l. report_text r.printed.items l (length front) e) (sym on.threads)
-      ∙ ap (λ k. report_text r.printed.items (map end_state_of r.threads.items) k e) (sym (on.count ∙ count))
-
   replayed : AreReportsOfWords → IsNoEventWrong → HasGone m files trees [] schedule n why → Tells trees m n why r end → IsReplay trees schedule m.limits r end
   replayed reported sound gone tells =
       let has = gone.done.run in
@@ -95,7 +98,7 @@ module _ (files : List (List ℕ)) (trees : Program) (m : MachineOf) (schedule :
         printed = on.printed ∙ ap (λ (w : StateOf ℕ). w.world.printed) has.lead.are.are;
         threads = on.threads ∙ same.ends;
         count = on.count ∙ gone.count;
-        means = same.report gone.front end has.lead.reached ∙ ap Some (told_of m.limits.frames has.at state gone.front same gone.count on end);
+        means = same.report gone.front end has.lead.reached ∙ ap Some (told_of trees m.limits.frames has.at gone.front n r gone.count on end);
         ended = subst (EndFits trees (bounds_of m.limits) state gone.front gone.left) (sym tells.end_is)
             (fits trees (bounds_of m.limits) state gone.front why n tells.quiet gone.left gone.count quiet gone.ends);
         right = subst IsRight (sym tells.end_is) (is_right why n tells.quiet);

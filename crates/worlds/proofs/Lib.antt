@@ -1,2 +1,8 @@
 mod Finding
+mod Repeating
 mod Shared
+mod Copying
+mod Committing
+mod Staying
+mod Finishing
+mod Recording

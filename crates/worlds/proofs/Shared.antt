@@ -1,9 +1,8 @@
 -- A turn of a thread.
-use Rattle.std.proofs.Common.{◌≡◌, ◌⊎◌, ◌<◌, ◌≤◌, ◌+◌, ◌-◌, ℕ, zero, suc, List, [], ◌++◌, Option, Some, None, Bool, true, false, length, replicate, take, refl, sym, ap, subst, ◌∙◌, inl, inr, arith}
+use Rattle.std.proofs.Common.{◌≡◌, ◌⊎◌, ◌<◌, ◌≤◌, ◌+◌, ◌-◌, ℕ, zero, suc, List, [], ◌∷◌, ◌++◌, Option, Some, None, Bool, true, false, length, replicate, refl, sym, ap, subst, ◌∙◌, inl, inr, arith}
 use Rattle.std.specs.Prelude.{IsTrue, IsFalse, is_some, min, not}
 use Rattle.std.specs.List.{list_all}
-use Rattle.std.proofs.lemmas.List.{append-nil, length-append, length-replicate, take-replicate}
-use Rattle.std.proofs.Math.Seq.{take-append_seam}
+use Rattle.std.proofs.lemmas.List.{append-nil, length-replicate}
 use Rattle.std.proofs.Math.Nat.{min-eq_left, min-eq_right}
 use Rattle.std.proofs.Math.Decide.{dec_lt}
 use Rattle.model.specs.declared.limits.Limits.{Limits}
@@ -12,26 +11,23 @@ use Rattle.model.specs.declared.end.End.TheVariants as ends
 use Rattle.model.specs.declared.end.RunCause.TheVariants as cause
 use Rattle.model.specs.declared.event.Event.{Event}
 use Rattle.model.specs.Classes.{Program}
-use Rattle.model.specs.LimitStands.{Bounds, bounds_of, inflated}
+use Rattle.model.specs.LimitStands.{bounds_of, inflated}
 use Rattle.model.specs.Operands.{words}
 use Rattle.model.specs.Rows.{counting}
 use Rattle.model.specs.Run.{may_step, is_quiet, run}
 use Rattle.model.specs.State.{State, StateOf}
 use Rattle.model.specs.Step.{is_enabled}
 use Rattle.word_reports.specs.Reports.{IsReportedAs, AreReportsOfWords}
-use Rattle.machine_state.specs.declared.refusals.Refusal.{Refusal}
-use Rattle.machine_state.specs.declared.refusals.Refusal.TheVariants as refusal
 use Rattle.machine_state.specs.Refusals.{cause_of}
 use Rattle.shown_runs.specs.Runs.{HasRun, IsRefusedAfter}
 use Rattle.machine.specs.declared.machine.Stopped.{Stopped}
 use Rattle.machine.specs.declared.machine.Stopped.TheVariants as stopped
-use Rattle.machine.specs.Machines.{MachineOf, Repeats}
+use Rattle.machine.specs.Machines.{MachineOf}
 use Rattle.machine.specs.Tops.{plain}
-use Rattle.schedule_runs.specs.Done.{OfNext, HasDone, HasGone, EndsBy}
-use Rattle.schedule_runs.proofs.Repeated.{entry_gone}
-use Rattle.machine_replay.specs.Replays.{IsRefusedFor}
+use Rattle.schedule_runs.specs.Done.{OfNext, EndsBy}
+use Rattle.machine_replay.proofs.Replayed.{refused_for}
 use Rattle.worlds.specs.Turns.{MayStep, MayNone, IsFound, AreIdle, IsNext}
-use Rattle.worlds.specs.Worlds.{WorldOf, Holds, EndFits, TakesTurn, stopped_end}
+use Rattle.worlds.specs.Worlds.{WorldOf, Holds, EndFits, HasRepeated, TakesTurn, stopped_end}
 
 -- ---- options, tests
 
@@ -75,13 +71,20 @@ next_of : (P : Event → Type 0) (event : Event) (k : ℕ) → 0 < k → OfNext 
 next_of P event zero some is = absurd (omega (arith, some))
 next_of P event (suc k) some is = is
 
-refused_for : (trees : Program) (bounds : Bounds) (front : List Event) (event : Event) (told : Refusal) → IsRefusedAfter trees bounds front event told → IsRefusedFor trees bounds front event (cause_of told)
-refused_for trees bounds front event refusal.Objects is = is
-refused_for trees bounds front event refusal.Cells is = is
-refused_for trees bounds front event refusal.Monitors is = is
-refused_for trees bounds front event refusal.Threads is = is
-refused_for trees bounds front event refusal.LockCount is = is
-refused_for trees bounds front event refusal.Memory is = tt
+nil_of : (l : List Event) → length l ≡ 0 → l ≡ []
+nil_of [] e = refl
+nil_of (x ∷ l) e = absurd cc
+
+least_some : (a b : ℕ) → 1 ≤ a → 1 ≤ b → 0 < min a b
+least_some a b some_a some_b = case (dec_lt a b)
+  where
+    case : Dec (a < b) → 0 < min a b
+    case (yes lt) =
+        let le : a ≤ b = omega (arith, lt) in
+        subst (λ k. 0 < k) (sym (min-eq_left le)) some_a
+    case (no ge) =
+        let le : b ≤ a = omega (arith, ge) in
+        subst (λ k. 0 < k) (sym (min-eq_right le)) some_b
 
 same_state : (a b : State) → Some a ≡ Some b → a ≡ b
 same_state a b e = cc
@@ -139,155 +142,96 @@ module _ (reported : AreReportsOfWords) (w : WorldOf) (holds : Holds w) where
   pub ends_by_budget : (from t : ℕ) → IsFound m from (Some t) → length w.events ≡ w.budget → Holds (record w { end = Some ends.Budget })
   ends_by_budget from t found all = record { files = holds.files; done = holds.done; within = holds.within; fits = (all, not_quiet from t found) }
 
-  below : (length w.events ≡ w.budget → ⊥) → length w.events < w.budget
-  below other = omega (arith, holds.within, other)
+  module _ (from t : ℕ) (found : IsFound m from (Some t)) (other : length w.events ≡ w.budget → ⊥) (i : ℕ) (count : i ≡ length w.events) where
+    below : i < w.budget
+    below = omega (arith, holds.within, other, count)
 
-  pub ends_for_memory : (from t : ℕ) → IsFound m from (Some t) → (length w.events ≡ w.budget → ⊥) → (i : ℕ) → i ≡ length w.events → (es : List Event) → es ≡ w.events
-      → Holds (record w { events = es; end = Some (ends.Refused i cause.Memory) })
-  ends_for_memory from t found other i count es e =
-      subst (λ l. Holds (record w { events = l; end = Some (ends.Refused i cause.Memory) })) (sym e) (record {
-        files = holds.files;
-        done = holds.done;
-        within = holds.within;
-        fits = (count, subst (λ k. k < w.budget) (sym count) (below other), (plain t, sym (may_is t true found.1), tt));
-      })
-
-  -- ---- events of a thread
-
-  module _ (from t : ℕ) (found : IsFound m from (Some t)) (other : length w.events ≡ w.budget → ⊥) (on : w.end ≡ None) (most asked n : ℕ) (some : 1 ≤ most) (asked_is : asked ≡ min most (w.budget - length w.events))
-      (left : min most (w.budget - length w.events) ≤ w.budget - length w.events)
-      (why : Stopped) (new : MachineOf) (repeats : Repeats (n, why) (plain t) asked w.machine new) (es : List Event) (events : es ≡ w.events ++ replicate n (plain t)) where
-    gone : HasGone new holds.files w.trees w.events (replicate asked (plain t)) n why
-    gone = (entry_gone (n, why) (plain t) asked w.machine new repeats).1 holds.files w.trees w.events holds.done
-
-    front_is : gone.front ≡ replicate n (plain t)
-    front_is =
-        sym (take-append_seam gone.front gone.left) ∙ ap (take (length gone.front)) (sym gone.schedule_is) ∙ ap (λ k. take k (replicate asked (plain t))) (sym gone.count)
-        ∙ take-replicate n asked (plain t) repeats.0
-
-    all_are : w.events ++ gone.front ≡ es
-    all_are = ap (λ l. w.events ++ l) front_is ∙ sym events
-
-    done : HasDone new holds.files w.trees es
-    done = subst (HasDone new holds.files w.trees) all_are gone.done
-
-    longer : length es ≡ length w.events + n
-    longer = ap length events ∙ length-append w.events (replicate n (plain t)) ∙ ap (λ k. length w.events + k) (length-replicate n (plain t))
-
-    is_within : length es ≤ w.budget
-    is_within = omega (arith, holds.within, repeats.0, asked_is, left, longer)
-
-    pub goes_on : Holds (record w { events = es; machine = new })
-    goes_on =
-        record {
+    -- what is as before, but for the end
+    pub ends_for_memory : (v : WorldOf) → v ≡ w → Holds (record v { end = Some (ends.Refused i cause.Memory) })
+    ends_for_memory v same =
+        subst (λ (x : WorldOf). Holds (record x { end = Some (ends.Refused i cause.Memory) })) (sym same) (record {
           files = holds.files;
-          done = done;
-          within = is_within;
-          fits = subst (EndFits w.trees (bounds_of new.limits) done.run.lead.state w.budget es) (sym on) tt;
-        }
+          done = holds.done;
+          within = holds.within;
+          fits = (count, below, (plain t, sym (may_is t true found.1), tt));
+        })
 
-    limits_stay : new.limits ≡ w.machine.limits
-    limits_stay = ap (λ (x : MachineOf). x.limits) repeats.1
+    -- ---- events of a thread
 
-    pub has_shared : 0 < n → TakesTurn from most w.end (Some t) w (record w { events = es; machine = new })
-    has_shared done_some =
-        subst (λ e. TakesTurn from most e (Some t) w (record w { events = es; machine = new })) (sym on) (
-          λ other_holds. next_of_any other_holds,
-          record {
-            same = record { trees = refl; budget = refl; limits = limits_stay };
-            files = holds.files;
-            asked = asked;
-            asked_is = asked_is;
-            count = n;
-            some = done_some;
-            why = why;
-            gone = gone;
-            events = events;
-            on = on;
-          },
-        )
-      where
-        next_of_any : (h : Holds w) → IsNext w.trees frames h.done.run.lead.state from t
-        next_of_any h =
-            subst (λ (s : State). IsNext w.trees frames s from t) (same_state holds.done.run.lead.state h.done.run.lead.state (sym holds.done.run.lead.reached ∙ h.done.run.lead.reached)) (next_is from t found)
-
-    -- ---- none was done
-
-    module _ (none : n ≡ 0) (i : ℕ) (count : i ≡ length w.events) (end : Option End) (end_is : end ≡ stopped_end why i) where
-      no_front : gone.front ≡ []
-      no_front = front_is ∙ ap (λ k. replicate k (plain t)) none
-
-      es_are : es ≡ w.events
-      es_are = events ∙ ap (λ k. w.events ++ replicate k (plain t)) none ∙ append-nil w.events
-
-      left_is : gone.left ≡ replicate asked (plain t)
-      left_is = sym (gone.schedule_is ∙ ap (λ l. l ++ gone.left) no_front)
-
-      asked_some : 0 < asked
-      asked_some = subst (λ k. 0 < k) (sym asked_is) (more (w.budget - length w.events) (omega (arith, below other)))
+    module _ (on : w.end ≡ None) (most n : ℕ) (some : 1 ≤ most) (why : Stopped) (v : WorldOf) (r : HasRepeated (plain t) most n why w v) where
+      pub has_shared : 0 < n → TakesTurn from most w.end (Some t) w v
+      has_shared done_some = subst (λ o. TakesTurn from most o (Some t) w v) (sym on) (next_of_any, record { count = n; some = done_some; why = why; repeated = r })
         where
-          more : (k : ℕ) → 0 < k → 0 < min most k
-          more k pos = case (dec_lt most k)
-            where
-              case : Dec (most < k) → 0 < min most k
-              case (yes lt) =
-                  let le : most ≤ k = omega (arith, lt) in
-                  subst (λ j. 0 < j) (sym (min-eq_left le)) some
-              case (no ge) =
-                  let le : k ≤ most = omega (arith, ge) in
-                  subst (λ j. 0 < j) (sym (min-eq_right le)) pos
+          next_of_any : (h : Holds w) → IsNext w.trees frames h.done.run.lead.state from t
+          next_of_any h =
+              subst (λ (s : State). IsNext w.trees frames s from t) (same_state holds.done.run.lead.state h.done.run.lead.state (sym holds.done.run.lead.reached ∙ h.done.run.lead.reached)) (next_is from t found)
 
-      fits : (y : Stopped) → EndsBy y w.trees (bounds_of new.limits) gone.done.run.lead.state (w.events ++ gone.front) gone.left → EndFits w.trees (bounds_of new.limits) gone.done.run.lead.state w.budget (w.events ++ gone.front) (stopped_end y i)
-      fits stopped.Most is = tt
-      fits stopped.NotEnabled is = tt
-      fits (stopped.Refused told) is =
-          let p = next_of (λ e. IsTrue (is_enabled w.trees new.limits.frames gone.done.run.lead.state e) × IsRefusedAfter w.trees (bounds_of new.limits) (w.events ++ gone.front) e told) (plain t) asked asked_some
-          (subst (λ l. OfNext l (λ e. IsTrue (is_enabled w.trees new.limits.frames gone.done.run.lead.state e) × IsRefusedAfter w.trees (bounds_of new.limits) (w.events ++ gone.front) e told)) left_is is) in (
-            count ∙ ap length (sym (all_are ∙ es_are)),
-            subst (λ k. k < w.budget) (sym count) (below other),
-            (plain t, p.0, refused_for w.trees (bounds_of new.limits) (w.events ++ gone.front) (plain t) told p.1),
-          )
+      -- none was done
+      module _ (none : n ≡ 0) (end : Option End) (end_is : end ≡ stopped_end why i) where
+        no_front : r.gone.front ≡ []
+        no_front = nil_of r.gone.front (sym r.gone.count ∙ none)
 
-      pub ends_stopped : Holds (record w { events = es; machine = new; end = end })
-      ends_stopped =
-          subst (λ o. Holds (record w { events = es; machine = new; end = o })) (sym end_is)
-          (subst (λ l. Holds (record w { events = l; machine = new; end = stopped_end why i })) all_are (record {
-            files = holds.files;
-            done = gone.done;
-            within = subst (λ l. length l ≤ w.budget) (sym all_are) is_within;
-            fits = fits why gone.ends;
-          }))
+        all_are : w.events ++ r.gone.front ≡ v.events
+        all_are = ap (λ l. w.events ++ l) no_front ∙ ap (λ k. w.events ++ replicate k (plain t)) (sym none) ∙ sym r.events
 
-      state_stays : gone.done.run.lead.state ≡ state
-      state_stays =
-          let a : run w.trees new.limits.frames (w.events ++ gone.front) ≡ Some gone.done.run.lead.state = gone.done.run.lead.reached in
-          let b : run w.trees new.limits.frames w.events ≡ Some gone.done.run.lead.state = subst (λ l. run w.trees new.limits.frames l ≡ Some gone.done.run.lead.state) (all_are ∙ es_are) a in
-          let c : run w.trees frames w.events ≡ Some gone.done.run.lead.state = subst (λ (l : Limits). run w.trees l.frames w.events ≡ Some gone.done.run.lead.state) limits_stay b in
-          same_state gone.done.run.lead.state state (sym c ∙ has.lead.reached)
+        none_more : v.events ≡ w.events
+        none_more = r.events ∙ ap (λ k. w.events ++ replicate k (plain t)) none ∙ append-nil w.events
 
-      is_end : (y : Stopped) → EndsBy y w.trees (bounds_of new.limits) gone.done.run.lead.state (w.events ++ gone.front) gone.left → (e : End) × (stopped_end y i ≡ Some e)
-      is_end stopped.Most is =
-          let none_left : replicate asked (plain t) ≡ [] = sym left_is ∙ is in
-          let nothing : asked ≡ 0 = sym (length-replicate asked (plain t)) ∙ ap length none_left in
-          absurd (omega (arith, nothing, asked_some))
-      is_end stopped.NotEnabled is =
-          let p : IsFalse (is_enabled w.trees new.limits.frames gone.done.run.lead.state (plain t)) = next_of (λ e. IsFalse (is_enabled w.trees new.limits.frames gone.done.run.lead.state e)) (plain t) asked asked_some
-          (subst (λ l. OfNext l (λ e. IsFalse (is_enabled w.trees new.limits.frames gone.done.run.lead.state e))) left_is is) in
-          let q : is_enabled w.trees frames state (plain t) ≡ false = subst (λ (s : State). is_enabled w.trees frames s (plain t) ≡ false) state_stays
-          (subst (λ (l : Limits). is_enabled w.trees l.frames gone.done.run.lead.state (plain t) ≡ false) limits_stay p) in
-          let bad : true ≡ false = may_is t true found.1 ∙ q in
-          absurd cc
-      is_end (stopped.Refused told) is = (ends.Refused i (cause_of told), refl)
+        left_is : r.gone.left ≡ replicate r.asked (plain t)
+        left_is = sym (r.gone.schedule_is ∙ ap (λ l. l ++ r.gone.left) no_front)
 
-      pub has_ended : TakesTurn from most w.end None w (record w { events = es; machine = new; end = end })
-      has_ended =
-          let e = is_end why gone.ends in
-          subst (λ o. TakesTurn from most o None w (record w { events = es; machine = new; end = end })) (sym on) (record {
-            same = record { trees = refl; budget = refl; limits = limits_stay };
-            events = es_are;
-            end = e.0;
-            is = end_is ∙ e.1;
-          })
+        asked_some : 0 < r.asked
+        asked_some =
+            let room : 1 ≤ w.budget - length w.events = omega (arith, below, count) in
+            subst (λ k. 0 < k) (sym r.asked_is) (least_some most (w.budget - length w.events) some room)
+
+        fits : (y : Stopped) → EndsBy y w.trees (bounds_of v.machine.limits) r.gone.done.run.lead.state (w.events ++ r.gone.front) r.gone.left
+            → EndFits w.trees (bounds_of v.machine.limits) r.gone.done.run.lead.state v.budget (w.events ++ r.gone.front) (stopped_end y i)
+        fits stopped.Most is = tt
+        fits stopped.NotEnabled is = tt
+        fits (stopped.Refused told) is =
+            let p = next_of (λ e. IsTrue (is_enabled w.trees v.machine.limits.frames r.gone.done.run.lead.state e) × IsRefusedAfter w.trees (bounds_of v.machine.limits) (w.events ++ r.gone.front) e told) (plain t) r.asked asked_some
+            (subst (λ l. OfNext l (λ e. IsTrue (is_enabled w.trees v.machine.limits.frames r.gone.done.run.lead.state e) × IsRefusedAfter w.trees (bounds_of v.machine.limits) (w.events ++ r.gone.front) e told)) left_is is) in (
+              count ∙ ap length (sym (all_are ∙ none_more)),
+              subst (λ k. i < k) (sym r.same.budget) below,
+              (plain t, p.0, refused_for w.trees (bounds_of v.machine.limits) r.gone.done.run.lead.state (w.events ++ r.gone.front) (plain t) told p.1),
+            )
+
+        is_within : length (w.events ++ r.gone.front) ≤ v.budget
+        is_within = omega (arith, holds.within, ap length (all_are ∙ none_more), r.same.budget)
+
+        pub ends_stopped : Holds (record v { end = end })
+        ends_stopped =
+            subst (λ o. Holds (record v { end = o })) (sym end_is)
+            (subst (λ l. Holds (record v { events = l; end = stopped_end why i })) all_are
+            (subst (λ (p : Program). Holds (record v { trees = p; events = w.events ++ r.gone.front; end = stopped_end why i })) (sym r.same.trees)
+            (record { files = r.files; done = r.gone.done; within = is_within; fits = fits why r.gone.ends })))
+
+        state_stays : r.gone.done.run.lead.state ≡ state
+        state_stays =
+            let a : run w.trees v.machine.limits.frames (w.events ++ r.gone.front) ≡ Some r.gone.done.run.lead.state = r.gone.done.run.lead.reached in
+            let b : run w.trees v.machine.limits.frames w.events ≡ Some r.gone.done.run.lead.state = subst (λ l. run w.trees v.machine.limits.frames l ≡ Some r.gone.done.run.lead.state) (all_are ∙ none_more) a in
+            let c : run w.trees frames w.events ≡ Some r.gone.done.run.lead.state = subst (λ (l : Limits). run w.trees l.frames w.events ≡ Some r.gone.done.run.lead.state) r.same.limits b in
+            same_state r.gone.done.run.lead.state state (sym c ∙ has.lead.reached)
+
+        is_end : (y : Stopped) → EndsBy y w.trees (bounds_of v.machine.limits) r.gone.done.run.lead.state (w.events ++ r.gone.front) r.gone.left → (e : End) × (stopped_end y i ≡ Some e)
+        is_end stopped.Most is =
+            let none_left : replicate r.asked (plain t) ≡ [] = sym left_is ∙ is in
+            let nothing : r.asked ≡ 0 = sym (length-replicate r.asked (plain t)) ∙ ap length none_left in
+            absurd (omega (arith, nothing, asked_some))
+        is_end stopped.NotEnabled is =
+            let p : IsFalse (is_enabled w.trees v.machine.limits.frames r.gone.done.run.lead.state (plain t)) = next_of (λ e. IsFalse (is_enabled w.trees v.machine.limits.frames r.gone.done.run.lead.state e)) (plain t) r.asked asked_some
+            (subst (λ l. OfNext l (λ e. IsFalse (is_enabled w.trees v.machine.limits.frames r.gone.done.run.lead.state e))) left_is is) in
+            let q : is_enabled w.trees frames state (plain t) ≡ false = subst (λ (s : State). is_enabled w.trees frames s (plain t) ≡ false) state_stays
+            (subst (λ (l : Limits). is_enabled w.trees l.frames r.gone.done.run.lead.state (plain t) ≡ false) r.same.limits p) in
+            let bad : true ≡ false = may_is t true found.1 ∙ q in
+            absurd cc
+        is_end (stopped.Refused told) is = (ends.Refused i (cause_of told), refl)
+
+        pub has_ended : TakesTurn from most w.end None w (record v { end = end })
+        has_ended =
+            let e = is_end why r.gone.ends in
+            subst (λ o. TakesTurn from most o None w (record v { end = end })) (sym on) (record { same = record { trees = r.same.trees; budget = r.same.budget; limits = r.same.limits }; events = none_more; end = e.0; is = end_is ∙ e.1 })
 
 pub turn_at : (from most : ℕ) (result : Option ℕ) (w old new : WorldOf) → old ≡ w → TakesTurn from most w.end result w new → TakesTurn from most old.end result old new
 turn_at from most result w old new same is = subst (λ (x : WorldOf). TakesTurn from most x.end result x new) (sym same) is

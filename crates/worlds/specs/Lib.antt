@@ -1,2 +1,5 @@
 pub mod Turns
 pub mod Worlds
+pub mod Commits
+pub mod Records
+pub mod Finishing

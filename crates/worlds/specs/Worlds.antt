@@ -63,19 +63,27 @@ pub record IsOfSame (old new : WorldOf) : Type 0 where
   pub budget : new.budget ≡ old.budget
   pub limits : new.machine.limits ≡ old.machine.limits
 
--- Of as many events of a thread that pick nothing as were asked for and the budget has left, at least one is done, and after these the
--- next is not, for this reason.
-pub record HasShared (old new : WorldOf) (t most : ℕ) : Type 0 where
+-- So often an event was done and recorded, of as many times as were asked for and the budget has left, and no more for this reason.
+pub record HasRepeated (event : Event) (most n : ℕ) (why : Stopped) (old new : WorldOf) : Type 0 where
   pub same : IsOfSame old new
   pub files : List (List ℕ)
   pub asked : ℕ
   pub asked_is : asked ≡ min most (old.budget - length old.events)
+  pub gone : HasGone new.machine files old.trees old.events (replicate asked event) n why
+  pub events : new.events ≡ old.events ++ replicate n event
+  pub on : new.end ≡ old.end
+
+-- what up to so many times of an event come to: nothing, where an end is set
+abbrev pub RepeatsWithin : Event → (most : ℕ) → (end : Option End) → (result : ℕ × Stopped) → (old new : WorldOf) → Type 0
+RepeatsWithin event most (Some end) result old new = (result ≡ (0, stopped.Most)) × (new ≡ old)
+RepeatsWithin event most None result old new = HasRepeated event most result.0 result.1 old new
+
+-- at least one event of a thread that picks nothing was done
+pub record HasShared (old new : WorldOf) (t most : ℕ) : Type 0 where
   pub count : ℕ
   pub some : 0 < count
   pub why : Stopped
-  pub gone : HasGone new.machine files old.trees old.events (replicate asked (plain t)) count why
-  pub events : new.events ≡ old.events ++ replicate count (plain t)
-  pub on : new.end ≡ None
+  pub repeated : HasRepeated (plain t) most count why old new
 
 -- an end is set, and nothing is done
 pub record HasEnded (old new : WorldOf) : Type 0 where

@@ -1,15 +1,33 @@
 //! A turn of a thread.
 
-ghost use Rattle.std.specs.Prelude.{◌≡◌, ◌≤◌};
-ghost use Rattle.worlds.specs.Worlds.{TakesTurn, stopped_end};
+ghost use Rattle.std.specs.Prelude.{◌≡◌, ◌≤◌, ◌<◌, IfOk, IfErr};
+ghost use Rattle.worlds.specs.Worlds.{RepeatsWithin, TakesTurn, stopped_end};
 
 use crate::turns::first_enabled;
 use crate::world::World;
 use machine::Stopped;
 use model::{End, Event, RunCause};
+use std::alloc::AllocError;
 use word_reports::reports_of_words;
 
 impl World {
+    /// Does an event up to so many times, within the budget, and never where an end is set. Returns how often it was done, and why no
+    /// more. The only error is a want of memory to record it, and then nothing has changed.
+    pub fn repeat(&mut self, event: Event, most: u32) -> Result<(u32, Stopped), AllocError>
+        requires { 1 < most → event.pick ≡ 0 }
+        ensures done { IfOk result (λ r. RepeatsWithin event most self.old.end r self.old self.new) }
+        ensures still { IfErr result (λ _. self.new ≡ self.old) }
+    {
+        if self.end.is_some() {
+            return Ok((0, Stopped::Most));
+        }
+        self.recorded.reserve()?;
+        let left = self.budget - self.recorded.len();
+        let (done, why) = self.machine.repeat(event, most.min(left));
+        self.recorded.append(event, done);
+        Ok((done, why))
+    }
+
     /// Does up to so many events of the first thread that has one which is enabled, in rotation from a number up, within the budget; none of
     /// them picks a waiter. Returns the thread, or none where an end is set: if it wasn't before, it is now.
     pub fn shared_steps(&mut self, from: u16, most: u32) -> Option<u16>
@@ -29,12 +47,10 @@ impl World {
             self.end = Some(End::Budget);
             return None;
         }
-        if self.recorded.reserve().is_err() {
+        let Ok((done, why)) = self.repeat(Event { thread, pick: 0 }, most) else {
             self.end = Some(End::Refused(u64::from(count), RunCause::Memory));
             return None;
-        }
-        let (done, why) = self.machine.steps(thread, most.min(self.budget - count));
-        self.recorded.append(Event { thread, pick: 0 }, done);
+        };
         if done > 0 {
             return Some(thread);
         }

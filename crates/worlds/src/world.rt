@@ -16,7 +16,7 @@ use verifier::Verified;
 /// Verified class files, a machine that runs them under limits, the events that it has done, at most so many, and why it does no more.
 #[derive(Drop)]
 pub struct World {
-    verified: Arc<Verified>,
+    pub(crate) verified: Arc<Verified>,
     pub(crate) budget: u32,
     pub(crate) recorded: RecordedEvents,
     pub(crate) machine: Machine,
@@ -88,5 +88,19 @@ impl World {
         ensures holds { Holds self.now }
     {
         self.end
+    }
+
+    /// Its machine.
+    pub fn machine(&self) -> &Machine
+        ensures { result.now ≡ self.now.machine }
+    {
+        &self.machine
+    }
+
+    /// The events that it has done.
+    pub fn into_events(self) -> RecordedEvents
+        ensures { result.events ≡ self.events }
+    {
+        self.recorded
     }
 }

@@ -1,6 +1,5 @@
 use Rattle.std.proofs.Common.{map, vec_items, sym, subst}
 use Rattle.std.proofs.lemmas.Result.{err_from_is_err_and}
-use Rattle.model.specs.Typing.{AreTyped}
 use Rattle.model.specs.Linkable.{IsLinkable}
 use Rattle.engines.proofs.VerificationLemmas.{linking_refuses, verification_refuses}
 use Rattle.engines.proofs.verification.accepted.Goals as goal

@@ -1,0 +1,213 @@
+//! Options that take a number.
+
+ghost use Rattle.std.specs.Prelude.{◌≡◌, ◌≤◌, false, IfOk, IfErr};
+ghost use Rattle.std.specs.Option.{SomeIff};
+ghost use Rattle.std.specs.Str.Parse.{IsNumeral, digits_value};
+ghost use Rattle.clap.specs.Words.{first_of, found_of, rows_of, rule_of};
+ghost use Rattle.command_line.specs.CommandLine.{Asks, IsNumber, Refuses, number_option};
+
+use crate::usage::Usage;
+use clap::builder::ValueParser;
+use clap::{Arg, ArgAction, ArgMatches};
+use std::alloc::{AllocError, Global};
+
+/// How the parser's texts on wrong values end.
+const MORE: &str = "For more information, try '--help'.";
+
+/// An option that takes a number: its name, its range, and what its help says.
+#[derive(Clone, Copy)]
+pub(crate) struct NumberOption {
+    name: &'static str,
+    least: u32,
+    most: u32,
+    help: &'static str,
+}
+
+pub(crate) const WORKERS: NumberOption = NumberOption {
+    name: "workers",
+    least: 1,
+    most: 64,
+    help: "How many workers run the threads [default: 4]",
+};
+
+pub(crate) const BUDGET: NumberOption = NumberOption {
+    name: "budget",
+    least: 0,
+    most: u32::MAX,
+    help: "How many events there may be [default: 10000000]",
+};
+
+pub(crate) const QUANTUM: NumberOption = NumberOption {
+    name: "quantum",
+    least: 1,
+    most: u32::MAX,
+    help: "How many events of a thread a worker may do in a row while it holds the lock [default: 1]",
+};
+
+pub(crate) const SEED: NumberOption = NumberOption {
+    name: "seed",
+    least: 0,
+    most: u32::MAX,
+    help: "Has one worker, which picks by this number whose turn it is",
+};
+
+pub(crate) const OBJECTS: NumberOption = NumberOption {
+    name: "objects",
+    least: 0,
+    most: 4_000_000_000,
+    help: "How many objects may be made [default: 1000000]",
+};
+
+pub(crate) const CELLS: NumberOption = NumberOption {
+    name: "cells",
+    least: 0,
+    most: u32::MAX,
+    help: "How many instance fields and array elements they may have [default: 16000000]",
+};
+
+pub(crate) const MONITORS: NumberOption = NumberOption {
+    name: "monitors",
+    least: 0,
+    most: 8_388_608,
+    help: "How many monitors may be inflated [default: 65536]",
+};
+
+pub(crate) const THREADS: NumberOption = NumberOption {
+    name: "threads",
+    least: 1,
+    most: 32_767,
+    help: "How many threads may be started, the main thread included [default: 256]",
+};
+
+pub(crate) const FRAMES: NumberOption = NumberOption {
+    name: "frames",
+    least: 1,
+    most: 65_535,
+    help: "How many method frames a thread may have [default: 1024]",
+};
+
+impl NumberOption {
+    /// The option, for the parser.
+    pub(crate) fn argument<'a>(self, alloc: Global) -> Arg<'a>
+        ensures rule { rule_of result ≡ number_option self.name.now self.least self.most }
+        ensures local { result.global ≡ false }
+    {
+        Arg::new(alloc, self.name)
+            .long(self.name)
+            .value_name("NUMBER")
+            .action(ArgAction::Set)
+            .value_parser(ValueParser::unsigned(u64::from(self.least), u64::from(self.most)))
+            .help(self.help)
+    }
+
+    /// Its number among what the parser found, and `None` where it isn't there.
+    pub(crate) fn number(
+        self,
+        alloc: Global,
+        matches: &ArgMatches<'_>,
+    ) -> Result<Option<u32>, Usage>
+        ensures number { IfOk result (IsNumber self.least self.most
+            (first_of self.name.now (rows_of (found_of matches.now)))) }
+        ensures none { IfErr result (λ usage. Refuses usage ((number : _) → IsNumber self.least self.most
+            (first_of self.name.now (rows_of (found_of matches.now))) number → ⊥)) }
+    {
+        match matches.get_str(self.name) {
+            None => Ok(None),
+            Some(text) => match decimal(text, self.least, self.most) {
+                Some(number) => Ok(Some(number)),
+                None => Err(self.refusal(alloc, text)),
+            },
+        }
+    }
+
+    /// That a text with a sign isn't a number of the option's, in the parser's words for every other text that is none.
+    /// The parser takes a plus, and takes a minus for an option.
+    pub(crate) fn refusal(self, alloc: Global, text: &str) -> Usage
+        ensures { Asks result → ⊥ }
+    {
+        let name = self.name;
+        usage(format!(in alloc;
+            "error: invalid value '{text}' for '--{name} <NUMBER>': invalid digit found in string\n\n{MORE}\n"
+        ))
+    }
+}
+
+/// That more workers are asked for beside a seed than one.
+pub(crate) fn not_alone(alloc: Global) -> Usage
+    ensures { Asks result → ⊥ }
+{
+    usage(format!(in alloc;
+        "error: the argument '--workers <NUMBER>' can only be 1 with '--seed <NUMBER>'\n\n{MORE}\n"
+    ))
+}
+
+/// What a text says, where there was memory for it.
+fn usage(told: Result<String, AllocError>) -> Usage
+    ensures { Asks result → ⊥ }
+{
+    match told {
+        Ok(message) => Usage::Number(message),
+        Err(AllocError) => Usage::OutOfMemory,
+    }
+}
+
+/// The options of `replay` and `run` that take a number.
+const OF_BOTH: [NumberOption; 5] = [OBJECTS, CELLS, MONITORS, THREADS, FRAMES];
+
+/// Those of `run` alone.
+const OF_RUN: [NumberOption; 4] = [WORKERS, BUDGET, QUANTUM, SEED];
+
+/// The option with this name behind two hyphens, of the subcommand that is so called.
+fn number_option(subcommand: &str, word: &str) -> Option<NumberOption> {
+    let name = word.strip_prefix("--")?;
+    match subcommand {
+        "replay" => named(&OF_BOTH, name),
+        "run" => named(&OF_BOTH, name).or(named(&OF_RUN, name)),
+        _ => None,
+    }
+}
+
+/// The option with this name.
+fn named(options: &[NumberOption], name: &str) -> Option<NumberOption> {
+    for option in options {
+        if option.name == name {
+            return Some(*option);
+        }
+    }
+    None
+}
+
+/// Whether a word is a minus with a digit behind it.
+fn is_negative(word: &str) -> bool {
+    matches!(word.as_bytes(), [b'-', b'0'..=b'9', ..])
+}
+
+/// The first word that is a negative number behind an option that takes a number.
+pub(crate) fn negative_number(words: &[String]) -> Option<(NumberOption, &str)> {
+    let subcommand = words.get(1)?.as_str();
+    let mut before = "";
+    for word in words {
+        if let Some(option) = number_option(subcommand, before) {
+            if is_negative(word.as_str()) {
+                return Some((option, word.as_str()));
+            }
+        }
+        before = word.as_str();
+    }
+    None
+}
+
+/// The number that decimal digits spell, where it lies between these two. Digits alone do, and no sign.
+fn decimal(text: &str, least: u32, most: u32) -> Option<u32>
+    ensures { SomeIff result (IsNumeral 10 text.now × (least ≤ digits_value 10 text.now) × (digits_value 10 text.now ≤ most)) (digits_value 10 text.now) }
+{
+    if text.starts_with('+') {
+        return None;
+    }
+    let number = text.parse::<u32>().ok()?;
+    if least <= number && number <= most {
+        Some(number)
+    } else {
+        None
+    }
+}

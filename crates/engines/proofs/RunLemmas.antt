@@ -1,0 +1,37 @@
+-- Why class files are not run, and how far a run is written.
+use Rattle.std.proofs.Common.{arith, ℕ, ◌^◌, ◌<◌, ◌≤◌, List, length, Option, inl, refl}
+use Rattle.std.proofs.lemmas.Bool.{ltb-false}
+use Rattle.model.specs.declared.device.DeviceFault.{DeviceFault}
+use Rattle.model.specs.declared.device.DeviceFault.TheVariants as devices
+use Rattle.model.specs.Accepted.{IsAccepted}
+use Rattle.model.specs.Classes.{Program}
+use Rattle.laws.proofs.Unrefused.{unrefused_of}
+use Rattle.command_line.specs.declared.options.LimitOptions.{LimitOptions}
+use Rattle.command_line.specs.declared.options.RunOptions.{RunOptions}
+use Rattle.engines.specs.Devices.{fault_of}
+use Rattle.engines.specs.Engines.{IsOfFile}
+use Rattle.engines.specs.Runs.{IsUnrun, RunsPart}
+use Rattle.engines.specs.declared.fault.Fault.{Fault}
+use Rattle.engines.specs.declared.fault.Fault.TheVariants as faults
+use Rattle.engines.proofs.VerificationLemmas.{spelled_count}
+
+-- accepted files are few
+pub few_files : (files : List (List ℕ)) (trees : Program) → IsAccepted files trees → length files < 2 ^ 32
+few_files files trees accepted =
+    let unrefused = unrefused_of files trees accepted.linkable.spelled accepted.linkable.no_refusal in
+    let few : length trees ≤ 65000 = ltb-false 65000 (length trees) unrefused.files_fit in
+    omega (arith, few, spelled_count files trees accepted.linkable.spelled)
+
+-- a class file isn't read, and nothing is written
+pub unread_is_unrun : (fault : Fault) (lefts : List (Option (List ℕ))) (asked : LimitOptions) (options : RunOptions) (held : Option (List ℕ)) (kept : Option (Option (List ℕ))) (file : ℕ)
+    → file < length lefts → IsOfFile file fault → IsUnrun lefts asked options held held kept kept fault
+unread_is_unrun faults.Device lefts asked options held kept file within of_file = inl (refl, refl)
+unread_is_unrun faults.Memory lefts asked options held kept file within of_file = absurd of_file
+unread_is_unrun (faults.Schedule fault) lefts asked options held kept file within of_file = absurd of_file
+unread_is_unrun (faults.Refusal refusal) lefts asked options held kept file within of_file = (refl, refl, inl (file, within, of_file))
+
+-- the writing stops
+pub part_is_unrun : (fault : DeviceFault) (lefts : List (Option (List ℕ))) (asked : LimitOptions) (options : RunOptions) (old new : Option (List ℕ)) (kept made : Option (Option (List ℕ)))
+    → RunsPart lefts asked options old new kept made → IsUnrun lefts asked options old new kept made (fault_of fault)
+part_is_unrun devices.Device lefts asked options old new kept made part = part
+part_is_unrun devices.Memory lefts asked options old new kept made part = part

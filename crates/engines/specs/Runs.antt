@@ -1,0 +1,87 @@
+-- What the engine of runs answers and writes, by the bytes that its devices hold. Where a device says nothing of its bytes,
+-- they are any that it may have handed over.
+use Rattle.std.specs.Prelude.{◌≡◌, ◌⊎◌, ℕ, List, length, map, Option, Some, None, IfSome, unwrap_or}
+use Rattle.std.specs.Io.KnownBytes.{Appends}
+use Rattle.model.specs.declared.event.Event.{Event}
+use Rattle.model.specs.declared.limits.Limits.{Limits}
+use Rattle.model.specs.declared.report.Report.{Report}
+use Rattle.model.specs.declared.end.End.{End}
+use Rattle.model.specs.Devices.{AppendsFront}
+use Rattle.model.specs.Classes.{Program}
+use Rattle.model.specs.Accepted.{IsAccepted}
+use Rattle.model.specs.Schedule.{Recording, ScheduleFile}
+use Rattle.machine_replay.specs.Replays.{text_of}
+use Rattle.worlds.specs.Records.{IsRecorded}
+use Rattle.command_line.specs.Choices.{AreChosen}
+use Rattle.command_line.specs.declared.options.LimitOptions.{LimitOptions}
+use Rattle.command_line.specs.declared.options.RunOptions.{RunOptions}
+use Rattle.engines.specs.Engines.{ReadsEach}
+use Rattle.engines.specs.Refusals.{IsRefused}
+use Rattle.engines.specs.Statuses.{status_of}
+use Rattle.engines.specs.Verifications.{IsUnread}
+use Rattle.engines.specs.declared.fault.Fault.{Fault}
+use Rattle.engines.specs.declared.fault.Fault.TheVariants as faults
+use Rattle.engines.specs.declared.status.Status.{Status}
+
+-- ---- what is written
+
+-- with what a run is recorded: its limits, and the lengths of its class files in bytes
+abbrev pub recording_of : Limits → List (List ℕ) → Recording
+recording_of limits files = record { limits = limits; lengths = map length files }
+
+-- The class files are accepted. Workers, or one, have run their program within the limits and the budget, and this is the text of
+-- their report, and its status. The bytes of a file spell the events that were done, the limits, and the lengths of the class files.
+pub record IsRun (files : List (List ℕ)) (asked : LimitOptions) (options : RunOptions) (text : List ℕ) (file : Option (List ℕ)) (status : Status) : Type 0 where
+  pub trees : Program
+  pub accepted : IsAccepted files trees
+  pub limits : Limits
+  pub chosen : AreChosen asked limits
+  pub events : List Event
+  pub report : Report
+  pub end : End
+  pub recorded : IsRecorded trees limits (unwrap_or options.budget 10000000) events report end
+  pub told : text ≡ text_of report end
+  pub ended : status ≡ status_of report.threads.items end
+  pub spelled : IfSome file (λ bytes. ScheduleFile bytes (Some (recording_of limits files)) events)
+
+-- the same of what these sources hold
+abbrev pub Runs : List (Option (List ℕ)) → LimitOptions → RunOptions → List ℕ → Option (List ℕ) → Status → Type 0
+Runs lefts asked options text file status = (files : List (List ℕ)) × ReadsEach lefts files × IsRun files asked options text file status
+
+-- ---- the file that is asked for
+
+-- What a writer held and holds now, where there is one: the bytes of the file behind it. There is a file where there is a writer.
+abbrev pub Records : Option (Option (List ℕ)) → Option (Option (List ℕ)) → Option (List ℕ) → Type 0
+Records None None None = Unit {0}
+Records (Some old) (Some new) (Some bytes) = Appends old new bytes
+Records None None (Some bytes) = ⊥
+Records None (Some new) file = ⊥
+Records (Some old) None file = ⊥
+Records (Some old) (Some new) None = ⊥
+
+-- a front of the bytes is behind it
+abbrev pub RecordsFront : Option (Option (List ℕ)) → Option (Option (List ℕ)) → Option (List ℕ) → Type 0
+RecordsFront (Some old) (Some new) (Some bytes) = AppendsFront old new bytes
+RecordsFront None new file = ⊥
+RecordsFront (Some old) None file = ⊥
+RecordsFront (Some old) (Some new) None = ⊥
+
+-- ---- what is written where there is a fault
+
+-- how far the writing came: a front of the text; or the text and a front of the file
+abbrev pub StopsWithin : List ℕ → Option (List ℕ) → (old new : Option (List ℕ)) → (kept made : Option (Option (List ℕ))) → Type 0
+StopsWithin text file old new kept made = (AppendsFront old new text × (made ≡ kept)) ⊎ (Appends old new text × RecordsFront kept made file)
+
+-- nothing is written, or a part of what a run says
+abbrev pub RunsPart : List (Option (List ℕ)) → LimitOptions → RunOptions → (old new : Option (List ℕ)) → (kept made : Option (Option (List ℕ))) → Type 0
+RunsPart lefts asked options old new kept made = ((new ≡ old) × (made ≡ kept))
+    ⊎ ((text : List ℕ) × (file : Option (List ℕ)) × (status : Status) × Runs lefts asked options text file status × StopsWithin text file old new kept made)
+
+-- When a fault is answered, and what is written then.
+abbrev pub IsUnrun : List (Option (List ℕ)) → LimitOptions → RunOptions → (old new : Option (List ℕ)) → (kept made : Option (Option (List ℕ))) → Fault → Type 0
+IsUnrun lefts asked options old new kept made faults.Device = RunsPart lefts asked options old new kept made
+IsUnrun lefts asked options old new kept made faults.Memory = RunsPart lefts asked options old new kept made
+-- memory for the reading aside, the class files are refused
+IsUnrun lefts asked options old new kept made (faults.Refusal refusal) = (new ≡ old) × (made ≡ kept) × (IsUnread (length lefts) refusal
+    ⊎ ((files : List (List ℕ)) × ReadsEach lefts files × IsRefused files refusal))
+IsUnrun lefts asked options old new kept made (faults.Schedule fault) = ⊥

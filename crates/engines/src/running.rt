@@ -1,0 +1,200 @@
+//! A run by workers, over any readers and writers.
+
+ghost use Rattle.std.specs.Prelude.{◌≡◌, ◌+◌, ◌<◌, ◌^◌, Some, IfOk, IfErr, IfSome, OnOk, OnErr, length, map, is_some, sum_by, unwrap_or, vec_items};
+ghost use Rattle.std.specs.Option.{option_map, option_map_or};
+ghost use Rattle.std.specs.Io.KnownBytes.{Appends};
+ghost use Rattle.model.specs.Accepted.{IsAccepted};
+ghost use Rattle.model.specs.Devices.{Counts};
+ghost use Rattle.model.specs.Schedule.{ScheduleFile, events_of};
+ghost use Rattle.worlds.specs.Records.{IsRecordOf};
+ghost use Rattle.engines.specs.Engines.{CountsFailure};
+ghost use Rattle.engines.specs.Runs.{IsRun, IsUnrun, Records, RecordsFront, Runs, recording_of};
+
+use crate::engine::read_class_files;
+use crate::fault::Fault;
+use crate::status::Status;
+use crate::verification::accepted;
+use command_line::{LimitOptions, RunOptions};
+use model::{DeviceFault, Limits, Sink, Source};
+use report::text;
+use schedule::{Recording, Schedule, write_schedule};
+use std::alloc::{AllocError, Global};
+use std::sync::{Arc, Wait};
+use std::thread::Threads;
+use verifier::Verified;
+use workers::{Gate, Recorded, run_workers};
+use worlds::run_seeded;
+
+/// Runs the class files, by workers or, with a seed, by one; writes the report, and then the schedule file where one is
+/// asked for; and answers the status of the report. The gate is told what the workers do.
+///
+/// A fault of the class files is answered before anything runs, and nothing is written then; nor is anything after a want
+/// of memory in the run. The bytes of both are made before the first is written.
+pub fn run_engine<R: Threads + Wait + Sync, G: Gate + Sync, S: Source, W: Sink, V: Sink>(
+    rt: &R,
+    alloc: Global,
+    gate: &G,
+    files: &mut [S],
+    limits: &LimitOptions,
+    options: &RunOptions,
+    report: &mut W,
+    recorder: &mut Option<V>,
+) -> Result<Status, Fault>
+    // The report of a run is written, and the file of its schedule where it is asked for, and nothing else.
+    ensures ran { IfOk result (λ status. (text : _) × (file : _)
+        × Runs (map S.remaining files.old) limits.now options.now text file status
+        × Appends (W.contents report.old) (W.contents report.new) text
+        × Records (option_map V.contents recorder.old) (option_map V.contents recorder.new) file) }
+    ensures faulty { IfErr result (IsUnrun (map S.remaining files.old) limits.now options.now
+        (W.contents report.old) (W.contents report.new)
+        (option_map V.contents recorder.old) (option_map V.contents recorder.new)) }
+    ensures counted { CountsFailure result
+        (sum_by S.failures files.old + W.failures report.old + option_map_or V.failures recorder.old 0)
+        (sum_by S.failures files.new + W.failures report.new + option_map_or V.failures recorder.new 0) }
+{
+    let read = read_class_files(alloc, files)?;
+    let files = read.as_slice();
+    let verified = accepted(alloc, files)?;
+    let is_recorded = recorder.is_some();
+    let ran = ran(
+        rt,
+        alloc,
+        gate,
+        verified,
+        files,
+        limits,
+        options,
+        is_recorded,
+    )?;
+    report.write_all(ran.text.as_slice())?;
+    write_record(recorder, &ran.file)?;
+    Ok(ran.status)
+}
+
+/// What a run says: the text of its report, its schedule file where one is asked for, and its status.
+#[derive(Drop)]
+struct Outcome {
+    text: Vec<u8>,
+    file: Option<Vec<u8>>,
+    status: Status,
+}
+
+/// Runs accepted class files, and makes what is to be written.
+fn ran<R: Threads + Wait + Sync, G: Gate + Sync>(
+    rt: &R,
+    alloc: Global,
+    gate: &G,
+    verified: Verified,
+    files: &[Vec<u8>],
+    limits: &LimitOptions,
+    options: &RunOptions,
+    is_recorded: bool,
+) -> Result<Outcome, AllocError>
+    requires { IsAccepted (map vec_items files.now) verified }
+    ensures run { IfOk result (λ ran. IsRun (map vec_items files.now) limits.now options.now
+        ran.text.items (option_map vec_items ran.file) ran.status) }
+    ensures asked { IfOk result (λ ran. is_some ran.file ≡ is_recorded) }
+{
+    let limits = limits.limits();
+    let recorded = recorded_run(rt, alloc, gate, verified, limits, options)?;
+    let text = text(alloc, &recorded.report, &recorded.end)?;
+    let status = Status::of(&recorded.report, recorded.end);
+    let file = recorded_file(alloc, is_recorded, files, limits, &recorded.schedule)?;
+    Ok(Outcome { text, file, status })
+}
+
+/// The record of a run of accepted class files.
+fn recorded_run<R: Threads + Wait + Sync, G: Gate + Sync>(
+    rt: &R,
+    alloc: Global,
+    gate: &G,
+    verified: Verified,
+    limits: Limits,
+    options: &RunOptions,
+) -> Result<Recorded, AllocError>
+    ensures { IfOk result (IsRecordOf verified limits (unwrap_or options.now.budget 10000000)) }
+{
+    let verified = Arc::new(alloc, verified)?;
+    let budget = options.budget();
+    let quantum = options.quantum();
+    match options.seed {
+        Some(seed) => run_seeded(alloc, verified, limits, budget, quantum, u64::from(seed)),
+        None => run_workers(
+            rt,
+            alloc,
+            verified,
+            limits,
+            budget,
+            options.workers() as usize,
+            quantum,
+            gate,
+        ),
+    }
+}
+
+/// The schedule file of a run of the class files, where one is asked for.
+fn recorded_file(
+    alloc: Global,
+    is_recorded: bool,
+    files: &[Vec<u8>],
+    limits: Limits,
+    schedule: &Schedule,
+) -> Result<Option<Vec<u8>>, AllocError>
+    requires { length files.now < 2 ^ 32 }
+    ensures asked { IfOk result (λ file. is_some file ≡ is_recorded) }
+    ensures spelled { IfOk result (λ file. IfSome (option_map vec_items file) (λ bytes.
+        ScheduleFile bytes (Some (recording_of limits (map vec_items files.now))) (events_of schedule.now))) }
+{
+    if is_recorded {
+        Ok(Some(file_of(alloc, files, limits, schedule)?))
+    } else {
+        Ok(None)
+    }
+}
+
+/// The schedule file of a run of the class files.
+fn file_of(
+    alloc: Global,
+    files: &[Vec<u8>],
+    limits: Limits,
+    schedule: &Schedule,
+) -> Result<Vec<u8>, AllocError>
+    requires { length files.now < 2 ^ 32 }
+    ensures { IfOk result (λ bytes. ScheduleFile bytes.items (Some (recording_of limits (map vec_items files.now)))
+        (events_of schedule.now)) }
+{
+    let recording = Recording::new(limits, lengths_of(alloc, files)?);
+    write_schedule(alloc, schedule, Some(&recording))
+}
+
+/// The lengths of the class files in bytes.
+fn lengths_of(alloc: Global, files: &[Vec<u8>]) -> Result<Vec<u64>, AllocError>
+    ensures { IfOk result (λ lengths. lengths.items ≡ map length (map vec_items files.now)) }
+{
+    let mut lengths = Vec::new(alloc);
+    'files: for file in files {
+        lengths.push(file.len() as u64)?;
+    }
+    Ok(lengths)
+}
+
+/// Writes the schedule file, where one is asked for.
+fn write_record<V: Sink>(
+    recorder: &mut Option<V>,
+    file: &Option<Vec<u8>>,
+) -> Result<(), DeviceFault>
+    requires { is_some file.now ≡ is_some recorder.old }
+    ensures written { OnOk result (Records (option_map V.contents recorder.old) (option_map V.contents recorder.new)
+        (option_map vec_items file.now)) }
+    ensures part { OnErr result (RecordsFront (option_map V.contents recorder.old) (option_map V.contents recorder.new)
+        (option_map vec_items file.now)) }
+    ensures counted { Counts result (option_map_or V.failures recorder.old 0) (option_map_or V.failures recorder.new 0) }
+{
+    let Some(file) = file else {
+        return Ok(());
+    };
+    match recorder {
+        Some(recorder) => recorder.write_all(file.as_slice()),
+        None => Ok(()),
+    }
+}

@@ -1,0 +1,104 @@
+//! What a terminal shows of a run that takes more than a second.
+
+use engines::Gate;
+use std::io;
+use std::io::Write;
+use std::rt::Clock;
+use std::sync::atomic::{AtomicU64, Ordering};
+use std::time::Instant;
+
+/// How many events are done, at the least, between two looks at the clock.
+const EVENTS: u32 = 1024;
+
+/// A gate that tells each second on the standard error how many events are done, on one line.
+#[derive(Drop)]
+pub struct Progress<'a, R> {
+    rt: &'a R,
+    /// When the run began, where there is something to tell.
+    start: Option<Instant>,
+    /// How many times so many events were done when the clock was looked at.
+    looks: AtomicU64,
+    /// How many seconds had passed when the line was told. 0: there is none.
+    seconds: AtomicU64,
+}
+
+impl<'a, R: Clock + Eprint> Progress<'a, R> {
+    /// The progress of a run that begins now. Nothing is told unless it is wanted, and the clock can be read.
+    pub fn new(rt: &'a R, is_wanted: bool) -> Progress<'a, R> {
+        let start = if is_wanted {
+            Instant::now(rt).ok()
+        } else {
+            None
+        };
+        Progress {
+            rt,
+            start,
+            looks: AtomicU64::new(0),
+            seconds: AtomicU64::new(0),
+        }
+    }
+
+    /// Tells how many events are done, where another second has passed.
+    fn tell(&self, start: Instant, events: u32) {
+        let Ok(passed) = start.elapsed(self.rt) else {
+            return;
+        };
+        if rises(&self.seconds, passed.as_secs()) {
+            let _ = eprint!(self.rt; "\r{events} events\x1b[K");
+        }
+    }
+
+    /// Clears the line, if there is one.
+    pub fn clear(&self) {
+        if self.seconds.swap(0, Ordering::SeqCst) > 0 {
+            let _ = eprint!(self.rt; "\r\x1b[K");
+        }
+    }
+}
+
+impl<R: Clock + Eprint> Gate for Progress<'_, R> {
+    fn burst_begins(&self, _thread: u16) {}
+
+    fn burst_ends(&self, _thread: u16) {}
+
+    fn turn_ends(&self, events: u32) {
+        if let Some(start) = self.start {
+            if rises(&self.looks, u64::from(events / EVENTS)) {
+                self.tell(start, events);
+            }
+        }
+    }
+}
+
+/// Makes a number greater, if it is less, and says so to one of those that do that at the same time.
+fn rises(number: &AtomicU64, to: u64) -> bool {
+    let before = number.load(Ordering::SeqCst);
+    before < to
+        && number
+            .compare_exchange(before, to, Ordering::SeqCst, Ordering::SeqCst)
+            .is_ok()
+}
+
+/// A writer before whose first bytes the line of a progress is cleared.
+#[derive(Drop)]
+pub struct Cleared<'a, R, W> {
+    progress: &'a Progress<'a, R>,
+    writer: W,
+}
+
+impl<'a, R, W> Cleared<'a, R, W> {
+    pub fn new(progress: &'a Progress<'a, R>, writer: W) -> Cleared<'a, R, W> {
+        Cleared { progress, writer }
+    }
+}
+
+impl<R: Clock + Eprint, W: Write> Write for Cleared<'_, R, W> {
+    fn write(&mut self, buf: &[u8]) -> io::Result<usize> {
+        self.progress.clear();
+        self.writer.write(buf)
+    }
+
+    fn flush(&mut self) -> io::Result<()> {
+        self.writer.flush()
+    }
+}
