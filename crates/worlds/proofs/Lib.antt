@@ -4,5 +4,5 @@ mod Shared
 mod Copying
 mod Committing
 mod Staying
-mod Finishing
+pub mod Finishing
 mod Recording
