@@ -1,5 +1,5 @@
 -- A schedule that is followed in a world (own; JVMS 2.6): its events are done, as far as they go.
-use Rattle.std.specs.Prelude.{◌≡◌, ◌⊎◌, ◌++◌, ℕ, List, [], None, length}
+use Rattle.std.specs.Prelude.{◌≡◌, ◌⊎◌, ◌≤◌, ◌++◌, ℕ, List, [], None, length}
 use Rattle.model.specs.declared.event.Event.{Event}
 use Rattle.model.specs.Classes.{Program}
 use Rattle.model.specs.LimitStands.{bounds_of}
@@ -15,7 +15,7 @@ Stands why m trees done left = (files : List (List ℕ)) × (has : HasDone m fil
 
 -- why no more were done: none is left, or the budget is used up; or the next one is not enabled; or it is, and is refused
 abbrev pub StopsBy : Stopped → WorldOf → (left : List Event) → Type 0
-StopsBy stopped.Most w left = (left ≡ []) ⊎ (length w.events ≡ w.budget)
+StopsBy stopped.Most w left = (left ≡ []) ⊎ (w.budget ≤ length w.events)
 StopsBy stopped.NotEnabled w left = Stands stopped.NotEnabled w.machine w.trees w.events left
 StopsBy (stopped.Refused told) w left = Stands (stopped.Refused told) w.machine w.trees w.events left
 

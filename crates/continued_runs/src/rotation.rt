@@ -11,9 +11,11 @@ pub(crate) fn take_turns(world: &mut World)
 {
     let mut from = 0u16;
     'turns: loop {
-        match world.shared_steps(from, 1) {
-            Some(thread) => from = thread.wrapping_add(1),
-            None => return,
+        if world.end().is_some() {
+            return;
+        }
+        if let Some(thread) = world.shared_steps(from, 1) {
+            from = thread.wrapping_add(1);
         }
     }
 }
