@@ -104,3 +104,9 @@ module _ (trees : Program) (limits : Limits) (budget : ℕ) (opened : WorldOf) (
       in_turn = in_turn;
     },
   )
+
+pub whole_of : (trees : Program) (limits : Limits) (budget : ℕ) (opened : WorldOf) (is_new : IsNew trees limits budget opened) (schedule : List Event) (why : Stopped) → why ≡ stopped.Most
+    → (w : WorldOf) (follows : Follows schedule why opened w) (last : WorldOf) → TakesTurns w last → (r : Recorded) → IsRecordOf last.trees last.machine.limits last.budget r → Keeps last r
+    → IsRecordOf trees limits budget r × Continues trees schedule limits.frames budget (events_of r.schedule)
+whole_of trees limits budget opened is_new schedule why all_done w follows last turns r is keeps =
+    whole trees limits budget opened is_new schedule w (subst (λ y. Follows schedule y opened w) all_done follows) last turns r is keeps
