@@ -1,0 +1,180 @@
+#!/usr/bin/env python3
+"""Measures the program `jvm run` next to `jvm replay` of what it records, and next to `java -Xint`, process and all.
+
+    run.py [--program PROGRAM] [--runs N] [NAME..]
+
+PROGRAM is the built program [default: crates/jvm/out/jvm, which `rt run` leaves]. A line is printed for each NAME
+[default: all of them]. What is compared runs in turn, one after the other, N times over [default: 15], and the least of
+each counts: the time of the processor of the whole process and its threads, less that of a run of one event. The
+class files are made anew in a temporary folder, by `tools/java-classes`: a JDK that knows `--release 8` has to be
+there, and `java`. Every report is compared with that of the replay.
+
+local     200 million events of a loop of ints: one worker with bursts outside the lock (the default quantum, 1), and with quantum 1000, each
+          over the replay of the schedule that was recorded
+single    programs of one thread with objects, calls, locks and exceptions: quantum 1000 over the replay
+record    the same, with `--record` over without
+threads   a counter under a lock and a ring of four threads: 1, 2 and 4 workers with quantum 1 and with quantum 1000, as
+          nanoseconds of an event by the clock, next to the processor time of `java -Xint` for a call
+"""
+
+import argparse
+import os
+import pathlib
+import resource
+import subprocess
+import sys
+import tempfile
+import time
+
+sys.dont_write_bytecode = True
+
+ROOT = pathlib.Path(__file__).resolve().parent.parent
+
+# 0 iconst_0, 1 istore_1, 2 iinc 1 1, 5 iload_1, 6 pop, 7 goto 2
+LOOP = "03 3c 840101 1b 57 a7fffb"
+
+# So many events of it are done; all other programs end by themselves.
+EVENTS = 200_000_000
+
+
+def usage():
+    used = resource.getrusage(resource.RUSAGE_CHILDREN)
+    return used.ru_utime + used.ru_stime
+
+
+def ran(command, folder):
+    """Seconds of the processor, seconds by the clock, and what was printed."""
+    before, begin = usage(), time.monotonic()
+    done = subprocess.run([str(word) for word in command], cwd=folder, stdout=subprocess.PIPE, check=False)
+    elapsed = time.monotonic() - begin
+    return usage() - before, elapsed, done.stdout.decode()
+
+
+def least(commands, folder, times):
+    """The least seconds of each command, by the processor and by the clock, all run in turn, and what each printed last."""
+    found = [(float("inf"), float("inf"), "")] * len(commands)
+    for _ in range(times):
+        for place, command in enumerate(commands):
+            processor, clock, text = ran(command, folder)
+            old = found[place]
+            found[place] = (min(old[0], processor), min(old[1], clock), text)
+    return found
+
+
+def compiled(name, folder):
+    """The names of the class files of a source, that of its name first."""
+    source = ROOT / f"bench/java/{name}.java"
+    command = [ROOT / "tools/java-classes", source, "--into", folder]
+    said = subprocess.run(command, check=True, stdout=subprocess.PIPE, text=True).stdout
+    return [pathlib.Path(line).name for line in said.splitlines()]
+
+
+def looping(folder):
+    """The name of the class file of an endless loop of local instructions."""
+    words = [ROOT / "tools/class-file", "--stack", "1", "--locals", "2", LOOP]
+    with open(folder / "A.class", "wb") as file:
+        subprocess.run(words, stdout=file, check=True)
+    return ["A.class"]
+
+
+def events_of(text):
+    return int(next(line for line in text.splitlines() if line.startswith("events ")).split()[1])
+
+
+def told(found):
+    """A report without its last line: a replay ends with its schedule where the run ended by its budget."""
+    return found[2].splitlines()[:-1]
+
+
+class Runs:
+    """The commands of a program, whose class files are made in a folder: one in Java, or the loop."""
+
+    def __init__(self, program, name, folder):
+        self.program, self.folder = program, folder
+        if name == "loop":
+            self.files, self.budget = looping(folder), EVENTS
+        else:
+            self.files, self.budget = compiled(name, folder), 4_000_000_000
+
+    def run(self, *options):
+        return [self.program, "run", "--budget", self.budget, *options, *self.files]
+
+    def replay(self, schedule):
+        return [self.program, "replay", "--schedule", schedule, *self.files]
+
+    def start(self, times):
+        return least([[self.program, "run", "--workers", "1", "--budget", "1", *self.files]], self.folder, times)[0][0]
+
+
+def over_replay(program, name, options, times):
+    """How many times as long a run takes as the replay of what it recorded, and with its record as without."""
+    with tempfile.TemporaryDirectory() as folder:
+        runs = Runs(program, name, pathlib.Path(folder))
+        ran(runs.run(*options, "--record", "schedule"), folder)
+        commands = [runs.replay("schedule"), runs.run(*options), runs.run(*options, "--record", "again")]
+        replay, run, record = least(commands, folder, times)
+        start = runs.start(times)
+        if not told(replay) == told(run) == told(record):
+            sys.exit(f"{name}: the reports differ:\n{replay[2]}\n{run[2]}\n{record[2]}")
+        size = os.path.getsize(f"{folder}/schedule")
+    each = [1e9 * (found[0] - start) / events_of(run[2]) for found in (replay, run, record)]
+    return (
+        f"replay {each[0]:.2f} ns an event, run {each[1]:.2f}, with --record {each[2]:.2f}: {each[1] / each[0]:.2f} times the"
+        f" replay, {each[2] / each[1]:.2f} times with the record, a schedule of {size} bytes"
+    )
+
+
+def local(program, times):
+    for options in (["--workers", "1"], ["--workers", "1", "--quantum", "1000"]):
+        print(f"local {' '.join(options)}: {over_replay(program, 'loop', options, times)}")
+
+
+def single(program, times):
+    for name in ("Sieve", "Quicksort", "Fields", "Fib", "Virtual", "Locks", "Throws"):
+        print(f"single {name} --quantum 1000: {over_replay(program, name, ['--workers', '1', '--quantum', '1000'], times)}", flush=True)
+
+
+def on_java(name, folder):
+    """Nanoseconds of the processor that a call of main takes, of all its threads, on average of 20 calls."""
+    command = ["java", "-Xint", "-cp", folder, "Timed", name, "20", "all"]
+    return int(subprocess.run(command, check=True, capture_output=True, text=True).stderr.split()[0])
+
+
+def threads(program, times):
+    for name in ("Locks", "Buffer"):
+        with tempfile.TemporaryDirectory() as folder:
+            runs = Runs(program, name, pathlib.Path(folder))
+            compiled("Timed", folder)
+            java = min(on_java(name, folder) for _ in range(3))
+            for workers in ("1", "2", "4"):
+                for quantum in ("1", "1000"):
+                    command = runs.run("--workers", workers, "--quantum", quantum, "--record", "schedule")
+                    found = least([command], folder, times)[0]
+                    replayed = ran(runs.replay("schedule"), folder)[2]
+                    if replayed != found[2]:
+                        sys.exit(f"{name}: the reports differ:\n{replayed}\n{found[2]}")
+                    events = events_of(found[2])
+                    print(
+                        f"threads {name} {workers} workers, quantum {quantum}: {1e9 * found[1] / events:.1f} ns an event by"
+                        f" the clock, {1e9 * found[0] / events:.1f} by the processor, java {java / events:.1f}, {events} events",
+                        flush=True,
+                    )
+
+
+MEASURES = {"local": local, "single": single, "threads": threads}
+
+
+def main():
+    parser = argparse.ArgumentParser(description=__doc__, formatter_class=argparse.RawDescriptionHelpFormatter)
+    parser.add_argument("--program", type=pathlib.Path, default=ROOT / "crates/jvm/out/jvm")
+    parser.add_argument("--runs", type=int, default=15)
+    parser.add_argument("names", nargs="*", metavar="NAME")
+    options = parser.parse_args()
+    for name in options.names:
+        if name not in MEASURES:
+            parser.error(f"{name!r} is none of {', '.join(MEASURES)}")
+    for name in options.names or MEASURES:
+        MEASURES[name](options.program.resolve(), options.runs)
+
+
+main()
