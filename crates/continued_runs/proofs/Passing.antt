@@ -95,9 +95,9 @@ module _ (schedule : List Event) (first w new : WorldOf) (passed : HasPassed sch
     stops_by : (x : Stopped) → EndsBy x w.trees (bounds_of new.machine.limits) at.gone.done.run.lead.state (w.events ++ at.gone.front) at.gone.left → StopsBy x new behind
     stops_by stopped.Most none_left =
         inr (subst (λ b. b ≤ length new.events) (sym at.same.budget) (used_up (
-          let all : at.asked ≡ length (at.gone.front ++ at.gone.left) = sym (length-replicate at.asked event) ∙ ap length at.gone.schedule_is in
-          let nothing : length at.gone.left ≡ 0 = ap length none_left in
-          omega (arith, all, nothing, at.gone.count, length-append at.gone.front at.gone.left)
+        let all : at.asked ≡ length (at.gone.front ++ at.gone.left) = sym (length-replicate at.asked event) ∙ ap length at.gone.schedule_is in
+        let nothing : length at.gone.left ≡ 0 = ap length none_left in
+        omega (arith, all, nothing, at.gone.count, length-append at.gone.front at.gone.left)
         )))
     stops_by stopped.NotEnabled ends = stands stopped.NotEnabled (of_more _ at.gone.left (replicate (most - at.asked) event ++ rest) ends)
     stops_by (stopped.Refused told) ends = stands (stopped.Refused told) (of_more _ at.gone.left (replicate (most - at.asked) event ++ rest) ends)
