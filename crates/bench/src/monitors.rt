@@ -1,13 +1,13 @@
-//! Times the monitors of objects, by the four arguments: object 0 is entered and left as often as the first says; as many
-//! threads as the second says wait for object 1 and are notified at once; and of as many objects as the third says, two at
-//! least, as many as the fourth says get a waiter, which is notified. `bench/monitors.sh` times it.
-#![tactic(auto)]
+//! `monitors TIMES THREADS OBJECTS FAT` times the monitors of objects: object 0 is entered and left so many times; so many
+//! threads wait for object 1 and are notified at once; and of so many objects, two at least, as many as the last number
+//! says get a waiter, which is notified. `bench/monitors.sh` times it.
 
-use anyhow::{Context, Error, Result, ensure};
+use crate::arguments::number;
+use anyhow::{Result, ensure};
 use model::MonitorAnswer;
 use monitor::{Call, MonitorCalls, Monitors};
 use std::alloc::{AllocError, Global};
-use std::env;
+use std::env::Args;
 
 /// The most locks that may be fat.
 const MOST_FAT: u32 = 65_536;
@@ -86,16 +86,9 @@ struct Counts {
     fat: u32,
 }
 
-/// The number that a word spells.
-fn number(word: Option<String>, what: &'static str) -> Result<u32> {
-    let word = word.context(what)?;
-    word.as_str().parse::<u32>().map_err(Error::from)
-}
-
 /// The counts that the arguments are.
-fn asked(rt: &HostRuntime) -> Result<Counts> {
-    let mut args = env::args(rt)?;
-    let times = number(args.nth(1), "how often")?;
+fn asked(mut args: Args) -> Result<Counts> {
+    let times = number(args.next(), "how often")?;
     let threads = number(args.next(), "how many threads")?;
     let objects = number(args.next(), "how many objects")?;
     let fat = number(args.next(), "how many objects with a waiter")?;
@@ -121,8 +114,8 @@ fn done(alloc: Global, asked: Counts) -> Result<Counts, AllocError> {
     })
 }
 
-fn main(rt: HostRuntime) -> Result<()> {
-    let asked = asked(&rt)?;
+pub fn run(rt: &HostRuntime, args: Args) -> Result<()> {
+    let asked = asked(args)?;
     let Counts {
         times,
         threads,

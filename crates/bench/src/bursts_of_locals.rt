@@ -1,30 +1,28 @@
-//! Runs methods by their linked code, in one burst each, up to the number that the first argument says: those of local instructions
-//! by `local_burst`, and all by `object_burst`. Where the word `timed` follows, it also tells the thread's processor time for an
+//! `bursts NUMBER [timed]` runs methods by their linked code, in one burst each, up to the number: those of local
+//! instructions by `local_burst`, and all by `object_burst`. With `timed` it also tells the thread's processor time for an
 //! instruction, the least of 25 runs.
-#![tactic(auto)]
 
-mod samples;
-
-use anyhow::{Context, Error, Result};
+use crate::arguments::number;
+use crate::samples::{Argument, Sample, samples};
+use anyhow::{Context, Result};
 use heap::Heap;
 use local_bursts::{Position, local_burst};
 use model::Limits;
 use object_bursts::object_burst;
-use samples::{Argument, Sample, samples};
 use std::alloc::Global;
-use std::env;
+use std::env::Args;
 use std::time::CpuClock;
 
 /// How many instructions a method did, the word that it returns, and the nanoseconds that it took.
 #[derive(Clone, Copy)]
-struct Run {
+struct Measured {
     count: u64,
     result: u32,
     nanoseconds: u128,
 }
 
 /// A method of local instructions.
-fn local_run(rt: &impl CpuClock, sample: Sample, number: u32) -> Result<Run> {
+fn local_run(rt: &impl CpuClock, sample: Sample, number: u32) -> Result<Measured> {
     let mut locals = [number, 0, 0, 0];
     let mut stack = [0u32; 4];
     let mut position = Position { place: 0, depth: 0 };
@@ -37,7 +35,7 @@ fn local_run(rt: &impl CpuClock, sample: Sample, number: u32) -> Result<Run> {
         u64::MAX,
     );
     let end = rt.thread_cpu_time()?;
-    Ok(Run {
+    Ok(Measured {
         count,
         result: stack[0],
         nanoseconds: end.saturating_sub(begin).as_nanos(),
@@ -58,7 +56,7 @@ fn argument_word(heap: &mut Heap, argument: Argument, number: u32) -> u32 {
 }
 
 /// A method with what it works on.
-fn object_run(rt: &impl CpuClock, alloc: Global, sample: Sample, number: u32) -> Result<Run> {
+fn object_run(rt: &impl CpuClock, alloc: Global, sample: Sample, number: u32) -> Result<Measured> {
     let limits = Limits::new(1, number.max(1), 1, 1, 1).context("the limits")?;
     let mut heap = Heap::new(alloc, limits);
     let mut locals = [
@@ -82,7 +80,7 @@ fn object_run(rt: &impl CpuClock, alloc: Global, sample: Sample, number: u32) ->
         u64::MAX,
     );
     let end = rt.thread_cpu_time()?;
-    Ok(Run {
+    Ok(Measured {
         count,
         result: stack[0],
         nanoseconds: end.saturating_sub(begin).as_nanos(),
@@ -111,30 +109,34 @@ fn picoseconds(
     Ok(least.saturating_mul(1000) / u128::from(count.max(1)))
 }
 
-fn main(rt: HostRuntime) -> Result<()> {
-    let mut args = env::args(&rt)?;
-    let word = args.nth(1).context("up to which number")?;
-    let number = word.as_str().parse::<u32>().map_err(Error::from)?;
-    let is_timed = args.next().is_some();
+/// Tells what a method did, and where it is wanted its time.
+fn tell(rt: &HostRuntime, sample: Sample, number: u32, is_timed: bool) -> Result<()> {
     let alloc = rt.alloc();
-    for sample in &samples() {
-        let run = object_run(&rt, alloc, *sample, number)?;
-        println!(rt;
-            "{}: {} instructions, {}",
-            sample.name, run.count, run.result
-        )?;
-        if let Argument::Nothing = sample.argument {
-            let run = local_run(&rt, *sample, number)?;
-            println!(rt; "  as local: {} instructions, {}", run.count, run.result)?;
-            if is_timed {
-                let each = picoseconds(&rt, alloc, *sample, number, true)?;
-                println!(rt; "  {each} ps each as local")?;
-            }
-        }
+    let run = object_run(rt, alloc, sample, number)?;
+    println!(rt;
+        "{}: {} instructions, {}",
+        sample.name, run.count, run.result
+    )?;
+    if let Argument::Nothing = sample.argument {
+        let run = local_run(rt, sample, number)?;
+        println!(rt; "  as local: {} instructions, {}", run.count, run.result)?;
         if is_timed {
-            let each = picoseconds(&rt, alloc, *sample, number, false)?;
-            println!(rt; "  {each} ps each")?;
+            let each = picoseconds(rt, alloc, sample, number, true)?;
+            println!(rt; "  {each} ps each as local")?;
         }
+    }
+    if is_timed {
+        let each = picoseconds(rt, alloc, sample, number, false)?;
+        println!(rt; "  {each} ps each")?;
+    }
+    Ok(())
+}
+
+pub fn run(rt: &HostRuntime, mut args: Args) -> Result<()> {
+    let number = number(args.next(), "up to which number")?;
+    let is_timed = args.next().is_some();
+    for sample in &samples() {
+        tell(rt, *sample, number, is_timed)?;
     }
     Ok(())
 }

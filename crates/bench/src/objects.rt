@@ -1,13 +1,13 @@
-//! Allocates as many objects as the first argument says, each with a field and a monitor that is entered once, and lets
-//! a thread wait for as many of them as the second says. `bench/heap.sh` times it and reads its memory.
-#![tactic(auto)]
+//! `objects OBJECTS WAITERS` allocates so many objects, each with a field and a monitor that is entered once, and lets a
+//! thread wait for as many of them. `bench/heap.sh` times it and reads its memory.
 
-use anyhow::{Context, Error, Result, ensure};
+use crate::arguments::number;
+use anyhow::{Context, Result, ensure};
 use heap::Heap;
 use model::{Limits, MonitorAnswer};
 use monitor::Call;
 use std::alloc::Global;
-use std::env;
+use std::env::Args;
 
 /// Whether one more object was made, whose field holds its reference and which thread 0 has entered.
 fn is_made(heap: &mut Heap) -> bool {
@@ -44,20 +44,6 @@ fn awaited(heap: &mut Heap, objects: u32) -> u32 {
     objects
 }
 
-/// The number that a word spells.
-fn number(word: Option<String>, what: &'static str) -> Result<u32> {
-    let word = word.context(what)?;
-    word.as_str().parse::<u32>().map_err(Error::from)
-}
-
-/// How many objects the arguments ask for, and how many waiters.
-fn asked(rt: &HostRuntime) -> Result<(u32, u32)> {
-    let mut args = env::args(rt)?;
-    let objects = number(args.nth(1), "how many objects")?;
-    let waiters = number(args.next(), "how many waiters")?;
-    Ok((objects, waiters))
-}
-
 /// How many of the objects were made, for how many of the waiters thread 0 waits, and the field of the last object.
 fn done(alloc: Global, limits: Limits, objects: u32, waiters: u32) -> (u32, u32, u32) {
     let mut heap = Heap::new(alloc, limits);
@@ -66,8 +52,9 @@ fn done(alloc: Global, limits: Limits, objects: u32, waiters: u32) -> (u32, u32,
     (there, waits, heap.get_field(objects.saturating_sub(1), 0))
 }
 
-fn main(rt: HostRuntime) -> Result<()> {
-    let (objects, waiters) = asked(&rt)?;
+pub fn run(rt: &HostRuntime, mut args: Args) -> Result<()> {
+    let objects = number(args.next(), "how many objects")?;
+    let waiters = number(args.next(), "how many waiters")?;
     let limits = Limits::new(objects, objects, 8_388_608, 1, 1).context("the limits")?;
     let (there, waits, last) = done(rt.alloc(), limits, objects, waiters);
     ensure!(
