@@ -1,0 +1,4 @@
+pub mod EntryLaws
+pub mod LengthLaws
+pub mod LimitLaws
+pub mod WordLaws
