@@ -1,9 +1,9 @@
 -- The words of entries.
-use Rattle.std.proofs.Common.{◌≡◌, ◌≤◌, ◌<◌, ◌^◌, ◌+◌, ◌*◌, ◌-◌, ◌/◌, ◌%◌, ℕ, Bool, true, false, List, [], ◌∷◌, ◌++◌, length, map, get_or, take, drop, refl, sym, ap, subst, ◌∙◌, arith, decimal, append_assoc, inl, inr, length-append, mod-lt, Some}
+use Rattle.std.proofs.Common.{codes, ◌≡◌, ◌≤◌, ◌<◌, ◌^◌, ◌+◌, ◌*◌, ◌-◌, ◌/◌, ◌%◌, ℕ, Bool, true, false, List, [], ◌∷◌, ◌++◌, length, map, get_or, take, drop, refl, sym, ap, subst, ◌∙◌, arith, decimal, append_assoc, inl, inr, length-append, mod-lt, Some}
 use Rattle.std.specs.Prelude.{◌⊎◌, ◌==◌}
 use Rattle.std.specs.List.{AllByRecursion}
 use Rattle.std.proofs.lemmas.Bool.{cases_eq, cases_lt, eq-eqb, eqb-true}
-use Rattle.std.proofs.lemmas.Fmt.{decimal_by_steps}
+use Rattle.std.proofs.lemmas.Fmt.{decimal_by_steps, decimal_nonempty}
 use Rattle.std.proofs.lemmas.Grind.{common_steps}
 use Rattle.std.proofs.Math.Seq.{drop-append_seam}
 use Rattle.std.proofs.lemmas.List.{append-nil, take-append-le, take_all, get_or_append_left, get_or-append-add, get_or-append_right, map-append}
@@ -178,3 +178,14 @@ pub all_done : (words : List (List ℕ)) (done : List ScheduleEntry) (left : Lis
 all_done words done left so_far l es are spelled =
     let p = so_far.ahead es are spelled in
     ends_here done es p.0 p.1 (sym l ∙ p.2)
+
+-- the word of an entry begins with a digit
+pub no_heading : (rest : List (List ℕ)) (es : List ScheduleEntry) → AllByRecursion EntryFits es → map entry_word es ≡ codes "#limits" ∷ rest → ⊥
+no_heading rest [] fits e = absurd cc
+no_heading rest (f ∷ fs) fits e =
+    let word : entry_word f ≡ codes "#limits" = (same_cons (entry_word f) (codes "#limits") (map entry_word fs) rest e).0 in
+    let small : f.event.thread < 2 ^ 64 = omega (arith, fits.0.thread) in
+    let some : 0 < length (decimal f.event.thread) = decimal_nonempty f.event.thread small in
+    let digit : IsDigit (get_or (decimal f.event.thread) 0 0) = decimal_digits f.event.thread small 0 some in
+    let first : get_or (decimal f.event.thread) 0 0 ≡ 35 = sym (get_or_append_left (decimal f.event.thread) (entry_tail f) 0 0 some) ∙ ap (λ w. get_or w 0 0) word in
+    omega (arith, digit.0, first)

@@ -22,7 +22,7 @@ no_number n small e =
     let first : 35 ≡ get_or (decimal n) 0 0 = ap (λ w. get_or w 0 0) e in
     omega (arith, d.0, first)
 
-same_number : (m n : ℕ) → Some m ≡ Some n → m ≡ n
+pub same_number : (m n : ℕ) → Some m ≡ Some n → m ≡ n
 same_number m n h = cc
 
 step : (words : List (List ℕ)) (done : List ℕ) (left next : List (List ℕ)) (w : List ℕ) (n : ℕ) → left ≡ w ∷ next → (w ≡ codes "#events" → ⊥)

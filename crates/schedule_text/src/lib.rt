@@ -11,9 +11,13 @@ mod numbers;
 
 
 
+mod read;
 mod recordings;
 mod words;
+mod write;
 
 pub use fault::TextFault;
+pub use read::parse;
+pub use write::print;
 
 

@@ -80,3 +80,38 @@ fn lengths(alloc: Global, words: &mut Words<'_>) -> Result<Vec<u64>, TextFault>
     }
     Err(TextFault::Lengths(words.line()))
 }
+
+/// What the words say up to the entries.
+fn recording(alloc: Global, words: &mut Words<'_>) -> Result<Recording, TextFault>
+    ensures found { IfOk result (λ r. (words.old ≡ recording_words (Some r) ++ words.new) × file.RecordingFits r) }
+    ensures only { (r : file.Recording) (rest : List (List ℕ)) → file.RecordingFits r → words.old ≡ recording_words (Some r) ++ rest
+        → Reads {Y = file.Recording × List (List ℕ)} (λ x. (x, words.new)) result (r, rest) }
+{
+    if !heading(words, b"#limits") {
+        return Err(TextFault::Limits(words.line()));
+    }
+    let Some(limits) = limits(words) else {
+        return Err(TextFault::Limits(words.line()));
+    };
+    if !heading(words, b"#lengths") {
+        return Err(TextFault::Lengths(words.line()));
+    }
+    let lengths = lengths(alloc, words)?;
+    Ok(Recording::new(limits, lengths))
+}
+
+/// What stands in front of the entries, if anything does.
+pub(crate) fn recorded(
+    alloc: Global,
+    words: &mut Words<'_>,
+) -> Result<Option<Recording>, TextFault>
+    ensures found { IfOk result (λ r. (words.old ≡ recording_words r ++ words.new) × file.RecordedFits r) }
+    ensures only { (r : Option file.Recording) (es : List ScheduleEntry) → file.RecordedFits r → file.AreEntries es → words.old ≡ recording_words r ++ map entry_word es
+        → Reads {Y = Option file.Recording × List (List ℕ)} (λ x. (x, words.new)) result (r, map entry_word es) }
+{
+    if words.begins_with(b"#limits") {
+        Ok(Some(recording(alloc, words)?))
+    } else {
+        Ok(None)
+    }
+}
