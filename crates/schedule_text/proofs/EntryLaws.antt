@@ -1,14 +1,12 @@
 -- The words of entries.
-use Rattle.std.proofs.Common.{codes, ◌≡◌, ◌≤◌, ◌<◌, ◌^◌, ◌+◌, ◌*◌, ◌-◌, ◌/◌, ◌%◌, ℕ, Bool, true, false, List, [], ◌∷◌, ◌++◌, length, map, get_or, take, drop, refl, sym, ap, subst, ◌∙◌, arith, decimal, append_assoc, inl, inr, length-append, mod-lt, Some}
+use Rattle.std.proofs.Common.{codes, ◌≡◌, ◌≤◌, ◌<◌, ◌^◌, ◌+◌, ◌-◌, ◌%◌, ℕ, true, false, List, [], ◌∷◌, ◌++◌, length, map, get_or, take, drop, refl, sym, ap, subst, ◌∙◌, arith, decimal, append_assoc, inl, inr, length-append, mod-lt, Some}
 use Rattle.std.specs.Prelude.{◌⊎◌, ◌==◌}
 use Rattle.std.specs.List.{AllByRecursion}
 use Rattle.std.proofs.lemmas.Bool.{cases_eq, cases_lt, eq-eqb, eqb-true}
 use Rattle.std.proofs.lemmas.Fmt.{decimal_by_steps, decimal_nonempty}
-use Rattle.std.proofs.lemmas.Grind.{common_steps}
 use Rattle.std.proofs.Math.Seq.{drop-append_seam}
-use Rattle.std.proofs.lemmas.List.{append-nil, take-append-le, take_all, get_or_append_left, get_or-append-add, get_or-append_right, map-append}
+use Rattle.std.proofs.lemmas.List.{append-nil, take-append-le, take_all, get_or_append_left, get_or-append-add, map-append}
 use Rattle.model.specs.Schedule.{AreEntries, EntryFits}
-use Rattle.model.specs.declared.event.Event.{Event}
 use Rattle.model.specs.declared.event.ScheduleEntry.{ScheduleEntry}
 use Rattle.schedule_text.specs.Digits.{HasDigits, IsDigit}
 use Rattle.schedule_text.proofs.WordLaws.{rest_of}
@@ -26,12 +24,12 @@ one_digit n small k lt =
 
 another_digit : (n : ℕ) (ds : List ℕ) → 10 ≤ n → AreDigits ds → AreDigits (ds ++ (48 + n % 10) ∷ [])
 another_digit n ds big all k lt = elim (cases_lt k (length ds)) [
-    | inl l ↦ subst IsDigit (sym (get_or_append_left ds ((48 + n % 10) ∷ []) 0 k l)) (all k l)
-    | inr g ↦
-        let last : k ≡ length ds + 0 = omega (arith, length-append ds ((48 + n % 10) ∷ [])) in
-        subst (λ j. IsDigit (get_or (ds ++ (48 + n % 10) ∷ []) j 0)) (sym last)
-          (subst IsDigit (sym (get_or-append-add ds ((48 + n % 10) ∷ []) 0 0)) (omega arith, omega (arith, mod-lt n {m = 10} (omega arith))))
-  ]
+  | inl l ↦ subst IsDigit (sym (get_or_append_left ds ((48 + n % 10) ∷ []) 0 k l)) (all k l)
+  | inr g ↦
+      let last : k ≡ length ds + 0 = omega (arith, length-append ds ((48 + n % 10) ∷ [])) in
+      subst (λ j. IsDigit (get_or (ds ++ (48 + n % 10) ∷ []) j 0)) (sym last)
+      (subst IsDigit (sym (get_or-append-add ds ((48 + n % 10) ∷ []) 0 0)) (omega arith, omega (arith, mod-lt n {m = 10} (omega arith))))
+]
 
 pub decimal_digits : (n : ℕ) → n < 2 ^ 64 → AreDigits (decimal n)
 decimal_digits n small = decimal_by_steps (λ _ ds. AreDigits ds) one_digit another_digit n small
@@ -39,13 +37,13 @@ decimal_digits n small = decimal_by_steps (λ _ ds. AreDigits ds) one_digit anot
 -- Digits with something behind them that is no digit are all the digits that stand first.
 pub digits_end : (bytes ds rest : List ℕ) (n : ℕ) → bytes ≡ ds ++ rest → AreDigits ds → (IsDigit (get_or rest 0 0) → ⊥) → HasDigits bytes n → n ≡ length ds
 digits_end bytes ds rest n is all other has = elim (cases_lt n (length ds)) [
-    | inl l ↦ absurd (has.others (omega (arith, ap length is, length-append ds rest))
-        (subst IsDigit (sym (ap (λ b. get_or b n 0) is ∙ get_or_append_left ds rest 0 n l)) (all n l)))
-    | inr g ↦ elim (cases_eq n (length ds)) [
-      | inl e ↦ e
-      | inr d ↦ absurd (other (subst IsDigit (ap (λ b. get_or b (length ds + 0) 0) is ∙ get_or-append-add ds rest 0 0) (has.digits (length ds + 0) (omega (arith, d, g)))))
-    ]
+  | inl l ↦ absurd (has.others (omega (arith, ap length is, length-append ds rest))
+      (subst IsDigit (sym (ap (λ b. get_or b n 0) is ∙ get_or_append_left ds rest 0 n l)) (all n l)))
+  | inr g ↦ elim (cases_eq n (length ds)) [
+    | inl e ↦ e
+    | inr d ↦ absurd (other (subst IsDigit (ap (λ b. get_or b (length ds + 0) 0) is ∙ get_or-append-add ds rest 0 0) (has.digits (length ds + 0) (omega (arith, d, g)))))
   ]
+]
 
 -- ---- the tail of an entry
 
@@ -54,9 +52,9 @@ usual_tail usual mark n e = rw (eq-eqb n usual e) refl
 
 other_tail : (usual mark n : ℕ) → (n ≡ usual → ⊥) → unless_usual usual mark n ≡ mark ∷ decimal n
 other_tail usual mark n d = elim (n == usual) as (λ t. (n == usual) ≡ t → unless_usual usual mark n ≡ mark ∷ decimal n) [
-    | true ↦ λ h. absurd (d (eqb-true n usual h))
-    | false ↦ λ h. rw h refl
-  ] refl
+  | true ↦ λ h. absurd (d (eqb-true n usual h))
+  | false ↦ λ h. rw h refl
+] refl
 
 pub no_tail : (e : ScheduleEntry) → e.event.pick ≡ 0 → e.repeat ≡ 1 → entry_tail e ≡ []
 no_tail e p r = rw (usual_tail 0 46 e.event.pick p, usual_tail 1 42 e.repeat r) refl
@@ -79,38 +77,35 @@ Repeats e = (e.event.pick ≡ 0) × (2 ≤ e.repeat) × (entry_tail e ≡ 42 ∷
 
 pub form_of : (e : ScheduleEntry) → EntryFits e → Plain e ⊎ (Picks e ⊎ Repeats e)
 form_of e fits = elim (cases_eq e.repeat 1) [
-    | inl r ↦ elim (cases_eq e.event.pick 0) [
-      | inl p ↦ inl (p, r, no_tail e p r)
-      | inr p ↦ inr (inl (omega (arith, p), r, pick_tail e p r))
-    ]
-    | inr r ↦
-        let least : 1 ≤ e.repeat = fits.repeat.0 in
-        let many : 1 < e.repeat = omega (arith, r, least) in
-        inr (inr (fits.alone many, omega (arith, many), repeat_tail e (fits.alone many) r))
+  | inl r ↦ elim (cases_eq e.event.pick 0) [
+    | inl p ↦ inl (p, r, no_tail e p r)
+    | inr p ↦ inr (inl (omega (arith, p), r, pick_tail e p r))
   ]
+  | inr r ↦
+      let least : 1 ≤ e.repeat = fits.repeat.0 in
+      let many : 1 < e.repeat = omega (arith, r, least) in
+      inr (inr (fits.alone many, omega (arith, many), repeat_tail e (fits.alone many) r))
+]
 
 -- no tail begins with a digit
 pub tail_is_no_digit : (e : ScheduleEntry) → EntryFits e → IsDigit (get_or (entry_tail e) 0 0) → ⊥
 tail_is_no_digit e fits = elim (form_of e fits) [
-    | inl a ↦ subst (λ t. IsDigit (get_or t 0 0) → ⊥) (sym a.2) (λ d. omega (arith, d.0))
-    | inr o ↦ elim o [
-      | inl b ↦ subst (λ t. IsDigit (get_or t 0 0) → ⊥) (sym b.2) (λ d. omega (arith, d.0))
-      | inr c ↦ subst (λ t. IsDigit (get_or t 0 0) → ⊥) (sym c.2) (λ d. omega (arith, d.0))
-    ]
+  | inl a ↦ subst (λ t. IsDigit (get_or t 0 0) → ⊥) (sym a.2) (λ d. omega (arith, d.0))
+  | inr o ↦ elim o [
+    | inl b ↦ subst (λ t. IsDigit (get_or t 0 0) → ⊥) (sym b.2) (λ d. omega (arith, d.0))
+    | inr c ↦ subst (λ t. IsDigit (get_or t 0 0) → ⊥) (sym c.2) (λ d. omega (arith, d.0))
   ]
+]
 
 -- the digits of an entry's word, and its tail
 pub word_parts : (word : List ℕ) (end : ℕ) (e : ScheduleEntry) → EntryFits e → HasDigits word end → word ≡ entry_word e
     → (take end word ≡ decimal e.event.thread) × (take (length word - end) (drop end word) ≡ entry_tail e)
 word_parts word end e fits has is =
     let t = decimal e.event.thread in
-    let at : end ≡ length t = digits_end word t (entry_tail e) end is (decimal_digits e.event.thread (omega (arith, fits.thread))) (tail_is_no_digit e fits) has in
-    (ap (take end) is ∙ ap (λ k. take k (t ++ entry_tail e)) at ∙ take-append-le (length t) t (entry_tail e) (omega arith) ∙ take_all (length t) t (omega arith),
-      rest_of word end has.within ∙ ap (drop end) is ∙ ap (λ k. drop k (t ++ entry_tail e)) at ∙ drop-append_seam t (entry_tail e))
-
-pub same_entry : (e : ScheduleEntry) (thread pick repeat : ℕ) → thread ≡ e.event.thread → pick ≡ e.event.pick → repeat ≡ e.repeat
-    → ◌≡◌ {A = ScheduleEntry} (record { event = record { thread = thread; pick = pick }; repeat = repeat }) e
-same_entry e thread pick repeat t p r = rw (t, p, r) refl
+    let at : end ≡ length t = digits_end word t (entry_tail e) end is (decimal_digits e.event.thread (omega (arith, fits.thread))) (tail_is_no_digit e fits) has in (
+      ap (take end) is ∙ ap (λ k. take k (t ++ entry_tail e)) at ∙ take-append-le (length t) t (entry_tail e) (omega arith) ∙ take_all (length t) t (omega arith),
+      rest_of word end has.within ∙ ap (drop end) is ∙ ap (λ k. drop k (t ++ entry_tail e)) at ∙ drop-append_seam t (entry_tail e),
+    )
 
 -- ---- entries one after the other
 
@@ -135,9 +130,6 @@ all_back : (xs ys : List ScheduleEntry) → AllByRecursion EntryFits (xs ++ ys) 
 all_back [] ys a = a
 all_back (x ∷ xs) ys a = all_back xs ys a.1
 
-pub nothing_done : (words : List (List ℕ)) → AreAhead words [] words
-nothing_done words = record { count = omega arith; fit = tt; spelled = refl; ahead = λ es. λ fits. λ is. (es, refl, is, fits.each) }
-
 step : (words : List (List ℕ)) (done : List ScheduleEntry) (left next : List (List ℕ)) (w : List ℕ) (e : ScheduleEntry) → left ≡ w ∷ next
     → ((f : ScheduleEntry) → EntryFits f → w ≡ entry_word f → Some e ≡ Some f) → (es more : List ScheduleEntry) → es ≡ done ++ more → left ≡ map entry_word more → AllByRecursion EntryFits more
     → (others : List ScheduleEntry) × (es ≡ (done ++ e ∷ []) ++ others) × (next ≡ map entry_word others) × AllByRecursion EntryFits others
@@ -155,7 +147,7 @@ one_more words done left next w e so_far l is fits room only items items_are =
       count = omega (arith, so_far.count, room, length-append done (e ∷ []));
       fit = all_append done (e ∷ []) so_far.fit (fits, tt);
       spelled = so_far.spelled ∙ ap (λ x. map entry_word done ++ x) (l ∙ ap (λ x. x ∷ next) is) ∙ sym (append_assoc (map entry_word done) (entry_word e ∷ []) next)
-        ∙ ap (λ x. x ++ next) (sym (map-append entry_word done (e ∷ [])));
+          ∙ ap (λ x. x ++ next) (sym (map-append entry_word done (e ∷ [])));
       ahead = λ es. λ are. λ spelled. let p = so_far.ahead es are spelled in step words done left next w e l only es p.0 p.1 p.2 p.3;
     })
 

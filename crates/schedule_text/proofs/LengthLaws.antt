@@ -1,5 +1,5 @@
 -- The words of lengths.
-use Rattle.std.proofs.Common.{◌≡◌, ◌≤◌, ◌<◌, ◌^◌, ◌+◌, ℕ, List, [], ◌∷◌, ◌++◌, length, map, get_or, refl, sym, ap, subst, ◌∙◌, arith, codes, decimal, append_assoc, length-append, Some}
+use Rattle.std.proofs.Common.{◌≡◌, ◌<◌, ◌^◌, ℕ, List, [], ◌∷◌, ◌++◌, length, map, get_or, sym, ap, ◌∙◌, arith, codes, decimal, append_assoc, length-append, Some}
 use Rattle.std.specs.List.{AllByRecursion}
 use Rattle.std.proofs.lemmas.List.{append-nil, map-append}
 use Rattle.schedule_text.proofs.EntryLaws.{decimal_digits, same_cons}
@@ -11,9 +11,6 @@ pub record AreLengthsAhead (words : List (List ℕ)) (done : List ℕ) (left : L
   pub spelled : words ≡ map decimal done ++ left
   pub ahead : (ns : List ℕ) (rest : List (List ℕ)) → AllByRecursion (λ n. n < 2 ^ 64) ns → words ≡ length_words ns ++ rest
       → (more : List ℕ) × (ns ≡ done ++ more) × (left ≡ length_words more ++ rest) × AllByRecursion (λ n. n < 2 ^ 64) more
-
-pub nothing_done : (words : List (List ℕ)) → AreLengthsAhead words [] words
-nothing_done words = record { count = omega arith; spelled = refl; ahead = λ ns. λ rest. λ fit. λ is. (ns, refl, is, fit) }
 
 -- the word that ends lengths is no number
 no_number : (n : ℕ) → n < 2 ^ 64 → codes "#events" ≡ decimal n → ⊥
@@ -41,7 +38,7 @@ one_more words done left next w n so_far l other is room only items items_are =
     rw items_are (record {
       count = omega (arith, so_far.count, room, length-append done (n ∷ []));
       spelled = so_far.spelled ∙ ap (λ x. map decimal done ++ x) (l ∙ ap (λ x. x ∷ next) is) ∙ sym (append_assoc (map decimal done) (decimal n ∷ []) next)
-        ∙ ap (λ x. x ++ next) (sym (map-append decimal done (n ∷ [])));
+          ∙ ap (λ x. x ++ next) (sym (map-append decimal done (n ∷ [])));
       ahead = λ ns. λ rest. λ fit. λ spelled. let p = so_far.ahead ns rest fit spelled in step words done left next w n l other only ns rest p.0 p.1 p.2 p.3;
     })
 
@@ -55,28 +52,6 @@ pub no_length : (words : List (List ℕ)) (done : List ℕ) (left next : List (L
 no_length words done left next w so_far l other none ns rest fit spelled =
     let p = so_far.ahead ns rest fit spelled in
     nothing_there left next w l other none rest p.0 p.2 p.3
-
--- there is no room for the word that comes
-too_many_there : (done : List ℕ) (left next : List (List ℕ)) (w : List ℕ) → left ≡ w ∷ next → (w ≡ codes "#events" → ⊥) → length done ≡ 4294967295
-    → (ns : List ℕ) (rest : List (List ℕ)) (more : List ℕ) → ns ≡ done ++ more → left ≡ length_words more ++ rest → length ns < 2 ^ 32 → ⊥
-too_many_there done left next w l other full ns rest [] is spelled few = other (same_cons w (codes "#events") next rest (sym l ∙ spelled)).0
-too_many_there done left next w l other full ns rest (m ∷ ms) is spelled few = omega (arith, full, few, ap length is, length-append done (m ∷ ms))
-
-pub too_many : (words : List (List ℕ)) (done : List ℕ) (left next : List (List ℕ)) (w : List ℕ) → AreLengthsAhead words done left → left ≡ w ∷ next → (w ≡ codes "#events" → ⊥) → length done ≡ 4294967295
-    → (ns : List ℕ) (rest : List (List ℕ)) → AllByRecursion (λ k. k < 2 ^ 64) ns → length ns < 2 ^ 32 → words ≡ length_words ns ++ rest → ⊥
-too_many words done left next w so_far l other full ns rest fit few spelled =
-    let p = so_far.ahead ns rest fit spelled in
-    too_many_there done left next w l other full ns rest p.0 p.1 p.2 few
-
-none_there : (rest : List (List ℕ)) (more : List ℕ) → [] ≡ length_words more ++ rest → ⊥
-none_there rest [] spelled = absurd cc
-none_there rest (m ∷ ms) spelled = absurd cc
-
-pub no_end : (words : List (List ℕ)) (done : List ℕ) (left : List (List ℕ)) → AreLengthsAhead words done left → left ≡ []
-    → (ns : List ℕ) (rest : List (List ℕ)) → AllByRecursion (λ k. k < 2 ^ 64) ns → words ≡ length_words ns ++ rest → ⊥
-no_end words done left so_far l ns rest fit spelled =
-    let p = so_far.ahead ns rest fit spelled in
-    none_there rest p.0 (sym l ∙ p.2)
 
 ended_there : (done : List ℕ) (left next : List (List ℕ)) (w : List ℕ) → left ≡ w ∷ next → w ≡ codes "#events" → (ns : List ℕ) (rest : List (List ℕ)) (more : List ℕ) → ns ≡ done ++ more
     → left ≡ length_words more ++ rest → AllByRecursion (λ k. k < 2 ^ 64) more → (done ≡ ns) × (next ≡ rest)

@@ -2,3 +2,4 @@ pub mod EntryLaws
 pub mod LengthLaws
 pub mod LimitLaws
 pub mod WordLaws
+pub mod WriteLaws

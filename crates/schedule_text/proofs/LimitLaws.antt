@@ -1,5 +1,5 @@
 -- The words of limits.
-use Rattle.std.proofs.Common.{codes, map, ◌≡◌, subst, ◌≤◌, ◌<◌, ◌^◌, ℕ, List, [], ◌∷◌, ◌++◌, true, false, length, take, drop, refl, sym, ap, ◌∙◌, arith, Option, None, Some, decimal}
+use Rattle.std.proofs.Common.{codes, map, ◌≡◌, subst, ◌≤◌, ℕ, List, ◌∷◌, ◌++◌, true, false, length, take, drop, refl, sym, ap, ◌∙◌, arith, Option, None, Some, decimal}
 use Rattle.std.specs.Prelude.{◌↔◌, IsSome, IfSome, nat_eq}
 use Rattle.std.specs.Cmp.Lexicographic.{pointwise}
 use Rattle.std.proofs.lemmas.List.{take-append-drop, take-append-le, take_all}

@@ -5,7 +5,7 @@ use Rattle.std.proofs.lemmas.Bool.{cases_eq}
 use Rattle.std.proofs.lemmas.Grind.{common_steps}
 use Rattle.std.proofs.lemmas.List.{drop_more, get_or-drop, take_more}
 use Rattle.std.proofs.Math.Seq.{drop-length}
-use Rattle.schedule_text.specs.Text.{begins_comment, has_no_letter, is_blank, with_word, words_from, words_of}
+use Rattle.schedule_text.specs.Text.{begins_comment, is_blank, with_word, words_from, words_of}
 
 -- ---- one byte
 
@@ -43,9 +43,9 @@ both_false false q e = (refl, e)
 -- what ends a word ends the one that has begun, and stands before the same words
 pub ends_there : (b : ℕ) (word bs : List ℕ) → (is_blank b || begins_comment (b ∷ bs)) ≡ true → words_from false word (b ∷ bs) ≡ with_word word (words_of (b ∷ bs))
 ends_there b word bs e = elim (is_blank b) as (λ t. is_blank b ≡ t → (t || begins_comment (b ∷ bs)) ≡ true → words_from false word (b ∷ bs) ≡ with_word word (words_of (b ∷ bs))) [
-    | true ↦ λ h. λ _. blank_ends b word bs h ∙ ap (with_word word) (sym (blank_ends b [] bs h))
-    | false ↦ λ h. λ k. comment_ends b word bs h k ∙ ap (with_word word) (sym (comment_ends b [] bs h k))
-  ] refl e
+  | true ↦ λ h. λ _. blank_ends b word bs h ∙ ap (with_word word) (sym (blank_ends b [] bs h))
+  | false ↦ λ h. λ k. comment_ends b word bs h k ∙ ap (with_word word) (sym (comment_ends b [] bs h k))
+] refl e
 
 pub stays_there : (b : ℕ) (word bs : List ℕ) → (is_blank b || begins_comment (b ∷ bs)) ≡ false → words_from false word (b ∷ bs) ≡ words_from false (word ++ b ∷ []) bs
 stays_there b word bs e =
@@ -116,7 +116,7 @@ word_is_last bytes at some le ge so_far =
     let is : at ≡ length bytes = omega arith in
     let at_end : words_from false (take (length bytes) bytes) (drop (length bytes) bytes) ≡ words_of bytes = subst (λ k. words_from false (take k bytes) (drop k bytes) ≡ words_of bytes) is so_far in
     sym at_end ∙ ap (words_from false (take (length bytes) bytes)) (drop-length bytes) ∙ last_word (take (length bytes) bytes)
-      ∙ begun (take (length bytes) bytes) [] (grind (arith, common_steps)) ∙ ap (λ ws. take (length bytes) bytes ∷ ws) (sym (no_byte false) ∙ ap words_of (sym (drop-length bytes)))
+    ∙ begun (take (length bytes) bytes) [] (grind (arith, common_steps)) ∙ ap (λ ws. take (length bytes) bytes ∷ ws) (sym (no_byte false) ∙ ap words_of (sym (drop-length bytes)))
 
 pub no_word : (text : List ℕ) (at n : ℕ) → at ≤ length text → at + n ≡ length text
     → words_of (drop n (take (length text - at) (drop at text))) ≡ words_of (take (length text - at) (drop at text)) → (words_of (drop at text) ≡ []) × (words_of (drop (at + n) text) ≡ [])

@@ -1,5 +1,5 @@
 -- What reading a schedule's text answers.
-use Rattle.std.specs.Prelude.{◌≡◌, ℕ, List, Option, Result, Ok, Err}
+use Rattle.std.specs.Prelude.{◌≡◌, List, Option, Result, Ok, Err}
 use Rattle.model.specs.declared.event.ScheduleEntry.{ScheduleEntry}
 use Rattle.model.specs.Schedule.{Recording}
 use Rattle.schedule_text.specs.declared.fault.TextFault.{TextFault}

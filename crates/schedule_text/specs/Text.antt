@@ -71,3 +71,13 @@ pub record SpellsSchedule (text : List ℕ) (recorded : Option Recording) (entri
   pub fits : AreEntries entries
   pub recording_fits : RecordedFits recorded
   pub spelled : words_of text ≡ recording_words recorded ++ map entry_word entries
+
+-- ---- examples
+
+two_words : words_of (codes "0*22 # and then\n2.1") ≡ codes "0*22" ∷ codes "2.1" ∷ []
+unfolding words_from
+two_words = refl
+
+a_heading : words_of (codes "#limits#5") ≡ codes "#limits" ∷ []
+unfolding words_from
+a_heading = refl

@@ -69,10 +69,7 @@ fn entry(word: &[u8]) -> Option<ScheduleEntry>
 }
 
 /// The entries that all words spell that are left.
-pub(crate) fn entries(
-    alloc: Global,
-    words: &mut Words<'_>,
-) -> Result<Vec<ScheduleEntry>, TextFault>
+pub(crate) fn entries(alloc: Global, words: &mut Words<'_>) -> Result<Vec<ScheduleEntry>, TextFault>
     ensures found { IfOk result (λ v. (words.old ≡ map entry_word v.items) × AreEntries v.items) }
     ensures only { (es : List Entry) → AreEntries es → words.old ≡ map entry_word es → Reads (λ v. v.items) result es }
 {

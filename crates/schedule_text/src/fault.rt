@@ -27,7 +27,10 @@ impl fmt::Display for TextFault {
         match self {
             TextFault::Entry(line) => write!(f, "line {line}: a word is no entry"),
             TextFault::Limits(line) => write!(f, "line {line}: the limits are others"),
-            TextFault::Lengths(line) => write!(f, "line {line}: the lengths of the class files are others"),
+            TextFault::Lengths(line) => write!(
+                f,
+                "line {line}: the lengths of the class files are others"
+            ),
             TextFault::TooMany(line) => write!(f, "line {line}: there are too many words"),
             TextFault::OutOfMemory => f.write_str("there is no memory for it"),
         }

@@ -4,13 +4,9 @@
 //! thread 2, and `2.1` for one of thread 2 with pick 1. In front may stand with what the schedule was recorded.
 #![tactic(auto)]
 
-
 mod entries;
 mod fault;
 mod numbers;
-
-
-
 mod read;
 mod recordings;
 mod words;
@@ -19,5 +15,3 @@ mod write;
 pub use fault::TextFault;
 pub use read::parse;
 pub use write::print;
-
-

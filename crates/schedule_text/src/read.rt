@@ -19,10 +19,7 @@ use std::alloc::Global;
 ///
 /// The first fault in the order of the words, with its line: `Limits`, `Lengths`, `Entry` and `TooMany`; and
 /// `OutOfMemory`.
-pub fn parse(
-    alloc: Global,
-    text: &[u8],
-) -> Result<(Schedule, Option<Recording>), TextFault>
+pub fn parse(alloc: Global, text: &[u8]) -> Result<(Schedule, Option<Recording>), TextFault>
     // What is read is spelled so.
     ensures found { IfOk result (λ read. SpellsSchedule text.now read.1 read.0) }
     // What is spelled so is read, unless memory runs out.

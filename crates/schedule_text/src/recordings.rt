@@ -101,10 +101,7 @@ fn recording(alloc: Global, words: &mut Words<'_>) -> Result<Recording, TextFaul
 }
 
 /// What stands in front of the entries, if anything does.
-pub(crate) fn recorded(
-    alloc: Global,
-    words: &mut Words<'_>,
-) -> Result<Option<Recording>, TextFault>
+pub(crate) fn recorded(alloc: Global, words: &mut Words<'_>) -> Result<Option<Recording>, TextFault>
     ensures found { IfOk result (λ r. (words.old ≡ recording_words r ++ words.new) × file.RecordedFits r) }
     ensures only { (r : Option file.Recording) (es : List ScheduleEntry) → file.RecordedFits r → file.AreEntries es → words.old ≡ recording_words r ++ map entry_word es
         → Reads {Y = Option file.Recording × List (List ℕ)} (λ x. (x, words.new)) result (r, map entry_word es) }

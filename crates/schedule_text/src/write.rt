@@ -18,7 +18,7 @@ const IN_A_LINE: usize = 16;
 fn gap_after(place: usize, count: usize) -> u8
     ensures { (result ≡ 32) ⊎ (result ≡ 10) }
 {
-    if place % IN_A_LINE == IN_A_LINE - 1 || count - place.min(count) <= 1 {
+    if place % IN_A_LINE == IN_A_LINE - 1 || count.saturating_sub(place) == 1 {
         b'\n'
     } else {
         b' '
@@ -82,7 +82,8 @@ fn push_limits(text: &mut Vec<u8>, limits: Limits) -> Result<(), AllocError>
     push_named(text, b"cells=", u64::from(limits.cells), b' ')?;
     push_named(text, b"monitors=", u64::from(limits.monitors), b' ')?;
     push_named(text, b"threads=", u64::from(limits.threads), b' ')?;
-    push_named(text, b"frames=", u64::from(limits.frames), b'\n')
+    push_named(text, b"frames=", u64::from(limits.frames), b'\n')?;
+    Ok(())
 }
 
 fn push_lengths(text: &mut Vec<u8>, lengths: &[u64]) -> Result<(), AllocError>
@@ -103,7 +104,8 @@ fn push_recording(text: &mut Vec<u8>, recording: &Recording) -> Result<(), Alloc
     push_limits(text, recording.limits())?;
     text.extend_from_slice(b"#lengths ")?;
     push_lengths(text, lengths)?;
-    text.extend_from_slice(b"#events\n")
+    text.extend_from_slice(b"#events\n")?;
+    Ok(())
 }
 
 fn push_recorded(text: &mut Vec<u8>, recording: Option<&Recording>) -> Result<(), AllocError>

@@ -1,4 +1,4 @@
-use Rattle.std.proofs.Common.{◌≡◌, sym, ◌∙◌, arith}
+use Rattle.std.proofs.Common.{sym, ◌∙◌, arith}
 use Rattle.schedule_text.proofs.EntryLaws.{all_done, no_entry, one_more}
 use Rattle.schedule_text.proofs.entries.entries.Goals as goal
 

@@ -1,7 +1,4 @@
-use Rattle.std.proofs.Common.{◌≡◌, ℕ, ◌<◌, ◌^◌, ◌++◌, map, length, List}
-use Rattle.std.specs.List.{AllByRecursion}
-use Rattle.model.specs.Schedule.{EntryFits}
-use Rattle.schedule_text.specs.Text.{entry_word}
+use Rattle.std.proofs.Common.{length}
 use Rattle.schedule_text.proofs.EntryLaws.{AreAhead}
 use Rattle.schedule_text.proofs.entries.entries.Given as goal
 

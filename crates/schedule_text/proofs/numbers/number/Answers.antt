@@ -1,5 +1,5 @@
-use Rattle.std.proofs.Common.{◌≡◌, ℕ, List, ap, sym, subst, ◌∙◌, Ok, None, Some, decimal, true, false}
-use Rattle.std.specs.Str.{IsAscii, IsUtf8}
+use Rattle.std.proofs.Common.{◌≡◌, ap, sym, subst, ◌∙◌, Ok, decimal}
+use Rattle.std.specs.Str.{IsAscii}
 use Rattle.std.proofs.lemmas.Str.{IsUtf8-from_ascii}
 use Rattle.std.proofs.lemmas.Fmt.{IsAscii-decimal, parse-decimal}
 use Rattle.std.proofs.lemmas.Slice.Eq.{bytes_eq-Decides}

@@ -1,4 +1,4 @@
-use Rattle.std.proofs.Common.{◌≡◌, ◌∷◌, ap, ◌∙◌, sym, decimal}
+use Rattle.std.proofs.Common.{◌∷◌, ap, ◌∙◌, sym, decimal}
 use Rattle.schedule_text.proofs.EntryLaws.{same_cons}
 use Rattle.schedule_text.proofs.LimitLaws.{is_named, not_named}
 use Rattle.schedule_text.proofs.recordings.limit.Goals as goal

@@ -1,5 +1,4 @@
-use Rattle.std.proofs.Common.{◌≡◌, ◌∙◌, Bool, List, ℕ, [], drop, sym, subst, true, false}
-use Rattle.schedule_text.specs.Text.{words_from}
+use Rattle.std.proofs.Common.{◌∙◌, sym}
 use Rattle.schedule_text.proofs.WordLaws.{blank_first, comment_first, comment_stands}
 use Rattle.schedule_text.proofs.words.comment_after.Goals as goal
 
