@@ -13,7 +13,7 @@ pub record AreLengthsAhead (words : List (List ℕ)) (done : List ℕ) (left : L
       → (more : List ℕ) × (ns ≡ done ++ more) × (left ≡ length_words more ++ rest) × AllByRecursion (λ n. n < 2 ^ 64) more
 
 -- the word that ends lengths is no number
-no_number : (n : ℕ) → n < 2 ^ 64 → codes "#events" ≡ decimal n → ⊥
+pub no_number : (n : ℕ) → n < 2 ^ 64 → codes "#events" ≡ decimal n → ⊥
 no_number n small e =
     let d = decimal_digits n small 0 (omega (arith, ap length e)) in
     let first : 35 ≡ get_or (decimal n) 0 0 = ap (λ w. get_or w 0 0) e in

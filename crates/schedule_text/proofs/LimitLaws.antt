@@ -50,7 +50,7 @@ agree o c m t f l r eo ec em et ef =
     let at : P l.objects l.cells l.monitors l.threads l.frames = λ r. agree_at l.objects l.cells l.monitors l.threads l.frames (l.objects_fit, l.monitors_fit, l.threads_fit, l.frames_fit) r in
     subst (λ x. P x c m t f) eo (subst (λ x. P l.objects x m t f) ec (subst (λ x. P l.objects l.cells x t f) em (subst (λ x. P l.objects l.cells l.monitors x f) et (subst (λ x. P l.objects l.cells l.monitors l.threads x) ef at)))) r
 
-same_limits : (k l : Limits) → k.objects ≡ l.objects → k.cells ≡ l.cells → k.monitors ≡ l.monitors → k.threads ≡ l.threads → k.frames ≡ l.frames → k ≡ l
+pub same_limits : (k l : Limits) → k.objects ≡ l.objects → k.cells ≡ l.cells → k.monitors ≡ l.monitors → k.threads ≡ l.threads → k.frames ≡ l.frames → k ≡ l
 same_limits k l = agree l.objects l.cells l.monitors l.threads l.frames k (l.objects_fit, l.monitors_fit, l.threads_fit, l.frames_fit)
 
 pub are_made : (made : Option Limits) (o c m t f : ℕ) (l : Limits) → (IsSome made ↔ AreLimits o m t f)

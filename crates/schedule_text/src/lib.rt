@@ -9,9 +9,11 @@ mod fault;
 mod numbers;
 mod read;
 mod recordings;
+mod spelling;
 mod words;
 mod write;
 
 pub use fault::TextFault;
 pub use read::parse;
+pub use spelling::text_spells_one_schedule;
 pub use write::print;
