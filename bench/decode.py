@@ -1,9 +1,9 @@
 #!/usr/bin/env python3
-"""Measures `classfile::decode` by the program `classfile_bench`, on class files that it makes.
+"""Measures `classfile::decode` by the program `bench decode`, on class files that it makes.
 
     decode.py [PROGRAM]
 
-PROGRAM is the built program [default: crates/classfile_bench/out/classfile_bench, which `rt run` leaves]. One line is
+PROGRAM is the built program `bench` [default: crates/bench/out/bench, which `rt run` leaves]. One line is
 printed for each file: megabytes of file a second of the processor, and the peak resident memory for each byte of the file. The first
 three files are those of disasm.py. The others are made to take long: members that share a name or a descriptor of
 65,535 bytes, classes and NameAndTypes that share a text as long, names that differ in their last bytes alone, 60,000
@@ -114,7 +114,7 @@ def measured(program, folder, wanted):
     """Seconds of the processor and peak kilobytes of one run."""
     peak = 0
     before = resource.getrusage(resource.RUSAGE_CHILDREN)
-    with subprocess.Popen([program, "A.class"], cwd=folder, stdout=subprocess.PIPE) as process:
+    with subprocess.Popen([program, "decode", "A.class"], cwd=folder, stdout=subprocess.PIPE) as process:
         while process.poll() is None:
             peak = max(peak, peak_kilobytes(process))
             time.sleep(0.001)
@@ -142,7 +142,7 @@ HOSTILE = (
 
 
 def main():
-    built = os.path.join(ROOT, "crates/classfile_bench/out/classfile_bench")
+    built = os.path.join(ROOT, "crates/bench/out/bench")
     program = os.path.abspath(sys.argv[1]) if len(sys.argv) > 1 else built
     with tempfile.TemporaryDirectory() as folder:
         path = os.path.join(folder, "A.class")

@@ -5,8 +5,8 @@
 
 Makes class files of version 49 with one method each, mostly of good types, some changed in an instruction, an operand, a
 jump or a handler; has the JDK's verifier, which infers types for files of this version, and PROGRAM judge each; and prints
-how often both accept and refuse, and each file of which only one accepts. PROGRAM is `verifier_bench` or `jvm verify`
-[default: crates/verifier_bench/out/verifier_bench]; a file that it refuses while linking is not counted. A JDK has to be
+how often both accept and refuse, and each file of which only one accepts. PROGRAM is `bench verify` or `jvm verify`
+[default: `crates/bench/out/bench verify`]; a file that it refuses while linking is not counted. A JDK has to be
 there, whose `java` still has the old verifier and whose `javac` compiles for release 7.
 """
 
@@ -608,7 +608,7 @@ def said_by_program(program, folder, number):
 
 def main():
     parser = argparse.ArgumentParser(description=__doc__, formatter_class=argparse.RawDescriptionHelpFormatter)
-    parser.add_argument("--program", default=os.path.join(ROOT, "crates/verifier_bench/out/verifier_bench"))
+    parser.add_argument("--program", default=os.path.join(ROOT, "crates/bench/out/bench") + " verify")
     parser.add_argument("--count", type=int, default=500)
     parser.add_argument("--seed", type=int, default=1)
     parser.add_argument("--keep", help="a folder for the class files, in place of a temporary one")

@@ -4,7 +4,7 @@
     link.py [--program PROGRAM] [--command COMMAND] [--whole] [--runs N] [--files N] [--chain N] [--depth N]
             [--rungs N] [NAME..]
 
-PROGRAM is the built program `linker_bench` [default: crates/linker_bench/out/linker_bench, which `rt run` leaves]. With
+PROGRAM is the built program `bench` [default: crates/bench/out/bench, which `rt run` leaves], run as `bench link`. With
 a COMMAND it is run as `PROGRAM COMMAND FILE..`, as `jvm verify`, which does more than to link. One line is printed for
 each program of class files [default: all]: files a second of the processor, and the peak resident memory, also for each
 byte of the files. The files are read and decoded too. The programs are:
@@ -246,7 +246,7 @@ PROGRAMS = (many_files, chain, selections, many_methods, many_fields, ladder)
 
 
 def main():
-    built = os.path.join(ROOT, "crates/linker_bench/out/linker_bench")
+    built = os.path.join(ROOT, "crates/bench/out/bench")
     parser = argparse.ArgumentParser(description=__doc__, formatter_class=argparse.RawDescriptionHelpFormatter)
     parser.add_argument("--program", default=built)
     parser.add_argument("--command")
@@ -266,7 +266,7 @@ def main():
             names, methods, size = written(folder, made(options))
             with open(os.path.join(folder, "sets"), "w") as file:
                 file.write(" ".join(names) + "\n")
-            command = [program, options.command, *names] if options.command else [program, "sets"]
+            command = [program, options.command, *names] if options.command else [program, "link", "sets"]
             if options.whole:
                 said = told_whole(*least(command, folder, options.runs))
             else:

@@ -3,7 +3,7 @@
 
     machine.py [--program PROGRAM] [--runs N] [NAME..]
 
-PROGRAM is the built program `machine_bench` [default: crates/machine_bench/out/machine_bench, which `rt run` leaves]. A
+PROGRAM is the built program `bench` [default: crates/bench/out/bench, which `rt run` leaves], run as `bench machine`. A
 line is printed for each program [default: all of them]: how many events it has, the nanoseconds of the machine for one
 of them, those of `java -Xint`, and how many times as long the machine takes. All run in turn, the machine and java one
 after the other, N times over [default: 20], and the least of each counts. A JDK that knows `--release 8` has to be
@@ -93,7 +93,7 @@ def compiled(name, folder):
 
 
 def on_machine(program, word, files):
-    ran = subprocess.run([program, word, *files], capture_output=True, text=True)
+    ran = subprocess.run([program, "machine", word, *files], capture_output=True, text=True)
     said = ran.stdout.splitlines()
     told = ran.stderr.split()
     if ran.returncode != 0 or len(said) < 2 or not said[-2].startswith("events ") or told[1:] != ["microseconds"]:
@@ -181,7 +181,7 @@ def measured(program, folder, benches, runs):
 
 
 def main():
-    built = ROOT / "crates/machine_bench/out/machine_bench"
+    built = ROOT / "crates/bench/out/bench"
     parser = argparse.ArgumentParser(description=__doc__, formatter_class=argparse.RawDescriptionHelpFormatter)
     parser.add_argument("--program", type=pathlib.Path, default=built)
     parser.add_argument("--runs", type=int, default=20)

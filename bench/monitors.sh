@@ -3,12 +3,12 @@
 # waiters of one object, and a million objects of which 65,536 get a waiter that is notified; of the last it also tells
 # the peak resident memory. Prints one line. GNU's /usr/bin/time has to be there.
 set -e
-cd "$(dirname "$0")/../crates/monitor_bench"
-rt run -- 1000 100 50 16 > /dev/null 2>&1
-told() { /usr/bin/time -f "$1" ./out/monitor_bench $2 2>&1 > /dev/null; }
+cd "$(dirname "$0")/../crates/bench"
+rt run -- monitors 1000 100 50 16 > /dev/null 2>&1
+told() { /usr/bin/time -f "$1" ./out/bench monitors $2 2>&1 > /dev/null; }
 milliseconds() {
     begin=$(date +%s%N)
-    ./out/monitor_bench $1 > /dev/null
+    ./out/bench monitors $1 > /dev/null
     echo $(( ($(date +%s%N) - begin) / 1000000 ))
 }
 pairs=$(told %U '100000000 0 2 0')

@@ -1,9 +1,9 @@
 #!/usr/bin/env python3
-"""Measures the verifier by the program `verifier_bench`, on class files that it makes.
+"""Measures the verifier by the program `bench verify`, on class files that it makes.
 
     verifier.py [--program PROGRAM] [--keep FOLDER] [NAME..]
 
-PROGRAM is the built program [default: crates/verifier_bench/out/verifier_bench, which `rt run` leaves]. One line is
+PROGRAM is the built program `bench` [default: crates/bench/out/bench, which `rt run` leaves]. One line is
 printed for each set of class files: bytes of code, the seconds of the verification alone, bytes a second, and the peak
 resident memory. The sets: 10,000 methods that javac compiles (`ordinary`); a method of 65,535 bytes with a thousand
 handlers over all of it, without and with stores to local variables (`handlers`, `stores`); one with 65,535 local
@@ -237,7 +237,7 @@ SETS = {
 
 def measured(program, paths):
     """What the program says, the microseconds of the verification, and peak kilobytes."""
-    command = ["/usr/bin/time", "-f", "%M", program, *paths]
+    command = ["/usr/bin/time", "-f", "%M", program, "verify", *paths]
     ran = subprocess.run(command, capture_output=True, text=True)
     told = ran.stderr.split("\n")
     if ran.returncode != 0 or len(told) < 2 or not told[0].endswith(" microseconds"):
@@ -247,7 +247,7 @@ def measured(program, paths):
 
 def main():
     parser = argparse.ArgumentParser(description=__doc__, formatter_class=argparse.RawDescriptionHelpFormatter)
-    parser.add_argument("--program", default=os.path.join(ROOT, "crates/verifier_bench/out/verifier_bench"))
+    parser.add_argument("--program", default=os.path.join(ROOT, "crates/bench/out/bench"))
     parser.add_argument("--keep", help="a folder for the class files, in place of a temporary one")
     parser.add_argument("names", nargs="*")
     options = parser.parse_args()

@@ -1,0 +1,4 @@
+pub mod Digits
+pub mod Outcomes
+pub mod Printing
+pub mod Text
