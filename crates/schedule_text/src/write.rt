@@ -124,7 +124,7 @@ pub fn print(
     schedule: &Schedule,
     recording: Option<&Recording>,
 ) -> Result<Vec<u8>, AllocError>
-    ensures spells { IfOk result (λ text. SpellsSchedule text.items (option_map (λ r. r.now) recording.entry) schedule.now) }
+    ensures { IfOk result (λ text. SpellsSchedule text.items (option_map (λ r. r.now) recording.entry) schedule.now) }
 {
     let entries = schedule.entries();
     let mut text = Vec::new(alloc);
