@@ -13,6 +13,8 @@ local     200 million events of a loop of ints: one worker with bursts outside t
           over the replay of the schedule that was recorded
 single    programs of one thread with objects, calls, locks and exceptions: quantum 1000 over the replay
 record    the same, with `--record` over without
+counted   the programs of `local` and `single` by the instructions of the processor for an event, which no other work on
+          the machine changes; valgrind has to be there. N doesn't count
 threads   a counter under a lock and a ring of four threads: 1, 2 and 4 workers with quantum 1 and with quantum 1000, as
           nanoseconds of an event by the clock, next to the processor time of `java -Xint` for a call
 """
@@ -20,6 +22,7 @@ threads   a counter under a lock and a ring of four threads: 1, 2 and 4 workers 
 import argparse
 import os
 import pathlib
+import re
 import resource
 import subprocess
 import sys
@@ -35,6 +38,8 @@ LOOP = "03 3c 840101 1b 57 a7fffb"
 
 # So many events of it are done; all other programs end by themselves.
 EVENTS = 200_000_000
+
+SINGLE = ("Sieve", "Quicksort", "Fields", "Fib", "Virtual", "Locks", "Throws")
 
 
 def usage():
@@ -130,7 +135,7 @@ def local(program, times):
 
 
 def single(program, times):
-    for name in ("Sieve", "Quicksort", "Fields", "Fib", "Virtual", "Locks", "Throws"):
+    for name in SINGLE:
         print(f"single {name} --quantum 1000: {over_replay(program, name, ['--workers', '1', '--quantum', '1000'], times)}", flush=True)
 
 
@@ -138,6 +143,39 @@ def on_java(name, folder):
     """Nanoseconds of the processor that a call of main takes, of all its threads, on average of 20 calls."""
     command = ["java", "-Xint", "-cp", folder, "Timed", name, "20", "all"]
     return int(subprocess.run(command, check=True, capture_output=True, text=True).stderr.split()[0])
+
+
+def instructions(command, folder):
+    """How many instructions a command takes, by callgrind, and what it prints."""
+    counting = ["valgrind", "--tool=callgrind", "--callgrind-out-file=/dev/null"]
+    done = subprocess.run([*counting, *map(str, command)], cwd=folder, capture_output=True, text=True, check=False)
+    found = re.search(r"Collected : (\d+)", done.stderr)
+    return int(found[1]) if found else sys.exit(done.stderr), done.stdout
+
+
+def counted_once(program, name, quantum):
+    with tempfile.TemporaryDirectory() as folder:
+        runs = Runs(program, name, pathlib.Path(folder))
+        if name == "loop":
+            runs.budget = EVENTS // 100
+        words = ["--workers", "1", "--quantum", quantum]
+        ran(runs.run(*words, "--record", "schedule"), folder)
+        start, _ = instructions([program, "run", *words, "--budget", "1", *runs.files], folder)
+        replay, text = instructions(runs.replay("schedule"), folder)
+        run, _ = instructions(runs.run(*words), folder)
+        record, _ = instructions(runs.run(*words, "--record", "again"), folder)
+    each = [(count - start) / events_of(text) for count in (replay, run, record)]
+    print(
+        f"counted {name} --quantum {quantum}: replay {each[0]:.2f} instructions an event, run {each[1]:.2f}:"
+        f" {each[1] / each[0]:.3f} times the replay, {each[2] / each[1]:.4f} times with the record",
+        flush=True,
+    )
+
+
+def counted(program, _times):
+    counted_once(program, "loop", "1")
+    for name in ("loop", *SINGLE):
+        counted_once(program, name, "1000")
 
 
 def threads(program, times):
@@ -161,7 +199,7 @@ def threads(program, times):
                     )
 
 
-MEASURES = {"local": local, "single": single, "threads": threads}
+MEASURES = {"local": local, "single": single, "counted": counted, "threads": threads}
 
 
 def main():
