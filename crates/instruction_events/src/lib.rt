@@ -8,4 +8,4 @@ mod fields;
 mod first;
 mod own;
 
-pub use events::instruction_event;
+pub use events::{instruction_event, known_instruction_event};

@@ -182,6 +182,11 @@ found_of bytes xs r small e =
     subst (λ (recorded : Option Recording). ScheduleFile bytes recorded (events_of xs)) same
     (record { entries = xs; fits = t.fits; recording_fits = t.recording_fits; spelled = t.spelled; stands_for = refl })
 
+pub entries_of : (bytes : List ℕ) (xs : List ScheduleEntry) (r : Option Recording) → IsBytes bytes → schedule_at bytes ≡ Ok (xs, option_map numbers_of r) → bytes ≡ schedule r xs
+entries_of bytes xs r small e =
+    let t = schedule_takes bytes xs (option_map numbers_of r) small e in
+    t.spelled ∙ ap (λ (recorded : Option Recording). schedule recorded xs) (options_same t.recorded r t.numbers_are)
+
 pub only_of : (bytes : List ℕ) (xs : List ScheduleEntry) (r : Option Recording) → schedule_at bytes ≡ Ok (xs, option_map numbers_of r) → (recorded : Option Recording) (events : List Event) → ScheduleFile bytes recorded events
     → (r ≡ recorded) × (events_of xs ≡ events)
 only_of bytes xs r e recorded events s =

@@ -1,13 +1,17 @@
 -- What becomes of an event of a thread, in whatever state (JVMS 2.6; JLS 17).
-use Rattle.std.specs.Prelude.{ℕ, List, Result}
+use Rattle.std.specs.Prelude.{◌≡◌, ℕ, List, Result, None, Some}
 use Rattle.model.specs.declared.event.Event.{Event}
 use Rattle.model.specs.Classes.{Program}
 use Rattle.model.specs.LimitStands.{Bounds}
 use Rattle.model.specs.Operands.{words}
-use Rattle.model.specs.State.{StackOf, StateOf}
+use Rattle.model.specs.State.{Running, StackOf, StateOf}
 use Rattle.model.specs.Step.{SteppedOf, PartOf, thread_at, running_event, going_event, thread_event, settled}
+use Rattle.java_threads.specs.Table.{thread_at as row_at}
+use Rattle.linked_code.specs.declared.instruction.LinkedInstruction.{LinkedInstruction}
 use Rattle.linked_code.specs.declared.program.LinkedProgram.{LinkedProgram}
-use Rattle.thread_stacks.specs.Stacks.{ShownEntry}
+use Rattle.linked_frames.specs.Frames.{IsInstruction}
+use Rattle.thread_stacks.specs.declared.stack.Top.TheVariants as top
+use Rattle.thread_stacks.specs.Stacks.{ShownEntry, top_of}
 use Rattle.machine_state.specs.declared.answers.Answer.{Answer}
 use Rattle.machine_state.specs.declared.refusals.Refusal.{Refusal}
 use Rattle.machine_state.specs.declared.state.Shared.{Shared}
@@ -23,6 +27,12 @@ pub record HasThread (p : LinkedProgram) (t : ℕ) (shared : Shared) (stack : Li
   pub own : StackOf ℕ
   pub program : IsProgram trees p
   pub lent : IsLent trees p bounds inflated t shared stack state own
+
+-- it runs, with no exception pending, and the frame on top of its stack stands at this instruction
+abbrev pub RunsAt : LinkedProgram → (t : ℕ) → LinkedInstruction → Shared → List ShownEntry → Type 0
+RunsAt p t instruction shared stack =
+    ((row_at shared.threads.threads t).status ≡ Running) × ((row_at shared.threads.threads t).pending ≡ None)
+    × (top.Invocation ≡ top_of stack) × IsInstruction p stack (Some instruction)
 
 -- in whatever state its stack is lent, the result says what becomes of an event, as files, a state and the thread's own stack have it
 abbrev pub DoesIn : LinkedProgram → (t : ℕ) → (Program → StateOf ℕ → StackOf ℕ → SteppedOf (PartOf ℕ)) → Result Answer Refusal → (old new : Shared) (from to : List ShownEntry) → Type 0
