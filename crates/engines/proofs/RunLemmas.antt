@@ -28,6 +28,7 @@ pub unread_is_unrun : (fault : Fault) (lefts : List (Option (List ℕ))) (asked 
 unread_is_unrun faults.Device lefts asked options held kept file within of_file = inl (refl, refl)
 unread_is_unrun faults.Memory lefts asked options held kept file within of_file = absurd of_file
 unread_is_unrun (faults.Schedule fault) lefts asked options held kept file within of_file = absurd of_file
+unread_is_unrun (faults.Text fault) lefts asked options held kept file within of_file = absurd of_file
 unread_is_unrun (faults.Refusal refusal) lefts asked options held kept file within of_file = (refl, refl, inl (file, within, of_file))
 
 -- the writing stops

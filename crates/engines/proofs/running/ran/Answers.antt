@@ -4,12 +4,12 @@ use Rattle.model.specs.Schedule.{events_of}
 use Rattle.engines.proofs.RunLemmas.{few_files}
 use Rattle.engines.proofs.running.ran.Goals as goal
 
-pub recorded_file-requires : goal.recorded_file-requires
-recorded_file-requires g c = omega (arith, few_files (map vec_items c.args.files.now) c.args.verified c.requires, length-map c.args.files.now vec_items)
+pub outcome_of-requires : goal.outcome_of-requires
+outcome_of-requires g c = omega (arith, few_files (map vec_items c.args.files.now) c.args.verified c.requires, length-map c.args.files.now vec_items)
 
 pub returns-clause-run : goal.returns-clause-run
 returns-clause-run g c =
-    let run = c.in_ok-recorded.recorded in
+    let run = c.in_ok-run.run in
     record {
       trees = c.args.verified;
       accepted = c.requires;
@@ -18,8 +18,8 @@ returns-clause-run g c =
       events = events_of run.schedule;
       report = run.report;
       end = run.end;
-      recorded = c.in_ok-recorded.ensures.2;
-      told = c.in_ok-text.ensures;
-      ended = c.of-status.ensures;
-      spelled = c.in_ok-file.ensures.spelled;
+      recorded = c.in_ok-run.ensures.2;
+      told = c.outcome_of.ensures.told;
+      ended = c.outcome_of.ensures.ended;
+      spelled = c.outcome_of.ensures.spelled;
     }

@@ -4,12 +4,12 @@ use Rattle.std.proofs.lemmas.List.{drop-set-lt}
 use Rattle.std.proofs.lemmas.Result.{err_from_is_err_and}
 use Rattle.engines.specs.Engines.{Reads}
 use Rattle.engines.proofs.EngineLemmas.{next_same, reads_next, counts_among, none_failed}
-use Rattle.engines.proofs.engine.read_class_files.Goals as goal
+use Rattle.engines.proofs.class_files.read_class_files.Goals as goal
 
-pub returns-in_err-bytes-clause-faulty : goal.returns-in_err-bytes-clause-faulty
-returns-in_err-bytes-clause-faulty g c =
+pub returns-in_err-bytes-clause-kept : goal.returns-in_err-bytes-clause-kept
+returns-in_err-bytes-clause-kept g c =
     let p = err_from_is_err_and c.from_residual.result c.from_residual.ensures.1 in
-    rw (p.1, p.2) (λ left options sink. c.in_err-bytes.ensures.faulty left (map g.S.Source.remaining c.args.files.now) options sink)
+    rw (p.1, p.2) (λ left options. c.in_err-bytes.ensures.kept left (map g.S.Source.remaining c.args.files.now) options)
 
 pub returns-in_err-bytes-clause-of_file : goal.returns-in_err-bytes-clause-of_file
 returns-in_err-bytes-clause-of_file g c =
