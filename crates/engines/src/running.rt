@@ -98,14 +98,14 @@ fn ran<R: Threads + Wait + Sync, G: Gate + Sync>(
     ensures asked { IfOk result (λ ran. is_some ran.file ≡ is_recorded) }
 {
     let limits = limits.limits();
-    let run = recorded_run(rt, alloc, gate, verified, limits, options)?;
+    let recorded = recorded_run(rt, alloc, gate, verified, limits, options)?;
     outcome_of(
         alloc,
         files,
         limits,
-        &run.report,
-        run.end,
-        &run.schedule,
+        &recorded.report,
+        recorded.end,
+        &recorded.schedule,
         is_recorded,
     )
 }

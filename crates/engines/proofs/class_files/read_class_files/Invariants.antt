@@ -1,6 +1,6 @@
 use Rattle.std.proofs.Common.{◌≡◌, map, sum_by, vec_items, take, drop}
 use Rattle.engines.specs.Engines.{ReadsEach}
-use Rattle.engines.proofs.engine.read_class_files.Given as goal
+use Rattle.engines.proofs.class_files.read_class_files.Given as goal
 
 -- the files so far are read, those left are as they were, and none failed
 abbrev pub invariant-loop-number : goal.invariant-loop-number

@@ -1,7 +1,7 @@
 use Rattle.std.proofs.Common.{arith, map, vec_items}
 use Rattle.std.proofs.lemmas.List.{length-map}
 use Rattle.model.specs.Schedule.{events_of}
-use Rattle.engines.proofs.RunLemmas.{few_files}
+use Rattle.engines.proofs.RunLemmas.{by_three, few_files}
 use Rattle.engines.proofs.running.ran.Goals as goal
 
 pub outcome_of-requires : goal.outcome_of-requires
@@ -9,8 +9,8 @@ outcome_of-requires g c = omega (arith, few_files (map vec_items c.args.files.no
 
 pub returns-clause-run : goal.returns-clause-run
 returns-clause-run g c =
-    let run = c.in_ok-run.run in
-    record {
+    let run = c.in_ok-recorded.recorded in
+    by_three c.outcome_of.result _ _ _ _ (λ outcome told ended spelled. record {
       trees = c.args.verified;
       accepted = c.requires;
       limits = c.limits-limits.result;
@@ -18,8 +18,8 @@ returns-clause-run g c =
       events = events_of run.schedule;
       report = run.report;
       end = run.end;
-      recorded = c.in_ok-run.ensures.2;
-      told = c.outcome_of.ensures.told;
-      ended = c.outcome_of.ensures.ended;
-      spelled = c.outcome_of.ensures.spelled;
-    }
+      recorded = c.in_ok-recorded.ensures.2;
+      told = told;
+      ended = ended;
+      spelled = spelled;
+    }) c.outcome_of.ensures.told c.outcome_of.ensures.ended c.outcome_of.ensures.spelled
