@@ -87,7 +87,15 @@ fn ran_on(
     let verified = Arc::new(alloc, verified)?;
     match run_on(alloc, verified, schedule, limits, budget)? {
         Continued::Whole(run) => {
-            outcome_of(alloc, files, limits, &run.report, run.end, &run.schedule, is_recorded)
+            outcome_of(
+                alloc,
+                files,
+                limits,
+                &run.report,
+                run.end,
+                &run.schedule,
+                is_recorded,
+            )
         }
         Continued::Part(report, end) => {
             outcome_of(alloc, files, limits, &report, end, schedule, is_recorded)
