@@ -94,7 +94,7 @@ fn outcome<R: Threads + Wait + Sync>(
     for word in words {
         texts.push(String::from_str(alloc, word)?)?;
     }
-    let mut input = Counted::new(alloc, [].as_slice());
+    let mut input = Counted::new(alloc, b"".as_slice());
     let answer = run(
         rt,
         alloc,
