@@ -1,0 +1,22 @@
+//! All schedules of a program: which runs stand for all of them. Each function here is a theorem, and does nothing.
+//!
+//! A local event touches the frame on top of its thread alone, so it may as well come first, whatever the other threads do. A search
+//! that lets only such a thread move, where there is one, comes to each end that any schedule comes to.
+#![tactic(auto)]
+
+ghost use Rattle.interleavings.specs.Statements.{AreLocalEventsCommuting, AreLocalEventsTheirOwn, AreOthersLeftAlone};
+
+/// An event leaves each other thread that runs its stack, its status and the exception that is pending in it.
+pub fn others_are_left_alone()
+    ensures holds { AreOthersLeftAlone }
+{}
+
+/// A local event is enabled, takes nothing, and changes the stack of its thread alone.
+pub fn local_events_are_their_own()
+    ensures holds { AreLocalEventsTheirOwn }
+{}
+
+/// A local event of a thread and any event of another one lead to the same state, at the same cost, in either order.
+pub fn local_events_commute()
+    ensures holds { AreLocalEventsCommuting }
+{}
