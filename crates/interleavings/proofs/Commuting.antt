@@ -1,9 +1,9 @@
 -- A local event of a thread and an event of another one commute.
-use Rattle.std.proofs.Common.{◌≡◌, ℕ, zero, suc, ◌-◌, List, [], ◌∷◌, ◌++◌, length, Bool, true, false, ◌==◌, Option, Some, None, refl, sym, ap, ◌∙◌, subst, arith}
-use Rattle.std.specs.Prelude.{slice_get, slice_set, slice_index_or, replicate}
-use Rattle.std.proofs.lemmas.Bool.{false≢true, false_from_ne_true, eqb-true}
+use Rattle.std.proofs.Common.{◌≡◌, ℕ, zero, suc, ◌-◌, List, [], ◌∷◌, ◌++◌, length, true, false, ◌==◌, Option, Some, None, refl, sym, ap, ◌∙◌, subst}
+use Rattle.std.specs.Prelude.{slice_get, slice_set, replicate}
+use Rattle.std.proofs.lemmas.Bool.{false_from_ne_true, eqb-true}
 use Rattle.std.proofs.lemmas.List.{set_comm, length-set}
-use Rattle.std.proofs.lemmas.Option.{same_Some, none-some, get_or_from_slice_get}
+use Rattle.std.proofs.lemmas.Option.{get_or_from_slice_get}
 use Rattle.model.specs.declared.event.Event.{Event}
 use Rattle.model.specs.declared.value.Value.{Value}
 use Rattle.model.specs.Classes.{Program}
@@ -13,7 +13,7 @@ use Rattle.model.specs.State.{types_of, Running, Thread, StackOf, State}
 use Rattle.model.specs.Worlds.{thread_at, no_thread}
 use Rattle.model.specs.WellTyped.{IsWellTyped, IsStackTyped}
 use Rattle.model.specs.Accepted.{IsAccepted}
-use Rattle.model.specs.Step.{SteppedOf, NotEnabled, WrongKind, Next, PartOf, settled, thread_event, with_part, event_of, stepped, next_by, step}
+use Rattle.model.specs.Step.{SteppedOf, NotEnabled, WrongKind, Next, PartOf, settled, thread_event, with_part, event_of, stepped}
 use Rattle.laws.specs.Steps.{is_wrong}
 use Rattle.laws.proofs.Answered.{never_wrong}
 use Rattle.laws.proofs.Lists.{get_front}
@@ -23,7 +23,7 @@ use Rattle.typed_runs.proofs.Settled.{thread_there, settled_typed}
 use Rattle.soundness.proofs.Sound.{by_status, fits_of, links, instructs}
 use Rattle.interleavings.specs.Local.{next_local, with_stack}
 use Rattle.interleavings.specs.Statements.{IsLeftAlone, Commute, AreOthersLeftAlone, AreLocalEventsTheirOwn, AreLocalEventsCommuting}
-use Rattle.interleavings.proofs.Own.{IsNext, next_of, of_next, own_stepped}
+use Rattle.interleavings.proofs.Own.{next_of, of_next, own_stepped}
 
 set_front : {A : Type 0} (xs ys : List A) (k : ℕ) (x y : A) → slice_get xs k ≡ Some x → slice_set (xs ++ ys) k y ≡ slice_set xs k y ++ ys
 set_front [] ys k x y e = absurd cc

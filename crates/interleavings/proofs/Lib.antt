@@ -1,2 +1,3 @@
 pub mod Own
 pub mod Commuting
+pub mod Reduction

@@ -1,14 +1,14 @@
 -- A local event: what it is, and that it is enabled.
-use Rattle.std.proofs.Common.{◌≡◌, ℕ, zero, suc, ◌-◌, List, [], ◌∷◌, ◌++◌, length, Bool, true, false, ◌==◌, Option, Some, None, refl, sym, ap, ◌∙◌, subst, arith}
-use Rattle.std.specs.Prelude.{slice_get, slice_set, slice_index_or, if◌then◌else◌, is_none, map, replicate}
+use Rattle.std.proofs.Common.{◌≡◌, ℕ, ◌-◌, [], ◌∷◌, ◌++◌, length, Bool, true, false, ◌==◌, Option, Some, None, refl, sym, ap, ◌∙◌, subst, arith}
+use Rattle.std.specs.Prelude.{slice_get, slice_set, if◌then◌else◌, is_none, replicate}
 use Rattle.std.specs.Option.{option_map, option_and_then}
 use Rattle.std.proofs.lemmas.Bool.{false≢true}
-use Rattle.std.proofs.lemmas.List.{append-nil, length-set}
+use Rattle.std.proofs.lemmas.List.{append-nil}
 use Rattle.std.proofs.lemmas.Option.{same_Some, none-some}
 use Rattle.model.specs.declared.event.Event.{Event}
 use Rattle.model.specs.declared.value.Value.{Value}
 use Rattle.model.specs.Classes.{Program, Body, body_of}
-use Rattle.model.specs.Operands.{values, word_of, operands, over_values}
+use Rattle.model.specs.Operands.{values, over_values}
 use Rattle.model.specs.Rows.{Row, row_wants, after_row, row_target}
 use Rattle.model.specs.Outcomes.{OutcomeOf, Goes, Raises, Free, Arithmetic}
 use Rattle.model.specs.Sites.{Site, site_at}
@@ -17,10 +17,10 @@ use Rattle.model.specs.Meanings.{local_or, meaning_of}
 use Rattle.model.specs.State.{types_of, ThreadStatus, Running, Waiting, Relock, Ended, Frame, Invocation, Initialisation, StackOf, World, State}
 use Rattle.model.specs.Worlds.{thread_at}
 use Rattle.model.specs.WellTyped.{IsWellTyped}
-use Rattle.model.specs.Step.{SteppedOf, NotEnabled, WrongKind, Next, PartOf, part, enabled_if, unpicked, settled, become, bytecode_by, bytecode_in, running_event, going_event, thread_event, with_part, event_of, stepped, next_by, step}
+use Rattle.model.specs.Step.{SteppedOf, WrongKind, Next, PartOf, part, enabled_if, unpicked, settled, become, bytecode_by, bytecode_in, running_event, going_event, thread_event, with_part, event_of, stepped, next_by, step}
 use Rattle.laws.specs.Steps.{is_wrong}
 use Rattle.typed_runs.proofs.Settled.{lengths_same}
-use Rattle.interleavings.specs.Local.{row_at, row_in, frame_row, operand_words, after_local, local_stack, is_going, next_local, with_stack}
+use Rattle.interleavings.specs.Local.{row_at, row_in, operand_words, after_local, local_stack, is_going, next_local, with_stack}
 
 -- ---- what is known where the next event of a thread is local
 

@@ -36,7 +36,7 @@ pub record AreAllOutcomes (files : Program) (frames : ℕ) (outcomes : List Outc
 
 -- what a search has done when it ends
 pub record IsSearched (files : Program) (frames : ℕ) (states : List State) (outcomes : List Outcome) : Type 0 where
-  -- its states begin with the opening state
+  -- the opening state is one of its states
   pub opened : Has states (opening values files)
   -- each is reached by a run
   pub reached : (state : State) → Has states state → (events : List Event) × (run files frames events ≡ Some state)

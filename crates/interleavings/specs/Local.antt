@@ -1,5 +1,5 @@
 -- Local events (own: those of an instruction that touches its frame alone, and throws nothing), and what they leave.
-use Rattle.std.specs.Prelude.{ℕ, List, [], ◌∷◌, Option, Some, None, Bool, true, false, if◌then◌else◌, is_none, is_some, map, slice_get, slice_set}
+use Rattle.std.specs.Prelude.{ℕ, List, [], ◌∷◌, Option, Some, None, Bool, false, if◌then◌else◌, is_none, is_some, map, slice_get, slice_set}
 use Rattle.std.specs.Option.{option_map, option_and_then}
 use Rattle.model.specs.declared.value.Value.{Value}
 use Rattle.model.specs.Pool.{integers_of}

@@ -1,5 +1,5 @@
 -- What is shown of the runs of accepted files, whatever the schedule.
-use Rattle.std.specs.Prelude.{◌≡◌, ℕ, List, Some, None, true, false, ◌==◌, slice_get, slice_index_or, IsTrue}
+use Rattle.std.specs.Prelude.{◌≡◌, ℕ, List, Some, None, slice_get, IsTrue}
 use Rattle.model.specs.declared.event.Event.{Event}
 use Rattle.model.specs.declared.value.Value.{Value}
 use Rattle.model.specs.Classes.{Program}
@@ -7,7 +7,7 @@ use Rattle.model.specs.Operands.{values}
 use Rattle.model.specs.Outcomes.{Cost, Free}
 use Rattle.model.specs.State.{Running, StackOf, State}
 use Rattle.model.specs.Worlds.{thread_at}
-use Rattle.model.specs.Step.{Next, stepped, is_enabled, step}
+use Rattle.model.specs.Step.{Next, stepped}
 use Rattle.model.specs.Run.{run, is_quiet}
 use Rattle.model.specs.WellTyped.{IsWellTyped}
 use Rattle.model.specs.Accepted.{IsAccepted}
