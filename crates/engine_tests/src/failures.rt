@@ -44,16 +44,26 @@ struct Done {
     devices: &'static [(&'static str, u32)],
 }
 
-const DONE: [Done; 4] = [
+const DONE: [Done; 6] = [
     Done {
         words: &["jvm", "run", "--record", RECORDED, "A"],
         written: "7\nthread 0 ended\nevents 8\nend quiet\n",
         devices: &[("A", 49), (OUTPUT, 6), (RECORDED, 10)],
     },
     Done {
-        words: &["jvm", "replay", "--schedule", "eight", "A"],
+        words: &["jvm", "run", "--seed", "1", "--record", RECORDED, "A", "B"],
         written: "7\nthread 0 ended\nevents 8\nend quiet\n",
-        devices: &[("eight", 4), ("A", 49), (OUTPUT, 6)],
+        devices: &[("A", 49), ("B", 11), (OUTPUT, 6), (RECORDED, 11)],
+    },
+    Done {
+        words: &["jvm", "replay", "--schedule", "eight", "A", "B"],
+        written: "7\nthread 0 ended\nevents 8\nend quiet\n",
+        devices: &[("eight", 4), ("A", 49), ("B", 11), (OUTPUT, 6)],
+    },
+    Done {
+        words: &["jvm", "--version"],
+        written: "jvm 0.1.0\n",
+        devices: &[(OUTPUT, 1)],
     },
     Done {
         words: &["jvm", "verify", "A", "B"],
