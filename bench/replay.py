@@ -109,7 +109,7 @@ def start(program, _folder):
 
 def loop(program, folder, events=10_000_000):
     made(folder / "A.class", "class-file", "--stack", "1", "--locals", "2", LOOP)
-    made(folder / "schedule", "schedule-file", f"0*{events}")
+    (folder / "schedule").write_text(f"0*{events}")
     seconds, peak = replayed(program, folder, "A.class", 1, events)
     print(f"{events} events in {seconds:.3f} s: {events / seconds:.0f} events a second, peak resident memory {peak} kB")
 

@@ -11,7 +11,7 @@ use Rattle.clap.specs.declared.parser.matches.SubCommand.{SubCommand}
 use Rattle.clap.specs.declared.error.Error.{Error}
 use Rattle.clap.specs.declared.error.kind.ErrorKind.{ErrorKind}
 use Rattle.clap.specs.declared.error.kind.ErrorKind.TheVariants as errors
-use Rattle.command_line.specs.CommandLine.{AreFiles, AreRunValues, AreValues, Asks, Fails, IsFile, IsNumber, Refuses, Spells, SpellsNothing, jvm, usage_by, usage_of}
+use Rattle.command_line.specs.CommandLine.{AreFiles, AreRunValues, AreScheduleValues, AreValues, Asks, Fails, IsFile, IsNumber, IsThenRun, Refuses, Spells, SpellsNothing, jvm, usage_by, usage_of}
 use Rattle.command_line.specs.declared.usage.Usage.{Usage}
 use Rattle.command_line.specs.declared.usage.Usage.TheVariants.{Parser, Number, Asked, OutOfMemory}
 use Rattle.command_line.specs.declared.options.Command.{Command}
@@ -19,6 +19,8 @@ use Rattle.command_line.specs.declared.options.Command.TheVariants as commands
 use Rattle.command_line.specs.declared.options.Disasm.{Disasm}
 use Rattle.command_line.specs.declared.options.Replay.{Replay}
 use Rattle.command_line.specs.declared.options.Run.{Run}
+use Rattle.command_line.specs.declared.options.Schedule.{Schedule}
+use Rattle.command_line.specs.declared.options.ThenRun.{ThenRun}
 use Rattle.command_line.specs.declared.options.Verify.{Verify}
 
 -- a mistake is refused for a reason that holds
@@ -120,15 +122,17 @@ pub rows_met : (matches : ArgMatches) (words : List Text) (name : Text) (rows : 
 rows_met matches words name rows has met rows_are = sym (has is_simple_jvm).1 ∙ both_of (subcommand_rows_of matches) name rows (named_rows matches ∙ met) rows_are
 
 -- where no subcommand is met, the words spell no command
-pub spells_none : (matches : ArgMatches) (words : List Text) → HasMatchesOf jvm words matches → (subcommand_name_of matches ≡ Some (codes "run") → ⊥) → (subcommand_name_of matches ≡ Some (codes "replay") → ⊥) → (subcommand_name_of matches ≡ Some (codes "verify") → ⊥) → (subcommand_name_of matches ≡ Some (codes "disasm") → ⊥) → (command : Command) → Spells words command → ⊥
-spells_none matches words has no_run no_replay no_verify no_disasm (commands.Run run) spelled =
+pub spells_none : (matches : ArgMatches) (words : List Text) → HasMatchesOf jvm words matches → (subcommand_name_of matches ≡ Some (codes "run") → ⊥) → (subcommand_name_of matches ≡ Some (codes "replay") → ⊥) → (subcommand_name_of matches ≡ Some (codes "verify") → ⊥) → (subcommand_name_of matches ≡ Some (codes "disasm") → ⊥) → (subcommand_name_of matches ≡ Some (codes "schedule") → ⊥) → (command : Command) → Spells words command → ⊥
+spells_none matches words has no_run no_replay no_verify no_disasm no_schedule (commands.Run run) spelled =
     no_run (sym (named_rows matches) ∙ ap (option_map (λ p. p.0)) ((has is_simple_jvm).1 ∙ spelled.1))
-spells_none matches words has no_run no_replay no_verify no_disasm (commands.Replay replay) spelled =
+spells_none matches words has no_run no_replay no_verify no_disasm no_schedule (commands.Replay replay) spelled =
     no_replay (sym (named_rows matches) ∙ ap (option_map (λ p. p.0)) ((has is_simple_jvm).1 ∙ spelled.1))
-spells_none matches words has no_run no_replay no_verify no_disasm (commands.Verify verify) spelled =
+spells_none matches words has no_run no_replay no_verify no_disasm no_schedule (commands.Verify verify) spelled =
     no_verify (sym (named_rows matches) ∙ ap (option_map (λ p. p.0)) ((has is_simple_jvm).1 ∙ spelled.1))
-spells_none matches words has no_run no_replay no_verify no_disasm (commands.Disasm disasm) spelled =
+spells_none matches words has no_run no_replay no_verify no_disasm no_schedule (commands.Disasm disasm) spelled =
     no_disasm (sym (named_rows matches) ∙ ap (option_map (λ p. p.0)) ((has is_simple_jvm).1 ∙ spelled.1))
+spells_none matches words has no_run no_replay no_verify no_disasm no_schedule (commands.Schedule schedule) spelled =
+    no_schedule (sym (named_rows matches) ∙ ap (option_map (λ p. p.0)) ((has is_simple_jvm).1 ∙ spelled.1))
 
 -- the two first bytes of the name of a subcommand
 first_byte : Option (Text × List Row) → ℕ
@@ -159,6 +163,10 @@ spells_other_run words rows met none (commands.Disasm disasm) spelled =
     let same : Some (codes "run", rows) ≡ Some (codes "disasm", spelled.0) = sym met ∙ spelled.1 in
     let bad : true ≡ false = ap (λ met. eqb (first_byte met) 114) same in
     cc
+spells_other_run words rows met none (commands.Schedule schedule) spelled =
+    let same : Some (codes "run", rows) ≡ Some (codes "schedule", spelled.0) = sym met ∙ spelled.1 in
+    let bad : true ≡ false = ap (λ met. eqb (first_byte met) 114) same in
+    cc
 
 pub spells_other_replay : (words : List Text) (rows : List Row) → subcommand_of jvm words ≡ Some (codes "replay", rows) → ((replay : Replay) → AreValues rows replay → ⊥) → (command : Command) → Spells words command → ⊥
 unfolding first_byte second_byte rows_in
@@ -176,6 +184,10 @@ spells_other_replay words rows met none (commands.Verify verify) spelled =
     cc
 spells_other_replay words rows met none (commands.Disasm disasm) spelled =
     let same : Some (codes "replay", rows) ≡ Some (codes "disasm", spelled.0) = sym met ∙ spelled.1 in
+    let bad : true ≡ false = ap (λ met. eqb (first_byte met) 114) same in
+    cc
+spells_other_replay words rows met none (commands.Schedule schedule) spelled =
+    let same : Some (codes "replay", rows) ≡ Some (codes "schedule", spelled.0) = sym met ∙ spelled.1 in
     let bad : true ≡ false = ap (λ met. eqb (first_byte met) 114) same in
     cc
 
@@ -197,6 +209,10 @@ spells_other_verify words rows met none (commands.Disasm disasm) spelled =
     let same : Some (codes "verify", rows) ≡ Some (codes "disasm", spelled.0) = sym met ∙ spelled.1 in
     let bad : true ≡ false = ap (λ met. eqb (first_byte met) 118) same in
     cc
+spells_other_verify words rows met none (commands.Schedule schedule) spelled =
+    let same : Some (codes "verify", rows) ≡ Some (codes "schedule", spelled.0) = sym met ∙ spelled.1 in
+    let bad : true ≡ false = ap (λ met. eqb (first_byte met) 118) same in
+    cc
 
 pub spells_other_disasm : (words : List Text) (rows : List Row) → subcommand_of jvm words ≡ Some (codes "disasm", rows) → ((disasm : Disasm) → IsFile rows disasm → ⊥) → (command : Command) → Spells words command → ⊥
 unfolding first_byte second_byte rows_in
@@ -216,9 +232,41 @@ spells_other_disasm words rows met none (commands.Disasm disasm) spelled =
     let same : Some (codes "disasm", rows) ≡ Some (codes "disasm", spelled.0) = sym met ∙ spelled.1 in
     let rows_are : rows ≡ spelled.0 = ap rows_in same in
     none disasm (subst (λ r. IsFile r disasm) (sym rows_are) spelled.2)
+spells_other_disasm words rows met none (commands.Schedule schedule) spelled =
+    let same : Some (codes "disasm", rows) ≡ Some (codes "schedule", spelled.0) = sym met ∙ spelled.1 in
+    let bad : true ≡ false = ap (λ met. eqb (first_byte met) 100) same in
+    cc
+
+pub spells_other_schedule : (words : List Text) (rows : List Row) → subcommand_of jvm words ≡ Some (codes "schedule", rows) → ((schedule : Schedule) → AreScheduleValues rows schedule → ⊥) → (command : Command) → Spells words command → ⊥
+unfolding first_byte second_byte rows_in
+spells_other_schedule words rows met none (commands.Run run) spelled =
+    let same : Some (codes "schedule", rows) ≡ Some (codes "run", spelled.0) = sym met ∙ spelled.1 in
+    let bad : true ≡ false = ap (λ met. eqb (first_byte met) 115) same in
+    cc
+spells_other_schedule words rows met none (commands.Replay replay) spelled =
+    let same : Some (codes "schedule", rows) ≡ Some (codes "replay", spelled.0) = sym met ∙ spelled.1 in
+    let bad : true ≡ false = ap (λ met. eqb (first_byte met) 115) same in
+    cc
+spells_other_schedule words rows met none (commands.Verify verify) spelled =
+    let same : Some (codes "schedule", rows) ≡ Some (codes "verify", spelled.0) = sym met ∙ spelled.1 in
+    let bad : true ≡ false = ap (λ met. eqb (first_byte met) 115) same in
+    cc
+spells_other_schedule words rows met none (commands.Disasm disasm) spelled =
+    let same : Some (codes "schedule", rows) ≡ Some (codes "disasm", spelled.0) = sym met ∙ spelled.1 in
+    let bad : true ≡ false = ap (λ met. eqb (first_byte met) 115) same in
+    cc
+spells_other_schedule words rows met none (commands.Schedule schedule) spelled =
+    let same : Some (codes "schedule", rows) ≡ Some (codes "schedule", spelled.0) = sym met ∙ spelled.1 in
+    let rows_are : rows ≡ spelled.0 = ap rows_in same in
+    none schedule (subst (λ r. AreScheduleValues r schedule) (sym rows_are) spelled.2)
 
 pub refuses_more : (usage : Usage) (reason other : Type 0) → (reason → other) → Refuses usage reason → Refuses usage other
 refuses_more OutOfMemory reason other on known = tt
 refuses_more (Parser error) reason other on known = on known
 refuses_more (Number text) reason other on known = on known
 refuses_more (Asked error) reason other on known = elim known [ ]
+
+-- where the option is no number there is no command
+pub no_budget : (rows : List Row) → ((number : Option ℕ) → IsNumber 0 4294967295 (first_of (codes "budget") rows) number → ⊥) → (then_run : Option ThenRun) → IsThenRun rows then_run → ⊥
+no_budget rows none None are = none None (subst (λ text. IsNumber 0 4294967295 text None) (sym are.1) tt)
+no_budget rows none (Some then_run) are = none then_run.budget are.1.budget

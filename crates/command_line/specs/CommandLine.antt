@@ -22,6 +22,8 @@ use Rattle.command_line.specs.declared.options.LimitOptions.{LimitOptions}
 use Rattle.command_line.specs.declared.options.Replay.{Replay}
 use Rattle.command_line.specs.declared.options.Run.{Run}
 use Rattle.command_line.specs.declared.options.RunOptions.{RunOptions}
+use Rattle.command_line.specs.declared.options.Schedule.{Schedule}
+use Rattle.command_line.specs.declared.options.ThenRun.{ThenRun}
 use Rattle.command_line.specs.declared.options.Verify.{Verify}
 
 -- `--NAME NUMBER`, a number from least to most
@@ -33,28 +35,34 @@ number_option name least most = record (new_rule name) {
   parser = Some (Unsigned least most);
 }
 
--- `--record FILE`
-abbrev pub record_option : Rule
-record_option = record (new_rule (codes "record")) {
-  long = Some (codes "record");
+-- `--NAME FILE`
+abbrev pub path_option : Text → Rule
+path_option name = record (new_rule name) {
+  long = Some name;
   value_names = 1;
   action = Some Set;
 }
+
+abbrev pub record_option : Rule
+record_option = path_option (codes "record")
 
 -- `--schedule FILE`, which has to be there
 abbrev pub schedule_option : Rule
-schedule_option = record (new_rule (codes "schedule")) {
-  long = Some (codes "schedule");
+schedule_option = record (path_option (codes "schedule")) { required = true }
+
+-- `--NAME`
+abbrev pub flag : Text → Rule
+flag name = record (new_rule name) {
+  long = Some name;
+  action = Some SetTrue;
+}
+
+-- `FILE`, which has to be there
+abbrev pub one_file : Rule
+one_file = record (new_rule (codes "file")) {
   value_names = 1;
   required = true;
   action = Some Set;
-}
-
--- `--explain`
-abbrev pub explain_option : Rule
-explain_option = record (new_rule (codes "explain")) {
-  long = Some (codes "explain");
-  action = Some SetTrue;
 }
 
 -- `FILE..`, at least one
@@ -82,37 +90,44 @@ with_run_options app = with_rule (with_rule (with_rule (with_rule app
     (number_option (codes "quantum") 1 4294967295))
     (number_option (codes "seed") 0 4294967295)
 
+-- where a run goes on behind its schedule, up to how many events in all, and where it is recorded
+abbrev pub with_then_run : App → App
+with_then_run app = with_rule (with_rule (with_rule app
+    (flag (codes "then-run")))
+    (number_option (codes "budget") 0 4294967295))
+    record_option
+
+-- `--explain`, and files behind all options
+abbrev pub with_files : App → Rule → App
+with_files app files = with_rule (with_rule app (flag (codes "explain"))) files
+
 abbrev pub jvm_run : App
-jvm_run = with_rule (with_rule (with_limits (with_rule (with_run_options (new_app (codes "run"))) record_option)) explain_option) class_files
+jvm_run = with_files (with_limits (with_rule (with_run_options (new_app (codes "run"))) record_option)) class_files
 
 abbrev pub jvm_replay : App
-jvm_replay = with_rule (with_rule (with_limits (with_rule (new_app (codes "replay")) schedule_option)) explain_option) class_files
+jvm_replay = with_files (with_limits (with_then_run (with_rule (new_app (codes "replay")) schedule_option))) class_files
 
 abbrev pub jvm_verify : App
-jvm_verify = with_rule (with_rule (new_app (codes "verify")) explain_option) class_files
-
--- `FILE`, which has to be there
-abbrev pub class_file : Rule
-class_file = record (new_rule (codes "file")) {
-  value_names = 1;
-  required = true;
-  action = Some Set;
-}
+jvm_verify = with_files (new_app (codes "verify")) class_files
 
 abbrev pub jvm_disasm : App
-jvm_disasm = with_rule (with_rule (new_app (codes "disasm")) explain_option) class_file
+jvm_disasm = with_files (new_app (codes "disasm")) one_file
+
+abbrev pub jvm_schedule : App
+jvm_schedule = with_files (with_rule (new_app (codes "schedule")) (flag (codes "write"))) one_file
 
 -- it has `--version`, and a command has to be there
 abbrev pub with_version : Shape → Shape
 with_version shape = record shape { has_version = true; subcommand_required = true }
 
 abbrev pub jvm : App
-jvm = with_subcommand (with_subcommand (with_subcommand (with_subcommand
+jvm = with_subcommand (with_subcommand (with_subcommand (with_subcommand (with_subcommand
     (record (new_app (codes "jvm")) { top = with_version (new_app (codes "jvm")).top })
     jvm_run.top)
     jvm_replay.top)
     jvm_verify.top)
-    jvm_disasm.top
+    jvm_disasm.top)
+    jvm_schedule.top
 
 -- no argument of the parser is one of its subcommands' too
 abbrev pub IsLocal : parser.Command → Type 0
@@ -152,9 +167,21 @@ pub record AreRunValues (rows : List Row) (run : Run) : Type 0 where
   pub files : all_of (codes "files") rows ≡ Some (map string_bytes run.files.items)
   pub explain : run.explain ≡ is_set (first_of (codes "explain") rows)
 
+-- the values that the words give to a run behind a schedule
+pub record AreThenRunValues (rows : List Row) (then_run : ThenRun) : Type 0 where
+  pub budget : IsNumber 0 4294967295 (first_of (codes "budget") rows) then_run.budget
+  pub recording : first_of (codes "record") rows ≡ option_map string_bytes then_run.record
+
+-- the words ask for a run behind the schedule, or for none of it
+abbrev pub IsThenRun : List Row → Option ThenRun → Type 0
+IsThenRun rows (Some then_run) = (is_set (first_of (codes "then-run") rows) ≡ true) × AreThenRunValues rows then_run
+IsThenRun rows None = (is_set (first_of (codes "then-run") rows) ≡ false)
+    × (first_of (codes "budget") rows ≡ None) × (first_of (codes "record") rows ≡ None)
+
 -- the values that the words give to `jvm replay`
 pub record AreValues (rows : List Row) (replay : Replay) : Type 0 where
   pub schedule : first_of (codes "schedule") rows ≡ Some (string_bytes replay.schedule)
+  pub then_run : IsThenRun rows replay.then_run
   pub limits : AreLimitNumbers rows replay.limits
   pub files : all_of (codes "files") rows ≡ Some (map string_bytes replay.files.items)
   pub explain : replay.explain ≡ is_set (first_of (codes "explain") rows)
@@ -169,12 +196,19 @@ abbrev pub IsFile : List Row → Disasm → Type 0
 IsFile rows disasm = (first_of (codes "file") rows ≡ Some (string_bytes disasm.file))
     × (disasm.explain ≡ is_set (first_of (codes "explain") rows))
 
+-- the values that the words give to `jvm schedule`
+pub record AreScheduleValues (rows : List Row) (schedule : Schedule) : Type 0 where
+  pub file : first_of (codes "file") rows ≡ Some (string_bytes schedule.file)
+  pub write : schedule.write ≡ is_set (first_of (codes "write") rows)
+  pub explain : schedule.explain ≡ is_set (first_of (codes "explain") rows)
+
 -- the words, the program's name first, spell the command
 abbrev pub Spells : List Text → Command → Type 0
 Spells words (commands.Run run) = (rows : List Row) × (subcommand_of jvm words ≡ Some (codes "run", rows)) × AreRunValues rows run
 Spells words (commands.Replay replay) = (rows : List Row) × (subcommand_of jvm words ≡ Some (codes "replay", rows)) × AreValues rows replay
 Spells words (commands.Verify verify) = (rows : List Row) × (subcommand_of jvm words ≡ Some (codes "verify", rows)) × AreFiles rows verify
 Spells words (commands.Disasm disasm) = (rows : List Row) × (subcommand_of jvm words ≡ Some (codes "disasm", rows)) × IsFile rows disasm
+Spells words (commands.Schedule schedule) = (rows : List Row) × (subcommand_of jvm words ≡ Some (codes "schedule", rows)) × AreScheduleValues rows schedule
 
 -- what an error of the parser comes to
 abbrev pub usage_by : ErrorKind → Error → Usage

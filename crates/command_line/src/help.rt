@@ -2,7 +2,7 @@
 
 /// What the program does.
 pub(crate) const ABOUT: &str =
-    "Runs Java class files of version 49.0, also under a schedule, verifies them, and lists them";
+    "Runs Java class files of version 49.0, also under a schedule, verifies them, and lists them and schedules";
 
 /// The version of the program.
 pub(crate) const VERSION: &str = "0.1.0";
@@ -10,9 +10,9 @@ pub(crate) const VERSION: &str = "0.1.0";
 /// What stands below the options.
 pub(crate) const AFTER: &str = "\
 Statuses:
-  0  all threads have ended; or the class files are verified, or listed
+  0  all threads have ended; or the class files are verified, or listed; or the schedule is listed, or made
   1  all threads have ended, some by an exception
-  2  a class file or the schedule file is refused
+  2  a class file or the schedule is refused
   3  an event was not enabled or was refused, or memory was missing
   4  nothing can go on, and a thread hasn't ended
   5  the schedule or the budget is used up, and a thread can go on
@@ -20,4 +20,5 @@ Statuses:
 
 Examples:
   jvm run --record a.schedule A.class
-  jvm replay --schedule a.schedule A.class";
+  jvm replay --schedule a.schedule A.class
+  jvm schedule a.schedule";

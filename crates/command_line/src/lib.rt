@@ -8,6 +8,8 @@ mod parse;
 mod parsers;
 mod usage;
 
-pub use options::{Command, Disasm, LimitOptions, Replay, Run, RunOptions, Verify};
+pub use options::{
+    Command, Disasm, LimitOptions, Replay, Run, RunOptions, Schedule, ThenRun, Verify,
+};
 pub use parse::command;
 pub use usage::Usage;

@@ -9,10 +9,7 @@ ghost use Rattle.command_line.specs.CommandLine.{Asks, IsNumber, Refuses, number
 use crate::usage::Usage;
 use clap::builder::ValueParser;
 use clap::{Arg, ArgAction, ArgMatches};
-use std::alloc::{AllocError, Global};
-
-/// How the parser's texts on wrong values end.
-const MORE: &str = "For more information, try '--help'.";
+use std::alloc::Global;
 
 /// An option that takes a number: its name, its range, and what its help says.
 #[derive(Clone, Copy)]
@@ -120,42 +117,19 @@ impl NumberOption {
         }
     }
 
-    /// That a text with a sign isn't a number of the option's, in the parser's words for every other text that is none.
-    /// The parser takes a plus, and takes a minus for an option.
+    /// That a text is no number of the option's.
     pub(crate) fn refusal(self, alloc: Global, text: &str) -> Usage
         ensures { Asks result → ⊥ }
     {
-        let name = self.name;
-        usage(format!(in alloc;
-            "error: invalid value '{text}' for '--{name} <NUMBER>': invalid digit found in string\n\n{MORE}\n"
-        ))
-    }
-}
-
-/// That more workers are asked for beside a seed than one.
-pub(crate) fn not_alone(alloc: Global) -> Usage
-    ensures { Asks result → ⊥ }
-{
-    usage(format!(in alloc;
-        "error: the argument '--workers <NUMBER>' can only be 1 with '--seed <NUMBER>'\n\n{MORE}\n"
-    ))
-}
-
-/// What a text says, where there was memory for it.
-fn usage(told: Result<String, AllocError>) -> Usage
-    ensures { Asks result → ⊥ }
-{
-    match told {
-        Ok(message) => Usage::Number(message),
-        Err(AllocError) => Usage::OutOfMemory,
+        Usage::no_number(alloc, self.name, text)
     }
 }
 
 /// The options of `replay` and `run` that take a number.
-const OF_BOTH: [NumberOption; 5] = [OBJECTS, CELLS, MONITORS, THREADS, FRAMES];
+const OF_BOTH: [NumberOption; 6] = [BUDGET, OBJECTS, CELLS, MONITORS, THREADS, FRAMES];
 
 /// Those of `run` alone.
-const OF_RUN: [NumberOption; 4] = [WORKERS, BUDGET, QUANTUM, SEED];
+const OF_RUN: [NumberOption; 3] = [WORKERS, QUANTUM, SEED];
 
 /// The option with this name behind two hyphens, of the subcommand that is so called.
 fn number_option(subcommand: &str, word: &str) -> Option<NumberOption> {

@@ -11,7 +11,11 @@ pub enum Command {
     Replay(Replay),
     Verify(Verify),
     Disasm(Disasm),
+    Schedule(Schedule),
 }
+
+/// The usual budget of a run, in events.
+const USUAL_BUDGET: u32 = 10_000_000;
 
 /// `jvm run`: class files are run by workers, and what comes of it is reported.
 #[derive(Debug, Drop, PartialEq, Eq)]
@@ -56,7 +60,7 @@ impl RunOptions {
     pub fn budget(&self) -> u32
         ensures { result ≡ unwrap_or self.now.budget 10000000 }
     {
-        self.budget.unwrap_or(10_000_000)
+        self.budget.unwrap_or(USUAL_BUDGET)
     }
 
     /// The quantum, which is at least 1, in events.
@@ -83,11 +87,31 @@ impl RunOptions {
 pub struct Replay {
     /// The path of the schedule file.
     pub schedule: String,
+    /// How the run goes on where the schedule ends, if it does.
+    pub then_run: Option<ThenRun>,
     pub limits: LimitOptions,
     /// The paths of the class files. The first holds the class whose `main` is run.
     pub files: Vec<String>,
     /// Whether a refusal is explained.
     pub explain: bool,
+}
+
+/// How a run goes on where a schedule ends.
+#[derive(Debug, Drop, PartialEq, Eq)]
+pub struct ThenRun {
+    /// How many events there may be, those of the schedule included, and `None` for the usual number.
+    pub budget: Option<u32>,
+    /// The path of the file that the whole schedule is written to, if any.
+    pub record: Option<String>,
+}
+
+impl ThenRun {
+    /// The budget, in events.
+    pub fn budget(&self) -> u32
+        ensures { result ≡ unwrap_or self.now.budget 10000000 }
+    {
+        self.budget.unwrap_or(USUAL_BUDGET)
+    }
 }
 
 /// `jvm verify`: class files are linked and verified, and nothing is run.
@@ -104,6 +128,18 @@ pub struct Verify {
 pub struct Disasm {
     /// The path of the class file.
     pub file: String,
+    /// Whether a refusal is explained.
+    pub explain: bool,
+}
+
+/// `jvm schedule`: a schedule is printed as text, or with `--write` a schedule file is made of the text on standard
+/// input.
+#[derive(Debug, Drop, PartialEq, Eq)]
+pub struct Schedule {
+    /// The path of the schedule file.
+    pub file: String,
+    /// Whether the file is made.
+    pub write: bool,
     /// Whether a refusal is explained.
     pub explain: bool,
 }

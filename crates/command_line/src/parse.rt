@@ -4,14 +4,13 @@ ghost use Rattle.std.specs.Prelude.{◌≡◌, ◌⊎◌, false, Some, codes, ma
 ghost use Rattle.std.specs.Option.{option_map};
 ghost use Rattle.clap.specs.Words.{HasMatchesOf, all_of, first_of, found_of, kind_of, rows_of};
 ghost use Rattle.clap.specs.declared.error.kind.ErrorKind.TheVariants.{UnknownArgument as unknown_argument};
-ghost use Rattle.command_line.specs.CommandLine.{AreFiles, AreLimitNumbers, AreRunNumbers, AreRunValues, AreValues, Asks, Fails, IsFile, Refuses, Spells, is_set as is_true, jvm, usage_of};
+ghost use Rattle.command_line.specs.CommandLine.{AreFiles, AreLimitNumbers, AreRunNumbers, AreRunValues, AreScheduleValues, AreValues, Asks, Fails, IsFile, IsThenRun, Refuses, Spells, is_set as is_true, jvm, usage_of};
 
 use crate::numbers::{
     BUDGET, CELLS, FRAMES, MONITORS, OBJECTS, QUANTUM, SEED, THREADS, WORKERS, negative_number,
-    not_alone,
 };
 use crate::options;
-use crate::options::{Disasm, LimitOptions, Replay, Run, RunOptions, Verify};
+use crate::options::{Disasm, LimitOptions, Replay, Run, RunOptions, Schedule, ThenRun, Verify};
 use crate::parsers::program;
 use crate::usage::Usage;
 use clap::ArgMatches;
@@ -33,8 +32,11 @@ pub fn command(alloc: Global, words: &[String]) -> Result<options::Command, Usag
     if let Some(verify) = matches.subcommand_matches("verify") {
         return Ok(options::Command::Verify(verify_of(alloc, verify)?));
     }
-    match matches.subcommand_matches("disasm") {
-        Some(disasm) => Ok(options::Command::Disasm(disasm_of(alloc, disasm)?)),
+    if let Some(disasm) = matches.subcommand_matches("disasm") {
+        return Ok(options::Command::Disasm(disasm_of(alloc, disasm)?));
+    }
+    match matches.subcommand_matches("schedule") {
+        Some(schedule) => Ok(options::Command::Schedule(schedule_of(alloc, schedule)?)),
         None => Err(missing(alloc, "a subcommand is missing")),
     }
 }
@@ -110,14 +112,13 @@ fn replay_of(alloc: Global, matches: &ArgMatches<'_>) -> Result<Replay, Usage>
     ensures none { IfErr result (λ usage. Refuses usage ((replay : _)
         → AreValues (rows_of (found_of matches.now)) replay → ⊥)) }
 {
-    let schedule = match matches.get_str("schedule") {
-        Some(path) => String::from_str(alloc, path)?,
-        None => return Err(missing(alloc, "the schedule file is missing")),
-    };
+    let schedule = required_path_of(alloc, matches, "schedule")?;
+    let then_run = then_run_of(alloc, matches)?;
     let limits = limits_of(alloc, matches)?;
     let files = files_of(alloc, matches)?;
     Ok(Replay {
         schedule,
+        then_run,
         limits,
         files,
         explain: is_set(matches, "explain"),
@@ -141,12 +142,40 @@ fn disasm_of(alloc: Global, matches: &ArgMatches<'_>) -> Result<Disasm, Usage>
     ensures none { IfErr result (λ usage. Refuses usage ((disasm : _)
         → IsFile (rows_of (found_of matches.now)) disasm → ⊥)) }
 {
-    match matches.get_str("file") {
-        Some(path) => Ok(Disasm {
-            file: String::from_str(alloc, path)?,
-            explain: is_set(matches, "explain"),
-        }),
-        None => Err(missing(alloc, "the class file is missing")),
+    let file = required_path_of(alloc, matches, "file")?;
+    Ok(Disasm {
+        file,
+        explain: is_set(matches, "explain"),
+    })
+}
+
+fn schedule_of(alloc: Global, matches: &ArgMatches<'_>) -> Result<Schedule, Usage>
+    ensures values { IfOk result (AreScheduleValues (rows_of (found_of matches.now))) }
+    ensures none { IfErr result (λ usage. Refuses usage ((schedule : _)
+        → AreScheduleValues (rows_of (found_of matches.now)) schedule → ⊥)) }
+{
+    let file = required_path_of(alloc, matches, "file")?;
+    Ok(Schedule {
+        file,
+        write: is_set(matches, "write"),
+        explain: is_set(matches, "explain"),
+    })
+}
+
+/// How the run goes on where the schedule ends. Its options stand beside `--then-run` alone.
+fn then_run_of(alloc: Global, matches: &ArgMatches<'_>) -> Result<Option<ThenRun>, Usage>
+    ensures values { IfOk result (IsThenRun (rows_of (found_of matches.now))) }
+    ensures none { IfErr result (λ usage. Refuses usage ((then_run : _)
+        → IsThenRun (rows_of (found_of matches.now)) then_run → ⊥)) }
+{
+    let budget = BUDGET.number(alloc, matches)?;
+    let record = path_of(alloc, matches, "record")?;
+    if is_set(matches, "then-run") {
+        Ok(Some(ThenRun { budget, record }))
+    } else if budget.is_some() || record.is_some() {
+        Err(Usage::no_then_run(alloc))
+    } else {
+        Ok(None)
     }
 }
 
@@ -164,7 +193,7 @@ fn run_options_of(alloc: Global, matches: &ArgMatches<'_>) -> Result<RunOptions,
     if options.is_alone() {
         Ok(options)
     } else {
-        Err(not_alone(alloc))
+        Err(Usage::not_alone(alloc))
     }
 }
 
@@ -180,6 +209,22 @@ fn limits_of(alloc: Global, matches: &ArgMatches<'_>) -> Result<LimitOptions, Us
         threads: THREADS.number(alloc, matches)?,
         frames: FRAMES.number(alloc, matches)?,
     })
+}
+
+/// The path that an argument has which has to be there.
+fn required_path_of(
+    alloc: Global,
+    matches: &ArgMatches<'_>,
+    argument: &str,
+) -> Result<String, Usage>
+    ensures path { IfOk result (λ path. first_of argument.now (rows_of (found_of matches.now)) ≡ Some (string_bytes path)) }
+    ensures none { IfErr result (λ usage. Refuses usage ((path : _)
+        → first_of argument.now (rows_of (found_of matches.now)) ≡ Some path → ⊥)) }
+{
+    match path_of(alloc, matches, argument)? {
+        Some(path) => Ok(path),
+        None => Err(missing(alloc, "a file is missing")),
+    }
 }
 
 /// The path that an option has, where it is there.

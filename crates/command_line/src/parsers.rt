@@ -3,7 +3,7 @@
 ghost use Rattle.std.specs.Prelude.{◌≡◌, false, IfOk, IfErr};
 ghost use Rattle.clap.specs.Words.{app_of, kind_of, rule_of};
 ghost use Rattle.clap.specs.declared.error.kind.ErrorKind.TheVariants.{OutOfMemory as no_memory};
-ghost use Rattle.command_line.specs.CommandLine.{IsLocal, class_files, explain_option, jvm, jvm_disasm, jvm_replay, jvm_run, jvm_verify, record_option, with_limits as limited};
+ghost use Rattle.command_line.specs.CommandLine.{IsLocal, class_files, flag, jvm, jvm_disasm, jvm_replay, jvm_run, jvm_schedule, jvm_verify, one_file, path_option, record_option, with_files as over_files, with_limits as limited};
 
 use crate::help::{ABOUT, AFTER, VERSION};
 use crate::numbers::{BUDGET, CELLS, FRAMES, MONITORS, OBJECTS, QUANTUM, SEED, THREADS, WORKERS};
@@ -23,7 +23,8 @@ pub(crate) fn program<'a>(alloc: Global) -> Result<clap::Command<'a>, clap::Erro
         .subcommand(run_parser(alloc)?)?
         .subcommand(replay_parser(alloc)?)?
         .subcommand(verify_parser(alloc)?)?
-        .subcommand(disasm_parser(alloc)?)?;
+        .subcommand(disasm_parser(alloc)?)?
+        .subcommand(schedule_parser(alloc)?)?;
     Ok(program)
 }
 
@@ -37,49 +38,53 @@ fn run_parser<'a>(alloc: Global) -> Result<clap::Command<'a>, AllocError>
         .arg(QUANTUM.argument(alloc))?
         .arg(SEED.argument(alloc))?
         .arg(record_argument(alloc))?;
-    with_limits(alloc, run)?
-        .arg(explain_argument(alloc))?
-        .arg(files_argument(alloc))
+    with_files(alloc, with_limits(alloc, run)?, files_argument(alloc))
 }
 
 fn replay_parser<'a>(alloc: Global) -> Result<clap::Command<'a>, AllocError>
     ensures { IfOk result (λ replay. (app_of replay ≡ jvm_replay) × IsLocal replay) }
 {
-    let schedule = Arg::new(alloc, "schedule")
-        .long("schedule")
-        .value_name("FILE")
-        .required(true)
-        .action(ArgAction::Set)
-        .help("The schedule file");
+    let schedule = path_argument(alloc, "schedule", "The schedule file, or its text");
+    let then_run = flag_argument(
+        alloc,
+        "then-run",
+        "Goes on where the schedule ends: the threads take turns",
+    );
     let replay = clap::Command::new(alloc, "replay")
-        .about("Runs class files under the schedule of a file")
-        .arg(schedule)?;
-    with_limits(alloc, replay)?
-        .arg(explain_argument(alloc))?
-        .arg(files_argument(alloc))
+        .about("Runs class files under the schedule of a file, and may go on behind it")
+        .arg(schedule.required(true))?
+        .arg(then_run)?
+        .arg(BUDGET.argument(alloc))?
+        .arg(record_argument(alloc))?;
+    with_files(alloc, with_limits(alloc, replay)?, files_argument(alloc))
 }
 
 fn verify_parser<'a>(alloc: Global) -> Result<clap::Command<'a>, AllocError>
     ensures { IfOk result (λ verify. (app_of verify ≡ jvm_verify) × IsLocal verify) }
 {
-    clap::Command::new(alloc, "verify")
-        .about("Links and verifies class files")
-        .arg(explain_argument(alloc))?
-        .arg(files_argument(alloc))
+    let verify = clap::Command::new(alloc, "verify").about("Links and verifies class files");
+    with_files(alloc, verify, files_argument(alloc))
 }
 
 fn disasm_parser<'a>(alloc: Global) -> Result<clap::Command<'a>, AllocError>
     ensures { IfOk result (λ disasm. (app_of disasm ≡ jvm_disasm) × IsLocal disasm) }
 {
-    let file = Arg::new(alloc, "file")
-        .value_name("FILE")
-        .required(true)
-        .action(ArgAction::Set)
-        .help("The class file");
-    clap::Command::new(alloc, "disasm")
-        .about("Lists a class file")
-        .arg(explain_argument(alloc))?
-        .arg(file)
+    let disasm = clap::Command::new(alloc, "disasm").about("Lists a class file");
+    with_files(alloc, disasm, file_argument(alloc, "The class file"))
+}
+
+fn schedule_parser<'a>(alloc: Global) -> Result<clap::Command<'a>, AllocError>
+    ensures { IfOk result (λ schedule. (app_of schedule ≡ jvm_schedule) × IsLocal schedule) }
+{
+    let write = flag_argument(
+        alloc,
+        "write",
+        "Makes the schedule file of the text on standard input",
+    );
+    let schedule = clap::Command::new(alloc, "schedule")
+        .about("Prints a schedule file as text, or makes one of a text")
+        .arg(write)?;
+    with_files(alloc, schedule, file_argument(alloc, "The schedule file"))
 }
 
 /// The file that a schedule is written to.
@@ -87,11 +92,11 @@ fn record_argument<'a>(alloc: Global) -> Arg<'a>
     ensures rule { rule_of result ≡ record_option }
     ensures local { result.global ≡ false }
 {
-    Arg::new(alloc, "record")
-        .long("record")
-        .value_name("FILE")
-        .action(ArgAction::Set)
-        .help("The file that the schedule of the run is written to")
+    path_argument(
+        alloc,
+        "record",
+        "The file that the schedule of the run is written to",
+    )
 }
 
 /// The class files, one or more.
@@ -107,15 +112,39 @@ fn files_argument<'a>(alloc: Global) -> Arg<'a>
         .help("The class files; the main method is that of the first")
 }
 
-/// The flag that asks for a second line behind a refusal.
-fn explain_argument<'a>(alloc: Global) -> Arg<'a>
-    ensures rule { rule_of result ≡ explain_option }
+/// The one file of a command.
+fn file_argument<'a>(alloc: Global, help: &'a str) -> Arg<'a>
+    ensures rule { rule_of result ≡ one_file }
     ensures local { result.global ≡ false }
 {
-    Arg::new(alloc, "explain")
-        .long("explain")
+    Arg::new(alloc, "file")
+        .value_name("FILE")
+        .required(true)
+        .action(ArgAction::Set)
+        .help(help)
+}
+
+/// An option that takes the path of a file.
+fn path_argument<'a>(alloc: Global, name: &'a str, help: &'a str) -> Arg<'a>
+    ensures rule { rule_of result ≡ path_option name.now }
+    ensures local { result.global ≡ false }
+{
+    Arg::new(alloc, name)
+        .long(name)
+        .value_name("FILE")
+        .action(ArgAction::Set)
+        .help(help)
+}
+
+/// An option that is there or not.
+fn flag_argument<'a>(alloc: Global, name: &'a str, help: &'a str) -> Arg<'a>
+    ensures rule { rule_of result ≡ flag name.now }
+    ensures local { result.global ≡ false }
+{
+    Arg::new(alloc, name)
+        .long(name)
         .action(ArgAction::SetTrue)
-        .help("Tells on a second line why files are refused")
+        .help(help)
 }
 
 /// The command with the options of the limits.
@@ -132,4 +161,21 @@ fn with_limits<'a>(
         .arg(MONITORS.argument(alloc))?
         .arg(THREADS.argument(alloc))?
         .arg(FRAMES.argument(alloc))
+}
+
+/// The command with the flag that asks for a second line behind a refusal, and with files behind all options.
+fn with_files<'a>(
+    alloc: Global,
+    command: clap::Command<'a>,
+    files: Arg<'a>,
+) -> Result<clap::Command<'a>, AllocError>
+    ensures { IsLocal command.entry → files.entry.global ≡ false
+        → IfOk result (λ whole. (app_of whole ≡ over_files (app_of command.entry) (rule_of files.entry)) × IsLocal whole) }
+{
+    let explain = flag_argument(
+        alloc,
+        "explain",
+        "Tells on a second line why files are refused",
+    );
+    command.arg(explain)?.arg(files)
 }

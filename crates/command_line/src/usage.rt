@@ -1,23 +1,67 @@
 //! Why words are no command.
 
 ghost use Rattle.std.specs.Prelude.{◌≡◌};
-ghost use Rattle.command_line.specs.CommandLine.{usage_of};
+ghost use Rattle.command_line.specs.CommandLine.{Asks, usage_of};
 ghost use Rattle.command_line.specs.declared.usage.Usage.TheVariants.{OutOfMemory};
 
 use clap::error::ErrorKind;
-use std::alloc::{AllocError, AllocFailed};
+use std::alloc::{AllocError, AllocFailed, Global};
 use std::fmt;
+
+/// How the parser's texts end.
+const MORE: &str = "For more information, try '--help'.";
 
 /// Why there is no command.
 #[derive(Debug, Drop)]
 pub enum Usage {
     /// The words are no command. Its text is for the user.
     Parser(clap::Error),
-    /// A number of an option has a sign, or doesn't go with another option. This is the text for the user.
+    /// A number of an option has a sign; or an option doesn't go with the others, or not without one that is missing.
+    /// This is the text for the user.
     Number(String),
     /// The words ask for help or for the version, and this is it.
     Asked(clap::Error),
     OutOfMemory,
+}
+
+impl Usage {
+    /// That a text with a sign isn't a number of the option of this name, in the parser's words for every other text that
+    /// is none. The parser takes a plus, and takes a minus for an option.
+    pub(crate) fn no_number(alloc: Global, name: &str, text: &str) -> Usage
+        ensures { Asks result → ⊥ }
+    {
+        Usage::told(format!(in alloc;
+            "error: invalid value '{text}' for '--{name} <NUMBER>': invalid digit found in string\n\n{MORE}\n"
+        ))
+    }
+
+    /// That more workers are asked for beside a seed than one.
+    pub(crate) fn not_alone(alloc: Global) -> Usage
+        ensures { Asks result → ⊥ }
+    {
+        Usage::told(format!(in alloc;
+            "error: the argument '--workers <NUMBER>' can only be 1 with '--seed <NUMBER>'\n\n{MORE}\n"
+        ))
+    }
+
+    /// That `--then-run` is missing, in the parser's words for what has to be there.
+    pub(crate) fn no_then_run(alloc: Global) -> Usage
+        ensures { Asks result → ⊥ }
+    {
+        Usage::told(format!(in alloc;
+            "error: the following required arguments were not provided:\n  --then-run\n\n{MORE}\n"
+        ))
+    }
+
+    /// What a text says, where there was memory for it.
+    fn told(text: Result<String, AllocError>) -> Usage
+        ensures { Asks result → ⊥ }
+    {
+        match text {
+            Ok(message) => Usage::Number(message),
+            Err(AllocError) => Usage::OutOfMemory,
+        }
+    }
 }
 
 impl fmt::Display for Usage {

@@ -20,7 +20,9 @@ pub enum CaseKind {
 pub struct CommandLine {
     /// The words, the program's name first.
     pub words: Vec<String>,
-    /// The name of a file that it records, whose bytes are to be shown.
+    /// The name of the file whose bytes are its standard input, if it has any.
+    pub input: Option<String>,
+    /// The name of a file that it writes, whose bytes are to be shown.
     pub shown: Option<String>,
 }
 
@@ -29,7 +31,11 @@ impl CommandLine {
     pub fn new(alloc: Global) -> Result<CommandLine, AllocError> {
         let mut words = Vec::new(alloc);
         words.push(String::from_str(alloc, "jvm")?)?;
-        Ok(CommandLine { words, shown: None })
+        Ok(CommandLine {
+            words,
+            input: None,
+            shown: None,
+        })
     }
 }
 

@@ -35,6 +35,8 @@ enum Section {
     None,
     /// The bytes of the last file.
     Bytes,
+    /// The lines of the last file.
+    Lines,
     /// Changes of the last file.
     Changes,
     /// Ways of running.
@@ -140,6 +142,7 @@ impl CaseText {
         match section {
             Section::None => return Err(LineFault::Stray),
             Section::Bytes => push_hexadecimal(self.last_file()?, words.as_slice())?,
+            Section::Lines => push_line(self.last_file()?, words.as_slice())?,
             Section::Changes => change(alloc, self.last_file()?, words.as_slice())?,
             Section::Ways => self.add_way(alloc, words.as_slice())?,
             Section::Case => self.say(alloc, words.as_slice())?,
@@ -163,6 +166,10 @@ impl CaseText {
                 let bytes = self.copy_of(alloc, folder, other)?;
                 self.give(alloc, name, bytes)?;
                 Ok(Section::Changes)
+            }
+            ["text", name] => {
+                self.give(alloc, name, Vec::new(alloc))?;
+                Ok(Section::Lines)
             }
             ["case", name] => {
                 let line = CommandLine::new(alloc)?;
@@ -190,8 +197,12 @@ impl CaseText {
                 })?;
                 Ok(Section::None)
             }
+            ["input", name] => {
+                self.last_command()?.input = Some(String::from_str(alloc, name)?);
+                Ok(Section::None)
+            }
             ["shown", name] => {
-                self.show(alloc, name)?;
+                self.last_command()?.shown = Some(String::from_str(alloc, name)?);
                 Ok(Section::None)
             }
             _ => Err(LineFault::Section),
@@ -250,16 +261,13 @@ impl CaseText {
         Ok(())
     }
 
-    /// The file of this name, which the last case records, is to be shown.
-    fn show(&mut self, alloc: Global, name: &str) -> Result<(), LineFault> {
+    /// The command line of the last case.
+    fn last_command(&mut self) -> Result<&mut CommandLine, LineFault> {
         let Some(case) = self.cases.last_mut() else {
             return Err(LineFault::Stray);
         };
         match &mut case.kind {
-            CaseKind::Command(line) => {
-                line.shown = Some(String::from_str(alloc, name)?);
-                Ok(())
-            }
+            CaseKind::Command(line) => Ok(line),
             CaseKind::Recorded(_) => Err(LineFault::Stray),
         }
     }
@@ -292,6 +300,18 @@ fn push_words(alloc: Global, to: &mut Vec<String>, words: &[&str]) -> Result<(),
     for word in words {
         to.push(String::from_str(alloc, word)?)?;
     }
+    Ok(())
+}
+
+/// Puts a line of these words, with a space between two, to a file.
+fn push_line(to: &mut Vec<u8>, words: &[&str]) -> Result<(), AllocError> {
+    let mut gap = "";
+    for word in words {
+        to.extend_from_slice(gap.as_bytes())?;
+        to.extend_from_slice(word.as_bytes())?;
+        gap = " ";
+    }
+    to.push(b'\n')?;
     Ok(())
 }
 

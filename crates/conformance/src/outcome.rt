@@ -9,7 +9,7 @@ use indexmap::IndexMap;
 use std::alloc::Global;
 use std::cell::RefCell;
 use std::io;
-use std::io::Write;
+use std::io::{Read, Write};
 use std::sync::Wait;
 use std::thread::Threads;
 
@@ -43,24 +43,30 @@ fn write_command<R: Threads + Wait + Sync, F: Folder, W: Write>(
     line: &CommandLine,
     to: &mut W,
 ) -> io::Result<()> {
-    write_outcome(rt, alloc, folder, &line.words, to)?;
+    let mut input = Vec::new(alloc);
+    if let Some(name) = &line.input {
+        folder.open(name.as_str())?.read_to_end(&mut input)?;
+    }
+    write_outcome(rt, alloc, folder, &line.words, input.as_slice(), to)?;
     if let Some(name) = &line.shown {
         write_recorded(folder, name.as_str(), to)?;
     }
     Ok(())
 }
 
-/// Does what the words say over the folder, and writes what it writes to its output, what it says on standard error, and
-/// its status.
+/// Does what the words say over the folder and the standard input, and writes what it writes to its output, what it says
+/// on standard error, and its status.
 pub fn write_outcome<R: Threads + Wait + Sync, F: Folder, W: Write>(
     rt: &R,
     alloc: Global,
     folder: &F,
     words: &[String],
+    input: &[u8],
     to: &mut W,
 ) -> io::Result<()> {
+    let mut input = Counted::new(alloc, input);
     let mut output = Counted::new(alloc, Vec::new(alloc));
-    let outcome = run(rt, alloc, &Open, folder, words, &mut output);
+    let outcome = run(rt, alloc, &Open, folder, words, &mut input, &mut output);
     let failure = output.failure();
     let written = output.into_inner();
     to.write_all(written.as_slice())?;

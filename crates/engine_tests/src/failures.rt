@@ -104,7 +104,16 @@ fn outcome<R: Threads + Wait + Sync>(
     for word in words {
         texts.push(String::from_str(alloc, word)?)?;
     }
-    let answer = run(rt, alloc, &Open, &folder, texts.as_slice(), &mut output);
+    let mut input = Counted::new(alloc, b"".as_slice());
+    let answer = run(
+        rt,
+        alloc,
+        &Open,
+        &folder,
+        texts.as_slice(),
+        &mut input,
+        &mut output,
+    );
     Ok((answer, output.into_inner().written))
 }
 

@@ -1,18 +1,12 @@
 -- Sources that are read one after another.
-use Rattle.std.proofs.Common.{arith, ◌≡◌, ℕ, ◌+◌, ◌<◌, List, [], ◌∷◌, ◌++◌, length, take, drop, map, sum_by, get_or, set, Option, ◌⊎◌, inl, inr, sym, subst, ◌∙◌}
+use Rattle.std.proofs.Common.{arith, ◌≡◌, ℕ, ◌+◌, ◌<◌, List, [], ◌∷◌, ◌++◌, length, take, drop, map, sum_by, get_or, set, Option, sym, ◌∙◌}
 use Rattle.std.proofs.lemmas.List.{drop_more, take_more, map-append}
 use Rattle.std.proofs.lemmas.List.Sums.{sum_by-set}
 use Rattle.model.specs.declared.device.DeviceFault.{DeviceFault}
 use Rattle.model.specs.declared.device.DeviceFault.TheVariants as devices
 use Rattle.model.specs.Devices.{CountsFault}
-use Rattle.model.specs.declared.event.Event.{Event}
-use Rattle.model.specs.Schedule.{Recording, ScheduleFile}
-use Rattle.schedule.specs.declared.fault.ScheduleFault.{ScheduleFault}
-use Rattle.schedule.specs.declared.fault.ScheduleFault.TheVariants as schedules
-use Rattle.schedule.specs.Outcomes.{StandsIn, IsFaultOf}
 use Rattle.engines.specs.Devices.{fault_of}
-use Rattle.engines.specs.Engines.{Reads, ReadsEach, WritesPart, IsFaulty, IsOfSchedule, IsUnfit, IsUnspelled, CountsWith}
-use Rattle.command_line.specs.declared.options.LimitOptions.{LimitOptions}
+use Rattle.engines.specs.Engines.{Reads, ReadsEach, CountsWith}
 use Rattle.engines.specs.declared.fault.Fault.{Fault}
 use Rattle.engines.specs.declared.fault.Fault.TheVariants as faults
 
@@ -39,29 +33,13 @@ pub counts_among : {S : Type 0} (failures : S → ℕ) (fault : Fault) (total : 
 counts_among failures faults.Device total sources i y d within so_far counted = omega (arith, sum_by-set failures sources i y d within, so_far, counted)
 counts_among failures faults.Memory total sources i y d within so_far counted = omega (arith, sum_by-set failures sources i y d within, so_far, counted)
 counts_among failures (faults.Schedule fault) total sources i y d within so_far counted = omega (arith, sum_by-set failures sources i y d within, so_far, counted)
+counts_among failures (faults.Text fault) total sources i y d within so_far counted = omega (arith, sum_by-set failures sources i y d within, so_far, counted)
 counts_among failures (faults.Refusal refusal) total sources i y d within so_far counted = omega (arith, sum_by-set failures sources i y d within, so_far, counted)
 
 pub none_failed : {S : Type 0} (failures : S → ℕ) (total : ℕ) (sources : List S) (i : ℕ) (y d : S) → i < length sources → sum_by failures sources ≡ total → failures y ≡ failures (get_or sources i d) → sum_by failures (set sources i y) ≡ total
 none_failed failures total sources i y d within so_far counted = omega (arith, sum_by-set failures sources i y d within, so_far, counted)
 
--- where a device fails, or there is no memory for what it does, a part may be written
-pub part_is_faulty : (fault : DeviceFault) (left : Option (List ℕ)) (lefts : List (Option (List ℕ))) (options : LimitOptions) (old new : Option (List ℕ)) → WritesPart left lefts options old new → IsFaulty left lefts options old new (fault_of fault)
-part_is_faulty devices.Device left lefts options old new part = part
-part_is_faulty devices.Memory left lefts options old new part = part
-
--- it is no fault of a schedule file
-pub of_no_schedule : (fault : DeviceFault) → IsOfSchedule (fault_of fault) → ⊥
-of_no_schedule devices.Device of_schedule = of_schedule
-of_no_schedule devices.Memory of_schedule = of_schedule
-
 -- where a write failed and nothing before it did, the sum of the counts is what it counted
 pub counts_write : (fault : DeviceFault) (a b c d old new : ℕ) → a ≡ c → b ≡ d → CountsFault fault old new → CountsWith (fault_of fault) (c + d + old) (a + b + new)
 counts_write devices.Device a b c d old new first second counted = omega (arith, first, second, counted)
 counts_write devices.Memory a b c d old new first second counted = omega (arith, first, second, counted)
-
--- a fault of a schedule file whose bytes spell nothing, memory aside
-pub schedule_is_faulty : (fault : ScheduleFault) (left : Option (List ℕ)) (lefts : List (Option (List ℕ))) (options : LimitOptions) (bytes : List ℕ)
-    → Reads left bytes → ((recorded : Option Recording) (events : List Event) → ScheduleFile bytes recorded events → fault ≡ schedules.OutOfMemory) → IsFaultOf bytes fault
-    → (fault ≡ schedules.OutOfMemory) ⊎ IsUnspelled left fault ⊎ IsUnfit left lefts options fault
-schedule_is_faulty fault left lefts options bytes read only (inl memory) = inl memory
-schedule_is_faulty fault left lefts options bytes read only (inr stands) = inr (inl (bytes, read, (λ recorded events h. subst (StandsIn bytes) (only recorded events h) stands), stands))

@@ -1,6 +1,7 @@
 pub mod DeviceLemmas
 pub mod EngineLemmas
 pub mod ListingLemmas
+pub mod OpeningLemmas
 pub mod RecordingLemmas
 pub mod RunLemmas
 pub mod VerificationLemmas

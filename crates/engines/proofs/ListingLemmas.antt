@@ -19,6 +19,7 @@ pub unread_is_unlisted : (fault : Fault) (left held : Option (List ℕ)) → IsO
 unread_is_unlisted faults.Device left held of_file = inl refl
 unread_is_unlisted faults.Memory left held of_file = absurd of_file
 unread_is_unlisted (faults.Schedule fault) left held of_file = absurd of_file
+unread_is_unlisted (faults.Text fault) left held of_file = absurd of_file
 unread_is_unlisted (faults.Refusal refusal) left held of_file = (refl, inl of_file)
 
 -- the writing stops

@@ -1,5 +1,6 @@
 -- Why class files are not run, and how far a run is written.
 use Rattle.std.proofs.Common.{arith, ℕ, ◌^◌, ◌<◌, ◌≤◌, List, length, Option, inl, refl}
+use Rattle.std.specs.Prelude.{IfOk, Result, Ok, Err}
 use Rattle.std.proofs.lemmas.Bool.{ltb-false}
 use Rattle.model.specs.declared.device.DeviceFault.{DeviceFault}
 use Rattle.model.specs.declared.device.DeviceFault.TheVariants as devices
@@ -28,6 +29,7 @@ pub unread_is_unrun : (fault : Fault) (lefts : List (Option (List ℕ))) (asked 
 unread_is_unrun faults.Device lefts asked options held kept file within of_file = inl (refl, refl)
 unread_is_unrun faults.Memory lefts asked options held kept file within of_file = absurd of_file
 unread_is_unrun (faults.Schedule fault) lefts asked options held kept file within of_file = absurd of_file
+unread_is_unrun (faults.Text fault) lefts asked options held kept file within of_file = absurd of_file
 unread_is_unrun (faults.Refusal refusal) lefts asked options held kept file within of_file = (refl, refl, inl (file, within, of_file))
 
 -- the writing stops
@@ -35,3 +37,8 @@ pub part_is_unrun : (fault : DeviceFault) (lefts : List (Option (List ℕ))) (as
     → RunsPart lefts asked options old new kept made → IsUnrun lefts asked options old new kept made (fault_of fault)
 part_is_unrun devices.Device lefts asked options old new kept made part = part
 part_is_unrun devices.Memory lefts asked options old new kept made part = part
+
+-- what is so of an answer by three clauses
+pub by_three : {A E : Type 0} (result : Result A E) (p q r all : A → Type 0) → ((value : A) → p value → q value → r value → all value) → IfOk result p → IfOk result q → IfOk result r → IfOk result all
+by_three (Ok value) p q r all on first second third = on value first second third
+by_three (Err fault) p q r all on first second third = tt

@@ -99,6 +99,7 @@ pub unread_is_unaccepted : (fault : Fault) (lefts : List (Option (List ℕ))) (h
 unread_is_unaccepted faults.Device lefts held file within of_file = inl refl
 unread_is_unaccepted faults.Memory lefts held file within of_file = absurd of_file
 unread_is_unaccepted (faults.Schedule fault) lefts held file within of_file = absurd of_file
+unread_is_unaccepted (faults.Text fault) lefts held file within of_file = absurd of_file
 unread_is_unaccepted (faults.Refusal refusal) lefts held file within of_file = (refl, inl (file, within, of_file))
 
 -- nothing is a front of each text

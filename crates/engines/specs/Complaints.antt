@@ -4,6 +4,7 @@ use Rattle.std.specs.Io.KnownBytes.{Appends}
 use Rattle.model.specs.Report.{line}
 use Rattle.refusal.specs.Lines.{refusal_line}
 use Rattle.schedule.specs.Names.{fault_name}
+use Rattle.schedule_text.specs.Names.{text_fault_name}
 use Rattle.engines.specs.declared.complaint.Complaint.{Complaint}
 use Rattle.engines.specs.declared.complaint.Complaint.TheVariants as complaints
 use Rattle.engines.specs.declared.fault.Fault.{Fault}
@@ -15,6 +16,7 @@ fault_line faults.Device = codes "device"
 fault_line faults.Memory = codes "run refused Memory"
 fault_line (faults.Refusal refusal) = refusal_line refusal
 fault_line (faults.Schedule fault) = codes "schedule refused " ++ fault_name fault
+fault_line (faults.Text fault) = codes "schedule refused " ++ text_fault_name fault
 
 -- A fault is told by its line. Of usage faults the parser has the text, and nothing is known of it.
 abbrev pub Tells : Complaint → Option (List ℕ) → Option (List ℕ) → Type 0

@@ -1,9 +1,15 @@
--- The fault of an engine whose device didn't do what it was asked for (own).
+-- The faults of an engine whose device didn't do what it was asked for, or whose schedule is none (own).
 use Rattle.model.specs.declared.device.DeviceFault.{DeviceFault}
 use Rattle.model.specs.declared.device.DeviceFault.TheVariants as devices
+use Rattle.schedule_text.specs.declared.either.EitherFault.{EitherFault}
+use Rattle.schedule_text.specs.declared.either.EitherFault.TheVariants as either
 use Rattle.engines.specs.declared.fault.Fault.{Fault}
 use Rattle.engines.specs.declared.fault.Fault.TheVariants as faults
 
 abbrev pub fault_of : DeviceFault → Fault
 fault_of devices.Device = faults.Device
 fault_of devices.Memory = faults.Memory
+
+abbrev pub either_fault : EitherFault → Fault
+either_fault (either.File refusal) = faults.Schedule refusal
+either_fault (either.Text refusal) = faults.Text refusal

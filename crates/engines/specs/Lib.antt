@@ -1,9 +1,13 @@
 pub mod Complaints
+pub mod Continuations
 pub mod Devices
 pub mod Engines
 pub mod Listings
+pub mod Opening
 pub mod Recordings
 pub mod Refusals
+pub mod Replays
 pub mod Runs
 pub mod Statuses
+pub mod Transcriptions
 pub mod Verifications

@@ -41,3 +41,4 @@ IsUnlisted left old new faults.Memory = ListsFront left old new
 -- memory for the reading aside, the bytes are no class file
 IsUnlisted left old new (faults.Refusal refusal) = (new ≡ old) × ((refusal ≡ no_memory 0) ⊎ ((bytes : List ℕ) × Reads left bytes × IsMalformed bytes refusal))
 IsUnlisted left old new (faults.Schedule fault) = ⊥
+IsUnlisted left old new (faults.Text fault) = ⊥

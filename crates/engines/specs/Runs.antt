@@ -85,3 +85,4 @@ IsUnrun lefts asked options old new kept made faults.Memory = RunsPart lefts ask
 IsUnrun lefts asked options old new kept made (faults.Refusal refusal) = (new ≡ old) × (made ≡ kept) × (IsUnread (length lefts) refusal
     ⊎ ((files : List (List ℕ)) × ReadsEach lefts files × IsRefused files refusal))
 IsUnrun lefts asked options old new kept made (faults.Schedule fault) = ⊥
+IsUnrun lefts asked options old new kept made (faults.Text fault) = ⊥

@@ -51,6 +51,7 @@ fault_status faults.Device = statuses.Unusable
 fault_status faults.Memory = statuses.Stopped
 fault_status (faults.Refusal refusal) = statuses.Refused
 fault_status (faults.Schedule refusal) = statuses.Refused
+fault_status (faults.Text refusal) = statuses.Refused
 
 -- the status where there is no command: words that ask for help get it
 abbrev pub usage_status : Usage → Status

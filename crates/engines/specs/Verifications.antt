@@ -36,3 +36,4 @@ IsUnaccepted lefts old new faults.Memory = VerifiesFront lefts old new
 IsUnaccepted lefts old new (faults.Refusal refusal) = (new ≡ old) × (IsUnread (length lefts) refusal
     ⊎ ((files : List (List ℕ)) × ReadsEach lefts files × IsRefused files refusal))
 IsUnaccepted lefts old new (faults.Schedule fault) = ⊥
+IsUnaccepted lefts old new (faults.Text fault) = ⊥

@@ -4,7 +4,7 @@ use crate::complaint::Complaint;
 use crate::fault::Fault;
 use crate::folder::Folder;
 use command_line::{Command, command};
-use explanation::{GivenFile, explain, explain_schedule};
+use explanation::{GivenFile, explain, explain_schedule, explain_text};
 use std::alloc::{AllocError, Global};
 use std::io;
 use std::io::{ErrorKind, Read};
@@ -37,6 +37,7 @@ fn asks(command: &Command) -> bool {
         Command::Replay(options) => options.explain,
         Command::Verify(options) => options.explain,
         Command::Disasm(options) => options.explain,
+        Command::Schedule(options) => options.explain,
     }
 }
 
@@ -48,18 +49,21 @@ fn indented(alloc: Global, line: &[u8]) -> Result<Vec<u8>, AllocError> {
     Ok(bytes)
 }
 
-/// The path of the schedule file.
+/// The path of the schedule that is read.
 fn schedule_of(command: &Command) -> Option<&str> {
     match command {
         Command::Replay(options) => Some(options.schedule.as_str()),
+        Command::Schedule(options) if !options.write => Some(options.file.as_str()),
         _ => None,
     }
 }
 
-/// The path of the file that is to be recorded.
+/// The path of the schedule file that is to be written.
 fn record_of(command: &Command) -> Option<&str> {
     match command {
         Command::Run(options) => options.record.as_deref(),
+        Command::Replay(options) => options.then_run.as_ref()?.record.as_deref(),
+        Command::Schedule(options) if options.write => Some(options.file.as_str()),
         _ => None,
     }
 }
@@ -72,6 +76,7 @@ fn files_of<'a>(alloc: Global, command: &'a Command) -> Result<Vec<&'a str>, All
         Command::Replay(options) => push_all(&mut paths, &options.files)?,
         Command::Verify(options) => push_all(&mut paths, &options.files)?,
         Command::Disasm(options) => paths.push(options.file.as_str())?,
+        Command::Schedule(_) => {}
     }
     Ok(paths)
 }
@@ -111,6 +116,10 @@ fn line_of<F: Folder>(
             Some(path) => Ok(Some(explain_schedule(alloc, path, *fault)?)),
             None => Ok(None),
         },
+        Fault::Text(fault) => {
+            let name = schedule.unwrap_or("standard input");
+            Ok(Some(explain_text(alloc, name, *fault)?))
+        }
         Fault::Refusal(refusal) => match given(alloc, folder, &paths) {
             Ok(files) => Ok(Some(explain(alloc, refusal, &files)?)),
             Err(_) => Ok(None),

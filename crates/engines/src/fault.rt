@@ -2,12 +2,13 @@
 
 ghost use Rattle.std.specs.Prelude.{◌≡◌, OnOk};
 ghost use Rattle.std.specs.Io.KnownBytes.{Appends};
-ghost use Rattle.engines.specs.declared.fault.Fault.TheVariants.{Memory, Refusal, Schedule};
-ghost use Rattle.engines.specs.Devices.{fault_of};
+ghost use Rattle.engines.specs.declared.fault.Fault.TheVariants.{Memory, Refusal, Schedule, Text};
+ghost use Rattle.engines.specs.Devices.{either_fault, fault_of};
 ghost use Rattle.engines.specs.Complaints.{fault_line};
 
 use model::DeviceFault;
 use schedule::ScheduleFault;
+use schedule_text::{EitherFault, TextFault};
 use std::alloc::{AllocError, AllocFailed};
 use std::io;
 use std::io::Write;
@@ -23,6 +24,8 @@ pub enum Fault {
     Refusal(refusal::Refusal),
     /// The schedule file is refused.
     Schedule(ScheduleFault),
+    /// The text of the schedule is refused.
+    Text(TextFault),
 }
 
 impl Fault {
@@ -35,6 +38,7 @@ impl Fault {
             Fault::Memory => to.write_all(b"run refused Memory"),
             Fault::Refusal(refusal) => refusal.write_line(to),
             Fault::Schedule(fault) => write!(to, "schedule refused {fault}"),
+            Fault::Text(fault) => write!(to, "schedule refused {fault}"),
         }
     }
 }
@@ -52,6 +56,25 @@ impl From<ScheduleFault> for Fault {
 
     fn from(refusal: ScheduleFault) -> Fault {
         Fault::Schedule(refusal)
+    }
+}
+
+impl From<TextFault> for Fault {
+    ghost from_gives = { λ refusal fault. fault ≡ Text refusal };
+
+    fn from(refusal: TextFault) -> Fault {
+        Fault::Text(refusal)
+    }
+}
+
+impl From<EitherFault> for Fault {
+    ghost from_gives = { λ either fault. fault ≡ either_fault either };
+
+    fn from(fault: EitherFault) -> Fault {
+        match fault {
+            EitherFault::File(refusal) => Fault::Schedule(refusal),
+            EitherFault::Text(refusal) => Fault::Text(refusal),
+        }
     }
 }
 

@@ -1,29 +1,36 @@
-//! What the words of a command line ask for, done over any files and any output: runs, replays, verifications, listings.
+//! What the words of a command line ask for, done over any files and any output: runs, replays, verifications, listings,
+//! and schedules as text.
 #![tactic(auto)]
 
+mod class_files;
 mod complaint;
+mod continuing;
 mod device;
-mod engine;
 mod explaining;
 mod fault;
 mod folder;
 mod listing;
+mod opening;
 mod program;
 mod recording;
+mod replaying;
 mod running;
 mod status;
+mod transcribing;
 mod verification;
 
 pub use command_line::{LimitOptions, RunOptions, Usage};
 pub use complaint::Complaint;
+pub use continuing::continue_engine;
 pub use device::Counted;
-pub use engine::replay_engine;
 pub use explaining::second_line;
 pub use fault::Fault;
 pub use folder::{Folder, SystemFolder};
 pub use listing::disasm_engine;
 pub use program::run;
+pub use replaying::replay_engine;
 pub use running::run_engine;
 pub use status::Status;
+pub use transcribing::{schedule_engine, write_schedule_engine};
 pub use verification::verify_engine;
 pub use workers::{Gate, Open};

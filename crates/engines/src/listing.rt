@@ -8,7 +8,7 @@ ghost use Rattle.reading.specs.declared.fault.Cause.TheVariants as causes;
 ghost use Rattle.engines.specs.Engines.{CountsFailure, no_memory};
 ghost use Rattle.engines.specs.Listings.{IsMalformed, IsUnlisted, Lists, malformed};
 
-use crate::engine::{out_of_memory, read_class_file};
+use crate::class_files::{out_of_memory, read_class_file};
 use crate::fault::Fault;
 use crate::status::Status;
 use classfile::{Cause, ClassFile, Malformed, decode};

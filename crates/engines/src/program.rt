@@ -1,16 +1,18 @@
 //! What the words of a command line ask for.
 
 use crate::complaint::Complaint;
+use crate::continuing::continue_engine;
 use crate::device::Counted;
-use crate::engine::replay_engine;
 use crate::fault::Fault;
 use crate::folder::{CreatedFile, Folder, NamedFile};
 use crate::listing::disasm_engine;
+use crate::replaying::replay_engine;
 use crate::running::run_engine;
 use crate::status::Status;
+use crate::transcribing::{schedule_engine, write_schedule_engine};
 use crate::verification::verify_engine;
-use command_line::{Command, Disasm, Replay, Run, Usage, Verify, command};
-use model::{DeviceFault, Sink};
+use command_line::{Command, Disasm, Replay, Run, Schedule, Usage, Verify, command};
+use model::{DeviceFault, Sink, Source};
 use std::alloc::{AllocError, Global};
 use std::sync::Wait;
 use std::thread::Threads;
@@ -18,19 +20,21 @@ use workers::Gate;
 
 /// Does what the words say, the program's name first, and answers the status or why there is none.
 ///
-/// The files that they name are those of the folder. A report, a listing, the line of a verification, or the help or the
-/// version that the words ask for is written to the output, and nothing else but the schedule file of a run, where one is
-/// asked for, to the folder. The gate is told what the workers of a run do. The complaint is for the caller to tell.
-pub fn run<R: Threads + Wait + Sync, G: Gate + Sync, F: Folder, W: Sink>(
+/// The files that they name are those of the folder; the text of a schedule that is to become a file is read from the
+/// input. A report, a listing, the line of a verification, the text of a schedule, or the help or the version that the words
+/// ask for is written to the output, and nothing else but a schedule file, where one is asked for, to the folder. The gate is
+/// told what the workers of a run do. The complaint is for the caller to tell.
+pub fn run<R: Threads + Wait + Sync, G: Gate + Sync, F: Folder, I: Source, W: Sink>(
     rt: &R,
     alloc: Global,
     gate: &G,
     folder: &F,
     words: &[String],
+    input: &mut I,
     output: &mut W,
 ) -> Result<Status, Complaint> {
     match command(alloc, words) {
-        Ok(command) => Ok(done(rt, alloc, gate, folder, &command, output)?),
+        Ok(command) => Ok(done(rt, alloc, gate, folder, &command, input, output)?),
         Err(usage) => told(alloc, usage, output),
     }
 }
@@ -51,12 +55,13 @@ fn told<W: Sink>(alloc: Global, usage: Usage, output: &mut W) -> Result<Status, 
 }
 
 /// Does what a command says.
-fn done<R: Threads + Wait + Sync, G: Gate + Sync, F: Folder, W: Sink>(
+fn done<R: Threads + Wait + Sync, G: Gate + Sync, F: Folder, I: Source, W: Sink>(
     rt: &R,
     alloc: Global,
     gate: &G,
     folder: &F,
     command: &Command,
+    input: &mut I,
     output: &mut W,
 ) -> Result<Status, Fault> {
     match command {
@@ -64,6 +69,7 @@ fn done<R: Threads + Wait + Sync, G: Gate + Sync, F: Folder, W: Sink>(
         Command::Replay(options) => replay(alloc, folder, options, output),
         Command::Verify(options) => verify(alloc, folder, options, output),
         Command::Disasm(options) => disasm(alloc, folder, options, output),
+        Command::Schedule(options) => schedule(alloc, folder, options, input, output),
     }
 }
 
@@ -77,10 +83,7 @@ fn run_files<R: Threads + Wait + Sync, G: Gate + Sync, F: Folder, W: Sink>(
     output: &mut W,
 ) -> Result<Status, Fault> {
     let mut files = sources(alloc, folder, &options.files)?;
-    let mut record = match &options.record {
-        Some(path) => Some(Counted::new(alloc, CreatedFile::new(folder, path.as_str()))),
-        None => None,
-    };
+    let mut record = recorder(alloc, folder, &options.record);
     run_engine(
         rt,
         alloc,
@@ -102,13 +105,19 @@ fn replay<F: Folder, W: Sink>(
 ) -> Result<Status, Fault> {
     let mut schedule = source(alloc, folder, &options.schedule);
     let mut files = sources(alloc, folder, &options.files)?;
-    replay_engine(
-        alloc,
-        &mut schedule,
-        files.as_mut_slice(),
-        &options.limits,
-        output,
-    )
+    let files = files.as_mut_slice();
+    match &options.then_run {
+        None => replay_engine(alloc, &mut schedule, files, &options.limits, output),
+        Some(then_run) => continue_engine(
+            alloc,
+            &mut schedule,
+            files,
+            &options.limits,
+            then_run.budget(),
+            output,
+            &mut recorder(alloc, folder, &then_run.record),
+        ),
+    }
 }
 
 /// `verify`.
@@ -131,6 +140,42 @@ fn disasm<F: Folder, W: Sink>(
 ) -> Result<Status, Fault> {
     let mut file = source(alloc, folder, &options.file);
     disasm_engine(alloc, &mut file, output)
+}
+
+/// `schedule`.
+fn schedule<F: Folder, I: Source, W: Sink>(
+    alloc: Global,
+    folder: &F,
+    options: &Schedule,
+    input: &mut I,
+    output: &mut W,
+) -> Result<Status, Fault> {
+    if options.write {
+        write_schedule_engine(alloc, input, &mut created(alloc, folder, &options.file))
+    } else {
+        schedule_engine(alloc, &mut source(alloc, folder, &options.file), output)
+    }
+}
+
+/// The file at a path that is to be recorded, if one is.
+fn recorder<'a, F: Folder>(
+    alloc: Global,
+    folder: &'a F,
+    path: &'a Option<String>,
+) -> Option<Counted<CreatedFile<'a, F>>> {
+    match path {
+        Some(path) => Some(created(alloc, folder, path)),
+        None => None,
+    }
+}
+
+/// The file at a path, as a sink.
+fn created<'a, F: Folder>(
+    alloc: Global,
+    folder: &'a F,
+    path: &'a String,
+) -> Counted<CreatedFile<'a, F>> {
+    Counted::new(alloc, CreatedFile::new(folder, path.as_str()))
 }
 
 /// The files at these paths, as sources.

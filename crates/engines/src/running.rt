@@ -6,16 +6,18 @@ ghost use Rattle.std.specs.Io.KnownBytes.{Appends};
 ghost use Rattle.model.specs.Accepted.{IsAccepted};
 ghost use Rattle.model.specs.Devices.{Counts};
 ghost use Rattle.model.specs.Schedule.{ScheduleFile, events_of};
+ghost use Rattle.machine_replay.specs.Replays.{text_of};
 ghost use Rattle.worlds.specs.Records.{IsRecordOf};
 ghost use Rattle.engines.specs.Engines.{CountsFailure};
+ghost use Rattle.engines.specs.Statuses.{status_of};
 ghost use Rattle.engines.specs.Runs.{IsRun, IsUnrun, Records, RecordsFront, Runs, recording_of};
 
-use crate::engine::read_class_files;
+use crate::class_files::read_class_files;
 use crate::fault::Fault;
 use crate::status::Status;
 use crate::verification::accepted;
 use command_line::{LimitOptions, RunOptions};
-use model::{DeviceFault, Limits, Sink, Source};
+use model::{DeviceFault, End, Limits, Report, Sink, Source};
 use report::text;
 use schedule::{Recording, Schedule, write_schedule};
 use std::alloc::{AllocError, Global};
@@ -73,10 +75,10 @@ pub fn run_engine<R: Threads + Wait + Sync, G: Gate + Sync, S: Source, W: Sink, 
 
 /// What a run says: the text of its report, its schedule file where one is asked for, and its status.
 #[derive(Drop)]
-struct Outcome {
-    text: Vec<u8>,
-    file: Option<Vec<u8>>,
-    status: Status,
+pub(crate) struct Outcome {
+    pub(crate) text: Vec<u8>,
+    pub(crate) file: Option<Vec<u8>>,
+    pub(crate) status: Status,
 }
 
 /// Runs accepted class files, and makes what is to be written.
@@ -97,9 +99,37 @@ fn ran<R: Threads + Wait + Sync, G: Gate + Sync>(
 {
     let limits = limits.limits();
     let recorded = recorded_run(rt, alloc, gate, verified, limits, options)?;
-    let text = text(alloc, &recorded.report, &recorded.end)?;
-    let status = Status::of(&recorded.report, recorded.end);
-    let file = recorded_file(alloc, is_recorded, files, limits, &recorded.schedule)?;
+    outcome_of(
+        alloc,
+        files,
+        limits,
+        &recorded.report,
+        recorded.end,
+        &recorded.schedule,
+        is_recorded,
+    )
+}
+
+/// What a run of the class files says that came to this report and this end, by this schedule.
+pub(crate) fn outcome_of(
+    alloc: Global,
+    files: &[Vec<u8>],
+    limits: Limits,
+    report: &Report,
+    end: End,
+    schedule: &Schedule,
+    is_recorded: bool,
+) -> Result<Outcome, AllocError>
+    requires { length files.now < 2 ^ 32 }
+    ensures told { IfOk result (λ outcome. outcome.text.items ≡ text_of report.now end) }
+    ensures ended { IfOk result (λ outcome. outcome.status ≡ status_of report.now.threads.items end) }
+    ensures asked { IfOk result (λ outcome. is_some outcome.file ≡ is_recorded) }
+    ensures spelled { IfOk result (λ outcome. IfSome (option_map vec_items outcome.file) (λ bytes.
+        ScheduleFile bytes (Some (recording_of limits (map vec_items files.now))) (events_of schedule.now))) }
+{
+    let text = text(alloc, report, &end)?;
+    let status = Status::of(report, end);
+    let file = recorded_file(alloc, is_recorded, files, limits, schedule)?;
     Ok(Outcome { text, file, status })
 }
 
@@ -179,7 +209,7 @@ fn lengths_of(alloc: Global, files: &[Vec<u8>]) -> Result<Vec<u64>, AllocError>
 }
 
 /// Writes the schedule file, where one is asked for.
-fn write_record<V: Sink>(
+pub(crate) fn write_record<V: Sink>(
     recorder: &mut Option<V>,
     file: &Option<Vec<u8>>,
 ) -> Result<(), DeviceFault>

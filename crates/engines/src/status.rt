@@ -15,7 +15,7 @@ pub enum Status {
     Returned,
     /// No thread can go on, and all have ended, some with an exception.
     Threw,
-    /// A class file or the schedule file is refused.
+    /// A class file or the schedule is refused.
     Refused,
     /// An event of the schedule isn't enabled or is refused, or memory is wanted.
     Stopped,
@@ -69,7 +69,7 @@ impl Status {
         match fault {
             Fault::Device => Status::Unusable,
             Fault::Memory => Status::Stopped,
-            Fault::Refusal(_) | Fault::Schedule(_) => Status::Refused,
+            Fault::Refusal(_) | Fault::Schedule(_) | Fault::Text(_) => Status::Refused,
         }
     }
 

@@ -8,7 +8,7 @@ ghost use Rattle.engines.specs.Engines.{CountsFailure};
 ghost use Rattle.engines.specs.Refusals.{IsRefused};
 ghost use Rattle.engines.specs.Verifications.{IsUnaccepted, Verifies, verified_line};
 
-use crate::engine::read_class_files;
+use crate::class_files::read_class_files;
 use crate::fault::Fault;
 use crate::status::Status;
 use linker::link;

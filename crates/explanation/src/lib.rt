@@ -13,4 +13,4 @@ mod schedule_file;
 mod unresolved;
 
 pub use class_files::{GivenFile, explain};
-pub use schedule_file::explain_schedule;
+pub use schedule_file::{explain_schedule, explain_text};

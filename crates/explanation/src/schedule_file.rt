@@ -1,7 +1,8 @@
-//! What is wrong with a file that is no schedule file.
+//! What is wrong with a file that is no schedule file, and with a text that spells no schedule.
 
 use crate::line::Line;
 use schedule::ScheduleFault;
+use schedule_text::TextFault;
 use std::alloc::{AllocError, Global};
 
 fn words_of(fault: ScheduleFault) -> &'static str {
@@ -30,4 +31,26 @@ pub fn explain_schedule(
     line.say(name)?;
     line.say(words_of(fault))?;
     Ok(line.into_bytes())
+}
+
+/// The line, without its end, that tells why the text of a schedule, of this name, is refused.
+pub fn explain_text(alloc: Global, name: &str, fault: TextFault) -> Result<Vec<u8>, AllocError> {
+    let told = match fault {
+        TextFault::Entry(line) => format!(in alloc; "{name}: line {line}: a word is no entry"),
+        TextFault::Limits(line) => {
+            format!(in alloc;
+                "{name}: line {line}: the limits are not five numbers, each in its range"
+            )
+        }
+        TextFault::Lengths(line) => {
+            format!(in alloc;
+                "{name}: line {line}: the lengths of the class files are not told up to #events"
+            )
+        }
+        TextFault::TooMany(line) => format!(in alloc;
+            "{name}: line {line}: there are too many words"
+        ),
+        TextFault::OutOfMemory => format!(in alloc; "{name}: there is no memory for it"),
+    };
+    Ok(told?.into_bytes())
 }

@@ -32,17 +32,26 @@ fn words(rt: &HostRuntime) -> io::Result<Vec<String>> {
     Ok(words.collect(rt.alloc())?)
 }
 
-/// What comes of the words, which are done over the files of the system and the standard output, with the second line of
-/// a complaint that there may be. A person reads the standard error if it is a terminal.
-fn done<R: Files + Print + Eprint + Clock + AllocGlobal + Threads + Wait + Sync>(
+/// What comes of the words, which are done over the files of the system, the standard input and the standard output, with the
+/// second line of a complaint that there may be. A person reads the standard error if it is a terminal.
+fn done<R: Files + Input + Print + Eprint + Clock + AllocGlobal + Threads + Wait + Sync>(
     rt: &R,
     words: &[String],
     is_terminal: bool,
 ) -> (Result<Status, Complaint>, Option<Vec<u8>>) {
     let progress = Progress::new(rt, is_terminal);
     let mut output = Counted::new(rt.alloc(), Cleared::new(&progress, io::writer(rt)));
+    let mut input = Counted::new(rt.alloc(), rt.reader());
     let folder = SystemFolder::new(rt);
-    let outcome = run(rt, rt.alloc(), &progress, &folder, words, &mut output);
+    let outcome = run(
+        rt,
+        rt.alloc(),
+        &progress,
+        &folder,
+        words,
+        &mut input,
+        &mut output,
+    );
     progress.clear();
     let second = match &outcome {
         Ok(_) => None,

@@ -223,12 +223,79 @@ fn limits_are_chosen(rt: HostRuntime) -> Result<(), Fail> {
 }
 
 #[test]
+fn replays_go_on(rt: HostRuntime) -> Result<(), Fail> {
+    // a line, and the budget and the record of the run behind the schedule, if there is one
+    let rows = [
+        ("jvm replay --schedule s A.class", None),
+        (
+            "jvm replay --schedule s --then-run A.class",
+            Some((10_000_000, None)),
+        ),
+        (
+            "jvm replay --budget 0 --then-run --schedule s A.class",
+            Some((0, None)),
+        ),
+        (
+            "jvm replay A.class --schedule s --then-run --record t --budget=4294967295",
+            Some((4_294_967_295, Some("t"))),
+        ),
+    ];
+    for (line, want) in rows {
+        let words = words(rt.alloc(), line)?;
+        let Ok(Command::Replay(replay)) = command(rt.alloc(), words.as_slice()) else {
+            return Err(Fail::from("no replay"));
+        };
+        let found = match &replay.then_run {
+            Some(then_run) => Some((then_run.budget(), then_run.record.as_deref())),
+            None => None,
+        };
+        assert!(rt; found == want && replay.schedule.as_str() == "s", "{line}");
+    }
+    Ok(())
+}
+
+#[test]
+fn schedules_are_told_or_made(rt: HostRuntime) -> Result<(), Fail> {
+    // a line, whether the file is made, and whether a refusal is explained
+    let rows = [
+        ("jvm schedule s", false, false),
+        ("jvm schedule --write s", true, false),
+        ("jvm schedule s --explain", false, true),
+        ("jvm schedule --explain s --write", true, true),
+    ];
+    for (line, write, explain) in rows {
+        let words = words(rt.alloc(), line)?;
+        let Ok(Command::Schedule(schedule)) = command(rt.alloc(), words.as_slice()) else {
+            return Err(Fail::from("no schedule"));
+        };
+        let is_named = schedule.file.as_str() == "s";
+        assert!(rt;
+            is_named && schedule.write == write && schedule.explain == explain,
+            "{line}"
+        );
+    }
+    Ok(())
+}
+
+#[test]
 fn no_command_has_its_reason(rt: HostRuntime) -> Result<(), Fail> {
     // a line, and a word of what is said of it
     let rows = [
         ("jvm", "subcommand"),
         ("jvm replay --schedule s --frames +5 A.class", "--frames"),
         ("jvm replay --schedule s --frames=+5 A.class", "--frames"),
+        (
+            "jvm replay --schedule s --then-run --budget=+5 A.class",
+            "--budget",
+        ),
+        (
+            "jvm replay --schedule s --then-run --budget -5 A.class",
+            "--budget",
+        ),
+        ("jvm replay --schedule s --budget 5 A.class", "--then-run"),
+        ("jvm replay --schedule s --record t A.class", "--then-run"),
+        ("jvm schedule --write", "<FILE>"),
+        ("jvm schedule s t", "'t'"),
     ];
     for (line, word) in rows {
         let words = words(rt.alloc(), line)?;

@@ -1,4 +1,6 @@
 pub mod Digits
+pub mod Either
+pub mod Names
 pub mod Outcomes
 pub mod Printing
 pub mod Text

@@ -21,18 +21,20 @@ pub enum TextFault {
     OutOfMemory,
 }
 
-/// The line and what is wrong there, in words.
+/// The name of the fault and its line, as `Entry line 3`.
 impl fmt::Display for TextFault {
+    ghost use Rattle.std.specs.Prelude.{Some};
+    ghost use Rattle.schedule_text.specs.Names.{text_fault_name};
+
+    ghost output = { λ fault. Some (text_fault_name fault) };
+
     fn fmt<W: fmt::Write>(&self, f: &mut fmt::Formatter<W>) -> fmt::Result {
         match self {
-            TextFault::Entry(line) => write!(f, "line {line}: a word is no entry"),
-            TextFault::Limits(line) => write!(f, "line {line}: the limits are others"),
-            TextFault::Lengths(line) => write!(
-                f,
-                "line {line}: the lengths of the class files are others"
-            ),
-            TextFault::TooMany(line) => write!(f, "line {line}: there are too many words"),
-            TextFault::OutOfMemory => f.write_str("there is no memory for it"),
+            TextFault::Entry(line) => write!(f, "Entry line {line}"),
+            TextFault::Limits(line) => write!(f, "Limits line {line}"),
+            TextFault::Lengths(line) => write!(f, "Lengths line {line}"),
+            TextFault::TooMany(line) => write!(f, "TooMany line {line}"),
+            TextFault::OutOfMemory => f.write_str("OutOfMemory"),
         }
     }
 }

@@ -4,6 +4,7 @@
 //! thread 2, and `2.1` for one of thread 2 with pick 1. In front may stand with what the schedule was recorded.
 #![tactic(auto)]
 
+mod either;
 mod entries;
 mod fault;
 mod numbers;
@@ -13,6 +14,7 @@ mod spelling;
 mod words;
 mod write;
 
+pub use either::{EitherFault, read_either};
 pub use fault::TextFault;
 pub use read::parse;
 pub use spelling::text_spells_one_schedule;

@@ -1,11 +1,11 @@
-use Rattle.std.proofs.Common.{◌∙◌, ap, codes, sym, Some, None}
-use Rattle.command_line.proofs.CommandLineLemmas.{first_is, no_value, refuses}
+use Rattle.std.proofs.lemmas.Result.{err_from_is_err_and}
+use Rattle.command_line.proofs.CommandLineLemmas.{refuses_more}
 use Rattle.command_line.proofs.parse.disasm_of.Goals as goal
 
-pub returns-in-None-clause-none : goal.returns-in-None-clause-none
-returns-in-None-clause-none c =
-    refuses c.missing.result _ c.missing.ensures (λ disasm is. no_value _ (first_is c.args.matches.now (codes "file") None c.in-None.ensures) _ is.0)
+pub returns-in_err-file-clause-none : goal.returns-in_err-file-clause-none
+returns-in_err-file-clause-none c =
+    let p = err_from_is_err_and c.from_residual.result c.from_residual.ensures.1 in
+    rw (p.1, p.2) (refuses_more c.in_err-file.field-0.0 _ _ (λ none disasm is. none _ is.0) c.in_err-file.ensures.none)
 
-pub returns-in_ok-from_str-in-Some-clause-file : goal.returns-in_ok-from_str-in-Some-clause-file
-returns-in_ok-from_str-in-Some-clause-file c =
-    (first_is c.args.matches.now (codes "file") (Some c.in-Some.path.now) c.in-Some.ensures ∙ ap Some (sym c.in_ok-from_str-in-Some.ensures.ok), c.is_set.ensures)
+pub returns-clause-file : goal.returns-clause-file
+returns-clause-file c = (c.in_ok-file.ensures.path, c.is_set.ensures)

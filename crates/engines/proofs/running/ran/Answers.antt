@@ -1,16 +1,16 @@
 use Rattle.std.proofs.Common.{arith, map, vec_items}
 use Rattle.std.proofs.lemmas.List.{length-map}
 use Rattle.model.specs.Schedule.{events_of}
-use Rattle.engines.proofs.RunLemmas.{few_files}
+use Rattle.engines.proofs.RunLemmas.{by_three, few_files}
 use Rattle.engines.proofs.running.ran.Goals as goal
 
-pub recorded_file-requires : goal.recorded_file-requires
-recorded_file-requires g c = omega (arith, few_files (map vec_items c.args.files.now) c.args.verified c.requires, length-map c.args.files.now vec_items)
+pub outcome_of-requires : goal.outcome_of-requires
+outcome_of-requires g c = omega (arith, few_files (map vec_items c.args.files.now) c.args.verified c.requires, length-map c.args.files.now vec_items)
 
 pub returns-clause-run : goal.returns-clause-run
 returns-clause-run g c =
     let run = c.in_ok-recorded.recorded in
-    record {
+    by_three c.outcome_of.result _ _ _ _ (λ outcome told ended spelled. record {
       trees = c.args.verified;
       accepted = c.requires;
       limits = c.limits-limits.result;
@@ -19,7 +19,7 @@ returns-clause-run g c =
       report = run.report;
       end = run.end;
       recorded = c.in_ok-recorded.ensures.2;
-      told = c.in_ok-text.ensures;
-      ended = c.of-status.ensures;
-      spelled = c.in_ok-file.ensures.spelled;
-    }
+      told = told;
+      ended = ended;
+      spelled = spelled;
+    }) c.outcome_of.ensures.told c.outcome_of.ensures.ended c.outcome_of.ensures.spelled

@@ -1,0 +1,68 @@
+use Rattle.std.proofs.Common.{inl, inr, map, refl, subst, sym, vec_items}
+use Rattle.std.proofs.lemmas.Result.{err_from_is_err_and}
+use Rattle.std.specs.Io.KnownBytes.{Appends}
+use Rattle.std.specs.Option.{option_map}
+use Rattle.model.specs.Devices.{AppendsFront}
+use Rattle.model.specs.Schedule.{events_of}
+use Rattle.engines.specs.Continuations.{IsContinued}
+use Rattle.engines.specs.Opening.{IsOpened}
+use Rattle.engines.proofs.OpeningLemmas.{kept_is_uncontinued, of_no_schedule, part_is_uncontinued}
+use Rattle.engines.proofs.continuing.continue_engine.Goals as goal
+
+pub returns-in_err-opened-clause-faulty : goal.returns-in_err-opened-clause-faulty
+returns-in_err-opened-clause-faulty g c =
+    let p = err_from_is_err_and c.from_residual.result c.from_residual.ensures.1 in
+    rw (p.1, p.2) (kept_is_uncontinued _ _ _ _ _ _ _ c.in_err-opened.ensures.kept)
+
+pub returns-in_err-ran-clause-faulty : goal.returns-in_err-ran-clause-faulty
+returns-in_err-ran-clause-faulty g c =
+    let p = err_from_is_err_and c.from_residual-in_err-ran.result c.from_residual-in_err-ran.ensures.1 in
+    rw (p.1, p.2) (inl (refl, refl))
+
+pub returns-in_err-write_all-clause-faulty : goal.returns-in_err-write_all-clause-faulty
+returns-in_err-write_all-clause-faulty g c =
+    let p = err_from_is_err_and c.from_residual-in_err-write_all.result c.from_residual-in_err-write_all.ensures.1 in
+    let opened = c.in_ok-opened.ensures.opened in
+    let given = c.in_ok-opened.opened in
+    let ran = c.in_ok-ran.ran in
+    let limits = c.args.limits.now in
+    let of_files = subst (λ files. IsOpened opened.0 (map vec_items files) limits given.verified (events_of given.schedule) given.limits) (sym c.as_slice.ensures.value) opened.3 in
+    let run = subst (λ files. IsContinued opened.0 (map vec_items files) limits c.args.budget ran.text.items (option_map vec_items ran.file) ran.status) c.as_slice.ensures.value (c.in_ok-ran.ensures.run opened.0 limits of_files) in
+    let contents = g.W.Sink.contents in
+    let front = subst (AppendsFront (contents c.args.report.now) (contents c.write_all.new.self)) c.as_slice-2.ensures.value c.in_err-write_all.ensures.part in
+    rw (p.1, p.2) (part_is_uncontinued _ _ _ _ _ _ _ _ _ (inr (_, _, _, (opened.0, _, opened.1, opened.2, run), inl (front, refl))))
+
+pub returns-in_err-write_all-clause-schedule_first : goal.returns-in_err-write_all-clause-schedule_first
+returns-in_err-write_all-clause-schedule_first g c =
+    let p = err_from_is_err_and c.from_residual-in_err-write_all.result c.from_residual-in_err-write_all.ensures.1 in
+    rw (p.1, p.2) (λ of_schedule. absurd (of_no_schedule c.in_err-write_all.field-0.0 of_schedule))
+
+pub returns-in_err-write_record-clause-faulty : goal.returns-in_err-write_record-clause-faulty
+returns-in_err-write_record-clause-faulty g c =
+    let p = err_from_is_err_and c.from_residual-in_err-write_record.result c.from_residual-in_err-write_record.ensures.1 in
+    let opened = c.in_ok-opened.ensures.opened in
+    let given = c.in_ok-opened.opened in
+    let ran = c.in_ok-ran.ran in
+    let limits = c.args.limits.now in
+    let of_files = subst (λ files. IsOpened opened.0 (map vec_items files) limits given.verified (events_of given.schedule) given.limits) (sym c.as_slice.ensures.value) opened.3 in
+    let run = subst (λ files. IsContinued opened.0 (map vec_items files) limits c.args.budget ran.text.items (option_map vec_items ran.file) ran.status) c.as_slice.ensures.value (c.in_ok-ran.ensures.run opened.0 limits of_files) in
+    let contents = g.W.Sink.contents in
+    let written = subst (Appends (contents c.args.report.now) (contents c.write_all.new.self)) c.as_slice-2.ensures.value c.in_ok-write_all.ensures.written in
+    rw (p.1, p.2) (part_is_uncontinued _ _ _ _ _ _ _ _ _ (inr (_, _, _, (opened.0, _, opened.1, opened.2, run), inr (written, c.in_err-write_record.ensures.part))))
+
+pub returns-in_err-write_record-clause-schedule_first : goal.returns-in_err-write_record-clause-schedule_first
+returns-in_err-write_record-clause-schedule_first g c =
+    let p = err_from_is_err_and c.from_residual-in_err-write_record.result c.from_residual-in_err-write_record.ensures.1 in
+    rw (p.1, p.2) (λ of_schedule. absurd (of_no_schedule c.in_err-write_record.field-0.0 of_schedule))
+
+pub returns-clause-continued : goal.returns-clause-continued
+returns-clause-continued g c =
+    let opened = c.in_ok-opened.ensures.opened in
+    let given = c.in_ok-opened.opened in
+    let ran = c.in_ok-ran.ran in
+    let limits = c.args.limits.now in
+    let of_files = subst (λ files. IsOpened opened.0 (map vec_items files) limits given.verified (events_of given.schedule) given.limits) (sym c.as_slice.ensures.value) opened.3 in
+    let run = subst (λ files. IsContinued opened.0 (map vec_items files) limits c.args.budget ran.text.items (option_map vec_items ran.file) ran.status) c.as_slice.ensures.value (c.in_ok-ran.ensures.run opened.0 limits of_files) in
+    let contents = g.W.Sink.contents in
+    let written = subst (Appends (contents c.args.report.now) (contents c.write_all.new.self)) c.as_slice-2.ensures.value c.in_ok-write_all.ensures.written in
+    (_, _, (opened.0, _, opened.1, opened.2, run), written, c.in_ok-write_record.ensures.written)

@@ -1,0 +1,56 @@
+use Rattle.std.proofs.Common.{arith, map, refl, subst, vec_items}
+use Rattle.std.specs.Arc.{arc_value}
+use Rattle.std.proofs.lemmas.List.{length-map}
+use Rattle.model.specs.Classes.{Program}
+use Rattle.model.specs.Schedule.{events_of}
+use Rattle.continued_runs.specs.Continuing.{GoesOn}
+use Rattle.continued_runs.specs.declared.run.Continued.TheVariants.{Whole, Part}
+use Rattle.engines.proofs.RunLemmas.{by_three, few_files}
+use Rattle.engines.proofs.continuing.ran_on.Goals as goal
+
+pub outcome_of-requires : goal.outcome_of-requires
+outcome_of-requires c = omega (arith, few_files (map vec_items c.args.files.now) c.args.verified c.requires, length-map c.args.files.now vec_items)
+
+pub outcome_of-requires-in-Part : goal.outcome_of-requires-in-Part
+outcome_of-requires-in-Part c = omega (arith, few_files (map vec_items c.args.files.now) c.args.verified c.requires, length-map c.args.files.now vec_items)
+
+pub returns-in-Whole-clause-run : goal.returns-in-Whole-clause-run
+returns-in-Whole-clause-run c =
+    let events = events_of c.args.schedule.now in
+    let run = c.in-Whole.run' in
+    let goes_on = subst (λ (trees : Program). GoesOn trees events c.args.limits c.args.budget c.in_ok-run.field-0) c.in_ok-verified.ensures.ok c.in_ok-run.ensures in
+    by_three c.outcome_of.result _ _ _ _ (λ outcome told ended spelled bytes options opened. record {
+      trees = c.args.verified;
+      events = events;
+      limits = c.args.limits;
+      opened = opened;
+      continued = Whole run;
+      goes_on = subst (GoesOn c.args.verified events c.args.limits c.args.budget) c.in-Whole.is goes_on;
+      report = run.report;
+      end = run.end;
+      whole = events_of run.schedule;
+      comes_to = (refl, refl, refl);
+      told = told;
+      ended = ended;
+      spelled = spelled;
+    }) c.outcome_of.ensures.told c.outcome_of.ensures.ended c.outcome_of.ensures.spelled
+
+pub returns-in-Part-clause-run : goal.returns-in-Part-clause-run
+returns-in-Part-clause-run c =
+    let events = events_of c.args.schedule.now in
+    let goes_on = subst (λ (trees : Program). GoesOn trees events c.args.limits c.args.budget c.in_ok-run.field-0) c.in_ok-verified.ensures.ok c.in_ok-run.ensures in
+    by_three c.outcome_of-in-Part.result _ _ _ _ (λ outcome told ended spelled bytes options opened. record {
+      trees = c.args.verified;
+      events = events;
+      limits = c.args.limits;
+      opened = opened;
+      continued = Part c.in-Part.report c.in-Part.end;
+      goes_on = subst (GoesOn c.args.verified events c.args.limits c.args.budget) c.in-Part.is goes_on;
+      report = c.in-Part.report;
+      end = c.in-Part.end;
+      whole = events;
+      comes_to = (refl, refl, refl);
+      told = told;
+      ended = ended;
+      spelled = spelled;
+    }) c.outcome_of-in-Part.ensures.told c.outcome_of-in-Part.ensures.ended c.outcome_of-in-Part.ensures.spelled

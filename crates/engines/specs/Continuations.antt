@@ -1,0 +1,59 @@
+-- What the engine of replays that go on answers and writes, by the bytes that its devices hold.
+use Rattle.std.specs.Prelude.{◌≡◌, ◌⊎◌, ℕ, List, Option, Some, IfSome}
+use Rattle.model.specs.declared.event.Event.{Event}
+use Rattle.model.specs.declared.limits.Limits.{Limits}
+use Rattle.model.specs.declared.report.Report.{Report}
+use Rattle.model.specs.declared.end.End.{End}
+use Rattle.model.specs.Classes.{Program}
+use Rattle.model.specs.Schedule.{ScheduleFile, events_of}
+use Rattle.machine_replay.specs.Replays.{text_of}
+use Rattle.continued_runs.specs.Continuing.{GoesOn}
+use Rattle.continued_runs.specs.declared.run.Continued.{Continued}
+use Rattle.continued_runs.specs.declared.run.Continued.TheVariants.{Whole, Part}
+use Rattle.command_line.specs.declared.options.LimitOptions.{LimitOptions}
+use Rattle.engines.specs.Engines.{Reads, ReadsEach}
+use Rattle.engines.specs.Opening.{IsKeptBy, IsOpened}
+use Rattle.engines.specs.Runs.{StopsWithin, recording_of}
+use Rattle.engines.specs.Statuses.{status_of}
+use Rattle.engines.specs.declared.fault.Fault.{Fault}
+use Rattle.engines.specs.declared.fault.Fault.TheVariants as faults
+use Rattle.engines.specs.declared.status.Status.{Status}
+
+-- what it comes to: the report, how it ended, and the whole schedule, which is that of the replay where it went no further
+abbrev pub ComesTo : Continued → (schedule : List Event) → Report → End → (whole : List Event) → Type 0
+ComesTo (Whole run) schedule report end whole = (report ≡ run.report) × (end ≡ run.end) × (whole ≡ events_of run.schedule)
+ComesTo (Part told stop) schedule report end whole = (report ≡ told) × (end ≡ stop) × (whole ≡ schedule)
+
+-- The schedule and the class files are such as they have to be. The program of the class files has gone on behind the events, within the
+-- limits and the budget; this is the text of the report, and its status. The bytes of a file spell the whole schedule, the limits,
+-- and the lengths of the class files.
+pub record IsContinued (schedule : List ℕ) (files : List (List ℕ)) (options : LimitOptions) (budget : ℕ) (text : List ℕ) (file : Option (List ℕ)) (status : Status) : Type 0 where
+  pub trees : Program
+  pub events : List Event
+  pub limits : Limits
+  pub opened : IsOpened schedule files options trees events limits
+  pub continued : Continued
+  pub goes_on : GoesOn trees events limits budget continued
+  pub report : Report
+  pub end : End
+  pub whole : List Event
+  pub comes_to : ComesTo continued events report end whole
+  pub told : text ≡ text_of report end
+  pub ended : status ≡ status_of report.threads.items end
+  pub spelled : IfSome file (λ bytes. ScheduleFile bytes (Some (recording_of limits files)) whole)
+
+-- the same of what these sources hold
+abbrev pub Continues : Option (List ℕ) → List (Option (List ℕ)) → LimitOptions → (budget : ℕ) → List ℕ → Option (List ℕ) → Status → Type 0
+Continues left lefts options budget text file status =
+    (schedule : List ℕ) × (files : List (List ℕ)) × Reads left schedule × ReadsEach lefts files × IsContinued schedule files options budget text file status
+
+-- nothing is written, or a part of what the run says
+abbrev pub ContinuesPart : Option (List ℕ) → List (Option (List ℕ)) → LimitOptions → (budget : ℕ) → (old new : Option (List ℕ)) → (kept made : Option (Option (List ℕ))) → Type 0
+ContinuesPart left lefts options budget old new kept made = ((new ≡ old) × (made ≡ kept))
+    ⊎ ((text : List ℕ) × (file : Option (List ℕ)) × (status : Status) × Continues left lefts options budget text file status × StopsWithin text file old new kept made)
+
+-- When a fault is answered, and what is written then.
+abbrev pub IsUncontinued : Option (List ℕ) → List (Option (List ℕ)) → LimitOptions → (budget : ℕ) → (old new : Option (List ℕ)) → (kept made : Option (Option (List ℕ))) → Fault → Type 0
+IsUncontinued left lefts options budget old new kept made faults.Device = ContinuesPart left lefts options budget old new kept made
+IsUncontinued left lefts options budget old new kept made faults.Memory = ContinuesPart left lefts options budget old new kept made
+IsUncontinued left lefts options budget old new kept made fault = (new ≡ old) × (made ≡ kept) × IsKeptBy left lefts options fault

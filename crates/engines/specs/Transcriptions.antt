@@ -1,0 +1,54 @@
+-- What the engines of schedules answer and write, by the bytes that their devices hold.
+use Rattle.std.specs.Prelude.{◌≡◌, ◌⊎◌, ℕ, List, Option}
+use Rattle.model.specs.declared.event.ScheduleEntry.{ScheduleEntry}
+use Rattle.model.specs.Devices.{AppendsFront}
+use Rattle.model.specs.Schedule.{Recording, schedule}
+use Rattle.schedule.specs.declared.fault.ScheduleFault.TheVariants as schedules
+use Rattle.schedule_text.specs.Either.{GivesEntries}
+use Rattle.schedule_text.specs.Text.{SpellsSchedule}
+use Rattle.schedule_text.specs.declared.either.EitherFault.TheVariants.{File, Text}
+use Rattle.schedule_text.specs.declared.fault.TextFault.TheVariants as texts
+use Rattle.engines.specs.Engines.{Reads}
+use Rattle.engines.specs.Opening.{IsUnspelled}
+use Rattle.engines.specs.declared.fault.Fault.{Fault}
+use Rattle.engines.specs.declared.fault.Fault.TheVariants as faults
+
+-- ---- a schedule as text
+
+-- the source gives a schedule, and the text spells its entries as they stand, and with what it was recorded
+abbrev pub Prints : Option (List ℕ) → List ℕ → Type 0
+Prints left text = (bytes : List ℕ) × (recorded : Option Recording) × (entries : List ScheduleEntry)
+    × Reads left bytes × GivesEntries bytes recorded entries × SpellsSchedule text recorded entries
+
+abbrev pub PrintsPart : Option (List ℕ) → (old new : Option (List ℕ)) → Type 0
+PrintsPart left old new = (new ≡ old) ⊎ ((text : List ℕ) × Prints left text × AppendsFront old new text)
+
+-- When a fault is answered, and what is written then.
+abbrev pub IsUnprinted : Option (List ℕ) → (old new : Option (List ℕ)) → Fault → Type 0
+IsUnprinted left old new faults.Device = PrintsPart left old new
+IsUnprinted left old new faults.Memory = PrintsPart left old new
+IsUnprinted left old new (faults.Schedule fault) = (new ≡ old) × ((fault ≡ schedules.OutOfMemory) ⊎ IsUnspelled left (File fault))
+IsUnprinted left old new (faults.Text fault) = (new ≡ old) × ((fault ≡ texts.OutOfMemory) ⊎ IsUnspelled left (Text fault))
+IsUnprinted left old new (faults.Refusal refusal) = ⊥
+
+-- ---- a text as schedule file
+
+-- the source holds a text, and these are the bytes of the entries that it spells, and of what it says that they were recorded with
+abbrev pub Transcribes : Option (List ℕ) → List ℕ → Type 0
+Transcribes left bytes = (text : List ℕ) × (recorded : Option Recording) × (entries : List ScheduleEntry)
+    × Reads left text × SpellsSchedule text recorded entries × (bytes ≡ schedule recorded entries)
+
+abbrev pub TranscribesPart : Option (List ℕ) → (old new : Option (List ℕ)) → Type 0
+TranscribesPart left old new = (new ≡ old) ⊎ ((bytes : List ℕ) × Transcribes left bytes × AppendsFront old new bytes)
+
+-- it spells no schedule
+abbrev pub IsNoText : Option (List ℕ) → Type 0
+IsNoText left = (text : List ℕ) × Reads left text × ((recorded : Option Recording) (entries : List ScheduleEntry) → SpellsSchedule text recorded entries → ⊥)
+
+-- When a fault is answered, and what is written then.
+abbrev pub IsUntranscribed : Option (List ℕ) → (old new : Option (List ℕ)) → Fault → Type 0
+IsUntranscribed left old new faults.Device = TranscribesPart left old new
+IsUntranscribed left old new faults.Memory = TranscribesPart left old new
+IsUntranscribed left old new (faults.Text fault) = (new ≡ old) × ((fault ≡ texts.OutOfMemory) ⊎ IsNoText left)
+IsUntranscribed left old new (faults.Schedule fault) = ⊥
+IsUntranscribed left old new (faults.Refusal refusal) = ⊥
