@@ -34,6 +34,9 @@ class CaseFolder:
             source = files.get(words[3], self.files.get(words[3], b"")) if len(words) > 2 else b""
             files[words[1]] = source
             return lambda more: files.update({words[1]: changed(files[words[1]], more, len(words) > 2)})
+        if words[0] == "text":
+            files[words[1]] = b""
+            return lambda more: files.update({words[1]: files[words[1]] + " ".join(more).encode() + b"\n"})
         if words[0] == "case":
             self.words[words[1]] = []
             return self.words[words[1]].extend
@@ -54,9 +57,9 @@ class CaseFolder:
         return schedule, options, files
 
     def replays(self):
-        """The cases that replay files which are all given here."""
+        """The cases that replay files which are all given here, and do no more."""
         for case, words in self.words.items():
-            if words[:1] == ["replay"] and "--explain" not in words:
+            if words[:1] == ["replay"] and not {"--explain", "--then-run"} & set(words):
                 schedule, _, files = self.parts(case)
                 if schedule and all(name in self.files for name in [schedule, *files]):
                     yield case

@@ -76,7 +76,10 @@ fn push_fault(words: &mut String, line: &[u8]) -> Result<(), AllocError> {
 /// Appends the words of a line that are no numbers, up to the place of a refusal.
 fn push_words(words: &mut String, line: &[u8]) -> Result<(), AllocError> {
     for word in line.split(|byte| *byte == b' ') {
-        if word == b"file".as_slice() || word == b"method".as_slice() {
+        if word == b"file".as_slice()
+            || word == b"method".as_slice()
+            || word == b"line".as_slice()
+        {
             break;
         }
         if !word.iter().all(|byte| byte.is_ascii_digit()) {

@@ -43,7 +43,7 @@ impl Outcome {
     }
 }
 
-/// Does what the words behind `jvm` say over these files, with no other file there.
+/// Does what the words behind `jvm` say over these files, with no other file there and nothing to read on the input.
 ///
 /// The only error is a want of memory for the words, for what is said, or for the file that is made.
 pub fn outcome_of<R: Threads + Wait + Sync>(
@@ -55,9 +55,19 @@ pub fn outcome_of<R: Threads + Wait + Sync>(
     let words = words_of(alloc, words)?;
     let made = RefCell::new(None);
     let folder = MemoryFolder::new(alloc, files, &made);
+    let mut input = Counted::new(alloc, b"".as_slice());
     let mut output = Counted::new(alloc, Vec::new(alloc));
     let mut said = Vec::new(alloc);
-    let status = match run(rt, alloc, &Open, &folder, words.as_slice(), &mut output) {
+    let answer = run(
+        rt,
+        alloc,
+        &Open,
+        &folder,
+        words.as_slice(),
+        &mut input,
+        &mut output,
+    );
+    let status = match answer {
         Ok(status) => status,
         Err(complaint) => {
             complaint.write_text(&mut said)?;
