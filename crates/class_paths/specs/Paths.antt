@@ -1,7 +1,7 @@
 -- The class files of a folder (own).
-use Rattle.std.specs.Prelude.{◌≡◌, ℕ, Bool, List, ◌++◌, map, filter, codes, ◌==◌, string_bytes, string_cmp}
-use Rattle.std.specs.List.{ends_with, IsPermutation, IsSorted}
-use Rattle.std_alloc.specs.declared.string.String.{String}
+use Rattle.std.specs.Prelude.{◌≡◌, ℕ, Bool, List, ◌++◌, map, filter, codes, ◌==◌, string_bytes, string_cmp, IsPermutation, IsSorted}
+use Rattle.std.specs.List.{ends_with}
+use Rattle.std.specs.declared.string.String.{String}
 
 -- the name ends in `.class`
 abbrev pub is_class_name : List ℕ → Bool

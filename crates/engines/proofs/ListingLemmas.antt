@@ -11,7 +11,7 @@ use Rattle.class_listings.specs.Listings.{IsFirstMalformed, listings, no_memory}
 use Rattle.refusal.specs.declared.why.Refusal.{Refusal}
 use Rattle.engines.specs.Devices.{fault_of}
 use Rattle.engines.specs.Engines.{IsOfFile, ReadsEach}
-use Rattle.engines.specs.Listings.{IsUnlisted, ListsFront}
+use Rattle.engines.specs.Listings.{IsUnlisted, IsUnnamed, ListsFront, NamesFront}
 use Rattle.engines.specs.declared.fault.Fault.{Fault}
 use Rattle.engines.specs.declared.fault.Fault.TheVariants as faults
 
@@ -44,3 +44,20 @@ front_is_unlisted devices.Memory lefts old new front = front
 -- what is listed are the trees
 pub listed_trees : (files : List ClassFile) → flat_map (λ file. listing (file_of file)) files ≡ listings (map file_of files)
 listed_trees files = flat_map_over listing file_of files
+
+-- ---- with names
+
+pub unread_is_unnamed : (fault : Fault) (lefts : List (Option (List ℕ))) (held : Option (List ℕ)) (file : ℕ) → file < length lefts → IsOfFile file fault → IsUnnamed lefts held held fault
+unread_is_unnamed faults.Device lefts held file within of_file = inl refl
+unread_is_unnamed faults.Memory lefts held file within of_file = absurd of_file
+unread_is_unnamed (faults.Schedule fault) lefts held file within of_file = absurd of_file
+unread_is_unnamed (faults.Text fault) lefts held file within of_file = absurd of_file
+unread_is_unnamed (faults.Refusal refusal) lefts held file within of_file = (refl, inl (file, within, of_file))
+
+pub undecoded_is_unnamed : (lefts : List (Option (List ℕ))) (files : List (List ℕ)) (held : Option (List ℕ)) (refusal : Refusal) → ReadsEach lefts files
+    → ((number : ℕ) × (number < length files) × (refusal ≡ no_memory number)) ⊎ IsFirstMalformed files refusal → IsUnnamed lefts held held (faults.Refusal refusal)
+undecoded_is_unnamed lefts files held refusal each refused = undecoded_is_unlisted lefts files held refusal each refused
+
+pub front_is_unnamed : (fault : DeviceFault) (lefts : List (Option (List ℕ))) (old new : Option (List ℕ)) → NamesFront lefts old new → IsUnnamed lefts old new (fault_of fault)
+front_is_unnamed devices.Device lefts old new front = inr front
+front_is_unnamed devices.Memory lefts old new front = front

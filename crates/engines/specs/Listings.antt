@@ -32,3 +32,23 @@ IsUnlisted lefts old new faults.Memory = ListsFront lefts old new
 IsUnlisted lefts old new (faults.Refusal refusal) = (new ≡ old) × (IsUnread (length lefts) refusal ⊎ IsUndecoded lefts refusal)
 IsUnlisted lefts old new (faults.Schedule fault) = ⊥
 IsUnlisted lefts old new (faults.Text fault) = ⊥
+
+-- ---- with names and line numbers, of whose text nothing is said
+
+-- the sources hold the bytes of class files
+abbrev pub AreClassFiles : List (Option (List ℕ)) → Type 0
+AreClassFiles lefts = (files : List (List ℕ)) × (trees : Program) × ReadsEach lefts files × AreSpelled files trees
+
+-- a front of some text is written, which may have no byte
+abbrev pub NamesFront : List (Option (List ℕ)) → Option (List ℕ) → Option (List ℕ) → Type 0
+NamesFront lefts old new = AreClassFiles lefts × (text : List ℕ) × AppendsFront old new text
+
+-- When a fault is answered, and what is written then.
+abbrev pub IsUnnamed : List (Option (List ℕ)) → Option (List ℕ) → Option (List ℕ) → Fault → Type 0
+IsUnnamed lefts old new faults.Device = (new ≡ old) ⊎ NamesFront lefts old new
+-- memory is wanted for the text, or for its writing
+IsUnnamed lefts old new faults.Memory = NamesFront lefts old new
+-- memory for the reading aside, a file is no class file
+IsUnnamed lefts old new (faults.Refusal refusal) = (new ≡ old) × (IsUnread (length lefts) refusal ⊎ IsUndecoded lefts refusal)
+IsUnnamed lefts old new (faults.Schedule fault) = ⊥
+IsUnnamed lefts old new (faults.Text fault) = ⊥

@@ -28,7 +28,7 @@ pub use device::Counted;
 pub use explaining::second_line;
 pub use fault::Fault;
 pub use folder::{Folder, SystemFolder};
-pub use listing::disasm_engine;
+pub use listing::{disasm_engine, names_engine};
 pub use program::run;
 pub use replaying::replay_engine;
 pub use running::run_engine;

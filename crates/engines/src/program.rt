@@ -6,7 +6,7 @@ use crate::device::Counted;
 use crate::fault::Fault;
 use crate::folder::{CreatedFile, Folder, NamedFile};
 use crate::given_paths::given_paths;
-use crate::listing::disasm_engine;
+use crate::listing::{disasm_engine, names_engine};
 use crate::replaying::replay_engine;
 use crate::running::run_engine;
 use crate::status::Status;
@@ -146,7 +146,11 @@ fn disasm<F: Folder, W: Sink>(
 ) -> Result<Status, Fault> {
     let paths = given_paths(alloc, folder, &options.files)?;
     let mut files = sources(alloc, folder, &paths)?;
-    disasm_engine(alloc, files.as_mut_slice(), output)
+    if options.names {
+        names_engine(alloc, files.as_mut_slice(), output)
+    } else {
+        disasm_engine(alloc, files.as_mut_slice(), output)
+    }
 }
 
 /// `schedule`.

@@ -5,7 +5,7 @@ use Rattle.std.specs.Io.KnownBytes.{Appends}
 use Rattle.model.specs.Devices.{AppendsFront}
 use Rattle.model.specs.Linkable.{AreSpelled}
 use Rattle.classfile.specs.View.{file_of}
-use Rattle.class_listings.specs.Listings.{IsFirstMalformed, no_memory}
+use Rattle.class_listings.specs.Listings.{IsFirstMalformed, listings, no_memory}
 use Rattle.engines.proofs.ListingLemmas.{unread_is_unlisted, undecoded_is_unlisted, front_is_unlisted, listed_trees}
 use Rattle.engines.proofs.listing.disasm_engine.Goals as goal
 
@@ -38,9 +38,16 @@ returns-in_err-list_files-clause-faulty g c =
     let items = c.in_ok-files.files.items in
     let trees = c.in_ok-trees.trees.items in
     let spelled = subst (λ files. AreSpelled (map vec_items files) (map file_of trees)) c.as_slice.ensures.value c.in_ok-trees.ensures.spelled in
-    let text = ap (λ files. _) c.as_slice-2.ensures.value in
-    let written = subst (AppendsFront (contents c.args.listing.now) (contents c.list_files.new.writer)) (listed_trees c.as_slice-2.result.now ∙ ap (λ files. _) c.as_slice-2.ensures.value) c.in_err-list_files.ensures.written in
+    let text = listed_trees c.as_slice-2.result.now ∙ ap (λ trees. listings (map file_of trees)) c.as_slice-2.ensures.value in
+    let written = subst (AppendsFront (contents c.args.listing.now) (contents c.list_files.new.writer)) text c.in_err-list_files.ensures.written in
     rw (p.1, p.2) (front_is_unlisted _ _ _ _ (_, (map vec_items items, map file_of trees, c.in_ok-files.ensures.read, spelled, refl), written))
 
 pub returns-clause-listed : goal.returns-clause-listed
-returns-clause-listed g c = _
+returns-clause-listed g c =
+    let contents = g.W.Sink.contents in
+    let items = c.in_ok-files.files.items in
+    let trees = c.in_ok-trees.trees.items in
+    let spelled = subst (λ files. AreSpelled (map vec_items files) (map file_of trees)) c.as_slice.ensures.value c.in_ok-trees.ensures.spelled in
+    let text = listed_trees c.as_slice-2.result.now ∙ ap (λ trees. listings (map file_of trees)) c.as_slice-2.ensures.value in
+    let written = subst (Appends (contents c.args.listing.now) (contents c.list_files.new.writer)) text c.in_ok-list_files.ensures.written in
+    (listings (map file_of trees), refl, (map vec_items items, map file_of trees, c.in_ok-files.ensures.read, spelled, refl), written)
