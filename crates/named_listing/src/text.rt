@@ -4,6 +4,7 @@ use itoa::Buffer;
 use std::alloc::AllocError;
 
 /// What stands behind a line of the listing, if anything does: parts behind ` // `, with commas between them.
+#[derive(Drop)]
 pub(crate) struct Comment<'a> {
     text: &'a mut Vec<u8>,
     is_begun: bool,
