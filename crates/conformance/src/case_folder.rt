@@ -104,6 +104,7 @@ impl<'a, F: Folder> Folder for CaseFolder<'a, F> {
 
 /// The part of a name behind the folder of this path, where that has no folder in it.
 fn name_in<'a>(name: &'a str, path: &str) -> Option<&'a str> {
+    let path = path.strip_suffix('/').unwrap_or(path);
     let rest = name.strip_prefix(path)?.strip_prefix('/')?;
     if rest.contains('/') { None } else { Some(rest) }
 }
