@@ -7,15 +7,13 @@ ghost use Rattle.model.specs.Classes.{Program};
 ghost use Rattle.engines.specs.Engines.{CountsFailure};
 ghost use Rattle.engines.specs.Refusals.{IsRefused};
 ghost use Rattle.engines.specs.Verifications.{IsUnaccepted, Verifies, verified_line};
-ghost use Rattle.engines.specs.Libraries.{IsLibrary, IsRefusedLibrary, IsUnacceptedLibrary, VerifiesLibrary, file_without_main};
 
 use crate::class_files::read_class_files;
 use crate::fault::Fault;
-use crate::library::behind_main;
 use crate::status::Status;
 use linker::link;
 use model::{Sink, Source};
-use refusal::{Refusal, RefusalKind};
+use refusal::Refusal;
 use std::alloc::{AllocError, Global};
 use verifier::{Verified, verify};
 
@@ -44,32 +42,6 @@ pub fn verify_engine<S: Source, W: Sink>(
     Ok(Status::Returned)
 }
 
-/// Links and verifies the class files of a library, of which no class has to have a `main`: they are accepted where they are
-/// behind a class that has one. Writes a line with their number, and answers the status of what is done.
-///
-/// Nothing is written where a file can't be read or the files are refused.
-pub fn verify_library_engine<S: Source, W: Sink>(
-    alloc: Global,
-    files: &mut [S],
-    line: &mut W,
-) -> Result<Status, Fault>
-    // The files that were read are accepted so, and the line of their number is written, and nothing else.
-    ensures verified { IfOk result (λ status. (text : _) × (status ≡ Status.Returned)
-        × VerifiesLibrary (map S.remaining files.old) text
-        × Appends (W.contents line.old) (W.contents line.new) text) }
-    ensures faulty { IfErr result (IsUnacceptedLibrary (map S.remaining files.old)
-        (W.contents line.old) (W.contents line.new)) }
-    ensures counted { CountsFailure result
-        (sum_by S.failures files.old + W.failures line.old)
-        (sum_by S.failures files.new + W.failures line.new) }
-{
-    let files = read_class_files(alloc, files)?;
-    let count = library_count(alloc, files)?;
-    let text = line_of(alloc, count)?;
-    line.write_all(text.as_bytes())?;
-    Ok(Status::Returned)
-}
-
 /// The class files, where linking and verification accept them.
 pub(crate) fn accepted(alloc: Global, files: &[Vec<u8>]) -> Result<Verified, Refusal>
     ensures accepted { IfOk result (IsAccepted (map vec_items files.now)) }
@@ -92,35 +64,8 @@ fn accepted_count(alloc: Global, files: &[Vec<u8>]) -> Result<usize, Refusal>
     Ok(verified.linked().file_count())
 }
 
-/// How many class files these are, where they are accepted as a library.
-fn library_count(alloc: Global, files: Vec<Vec<u8>>) -> Result<usize, Refusal>
-    ensures accepted { IfOk result (λ count. (trees : Program)
-        × IsLibrary (map vec_items files.items) trees × (count ≡ length files.items)) }
-    ensures refused { IfErr result (IsRefusedLibrary (map vec_items files.items)) }
-{
-    let count = files.len();
-    let Ok(all) = behind_main(alloc, files) else {
-        return Err(Refusal::of(RefusalKind::OutOfMemory));
-    };
-    match accepted(alloc, all.as_slice()) {
-        Ok(_) => Ok(count),
-        Err(refusal) => Err(without_main(refusal)),
-    }
-}
-
-/// The refusal, with the number of its file counted without the class in front of the files.
-fn without_main(refusal: Refusal) -> Refusal
-    ensures { result ≡ record refusal { file = file_without_main refusal.file } }
-{
-    let file = match refusal.file {
-        Some(number) if number > 0 => Some(number - 1),
-        _ => None,
-    };
-    Refusal { file, ..refusal }
-}
-
 /// The line of so many classes.
-fn line_of(alloc: Global, count: usize) -> Result<String, AllocError>
+pub(crate) fn line_of(alloc: Global, count: usize) -> Result<String, AllocError>
     ensures { IfOk result (λ text. string_bytes text ≡ verified_line count) }
 {
     format!(in alloc; "verified {count} classes\n")

@@ -6,7 +6,7 @@ use Rattle.model.specs.Devices.{AppendsFront}
 use Rattle.engines.specs.Verifications.{verified_line}
 use Rattle.engines.proofs.VerificationLemmas.{none_written}
 use Rattle.engines.proofs.LibraryLemmas.{unread_is_no_library, front_is_no_library}
-use Rattle.engines.proofs.verification.verify_library_engine.Goals as goal
+use Rattle.engines.proofs.library.verify_library_engine.Goals as goal
 
 pub returns-in_err-files-clause-faulty : goal.returns-in_err-files-clause-faulty
 returns-in_err-files-clause-faulty g c =

@@ -6,7 +6,7 @@ use Rattle.classfile.specs.View.{file_of}
 use Rattle.class_listings.specs.Listings.{IsFirstMalformed, no_memory}
 use Rattle.engines.proofs.ListingLemmas.{unread_is_unnamed, undecoded_is_unnamed, front_is_unnamed}
 use Rattle.engines.proofs.VerificationLemmas.{none_written}
-use Rattle.engines.proofs.listing.names_engine.Goals as goal
+use Rattle.engines.proofs.names.names_engine.Goals as goal
 
 pub returns-in_err-files-clause-faulty : goal.returns-in_err-files-clause-faulty
 returns-in_err-files-clause-faulty g c =
