@@ -1,6 +1,6 @@
 -- The schedules of a tree by its nodes.
-use Rattle.std.proofs.Common.{◌≡◌, ℕ, zero, suc, ◌+◌, ◌-◌, ◌<◌, ◌≤◌, ◌^◌, List, [], ◌∷◌, ◌++◌, length, reverse, get_or, Some, refl, sym, ap, ◌∙◌, subst, arith}
-use Rattle.std.specs.Prelude.{slice_get, slice_index_or}
+use Rattle.std.proofs.Common.{◌≡◌, ℕ, zero, suc, ◌+◌, ◌<◌, ◌≤◌, ◌^◌, List, [], ◌∷◌, ◌++◌, length, reverse, Some, refl, sym, ap, ◌∙◌, subst, arith}
+use Rattle.std.specs.Prelude.{slice_get}
 use Rattle.std.specs.List.{AllByRecursion}
 use Rattle.std.proofs.lemmas.List.{length-append, reverse-append, length-reverse, append_assoc}
 use Rattle.std.proofs.lemmas.Option.{none-some, get_or_from_slice_get, slice_get-get_or}
@@ -104,8 +104,8 @@ step_at (first ∷ nodes) w zero node h e =
         record {
           below = lt;
           is = ap (way_at (ways_from after nodes)) at
-          ∙ (way_of (ways_from after nodes) (length w) _ own
-          ∙ ap (λ x. x ++ first.entry ∷ []) (sym (way_of (ways_from after nodes) first.parent _ old)));
+              ∙ (way_of (ways_from after nodes) (length w) _ own
+              ∙ ap (λ x. x ++ first.entry ∷ []) (sym (way_of (ways_from after nodes) first.parent _ old)));
         }
 step_at (first ∷ nodes) w (suc i) node h e =
     let after = with_way w first.parent first.entry in
@@ -148,10 +148,10 @@ module _ (nodes : List Node) (below : AreBelow 1 nodes) (fitting : AreFitting no
       record {
         within = lt;
         are = h.are
-        ∙ (ap (λ k. way_at (ways nodes) k ++ reverse entries) before
-        ∙ (ap (λ l. l ++ reverse entries) s.is
-        ∙ (append_assoc (way_at (ways nodes) node.parent) (node.entry ∷ []) (reverse entries)
-        ∙ ap (λ l. way_at (ways nodes) node.parent ++ l) (sym (reverse-append entries (node.entry ∷ []))))));
+            ∙ (ap (λ k. way_at (ways nodes) k ++ reverse entries) before
+            ∙ (ap (λ l. l ++ reverse entries) s.is
+            ∙ (append_assoc (way_at (ways nodes) node.parent) (node.entry ∷ []) (reverse entries)
+            ∙ ap (λ l. way_at (ways nodes) node.parent ++ l) (sym (reverse-append entries (node.entry ∷ []))))));
         each = all_pushed EntryFits entries node.entry h.each (all_at (λ (n : Node). EntryFits n.entry) nodes i node fitting is);
         few = le;
       }

@@ -1,5 +1,5 @@
 -- Schedules, each of which goes on from another one (own).
-use Rattle.std.specs.Prelude.{◌≡◌, ◌<◌, ◌≤◌, ℕ, suc, List, [], ◌∷◌, ◌++◌, Some, length, reverse, slice_get, slice_index_or}
+use Rattle.std.specs.Prelude.{◌≡◌, ◌<◌, ◌≤◌, ℕ, suc, List, [], ◌∷◌, ◌++◌, length, reverse, slice_index_or}
 use Rattle.std.specs.List.{AllByRecursion}
 use Rattle.model.specs.declared.event.ScheduleEntry.{ScheduleEntry}
 use Rattle.model.specs.Schedule.{EntryFits}

@@ -1,4 +1,4 @@
-use Rattle.std.proofs.Common.{sym, ◌∙◌, ap, arith}
+use Rattle.std.proofs.Common.{arith}
 use Rattle.schedule_tree.proofs.Ways.{length_ways}
 use Rattle.schedule_tree.proofs.tree.ScheduleTree.len.Goals as goal
 
