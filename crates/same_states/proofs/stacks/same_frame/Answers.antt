@@ -18,9 +18,9 @@ returns c = λ yes.
     let g = shown_frame c.args.other.now in
     let locals = sym c.as_slice.ensures ∙ c.if-not-same_numbers.ensures refl ∙ c.as_slice-2.ensures in
     let operands =
-        sym (turned f.operands c.last_operands.result.now c.operand_count.result c.operand_count.ensures.value c.last_operands.ensures)
-        ∙ ap reverse (c.same_numbers-2.ensures yes)
-        ∙ turned g.operands c.last_operands-2.result.now c.operand_count-2.result c.operand_count-2.ensures.value c.last_operands-2.ensures
+    sym (turned f.operands c.last_operands.result.now c.operand_count.result c.operand_count.ensures.value c.last_operands.ensures)
+    ∙ ap reverse (c.same_numbers-2.ensures yes)
+    ∙ turned g.operands c.last_operands-2.result.now c.operand_count-2.result c.operand_count-2.ensures.value c.last_operands-2.ensures
     in
     ap (λ m. frame_of m f.place f.entered f.locals f.operands) c.if-one-other.false
     ∙ ap (λ p. frame_of g.method p f.entered f.locals f.operands) c.if-one-other-2.false
