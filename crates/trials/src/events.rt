@@ -10,7 +10,7 @@ use crate::outcome::Outcome;
 use crate::subject::{Command, Subject};
 use anyhow::{Context, Result, bail};
 use model::{Event, ScheduleEntry};
-use schedule::{Schedule, read_schedule, write_schedule};
+use schedule::read_schedule;
 use std::alloc::{AllocError, Global};
 use std::str;
 use std::sync::Wait;
@@ -85,50 +85,58 @@ fn may_be(fate: Fate, pick: u16, can_go_on: bool) -> bool {
     }
 }
 
-/// The entries of the first events, so many.
-fn front(
+/// Appends an entry of a schedule as text.
+fn push_entry(
     alloc: Global,
-    entries: &[ScheduleEntry],
-    events: u64,
-) -> Result<Vec<ScheduleEntry>, AllocError> {
+    text: &mut String,
+    event: Event,
+    repeat: u32,
+) -> Result<(), AllocError> {
+    let Event { thread, pick } = event;
+    if repeat > 1 {
+        text.push_str(format!(in alloc; "{thread}*{repeat}\n")?.as_str())
+    } else if pick > 0 {
+        text.push_str(format!(in alloc; "{thread}.{pick}\n")?.as_str())
+    } else {
+        text.push_str(format!(in alloc; "{thread}\n")?.as_str())
+    }
+}
+
+/// The first events, so many, of a schedule, as text. What begins with white space is a text.
+fn front(alloc: Global, entries: &[ScheduleEntry], events: u64) -> Result<String, AllocError> {
     let mut left = events;
-    let mut front = Vec::new(alloc);
+    let mut text = String::from_str(alloc, "\n")?;
     for entry in entries {
         let repeat = u32::try_from(left.min(u64::from(entry.repeat))).unwrap_or(entry.repeat);
         if repeat > 0 {
-            front.push(ScheduleEntry {
-                event: entry.event,
-                repeat,
-            })?;
+            push_entry(alloc, &mut text, entry.event, repeat)?;
         }
         left = left.saturating_sub(u64::from(repeat));
     }
-    Ok(front)
+    Ok(text)
 }
 
-/// The replay of these entries.
+/// The replay under a schedule.
 fn replay<R: Print + AllocGlobal + Threads + Wait + Sync>(
     rt: &R,
     subject: &Subject,
-    entries: Vec<ScheduleEntry>,
+    schedule: &str,
 ) -> Result<Outcome> {
-    let schedule = Schedule::of_entries(entries);
-    let bytes = write_schedule(rt.alloc(), &schedule, None)?;
-    Ok(subject.outcome(rt, Command::Replay, 0, bytes.as_slice())?)
+    Ok(subject.outcome(rt, Command::Replay, 0, schedule.as_bytes())?)
 }
 
 /// Tries one event behind a front. Answers whether something was wrong.
 fn try_event<R: Print + AllocGlobal + Threads + Wait + Sync>(
     rt: &R,
     subject: &Subject,
-    entries: &[ScheduleEntry],
+    front: &str,
     report: ReportParts<'_>,
     event: Event,
     counts: &mut Counts,
 ) -> Result<bool> {
-    let mut longer = Vec::from_slice(rt.alloc(), entries)?;
-    longer.push(ScheduleEntry { event, repeat: 1 })?;
-    let after = replay(rt, subject, longer)?;
+    let mut longer = String::from_str(rt.alloc(), front)?;
+    push_entry(rt.alloc(), &mut longer, event, 1)?;
+    let after = replay(rt, subject, longer.as_str())?;
     let thread = event.thread;
     let pick = event.pick;
     let line = format!(in rt.alloc(); "thread {thread} runnable")?;
@@ -150,10 +158,10 @@ fn try_event<R: Print + AllocGlobal + Threads + Wait + Sync>(
 fn try_events<R: Print + AllocGlobal + Threads + Wait + Sync>(
     rt: &R,
     subject: &Subject,
-    entries: &[ScheduleEntry],
+    front: &str,
     counts: &mut Counts,
 ) -> Result<u64> {
-    let report = replay(rt, subject, Vec::from_slice(rt.alloc(), entries)?)?;
+    let report = replay(rt, subject, front)?;
     let report = parts(&report).context("a front has no report")?;
     if report.end != "quiet" && report.end != "schedule" {
         bail!("a front ends by {}", report.end);
@@ -161,7 +169,7 @@ fn try_events<R: Print + AllocGlobal + Threads + Wait + Sync>(
     let mut wrong = 0u64;
     for thread in 0..THREADS {
         for pick in PICKS {
-            if try_event(rt, subject, entries, report, Event { thread, pick }, counts)? {
+            if try_event(rt, subject, front, report, Event { thread, pick }, counts)? {
                 wrong = wrong.saturating_add(1);
             }
         }
@@ -181,8 +189,8 @@ pub fn events<R: Print + AllocGlobal + Threads + Wait + Sync>(
     };
     let mut wrong = 0u64;
     for events in 0..=schedule.count() {
-        let entries = front(rt.alloc(), schedule.entries(), events)?;
-        let found = try_events(rt, subject, entries.as_slice(), &mut counts)?;
+        let front = front(rt.alloc(), schedule.entries(), events)?;
+        let found = try_events(rt, subject, front.as_str(), &mut counts)?;
         wrong = wrong.saturating_add(found);
     }
     println!(rt; "{}: {} events", file.path, schedule.count())?;
