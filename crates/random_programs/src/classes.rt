@@ -210,6 +210,20 @@ fn add(
     class.add_method(flags, wanted.name, wanted.descriptor, Some(parts))
 }
 
+/// The code of a constructor that calls that of the superclass.
+fn constructor_of(
+    alloc: Global,
+    class: &mut ClassBuilder,
+    random: &mut Random,
+    superclass: &[u8],
+) -> Result<CodeBuilder, AllocError> {
+    let mut body = Body::new(alloc, &mut class.pool, random, false);
+    body.load(0)?;
+    body.method(INVOKESPECIAL, superclass, b"<init>", b"()V")?;
+    body.leave()?;
+    Ok(body.code)
+}
+
 /// Adds a constructor that calls that of the superclass.
 fn add_constructor(
     alloc: Global,
@@ -217,11 +231,7 @@ fn add_constructor(
     random: &mut Random,
     superclass: &[u8],
 ) -> Result<(), AllocError> {
-    let mut body = Body::new(alloc, &mut class.pool, random, false);
-    body.load(0)?;
-    body.method(INVOKESPECIAL, superclass, b"<init>", b"()V")?;
-    body.leave()?;
-    let code = body.code;
+    let code = constructor_of(alloc, class, random, superclass)?;
     let parts = CodeParts {
         max_stack: 1,
         max_locals: 1,
