@@ -1,13 +1,13 @@
 /* To be preloaded by a program: the request of memory that the environment names is refused. Requests are counted from 1, those that
-   the program makes itself and not those of libraries. With FAILS=0 none is refused. How many there were is written to the file that
-   TELLS names, when the program ends. */
+   the program makes itself and not those of libraries. With FAILS=0 none is refused. The file that TELLS names is made when it is. */
 #define _GNU_SOURCE
 #include <errno.h>
+#include <fcntl.h>
 #include <link.h>
 #include <stdatomic.h>
 #include <stdint.h>
-#include <stdio.h>
 #include <stdlib.h>
+#include <unistd.h>
 
 extern void *__libc_malloc(size_t);
 extern void *__libc_realloc(void *, size_t);
@@ -37,12 +37,12 @@ __attribute__((constructor)) static void open_counts(void) {
     fails = text ? strtoul(text, NULL, 10) : 0;
 }
 
-__attribute__((destructor)) static void tell_counts(void) {
+/* A program may end without its destructors, so that a request is refused is told at once. */
+static void tell(void) {
     const char *path = getenv("TELLS");
-    FILE *file = path ? fopen(path, "w") : NULL;
-    if (file) {
-        fprintf(file, "%lu\n", atomic_load(&requests));
-        fclose(file);
+    int file = path ? open(path, O_CREAT | O_WRONLY, 0600) : -1;
+    if (file >= 0) {
+        close(file);
     }
 }
 
@@ -54,6 +54,7 @@ static int is_refused(void *caller) {
     if (atomic_fetch_add(&requests, 1) + 1 != fails) {
         return 0;
     }
+    tell();
     errno = ENOMEM;
     return 1;
 }
