@@ -32,6 +32,7 @@ const FILES: [File; 4] = [
 
 /// The names by which these tests call the output and the input.
 const OUTPUT: &str = "output";
+
 const INPUT: &str = "input";
 
 /// What the input has.
