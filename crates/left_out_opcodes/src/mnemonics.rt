@@ -126,8 +126,8 @@ fn of_others(opcode: u8) -> Option<&'static str> {
     }
 }
 
-/// The mnemonic of an opcode of the JVMS.
-pub(crate) fn mnemonic(opcode: u8) -> Option<&'static str> {
+/// The mnemonic of an opcode of the JVMS, whether this machine has it or not (6.5).
+pub fn mnemonic(opcode: u8) -> Option<&'static str> {
     opcodes::mnemonic(opcode)
         .or(of_long(opcode))
         .or(of_float(opcode))
