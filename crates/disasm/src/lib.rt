@@ -9,4 +9,5 @@ mod numbers;
 mod operands;
 mod switches;
 
+pub use instruction::push_meaning;
 pub use listing::list;

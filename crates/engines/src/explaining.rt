@@ -35,6 +35,7 @@ fn asks(command: &Command) -> bool {
     match command {
         Command::Run(options) => options.explain,
         Command::Replay(options) => options.explain,
+        Command::Trace(options) => options.explain,
         Command::Verify(options) => options.explain,
         Command::Disasm(options) => options.explain,
         Command::Schedule(options) => options.explain,
@@ -53,6 +54,7 @@ fn indented(alloc: Global, line: &[u8]) -> Result<Vec<u8>, AllocError> {
 fn schedule_of(command: &Command) -> Option<&str> {
     match command {
         Command::Replay(options) => Some(options.schedule.as_str()),
+        Command::Trace(options) => Some(options.schedule.as_str()),
         Command::Schedule(options) if !options.write => Some(options.file.as_str()),
         _ => None,
     }
@@ -74,6 +76,7 @@ fn files_of<'a>(alloc: Global, command: &'a Command) -> Result<Vec<&'a str>, All
     match command {
         Command::Run(options) => push_all(&mut paths, &options.files)?,
         Command::Replay(options) => push_all(&mut paths, &options.files)?,
+        Command::Trace(options) => push_all(&mut paths, &options.files)?,
         Command::Verify(options) => push_all(&mut paths, &options.files)?,
         Command::Disasm(options) => paths.push(options.file.as_str())?,
         Command::Schedule(_) => {}
