@@ -1,16 +1,24 @@
 //! Words and numbers.
 
+ghost use Rattle.std.specs.Prelude.{◌≡◌, ◌++◌, OnOk};
+ghost use Rattle.model.specs.Report.{number as digits};
+
 use itoa::Buffer;
 use std::alloc::AllocError;
 
-pub(crate) fn push_words(text: &mut Vec<u8>, words: &str) -> Result<(), AllocError> {
+pub(crate) fn push_words(text: &mut Vec<u8>, words: &str) -> Result<(), AllocError>
+    ensures { OnOk result (text.new.items ≡ text.old.items ++ words.now) }
+{
     Ok(text.extend_from_slice(words.as_bytes())?)
 }
 
 /// A number in decimal.
-pub(crate) fn push_number(text: &mut Vec<u8>, number: u64) -> Result<(), AllocError> {
+pub(crate) fn push_number(text: &mut Vec<u8>, number: u64) -> Result<(), AllocError>
+    ensures { OnOk result (text.new.items ≡ text.old.items ++ digits number) }
+{
     let mut buffer = Buffer::new();
-    Ok(text.extend_from_slice(buffer.format(number).as_bytes())?)
+    text.extend_from_slice(buffer.format(number).as_bytes())?;
+    Ok(())
 }
 
 /// A number in decimal, with `-` where it is negative.

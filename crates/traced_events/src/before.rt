@@ -1,29 +1,19 @@
 //! What is kept of a thread while it does an event.
 
+ghost use Rattle.std.specs.Prelude.{◌≡◌, OnOk};
+ghost use Rattle.traced_events.specs.Places.{IsSeen, IsSeenOf};
+ghost use Rattle.traced_events.specs.Seen.{IsFrameSeen};
+
 use crate::built_in::built_in_called;
 use crate::calls::{called_method, receiver_place};
+use crate::frames::{FrameBefore, frame_on_top};
 use crate::monitors::waiting_on;
 use crate::rules::{Rule, rule_of};
-use linked_code::{BuiltInMethod, LinkedInstruction, LinkedProgram, MethodBody};
+use linked_code::{BuiltInMethod, LinkedInstruction, LinkedProgram};
 use linked_frames::instruction_at;
 use machine_state::Shared;
-use method_selection::method_at;
 use std::alloc::{AllocError, Global};
 use thread_stacks::{Frame, ThreadStack, Top};
-
-/// What stands for the offset of a place at which no instruction begins.
-const NO_OFFSET: u16 = 65535;
-
-/// Where the frame on top of a thread stands.
-#[derive(Clone, Copy, Debug)]
-pub struct FrameBefore {
-    /// The number of its method.
-    pub method: u32,
-    /// The offset of its instruction in the method's code.
-    pub offset: u16,
-    /// The object whose monitor its invocation entered.
-    pub entered: Option<u32>,
-}
 
 /// What is known of a thread before its event. It serves for one event after another.
 #[derive(Drop)]
@@ -47,37 +37,42 @@ pub struct Before {
     pub(crate) waiting: Vec<u16>,
 }
 
-/// The offset of a place in the code of a method.
-fn offset_of(program: &LinkedProgram, method: u32, place: usize) -> u16 {
-    match method_at(program, method) {
-        Some(row) => match &row.body {
-            MethodBody::Code(code) => code.starts.get(place).copied().unwrap_or(NO_OFFSET),
-            MethodBody::Abstract | MethodBody::BuiltIn(_) => NO_OFFSET,
-        },
-        None => NO_OFFSET,
-    }
-}
-
-/// The offset at which the frame on top of a stack stands.
-pub(crate) fn offset_on_top(program: &LinkedProgram, stack: &ThreadStack) -> u16 {
-    match stack.frame() {
-        Some(frame) => offset_of(program, frame.method, frame.place),
-        None => NO_OFFSET,
-    }
-}
-
-/// Where a frame stands.
-fn frame_before(program: &LinkedProgram, frame: &Frame) -> FrameBefore {
-    FrameBefore {
-        method: frame.method,
-        offset: offset_of(program, frame.method, frame.place),
-        entered: frame.entered,
-    }
-}
-
 /// The operands on top of a frame, the topmost first.
-fn operands_of(frame: &Frame) -> [u32; 3] {
-    [frame.operand(0), frame.operand(1), frame.operand(2)]
+fn operands_of(frame: Option<&Frame>) -> [u32; 3] {
+    match frame {
+        Some(frame) => [frame.operand(0), frame.operand(1), frame.operand(2)],
+        None => [0, 0, 0],
+    }
+}
+
+/// The word of the receiver of the method that an instruction calls.
+fn receiver_of(frame: Option<&Frame>, instruction: Option<LinkedInstruction>) -> u32 {
+    match (frame, instruction) {
+        (Some(frame), Some(instruction)) => frame.operand(receiver_place(instruction)),
+        _ => 0,
+    }
+}
+
+/// The class on top of a stack, if there is a class on top.
+fn class_on_top(stack: &ThreadStack) -> Option<u16>
+    ensures { (p : _) (frame : _) → IsFrameSeen p stack.now frame → IsSeen p stack.now frame result }
+{
+    match stack.top() {
+        Top::Initialisation { class, .. } => Some(class),
+        Top::Empty | Top::Invocation => None,
+    }
+}
+
+/// The instruction that a thread does next.
+fn instruction_of(
+    rule: Rule,
+    program: &LinkedProgram,
+    stack: &ThreadStack,
+) -> Option<LinkedInstruction> {
+    match rule {
+        Rule::Bytecode => instruction_at(program, stack),
+        _ => None,
+    }
 }
 
 impl Before {
@@ -101,29 +96,28 @@ impl Before {
         &self.waiting
     }
 
-    /// Looks at the frame on top.
-    fn look_at_frame(&mut self, program: &LinkedProgram, stack: &ThreadStack) {
-        match stack.frame() {
-            Some(frame) => {
-                self.frame = Some(frame_before(program, frame));
-                self.operands = operands_of(frame);
-            }
-            None => self.frame = None,
-        }
+    /// Looks at the stack of a thread.
+    fn look_at_stack(&mut self, shared: &Shared, program: &LinkedProgram, stack: &ThreadStack)
+        ensures { IsSeen program.now stack.now self.new.frame self.new.class }
+    {
+        self.frames = stack.frame_count();
+        self.operands = operands_of(stack.frame());
+        self.instruction = instruction_of(self.rule, program, stack);
+        self.receiver = receiver_of(stack.frame(), self.instruction);
+        self.called = called_method(program, &shared.heap, self.instruction, self.receiver);
+        self.frame = frame_on_top(program, stack);
+        self.class = class_on_top(stack);
     }
 
-    /// Looks at the method that the instruction calls, and at who waits for it.
-    fn look_at_call(
+    /// Looks at who waits for the notify that the instruction calls.
+    fn look_at_waiting(
         &mut self,
         shared: &Shared,
         program: &LinkedProgram,
-        stack: &ThreadStack,
-        instruction: LinkedInstruction,
-    ) -> Result<(), AllocError> {
-        if let Some(frame) = stack.frame() {
-            self.receiver = frame.operand(receiver_place(instruction));
-        }
-        self.called = called_method(program, &shared.heap, instruction, self.receiver);
+    ) -> Result<(), AllocError>
+        ensures frame { self.new.frame ≡ self.old.frame }
+        ensures class { self.new.class ≡ self.old.class }
+    {
         self.waiting.clear();
         match built_in_called(program, self.called) {
             Some(BuiltInMethod::ObjectNotify | BuiltInMethod::ObjectNotifyAll) => {
@@ -139,27 +133,21 @@ impl Before {
         shared: &Shared,
         program: &LinkedProgram,
         thread: u16,
-    ) -> Result<(), AllocError> {
-        self.rule = Rule::NoEvent;
-        self.frame = None;
-        self.class = None;
-        self.instruction = None;
-        self.called = None;
-        let Some(stack) = shared.stacks.get(usize::from(thread)) else {
-            return Ok(());
-        };
-        self.rule = rule_of(shared, stack, thread);
-        self.frames = stack.frame_count();
-        self.look_at_frame(program, stack);
-        if let Top::Initialisation { class, .. } = stack.top() {
-            self.class = Some(class);
-        }
-        if let Rule::Bytecode = self.rule {
-            self.instruction = instruction_at(program, stack);
-        }
-        match self.instruction {
-            Some(instruction) => self.look_at_call(shared, program, stack, instruction),
-            None => Ok(()),
+    ) -> Result<(), AllocError>
+        ensures { OnOk result (IsSeenOf program.now shared.now thread self.new.frame self.new.class) }
+    {
+        match shared.stacks.get(usize::from(thread)) {
+            Some(stack) => {
+                self.rule = rule_of(shared, stack, thread);
+                self.look_at_stack(shared, program, stack);
+                self.look_at_waiting(shared, program)
+            }
+            None => {
+                self.rule = Rule::NoEvent;
+                self.frame = None;
+                self.class = None;
+                Ok(())
+            }
         }
     }
 }

@@ -25,10 +25,10 @@ fn class_of_word(heap: &Heap, word: u32) -> Option<u32> {
 pub(crate) fn called_method(
     program: &LinkedProgram,
     heap: &Heap,
-    instruction: LinkedInstruction,
+    instruction: Option<LinkedInstruction>,
     receiver: u32,
 ) -> Option<u32> {
-    match instruction {
+    match instruction? {
         LinkedInstruction::InvokeStatic { method, .. }
         | LinkedInstruction::InvokeSpecial { method, .. } => Some(method),
         LinkedInstruction::InvokeVirtual { place, .. } => {

@@ -5,12 +5,14 @@ mod before;
 mod built_in;
 mod calls;
 mod deed;
+mod frames;
 mod instructions;
 mod monitors;
 mod rules;
 mod told;
 
-pub use before::{Before, FrameBefore};
+pub use before::Before;
 pub use deed::{Deed, Entries};
+pub use frames::FrameBefore;
 pub use rules::{Rule, rule_of};
 pub use told::{Told, told_of};

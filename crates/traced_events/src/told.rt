@@ -1,7 +1,8 @@
 //! What an event did, by its rule.
 
-use crate::before::{Before, offset_on_top};
+use crate::before::Before;
 use crate::deed::Deed;
+use crate::frames::offset_on_top;
 use crate::instructions::{After, call_deed, entries_after, instruction_deed};
 use crate::monitors::entries_of;
 use crate::rules::Rule;

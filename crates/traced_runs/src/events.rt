@@ -15,18 +15,25 @@ pub(crate) struct Telling<'a> {
     pub(crate) window: Window,
 }
 
-/// Does an event, and writes its line behind a text. Returns why it was not done, or `Most`.
+/// Does an event, and gathers its line. Returns why it was not done, or `Most`.
 fn told_event(
     machine: &mut Machine,
     teller: &Teller<'_>,
     before: &mut Before,
     line: Line,
-    text: &mut Vec<u8>,
+    lines: &mut Lines,
 ) -> Result<Stopped, AllocError> {
     before.look(machine.shared(), machine.program(), line.event.thread)?;
     let (_, why) = machine.repeat(line.event, 1);
     if let Stopped::Most = why {
-        push_line(text, teller, line, before, machine.shared())?;
+        push_line(
+            &mut lines.text,
+            &mut lines.spare,
+            teller,
+            line,
+            before,
+            machine.shared(),
+        )?;
     }
     Ok(why)
 }
@@ -44,7 +51,7 @@ fn event<W: Sink>(
         let (_, why) = machine.repeat(line.event, 1);
         return Ok(why);
     }
-    let why = told_event(machine, telling.teller, before, line, &mut lines.text)?;
+    let why = told_event(machine, telling.teller, before, line, lines)?;
     lines.ease(output)?;
     Ok(why)
 }

@@ -10,12 +10,15 @@ const GATHERED: usize = 32_768;
 #[derive(Drop)]
 pub(crate) struct Lines {
     pub(crate) text: Vec<u8>,
+    /// Parts of a line on their way to the text.
+    pub(crate) spare: Vec<u8>,
 }
 
 impl Lines {
     pub(crate) fn new(alloc: Global) -> Lines {
         Lines {
             text: Vec::new(alloc),
+            spare: Vec::new(alloc),
         }
     }
 
