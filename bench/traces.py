@@ -2,21 +2,24 @@
 """Traces by plain_machine.py: what `jvm trace` has to print, worked out by a machine of its own.
 
     traces.py [--from N] [--to N] [--only N] --schedule FILE FILE..
+    traces.py --write
 
 The schedule is a text. What an event did is told by the state before it and the state after it, as docs/FORMATS.md says.
+With --write the traces of the lessons below become cases of `crates/conformance`, with what they have to print.
 """
 
 import argparse
 import pathlib
+import re
 import sys
 
 sys.dont_write_bytecode = True
 
-from lessons import entries_of
+from lessons import LESSONS, compiled, entries_of
 from plain_frames import Frame, short
 from plain_classes import Reader, read_pool, INTERFACE
 from plain_machine import Initialisation, Machine, NotEnabled, Object, Refused, component, status_of, text_of
-from programs import enabled
+from programs import CONFORMANCE, ROOT, enabled, hex_lines
 
 # The mnemonics by their opcodes (JVMS chapter 7).
 MNEMONICS = """nop aconst_null iconst_m1 iconst_0 iconst_1 iconst_2 iconst_3 iconst_4 iconst_5 lconst_0 lconst_1 fconst_0
@@ -334,7 +337,79 @@ def trace(files, entries, first=0, last=None, only=None):
     return "".join(lines) + text_of(machine, end), status_of(machine, end)
 
 
+# The lessons that are traced: folder, schedule, class files, options, and how the schedule goes on.
+TRACED = [
+    ("lost-update", "lost", ["LostUpdate"], {}, "1*4 0*10"),
+    ("lost-update", "lost-repaired", ["Repaired"], {"only": 2}, ""),
+    ("bounded-buffer", "barges-in", ["IfForWhile"], {"from": 26}, "1*20"),
+    ("wrong-waiter", "second-is-woken", ["WrongWaiter"], {"from": 40}, "0*2 2*5"),
+    ("interrupted-wait", "within", ["InterruptedWait"], {"from": 10}, "1*30"),
+    ("missed-notify", "in-time", ["MissedNotify"], {"from": 15, "to": 30}, "1*12 0*5"),
+    ("class-initialisation", "thread-1-first", ["Initialisers", "Left", "Right"], {}, "0*4"),
+]
+
+def lined():
+    """A class whose main divides by zero, and catches that, with its source and its lines (JVMS 4.7.10, 4.7.12)."""
+    sys.path.insert(0, str(ROOT / "tools"))
+    from class_files import MAGIC_AND_VERSION, u2, u4, utf8
+
+    class_entry = lambda name: b"\x07" + u2(name)
+    pool = [
+        utf8("A"), class_entry(1), utf8("java/lang/Object"), class_entry(3), utf8("main"), utf8("([Ljava/lang/String;)V"),
+        utf8("Code"), utf8("java/lang/ArithmeticException"), class_entry(8), utf8("half"), utf8("(I)I"),
+        utf8("LineNumberTable"), utf8("A.java"), utf8("SourceFile"), b"\x0c" + u2(10) + u2(11), b"\x0a" + u2(2) + u2(15),
+    ]
+
+    def method(flags, name, descriptor, stack, local_count, code, handlers, lines):
+        table = u2(len(lines)) + b"".join(u2(start) + u2(line) for start, line in lines)
+        attribute = u2(12) + u4(len(table)) + table
+        body = u2(stack) + u2(local_count) + u4(len(code)) + code + u2(len(handlers)) + b"".join(handlers) + u2(1) + attribute
+        return u2(flags) + u2(name) + u2(descriptor) + u2(1) + u2(7) + u4(len(body)) + body
+
+    # iconst_0, invokestatic half, pop, return; astore_1, return
+    main = method(9, 5, 6, 1, 2, bytes.fromhex("03 b80010 57 b1 4c b1"), [u2(0) + u2(5) + u2(6) + u2(9)], [(0, 3), (5, 6), (6, 4)])
+    # bipush 10, iload_0, idiv, ireturn, in a static synchronized method
+    half = method(0x29, 10, 11, 2, 1, bytes.fromhex("100a 1a 6c ac"), [], [(0, 9), (2, 10)])
+    head = MAGIC_AND_VERSION + u2(len(pool) + 1) + b"".join(pool) + u2(0x20) + u2(2) + u2(4) + u2(0) + u2(0)
+    return head + u2(2) + main + half + u2(1) + u2(14) + u4(2) + u2(13)
+
+
+def case_lines(name, data, words):
+    return [f"file {name}", *hex_lines(re.findall("..?.?.?.?.?.?.?", data.hex()), 12)] if data else [f"case {name}", f"  {words}"]
+
+
+def cases():
+    """The text of the cases, and what they have to print."""
+    text = ["# Traces: runs told event by event, made by `bench/traces.py` over the files of the lessons.", "", "files lessons.cases", ""]
+    printed = []
+    for folder, schedule, names, options, more in TRACED:
+        files = compiled(LESSONS / folder)
+        stored = re.sub(r"#.*", "", (LESSONS / folder / f"{schedule}.schedule").read_text())
+        entries = entries_of(f"{stored} {more}")
+        told, status = trace([files[f"{name}.class"] for name in names], entries, options.get("from", 0), options.get("to"), options.get("only"))
+        given = "".join(f" --{key} {value}" for key, value in options.items())
+        name = f"trace-{folder}-{schedule}"
+        words = f"trace --schedule {name}.schedule{given} {' '.join(f'{folder}/{name}.class' for name in names)}"
+        text += [f"text {name}.schedule", f"  {' '.join([*stored.split(), *more.split()])}", *case_lines(name, None, words)]
+        printed.append(f"case {name}\n{told}status {status}\n")
+    told, status = trace([lined()], [(0, 0, 13)])
+    text += ["", "# A class file that tells its source and its lines: an exception leaves a synchronized method, and is caught."]
+    text += [*case_lines("lined/A.class", lined(), None), "text lined.schedule", "  0*13", *case_lines("trace-lines", None, "trace --schedule lined.schedule lined/A.class")]
+    printed.append(f"case trace-lines\n{told}status {status}\n")
+    return "\n".join([*text, ""]), "".join(printed)
+
+
+def write():
+    text, printed = cases()
+    (CONFORMANCE / "data/traces.cases").write_text(text)
+    stdout = CONFORMANCE / "stdout"
+    before = stdout.read_bytes().split(b"case trace-lost-update-lost\n")[0]
+    stdout.write_bytes(before + printed.encode())
+
+
 def main():
+    if sys.argv[1:] == ["--write"]:
+        return write()
     parser = argparse.ArgumentParser()
     parser.add_argument("--schedule", required=True)
     for name in ("--from", "--to", "--only"):

@@ -1,11 +1,11 @@
 //! The line that tells an event: who did it and where, its instruction, and in words what it did.
 #![tactic(auto)]
 
-mod descriptors;
 mod line;
 mod numbers;
 mod objects;
 mod places;
+mod sorts;
 mod teller;
 mod threads;
 mod values;

@@ -5,7 +5,7 @@ ghost use Rattle.model.specs.Report.{number as digits};
 ghost use Rattle.traced_events.specs.Places.{Sees};
 ghost use Rattle.trace_text.specs.Lines.{AddsLine};
 
-use crate::descriptors::{Sort, sort_of};
+use crate::sorts::{Sort, sort_of};
 use crate::numbers::{push_number, push_words};
 use crate::places::{push_instruction, push_place, push_source};
 use crate::teller::Teller;

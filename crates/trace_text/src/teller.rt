@@ -3,6 +3,7 @@
 ghost use Rattle.std.specs.Prelude.{◌≡◌, ◌++◌, IfOk, OnOk};
 ghost use Rattle.hierarchy.specs.Places.{name_at};
 ghost use Rattle.linked_code.specs.Numbers.{IsMethodAt};
+ghost use Rattle.method_links.specs.Numbers.{AreNumbersOf};
 ghost use Rattle.trace_text.specs.Lines.{method_words};
 ghost use Rattle.trace_text.specs.Methods.{IsPlaceOf, IsBodyOf, name_in};
 
@@ -19,7 +20,7 @@ pub struct Teller<'a> {
     pub(crate) linked: &'a Linked,
     pub(crate) program: &'a LinkedProgram,
     numbers: MethodNumbers,
-    ghost numbered: { Rattle.method_links.specs.Numbers.AreNumbersOf linked.now numbers },
+    ghost numbered: { AreNumbersOf linked.now numbers },
 }
 
 /// The name of a class, by its number.

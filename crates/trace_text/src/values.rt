@@ -1,6 +1,6 @@
 //! Values.
 
-use crate::descriptors::Sort;
+use crate::sorts::Sort;
 use crate::numbers::{push_signed, push_words};
 use crate::objects::push_object;
 use crate::teller::Teller;

@@ -1,6 +1,6 @@
 //! In words what an event did.
 
-use crate::descriptors::Sort;
+use crate::sorts::Sort;
 use crate::numbers::{push_number, push_ordinal, push_signed, push_words};
 use crate::objects::push_object;
 use crate::teller::Teller;
@@ -14,14 +14,14 @@ use traced_events::{Before, Deed, Entries, Told};
 
 /// What the words are made of: the names, the state after the event, and of the instruction the field that it names and what its word is.
 #[derive(Clone, Copy)]
-pub(crate) struct Words<'a> {
-    pub(crate) teller: &'a Teller<'a>,
-    pub(crate) shared: &'a Shared,
-    pub(crate) field: Option<Reference<'a>>,
+pub(crate) struct Words<'t, 'l, 's, 'f> {
+    pub(crate) teller: &'t Teller<'l>,
+    pub(crate) shared: &'s Shared,
+    pub(crate) field: Option<Reference<'f>>,
     pub(crate) sort: Sort,
 }
 
-impl Words<'_> {
+impl Words<'_, '_, '_, '_> {
     fn object(&self, text: &mut Vec<u8>, object: u32) -> Result<(), AllocError> {
         push_object(text, self.teller, &self.shared.heap, object)
     }

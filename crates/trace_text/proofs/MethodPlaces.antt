@@ -23,10 +23,14 @@ use Rattle.method_code.specs.View.{shown, shown_in, shown_at, body_of}
 use Rattle.method_code.proofs.Firsts.{method_there}
 use Rattle.method_code.proofs.Rights.{method_right, class_right, classes_right}
 use Rattle.method_links.specs.Methods.{member_of, member_at, methods_of}
-use Rattle.method_rows.proofs.Facts.{same_methods}
+use Rattle.method_links.specs.Methods as method_links
 use Rattle.trace_text.specs.Methods.{IsPlaceOf, name_in, IsBodyOf}
 
 -- ---- the place of a number
+
+same_methods : (files : Program) → method_links.methods_of files ≡ linked_code.methods_of files
+unfolding method_links.methods_of linked_code.methods_of
+same_methods files = refl
 
 pub placed : (files : Program) (number : ℕ) (found : Option MemberPlace) (other : MemberPlace) → option_map (member_at files) found ≡ option_map (λ (m : Member). Some m) (slice_get (methods_of files) number)
     → IsPlaceOf files number (unwrap_or found other)
