@@ -1,5 +1,5 @@
 -- A machine, and what becomes of it by an event (JVMS 2.5, 2.6; JLS 17).
-use Rattle.std.specs.Prelude.{◌≡◌, ◌<◌, ◌≤◌, ℕ, zero, suc, List, [], Option, Some, None, Result, slice_get, slice_set}
+use Rattle.std.specs.Prelude.{◌≡◌, ◌<◌, ◌≤◌, ℕ, zero, suc, List, [], Bool, true, false, Some, None, Result, slice_get, slice_set}
 use Rattle.std.specs.Vec.{with_item}
 use Rattle.model.specs.declared.event.Event.{Event}
 use Rattle.model.specs.declared.limits.Limits.{Limits}
@@ -65,10 +65,10 @@ Steps result event old new =
 
 -- ---- a stack that is lent
 
--- the stack of a thread, and the stacks with an empty one in its place
-abbrev pub Lends : (t : ℕ) → Option (List ShownEntry) → (old new : List (List ShownEntry)) → Type 0
-Lends t (Some from) old new = (slice_get old t ≡ Some from) × (new ≡ slice_set old t [])
-Lends t None old new = (slice_get old t ≡ None) × (new ≡ old)
+-- where there is such a thread, its stack, and the stacks with another one in its place
+abbrev pub Lends : (t : ℕ) → Bool → (other from : List ShownEntry) → (old new : List (List ShownEntry)) → Type 0
+Lends t true other from old new = (slice_get old t ≡ Some from) × (new ≡ slice_set old t other)
+Lends t false other from old new = (slice_get old t ≡ None) × (new ≡ old)
 
 -- the machine once a stack stands in the place of a thread's
 abbrev pub placed : LinkedProgram → Limits → (t : ℕ) → Shared → List ShownEntry → MachineOf

@@ -15,6 +15,7 @@ use std::alloc::{AllocError, Global};
 use std::marker::Model;
 use std::sync::Arc;
 use thread_events::thread_event;
+use thread_stacks::ThreadStack;
 
 /// Why an event was not done once more.
 #[derive(Clone, Copy, Debug, PartialEq, Eq)]
@@ -34,6 +35,8 @@ pub struct Machine {
     pub(crate) program: Arc<LinkedProgram>,
     limits: Limits,
     pub(crate) shared: Shared,
+    /// It stands in the place of a thread's stack while that is lent.
+    pub(crate) spare: ThreadStack,
 }
 
 impl Model for Machine {
@@ -63,6 +66,7 @@ impl Machine {
             program,
             limits,
             shared,
+            spare: ThreadStack::new(alloc),
         })
     }
 
@@ -96,18 +100,18 @@ impl Machine {
         stacks_are_lent();
         events_are_whole();
         let _numbered = self.shared.threads.len();
-        let Some(mut stack) = lend(&mut self.shared.stacks, event.thread) else {
+        if !lend(&mut self.shared.stacks, event.thread, &mut self.spare) {
             return Ok(Answer::NotEnabled);
-        };
+        }
         let result = thread_event(
             &mut self.shared,
-            &mut stack,
+            &mut self.spare,
             &self.program,
             event.thread,
             event.pick,
             self.limits.frames as usize,
         );
-        give_back(&mut self.shared.stacks, event.thread, stack);
+        give_back(&mut self.shared.stacks, event.thread, &mut self.spare);
         result
     }
 
@@ -136,18 +140,18 @@ impl Machine {
         if most == 0 {
             return (0, Stopped::Most);
         }
-        let Some(mut stack) = lend(&mut self.shared.stacks, thread) else {
+        if !lend(&mut self.shared.stacks, thread, &mut self.spare) {
             return (0, Stopped::NotEnabled);
-        };
+        }
         let result = thread_turns(
             &mut self.shared,
-            &mut stack,
+            &mut self.spare,
             &self.program,
             self.limits,
             thread,
             most,
         );
-        give_back(&mut self.shared.stacks, thread, stack);
+        give_back(&mut self.shared.stacks, thread, &mut self.spare);
         result
     }
 }
