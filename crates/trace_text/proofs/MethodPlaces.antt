@@ -1,6 +1,6 @@
 -- What stands at the place of a method's number.
-use Rattle.std.proofs.Common.{◌≡◌, ℕ, List, [], length, map, Bool, true, Option, Some, None, refl, sym, ap, subst, ◌∙◌}
-use Rattle.std.specs.Prelude.{slice_get, unwrap_or}
+use Rattle.std.proofs.Common.{◌≡◌, ℕ, List, [], ◌∷◌, ◌++◌, length, map, Bool, true, Option, Some, None, Result, codes, refl, sym, ap, subst, ◌∙◌}
+use Rattle.std.specs.Prelude.{slice_get, OnOk}
 use Rattle.std.specs.Option.{option_and_then, option_map, option_map_or}
 use Rattle.std.specs.List.{list_all}
 use Rattle.std.proofs.lemmas.Bool.{and_parts}
@@ -24,6 +24,11 @@ use Rattle.method_code.proofs.Firsts.{method_there}
 use Rattle.method_code.proofs.Rights.{method_right, class_right, classes_right}
 use Rattle.method_links.specs.Methods.{member_of, member_at, methods_of}
 use Rattle.method_links.specs.Methods as method_links
+use Rattle.model.specs.Report.{number}
+use Rattle.model.specs.State.{Invocation, Initialisation, StackOf}
+use Rattle.traced_events.specs.Places.{Sees}
+use Rattle.traced_events.specs.declared.frames.FrameBefore.{FrameBefore}
+use Rattle.trace_text.specs.Lines.{method_words, place_words}
 use Rattle.trace_text.specs.Methods.{IsPlaceOf, name_in, IsBodyOf}
 
 -- ---- the place of a number
@@ -32,15 +37,18 @@ same_methods : (files : Program) → method_links.methods_of files ≡ linked_co
 unfolding method_links.methods_of linked_code.methods_of
 same_methods files = refl
 
-pub placed : (files : Program) (number : ℕ) (found : Option MemberPlace) (other : MemberPlace) → option_map (member_at files) found ≡ option_map (λ (m : Member). Some m) (slice_get (methods_of files) number)
-    → IsPlaceOf files number (unwrap_or found other)
-placed files number found other e method at =
-    let is : slice_get (methods_of files) number ≡ Some method = ap (λ l. slice_get l number) (same_methods files) ∙ at in
-    by found (e ∙ ap (option_map (λ (m : Member). Some m)) is)
-  where
-    by : (o : Option MemberPlace) → option_map (member_at files) o ≡ Some (Some method) → member_at files (unwrap_or o other) ≡ Some method
-    by None e = absurd cc
-    by (Some place) e = cc
+pub placed : (files : Program) (numbered : ℕ) (place : MemberPlace) → option_map (member_at files) (Some place) ≡ option_map (λ (m : Member). Some m) (slice_get (methods_of files) numbered)
+    → IsPlaceOf files numbered place
+placed files numbered place e method at =
+    let is : slice_get (methods_of files) numbered ≡ Some method = ap (λ l. slice_get l numbered) (same_methods files) ∙ at in
+    let both : Some (member_at files place) ≡ Some (Some method) = e ∙ ap (option_map (λ (m : Member). Some m)) is in
+    cc
+
+pub no_place : (files : Program) (numbered : ℕ) (place : MemberPlace) → None ≡ option_map (λ (m : Member). Some m) (slice_get (methods_of files) numbered) → IsPlaceOf files numbered place
+no_place files numbered place e method at =
+    let is : slice_get (methods_of files) numbered ≡ Some method = ap (λ l. slice_get l numbered) (same_methods files) ∙ at in
+    let bad : None ≡ Some (Some method) = e ∙ ap (option_map (λ (m : Member). Some m)) is in
+    cc
 
 -- ---- what stands there
 
@@ -70,8 +78,8 @@ class_named files place method e =
 pub method_named : (files : Program) (place : MemberPlace) (method : Member) → member_at files place ≡ Some method → name_in files place ≡ method.name
 method_named files place method e = ap (λ (o : Option Member). option_map_or (λ (m : Member). m.name) o []) e
 
-pub class_at_number : (files : Program) (number : ℕ) (class : Name) → IsClassAt files number class → name_at files number ≡ class
-class_at_number files number class h = ap (λ (o : Option FileTree). option_map_or name_of o []) h.1 ∙ h.2
+pub class_at_number : (files : Program) (numbered : ℕ) (class : Name) → IsClassAt files numbered class → name_at files numbered ≡ class
+class_at_number files numbered class h = ap (λ (o : Option FileTree). option_map_or name_of o []) h.1 ∙ h.2
 
 -- ---- its body
 
@@ -110,6 +118,20 @@ module _ (files : Program) (linked : IsLinked files) (place : MemberPlace) (meth
       by (Some m) None e = absurd cc
       by (Some m) (Some code) e = ap (option_map (λ (p : Member × Body). p.1)) (sym e)
 
-pub body_found : (files : Program) → IsLinked files → (number : ℕ) (place : MemberPlace) → IsPlaceOf files number place → (found : Option MethodCode) → option_map shown found ≡ shown_at files place.class place.member
-    → IsBodyOf files number found
-body_found files linked number place p found e method at = body_is files linked place method (there files place method (p method at)) found e
+pub body_found : (files : Program) → IsLinked files → (numbered : ℕ) (place : MemberPlace) → IsPlaceOf files numbered place → (found : Option MethodCode) → option_map shown found ≡ shown_at files place.class place.member
+    → IsBodyOf files numbered found
+body_found files linked numbered place p found e method at = body_is files linked place method (there files place method (p method at)) found e
+
+-- ---- a frame on top
+
+pub frame_words : (trees : Program) (seen : FrameBefore) (o : Option FrameBefore) (class : Option ℕ) → o ≡ Some seen → (old new : List ℕ) {A E : Type 0} (result : Result A E)
+    → ((method : Member) → IsMethodAt trees seen.method method → OnOk result (new ≡ old ++ (method_words method ++ (codes " " ++ number seen.offset))))
+    → (stack : StackOf ℕ) → Sees trees o class stack → OnOk result (new ≡ old ++ place_words stack)
+frame_words trees seen o class is old new result h [] s = let bad : None ≡ Some seen = sym s.0 ∙ is in cc
+frame_words trees seen o class is old new result h (Initialisation on_top phase ∷ stack) s = let bad : None ≡ Some seen = sym s.1 ∙ is in cc
+frame_words trees seen o class is old new result h (Invocation frame ∷ stack) s =
+    let both : Some s.0 ≡ Some seen = sym s.1 ∙ is in
+    let same : s.0 ≡ seen = cc in
+    let offset : seen.offset ≡ frame.place.offset = ap (λ (f : FrameBefore). f.offset) (sym same) ∙ s.4 in
+    subst (λ n. OnOk result (new ≡ old ++ (method_words frame.method ++ (codes " " ++ number n)))) offset
+    (h frame.method (subst (λ (f : FrameBefore). IsMethodAt trees f.method frame.method) same s.3))

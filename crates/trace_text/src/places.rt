@@ -1,9 +1,11 @@
 //! Where a thread stands before its event, and its instruction.
 
-ghost use Rattle.std.specs.Prelude.{◌≡◌, ◌++◌, OnOk};
+ghost use Rattle.std.specs.Prelude.{◌≡◌, ◌++◌, codes, OnOk};
+ghost use Rattle.linked_code.specs.Numbers.{IsMethodAt};
+ghost use Rattle.model.specs.Report.{number as digits};
 ghost use Rattle.method_code.specs.View.{body_of};
 ghost use Rattle.traced_events.specs.Places.{Sees};
-ghost use Rattle.trace_text.specs.Lines.{instruction_words, meaning_in, place_words};
+ghost use Rattle.trace_text.specs.Lines.{instruction_words, meaning_in, method_words, place_words};
 
 use crate::numbers::{push_number, push_words};
 use crate::teller::Teller;
@@ -18,7 +20,9 @@ fn push_frame(
     text: &mut Vec<u8>,
     teller: &Teller<'_>,
     frame: FrameBefore,
-) -> Result<(), AllocError> {
+) -> Result<(), AllocError>
+    ensures { (method : _) → IsMethodAt teller.now.linked.now frame.method method → OnOk result (text.new.items ≡ text.old.items ++ (method_words method ++ (codes " " ++ digits frame.offset))) }
+{
     teller.push_method(text, frame.method)?;
     push_words(text, " ")?;
     push_number(text, u64::from(frame.offset))

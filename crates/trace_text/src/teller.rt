@@ -74,12 +74,13 @@ impl<'a> Teller<'a> {
     fn place(&self, number: u32) -> MemberPlace
         ensures { IsPlaceOf self.now.linked.now number result }
     {
-        self.numbers
-            .place(number as usize)
-            .unwrap_or(MemberPlace {
+        match self.numbers.place(number as usize) {
+            Some(found) => found,
+            None => MemberPlace {
                 class: 0,
                 member: 0,
-            })
+            },
+        }
     }
 
     /// The method of a number, if it has code.
