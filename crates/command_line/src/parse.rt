@@ -7,7 +7,8 @@ ghost use Rattle.clap.specs.declared.error.kind.ErrorKind.TheVariants.{UnknownAr
 ghost use Rattle.command_line.specs.CommandLine.{AreFiles, AreLimitNumbers, AreRunNumbers, AreRunValues, AreScheduleValues, AreTraceValues, AreValues, Asks, Fails, IsFile, IsThenRun, Refuses, Spells, is_set as is_true, jvm, usage_of};
 
 use crate::numbers::{
-    BUDGET, CELLS, FRAMES, FROM, MONITORS, OBJECTS, ONLY, QUANTUM, SEED, THREADS, TO, WORKERS, negative_number,
+    BUDGET, CELLS, FRAMES, FROM, MONITORS, OBJECTS, ONLY, QUANTUM, SEED, THREADS, TO, WORKERS,
+    negative_number,
 };
 use crate::options;
 use crate::options::{

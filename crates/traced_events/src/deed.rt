@@ -16,21 +16,44 @@ pub enum Deed {
     /// No more than its instruction says, or nothing.
     Nothing,
     /// It put a word on the stack of its frame.
-    Pushes { word: u32 },
+    Pushes {
+        word: u32,
+    },
     /// It wrote to a local variable.
-    Stores { local: u16, word: u32 },
+    Stores {
+        local: u16,
+        word: u32,
+    },
     /// It went on at an offset of its code.
-    Goes { offset: u16 },
+    Goes {
+        offset: u16,
+    },
     /// It read a field, of an object or a static one.
-    ReadsField { object: Option<u32>, word: u32 },
+    ReadsField {
+        object: Option<u32>,
+        word: u32,
+    },
     /// It wrote to one, which has this word now.
-    WritesField { object: Option<u32>, word: u32 },
+    WritesField {
+        object: Option<u32>,
+        word: u32,
+    },
     /// It read an element of an array.
-    ReadsElement { array: u32, index: u32, word: u32 },
+    ReadsElement {
+        array: u32,
+        index: u32,
+        word: u32,
+    },
     /// It wrote to one, which has this word now.
-    WritesElement { array: u32, index: u32, word: u32 },
+    WritesElement {
+        array: u32,
+        index: u32,
+        word: u32,
+    },
     /// It made an object.
-    Makes { object: u32 },
+    Makes {
+        object: u32,
+    },
     /// It entered a monitor, which the thread has entered so often now.
     Enters(Entries),
     /// It left a monitor, which the thread has entered so often still.
@@ -46,25 +69,42 @@ pub enum Deed {
         exited: Option<Entries>,
     },
     /// A call of a method without code was done, of which no more is to be told.
-    Runs { method: u32 },
+    Runs {
+        method: u32,
+    },
     /// The thread joined the wait set of an object, and has left its monitor.
-    Waits { object: u32 },
+    Waits {
+        object: u32,
+    },
     /// It took a thread from the wait set of an object, if there was one.
-    Notifies { thread: Option<u16> },
+    Notifies {
+        thread: Option<u16>,
+    },
     /// It took all threads from it, which `Before` tells.
     NotifiesAll,
     /// It started the thread of a Thread object.
-    Starts { object: u32 },
+    Starts {
+        object: u32,
+    },
     /// It interrupted that thread.
-    Interrupts { object: u32 },
+    Interrupts {
+        object: u32,
+    },
     /// It found that thread ended.
-    Joins { object: u32 },
+    Joins {
+        object: u32,
+    },
     /// It let other threads go first.
     Yields,
     /// It printed a number.
-    Prints { number: i32 },
+    Prints {
+        number: i32,
+    },
     /// An exception was caught, by a handler at this offset.
-    Catches { exception: u32, offset: u16 },
+    Catches {
+        exception: u32,
+        offset: u16,
+    },
     /// A method completed abruptly, and left the monitor that its invocation entered.
     Leaves {
         method: u32,
@@ -72,13 +112,24 @@ pub enum Deed {
         exited: Option<Entries>,
     },
     /// The thread began to initialise a class.
-    BeginsInitialisation { class: u16 },
+    BeginsInitialisation {
+        class: u16,
+    },
     /// It found that the class which it initialises declares no initialiser.
-    NeedsNoInitialiser { class: u16 },
+    NeedsNoInitialiser {
+        class: u16,
+    },
     /// It ended the initialisation of a class.
-    EndsInitialisation { class: u16 },
+    EndsInitialisation {
+        class: u16,
+    },
     /// The initialisation of a class failed.
-    FailsInitialisation { class: u16 },
+    FailsInitialisation {
+        class: u16,
+    },
     /// It entered the monitor again of the object on which it waited.
-    EntersAgain { entries: Entries, cause: WakeCause },
+    EntersAgain {
+        entries: Entries,
+        cause: WakeCause,
+    },
 }

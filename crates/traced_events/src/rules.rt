@@ -16,11 +16,16 @@ pub enum Rule {
         cause: WakeCause,
     },
     /// An exception is pending.
-    Pending { exception: u32 },
+    Pending {
+        exception: u32,
+    },
     /// Its stack is empty: it begins.
     Begin,
     /// It initialises a class, by its number.
-    Initialisation { class: u16, phase: Phase },
+    Initialisation {
+        class: u16,
+        phase: Phase,
+    },
     /// The instruction of the frame on top is next.
     Bytecode,
 }

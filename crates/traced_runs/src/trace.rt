@@ -26,7 +26,15 @@ fn events<W: Sink>(
     let mut lines = Lines::new(alloc);
     let mut done = 0u64;
     'entries: for given in schedule.entries() {
-        let (count, why) = entry(machine, telling, &mut before, done, *given, &mut lines, output)?;
+        let (count, why) = entry(
+            machine,
+            telling,
+            &mut before,
+            done,
+            *given,
+            &mut lines,
+            output,
+        )?;
         done += u64::from(count);
         match why {
             Stopped::Most => {}
