@@ -7,3 +7,4 @@ pub mod ClassObjects
 mod Prints
 pub mod Directs
 mod Statics
+mod Plain

@@ -5,9 +5,11 @@
 mod calls;
 mod direct_calls;
 mod frames;
+mod plain_calls;
 mod printing;
 mod running;
 
 pub use calls::{invoke_interface, invoke_virtual};
 pub use direct_calls::{invoke_special, invoke_static};
+pub use plain_calls::{call_interface, call_special, call_static, call_virtual};
 pub use printing::println;

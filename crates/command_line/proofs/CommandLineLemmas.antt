@@ -11,7 +11,7 @@ use Rattle.clap.specs.declared.parser.matches.SubCommand.{SubCommand}
 use Rattle.clap.specs.declared.error.Error.{Error}
 use Rattle.clap.specs.declared.error.kind.ErrorKind.{ErrorKind}
 use Rattle.clap.specs.declared.error.kind.ErrorKind.TheVariants as errors
-use Rattle.command_line.specs.CommandLine.{AreFiles, AreRunValues, AreScheduleValues, AreTraceValues, AreValues, Asks, Fails, IsFile, IsNumber, IsThenRun, Refuses, Spells, SpellsNothing, jvm, usage_by, usage_of}
+use Rattle.command_line.specs.CommandLine.{AreDisasmValues, AreRunValues, AreScheduleValues, AreTraceValues, AreValues, AreVerifyValues, Asks, Fails, IsNumber, IsThenRun, Refuses, Spells, SpellsNothing, jvm, usage_by, usage_of}
 use Rattle.command_line.specs.declared.usage.Usage.{Usage}
 use Rattle.command_line.specs.declared.usage.Usage.TheVariants.{Parser, Number, Asked, OutOfMemory}
 use Rattle.command_line.specs.declared.options.Command.{Command}
@@ -229,7 +229,7 @@ spells_other_trace words rows met none (commands.Schedule schedule) spelled =
     let bad : true ≡ false = ap (λ met. eqb (first_byte met) 116) same in
     cc
 
-pub spells_other_verify : (words : List Text) (rows : List Row) → subcommand_of jvm words ≡ Some (codes "verify", rows) → ((verify : Verify) → AreFiles rows verify → ⊥) → (command : Command) → Spells words command → ⊥
+pub spells_other_verify : (words : List Text) (rows : List Row) → subcommand_of jvm words ≡ Some (codes "verify", rows) → ((verify : Verify) → AreVerifyValues rows verify → ⊥) → (command : Command) → Spells words command → ⊥
 unfolding first_byte second_byte rows_in
 spells_other_verify words rows met none (commands.Run run) spelled =
     let same : Some (codes "verify", rows) ≡ Some (codes "run", spelled.0) = sym met ∙ spelled.1 in
@@ -246,7 +246,7 @@ spells_other_verify words rows met none (commands.Trace trace) spelled =
 spells_other_verify words rows met none (commands.Verify verify) spelled =
     let same : Some (codes "verify", rows) ≡ Some (codes "verify", spelled.0) = sym met ∙ spelled.1 in
     let rows_are : rows ≡ spelled.0 = ap rows_in same in
-    none verify (subst (λ r. AreFiles r verify) (sym rows_are) spelled.2)
+    none verify (subst (λ r. AreVerifyValues r verify) (sym rows_are) spelled.2)
 spells_other_verify words rows met none (commands.Disasm disasm) spelled =
     let same : Some (codes "verify", rows) ≡ Some (codes "disasm", spelled.0) = sym met ∙ spelled.1 in
     let bad : true ≡ false = ap (λ met. eqb (first_byte met) 118) same in
@@ -256,7 +256,7 @@ spells_other_verify words rows met none (commands.Schedule schedule) spelled =
     let bad : true ≡ false = ap (λ met. eqb (first_byte met) 118) same in
     cc
 
-pub spells_other_disasm : (words : List Text) (rows : List Row) → subcommand_of jvm words ≡ Some (codes "disasm", rows) → ((disasm : Disasm) → IsFile rows disasm → ⊥) → (command : Command) → Spells words command → ⊥
+pub spells_other_disasm : (words : List Text) (rows : List Row) → subcommand_of jvm words ≡ Some (codes "disasm", rows) → ((disasm : Disasm) → AreDisasmValues rows disasm → ⊥) → (command : Command) → Spells words command → ⊥
 unfolding first_byte second_byte rows_in
 spells_other_disasm words rows met none (commands.Run run) spelled =
     let same : Some (codes "disasm", rows) ≡ Some (codes "run", spelled.0) = sym met ∙ spelled.1 in
@@ -277,7 +277,7 @@ spells_other_disasm words rows met none (commands.Verify verify) spelled =
 spells_other_disasm words rows met none (commands.Disasm disasm) spelled =
     let same : Some (codes "disasm", rows) ≡ Some (codes "disasm", spelled.0) = sym met ∙ spelled.1 in
     let rows_are : rows ≡ spelled.0 = ap rows_in same in
-    none disasm (subst (λ r. IsFile r disasm) (sym rows_are) spelled.2)
+    none disasm (subst (λ r. AreDisasmValues r disasm) (sym rows_are) spelled.2)
 spells_other_disasm words rows met none (commands.Schedule schedule) spelled =
     let same : Some (codes "disasm", rows) ≡ Some (codes "schedule", spelled.0) = sym met ∙ spelled.1 in
     let bad : true ≡ false = ap (λ met. eqb (first_byte met) 100) same in

@@ -119,10 +119,10 @@ abbrev pub jvm_trace : App
 jvm_trace = with_files (with_limits (with_window (with_rule (new_app (codes "trace")) schedule_option))) class_files
 
 abbrev pub jvm_verify : App
-jvm_verify = with_files (new_app (codes "verify")) class_files
+jvm_verify = with_files (with_rule (new_app (codes "verify")) (flag (codes "library"))) class_files
 
 abbrev pub jvm_disasm : App
-jvm_disasm = with_files (new_app (codes "disasm")) one_file
+jvm_disasm = with_files (with_rule (new_app (codes "disasm")) (flag (codes "names"))) class_files
 
 abbrev pub jvm_schedule : App
 jvm_schedule = with_files (with_rule (new_app (codes "schedule")) (flag (codes "write"))) one_file
@@ -209,14 +209,16 @@ pub record AreTraceValues (rows : List Row) (trace : Trace) : Type 0 where
   pub explain : trace.explain ≡ is_set (first_of (codes "explain") rows)
 
 -- the values that the words give to `jvm verify`
-abbrev pub AreFiles : List Row → Verify → Type 0
-AreFiles rows verify = (all_of (codes "files") rows ≡ Some (map string_bytes verify.files.items))
-    × (verify.explain ≡ is_set (first_of (codes "explain") rows))
+pub record AreVerifyValues (rows : List Row) (verify : Verify) : Type 0 where
+  pub files : all_of (codes "files") rows ≡ Some (map string_bytes verify.files.items)
+  pub library : verify.library ≡ is_set (first_of (codes "library") rows)
+  pub explain : verify.explain ≡ is_set (first_of (codes "explain") rows)
 
--- the value that the words give to `jvm disasm`
-abbrev pub IsFile : List Row → Disasm → Type 0
-IsFile rows disasm = (first_of (codes "file") rows ≡ Some (string_bytes disasm.file))
-    × (disasm.explain ≡ is_set (first_of (codes "explain") rows))
+-- the values that the words give to `jvm disasm`
+pub record AreDisasmValues (rows : List Row) (disasm : Disasm) : Type 0 where
+  pub files : all_of (codes "files") rows ≡ Some (map string_bytes disasm.files.items)
+  pub names : disasm.names ≡ is_set (first_of (codes "names") rows)
+  pub explain : disasm.explain ≡ is_set (first_of (codes "explain") rows)
 
 -- the values that the words give to `jvm schedule`
 pub record AreScheduleValues (rows : List Row) (schedule : Schedule) : Type 0 where
@@ -229,8 +231,8 @@ abbrev pub Spells : List Text → Command → Type 0
 Spells words (commands.Run run) = (rows : List Row) × (subcommand_of jvm words ≡ Some (codes "run", rows)) × AreRunValues rows run
 Spells words (commands.Replay replay) = (rows : List Row) × (subcommand_of jvm words ≡ Some (codes "replay", rows)) × AreValues rows replay
 Spells words (commands.Trace trace) = (rows : List Row) × (subcommand_of jvm words ≡ Some (codes "trace", rows)) × AreTraceValues rows trace
-Spells words (commands.Verify verify) = (rows : List Row) × (subcommand_of jvm words ≡ Some (codes "verify", rows)) × AreFiles rows verify
-Spells words (commands.Disasm disasm) = (rows : List Row) × (subcommand_of jvm words ≡ Some (codes "disasm", rows)) × IsFile rows disasm
+Spells words (commands.Verify verify) = (rows : List Row) × (subcommand_of jvm words ≡ Some (codes "verify", rows)) × AreVerifyValues rows verify
+Spells words (commands.Disasm disasm) = (rows : List Row) × (subcommand_of jvm words ≡ Some (codes "disasm", rows)) × AreDisasmValues rows disasm
 Spells words (commands.Schedule schedule) = (rows : List Row) × (subcommand_of jvm words ≡ Some (codes "schedule", rows)) × AreScheduleValues rows schedule
 
 -- what an error of the parser comes to

@@ -22,3 +22,124 @@ Examples:
   jvm run --record a.schedule A.class
   jvm replay --schedule a.schedule A.class
   jvm schedule a.schedule";
+
+/// What class files are that are run.
+pub(crate) const FILES_HELP: &str = "The class files; the main method is that of the first";
+
+/// What class files are that are verified.
+pub(crate) const VERIFIED_HELP: &str =
+    "The class files, and folders of them; the main method is that of the first file";
+
+/// What class files are that are listed.
+pub(crate) const LISTED_HELP: &str = "The class files, and folders of them";
+
+/// What stands below the options of `run`.
+pub(crate) const RUN_PAGE: &str = "\
+What it does:
+  Links and verifies the class files, and runs the main method of the first one.
+  Workers take turns at the Java threads; each event that they do is one more of
+  the schedule, which --record keeps for `jvm replay`. The report has the printed
+  numbers, how each thread stands, how many events there were, and why no more.
+
+Statuses:
+  0  all threads have ended
+  1  all threads have ended, some by an exception
+  2  a class file is refused
+  3  an event was refused for a limit, or memory was missing
+  4  nothing can go on, and a thread hasn't ended
+  5  the budget is used up, and a thread can go on
+  6  the command is wrong, or a file can't be read, or the output not written
+
+Example:
+  jvm run --seed 1 --record a.schedule A.class";
+
+/// What stands below the options of `replay`.
+pub(crate) const REPLAY_PAGE: &str = "\
+What it does:
+  Links and verifies the class files, and runs the main method of the first one
+  under a schedule: event by event, each of the thread that the schedule names.
+  A schedule is a file that was recorded, or a text such as `0*22 1*4 2`. The
+  same files under the same schedule print the same report.
+
+Statuses:
+  0  all threads have ended
+  1  all threads have ended, some by an exception
+  2  a class file or the schedule is refused
+  3  an event was not enabled, or was refused for a limit, or memory was missing
+  4  nothing can go on, and a thread hasn't ended
+  5  the schedule or the budget is used up, and a thread can go on
+  6  the command is wrong, or a file can't be read, or the output not written
+
+Example:
+  jvm replay --schedule a.schedule --then-run A.class";
+
+/// What stands below the options of `trace`.
+pub(crate) const TRACE_PAGE: &str = "\
+What it does:
+  Runs class files under a schedule as `jvm replay` does, and tells each event on
+  a line: its number, its thread, where the thread stood, the instruction, and
+  what it did. Behind the lines it prints the report. Events are counted from 0;
+  those that are not told are done all the same.
+
+Statuses:
+  0  all threads have ended
+  1  all threads have ended, some by an exception
+  2  a class file or the schedule is refused
+  3  an event was not enabled, or was refused for a limit, or memory was missing
+  4  nothing can go on, and a thread hasn't ended
+  5  the schedule is used up, and a thread can go on
+  6  the command is wrong, or a file can't be read, or the output not written
+
+Example:
+  jvm trace --schedule a.schedule --from 100 --to 120 A.class";
+
+/// What stands below the options of `verify`.
+pub(crate) const VERIFY_PAGE: &str = "\
+What it does:
+  Links the class files and verifies the code of their methods; nothing is run.
+  A folder stands for the class files in it, sorted by their names. Each class
+  that they need has to be among them, or to be a built-in one. It prints how
+  many classes there are, or tells why they are refused.
+
+Statuses:
+  0  the class files are verified
+  2  a class file is refused
+  3  memory was missing
+  6  the command is wrong, or a file can't be read, or the output not written
+
+Example:
+  jvm verify --explain A.class B.class";
+
+/// What stands below the options of `disasm`.
+pub(crate) const DISASM_PAGE: &str = "\
+What it does:
+  Lists each class file: its class, fields and methods, and the instructions by
+  their offsets, bytes, mnemonics and operands. A folder stands for the class
+  files in it, sorted by their names. A class file that is listed need not be one
+  that can be run.
+
+Statuses:
+  0  the class files are listed
+  2  a class file is refused
+  3  memory was missing
+  6  the command is wrong, or a file can't be read, or the output not written
+
+Example:
+  jvm disasm --names A.class";
+
+/// What stands below the options of `schedule`.
+pub(crate) const SCHEDULE_PAGE: &str = "\
+What it does:
+  Prints a schedule file as text: a word such as `1`, `1*20` or `0.2` for each
+  entry, which is an event of thread 1, 20 of them, and one of thread 0 with the
+  pick 2. With --write it makes the file of such a text on standard input.
+
+Statuses:
+  0  the schedule is printed, or made
+  2  the schedule is refused
+  3  memory was missing
+  6  the command is wrong, or a file can't be read, or the output not written
+
+Example:
+  jvm schedule a.schedule > a.text
+  jvm schedule --write b.schedule < a.text";

@@ -136,17 +136,21 @@ impl ThenRun {
 /// `jvm verify`: class files are linked and verified, and nothing is run.
 #[derive(Debug, Drop, PartialEq, Eq)]
 pub struct Verify {
-    /// The paths of the class files. The first holds the class that has to have a `main`.
+    /// The paths of the class files, and of folders of them. The first file holds the class that has to have a `main`.
     pub files: Vec<String>,
+    /// Whether no class has to have a `main`.
+    pub library: bool,
     /// Whether a refusal is explained.
     pub explain: bool,
 }
 
-/// `jvm disasm`: the listing of a class file is written.
+/// `jvm disasm`: the listings of class files are written.
 #[derive(Debug, Drop, PartialEq, Eq)]
 pub struct Disasm {
-    /// The path of the class file.
-    pub file: String,
+    /// The paths of the class files, and of folders of them.
+    pub files: Vec<String>,
+    /// Whether names and line numbers stand behind the instructions.
+    pub names: bool,
     /// Whether a refusal is explained.
     pub explain: bool,
 }

@@ -4,7 +4,7 @@ ghost use Rattle.std.specs.Prelude.{◌≡◌, ◌⊎◌, false, Some, codes, ma
 ghost use Rattle.std.specs.Option.{option_map};
 ghost use Rattle.clap.specs.Words.{HasMatchesOf, all_of, first_of, found_of, kind_of, rows_of};
 ghost use Rattle.clap.specs.declared.error.kind.ErrorKind.TheVariants.{UnknownArgument as unknown_argument};
-ghost use Rattle.command_line.specs.CommandLine.{AreFiles, AreLimitNumbers, AreRunNumbers, AreRunValues, AreScheduleValues, AreTraceValues, AreValues, Asks, Fails, IsFile, IsThenRun, Refuses, Spells, is_set as is_true, jvm, usage_of};
+ghost use Rattle.command_line.specs.CommandLine.{AreDisasmValues, AreLimitNumbers, AreRunNumbers, AreRunValues, AreScheduleValues, AreTraceValues, AreValues, AreVerifyValues, Asks, Fails, IsThenRun, Refuses, Spells, is_set as is_true, jvm, usage_of};
 
 use crate::numbers::{
     BUDGET, CELLS, FRAMES, FROM, MONITORS, OBJECTS, ONLY, QUANTUM, SEED, THREADS, TO, WORKERS,
@@ -154,25 +154,27 @@ fn trace_of(alloc: Global, matches: &ArgMatches<'_>) -> Result<Trace, Usage>
 }
 
 fn verify_of(alloc: Global, matches: &ArgMatches<'_>) -> Result<Verify, Usage>
-    ensures files { IfOk result (AreFiles (rows_of (found_of matches.now))) }
+    ensures values { IfOk result (AreVerifyValues (rows_of (found_of matches.now))) }
     ensures none { IfErr result (λ usage. Refuses usage ((verify : _)
-        → AreFiles (rows_of (found_of matches.now)) verify → ⊥)) }
+        → AreVerifyValues (rows_of (found_of matches.now)) verify → ⊥)) }
 {
     let files = files_of(alloc, matches)?;
     Ok(Verify {
         files,
+        library: is_set(matches, "library"),
         explain: is_set(matches, "explain"),
     })
 }
 
 fn disasm_of(alloc: Global, matches: &ArgMatches<'_>) -> Result<Disasm, Usage>
-    ensures file { IfOk result (IsFile (rows_of (found_of matches.now))) }
+    ensures values { IfOk result (AreDisasmValues (rows_of (found_of matches.now))) }
     ensures none { IfErr result (λ usage. Refuses usage ((disasm : _)
-        → IsFile (rows_of (found_of matches.now)) disasm → ⊥)) }
+        → AreDisasmValues (rows_of (found_of matches.now)) disasm → ⊥)) }
 {
-    let file = required_path_of(alloc, matches, "file")?;
+    let files = files_of(alloc, matches)?;
     Ok(Disasm {
-        file,
+        files,
+        names: is_set(matches, "names"),
         explain: is_set(matches, "explain"),
     })
 }

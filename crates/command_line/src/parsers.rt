@@ -1,11 +1,14 @@
 //! The parsers of the command line.
 
 ghost use Rattle.std.specs.Prelude.{◌≡◌, false, IfOk, IfErr};
-ghost use Rattle.clap.specs.Words.{app_of, kind_of, rule_of};
+ghost use Rattle.clap.specs.Words.{app_of, kind_of, new_app, rule_of};
 ghost use Rattle.clap.specs.declared.error.kind.ErrorKind.TheVariants.{OutOfMemory as no_memory};
 ghost use Rattle.command_line.specs.CommandLine.{IsLocal, class_files, flag, jvm, jvm_disasm, jvm_replay, jvm_run, jvm_schedule, jvm_trace, jvm_verify, one_file, path_option, record_option, with_files as over_files, with_limits as limited};
 
-use crate::help::{ABOUT, AFTER, VERSION};
+use crate::help::{
+    ABOUT, AFTER, DISASM_PAGE, FILES_HELP, LISTED_HELP, REPLAY_PAGE, RUN_PAGE, SCHEDULE_PAGE,
+    TRACE_PAGE, VERIFIED_HELP, VERIFY_PAGE, VERSION,
+};
 use crate::numbers::{
     BUDGET, CELLS, FRAMES, FROM, MONITORS, OBJECTS, ONLY, QUANTUM, SEED, THREADS, TO, WORKERS,
 };
@@ -31,17 +34,35 @@ pub(crate) fn program<'a>(alloc: Global) -> Result<clap::Command<'a>, clap::Erro
     Ok(program)
 }
 
+/// A subcommand by its name, with what it does in a line, and the page that its help ends with.
+fn titled<'a>(alloc: Global, name: &'a str, about: &'a str, page: &'a str) -> clap::Command<'a>
+    ensures app { app_of result ≡ new_app name.now }
+    ensures local { IsLocal result }
+{
+    clap::Command::new(alloc, name)
+        .about(about)
+        .after_help(page)
+}
+
 fn run_parser<'a>(alloc: Global) -> Result<clap::Command<'a>, AllocError>
     ensures { IfOk result (λ run. (app_of run ≡ jvm_run) × IsLocal run) }
 {
-    let run = clap::Command::new(alloc, "run")
-        .about("Runs class files, and may record the schedule")
-        .arg(WORKERS.argument(alloc))?
-        .arg(BUDGET.argument(alloc))?
-        .arg(QUANTUM.argument(alloc))?
-        .arg(SEED.argument(alloc))?
-        .arg(record_argument(alloc))?;
-    with_files(alloc, with_limits(alloc, run)?, files_argument(alloc))
+    let run = titled(
+        alloc,
+        "run",
+        "Runs class files, and may record the schedule",
+        RUN_PAGE,
+    )
+    .arg(WORKERS.argument(alloc))?
+    .arg(BUDGET.argument(alloc))?
+    .arg(QUANTUM.argument(alloc))?
+    .arg(SEED.argument(alloc))?
+    .arg(record_argument(alloc))?;
+    with_files(
+        alloc,
+        with_limits(alloc, run)?,
+        files_argument(alloc, FILES_HELP),
+    )
 }
 
 fn replay_parser<'a>(alloc: Global) -> Result<clap::Command<'a>, AllocError>
@@ -53,40 +74,68 @@ fn replay_parser<'a>(alloc: Global) -> Result<clap::Command<'a>, AllocError>
         "then-run",
         "Goes on where the schedule ends: the threads take turns",
     );
-    let replay = clap::Command::new(alloc, "replay")
-        .about("Runs class files under the schedule of a file, and may go on behind it")
-        .arg(schedule.required(true))?
-        .arg(then_run)?
-        .arg(BUDGET.argument(alloc))?
-        .arg(record_argument(alloc))?;
-    with_files(alloc, with_limits(alloc, replay)?, files_argument(alloc))
+    let replay = titled(
+        alloc,
+        "replay",
+        "Runs class files under the schedule of a file, and may go on behind it",
+        REPLAY_PAGE,
+    )
+    .arg(schedule.required(true))?
+    .arg(then_run)?
+    .arg(BUDGET.argument(alloc))?
+    .arg(record_argument(alloc))?;
+    with_files(
+        alloc,
+        with_limits(alloc, replay)?,
+        files_argument(alloc, FILES_HELP),
+    )
 }
 
 fn trace_parser<'a>(alloc: Global) -> Result<clap::Command<'a>, AllocError>
     ensures { IfOk result (λ trace. (app_of trace ≡ jvm_trace) × IsLocal trace) }
 {
     let schedule = path_argument(alloc, "schedule", "The schedule file, or its text");
-    let trace = clap::Command::new(alloc, "trace")
-        .about("Runs class files under the schedule of a file, and tells the run event by event")
-        .arg(schedule.required(true))?
-        .arg(FROM.argument(alloc))?
-        .arg(TO.argument(alloc))?
-        .arg(ONLY.argument(alloc))?;
-    with_files(alloc, with_limits(alloc, trace)?, files_argument(alloc))
+    let trace = titled(
+        alloc,
+        "trace",
+        "Runs class files under the schedule of a file, and tells the run event by event",
+        TRACE_PAGE,
+    )
+    .arg(schedule.required(true))?
+    .arg(FROM.argument(alloc))?
+    .arg(TO.argument(alloc))?
+    .arg(ONLY.argument(alloc))?;
+    with_files(
+        alloc,
+        with_limits(alloc, trace)?,
+        files_argument(alloc, FILES_HELP),
+    )
 }
 
 fn verify_parser<'a>(alloc: Global) -> Result<clap::Command<'a>, AllocError>
     ensures { IfOk result (λ verify. (app_of verify ≡ jvm_verify) × IsLocal verify) }
 {
-    let verify = clap::Command::new(alloc, "verify").about("Links and verifies class files");
-    with_files(alloc, verify, files_argument(alloc))
+    let library = flag_argument(alloc, "library", "No class has to have a main method");
+    let verify = titled(
+        alloc,
+        "verify",
+        "Links and verifies class files",
+        VERIFY_PAGE,
+    )
+    .arg(library)?;
+    with_files(alloc, verify, files_argument(alloc, VERIFIED_HELP))
 }
 
 fn disasm_parser<'a>(alloc: Global) -> Result<clap::Command<'a>, AllocError>
     ensures { IfOk result (λ disasm. (app_of disasm ≡ jvm_disasm) × IsLocal disasm) }
 {
-    let disasm = clap::Command::new(alloc, "disasm").about("Lists a class file");
-    with_files(alloc, disasm, file_argument(alloc, "The class file"))
+    let names = flag_argument(
+        alloc,
+        "names",
+        "Adds names and line numbers, and tells instructions that are left out",
+    );
+    let disasm = titled(alloc, "disasm", "Lists class files", DISASM_PAGE).arg(names)?;
+    with_files(alloc, disasm, files_argument(alloc, LISTED_HELP))
 }
 
 fn schedule_parser<'a>(alloc: Global) -> Result<clap::Command<'a>, AllocError>
@@ -97,9 +146,13 @@ fn schedule_parser<'a>(alloc: Global) -> Result<clap::Command<'a>, AllocError>
         "write",
         "Makes the schedule file of the text on standard input",
     );
-    let schedule = clap::Command::new(alloc, "schedule")
-        .about("Prints a schedule file as text, or makes one of a text")
-        .arg(write)?;
+    let schedule = titled(
+        alloc,
+        "schedule",
+        "Prints a schedule file as text, or makes one of a text",
+        SCHEDULE_PAGE,
+    )
+    .arg(write)?;
     with_files(alloc, schedule, file_argument(alloc, "The schedule file"))
 }
 
@@ -116,7 +169,7 @@ fn record_argument<'a>(alloc: Global) -> Arg<'a>
 }
 
 /// The class files, one or more.
-fn files_argument<'a>(alloc: Global) -> Arg<'a>
+fn files_argument<'a>(alloc: Global, help: &'a str) -> Arg<'a>
     ensures rule { rule_of result ≡ class_files }
     ensures local { result.global ≡ false }
 {
@@ -125,7 +178,7 @@ fn files_argument<'a>(alloc: Global) -> Arg<'a>
         .required(true)
         .num_args(1..)
         .action(ArgAction::Append)
-        .help("The class files; the main method is that of the first")
+        .help(help)
 }
 
 /// The one file of a command.

@@ -86,6 +86,27 @@ impl<'a, F: Folder> Folder for CaseFolder<'a, F> {
             name: String::from_str(self.alloc, path)?,
         })
     }
+
+    /// The names of the files of the text whose names begin with the path and a slash.
+    fn names(&self, alloc: Global, path: &str) -> io::Result<Option<Vec<String>>> {
+        let mut names = Vec::new(alloc);
+        for (name, _) in self.given {
+            if let Some(name) = name_in(name.as_str(), path) {
+                names.push(String::from_str(alloc, name)?)?;
+            }
+        }
+        if names.is_empty() {
+            return self.others.names(alloc, path);
+        }
+        Ok(Some(names))
+    }
+}
+
+/// The part of a name behind the folder of this path, where that has no folder in it.
+fn name_in<'a>(name: &'a str, path: &str) -> Option<&'a str> {
+    let path = path.strip_suffix('/').unwrap_or(path);
+    let rest = name.strip_prefix(path)?.strip_prefix('/')?;
+    if rest.contains('/') { None } else { Some(rest) }
 }
 
 impl<T: Read> Read for CaseFile<'_, T> {

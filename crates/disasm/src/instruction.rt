@@ -71,7 +71,7 @@ pub fn push_meaning(
 }
 
 /// The line of what begins at `pc`: its offset, its bytes, its mnemonic and its operands.
-pub(crate) fn instruction_line(
+pub fn instruction_line(
     alloc: Global,
     file: &ClassFile,
     code: &[u8],

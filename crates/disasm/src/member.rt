@@ -54,7 +54,7 @@ fn push_implements(
 }
 
 /// The line of the class itself.
-pub(crate) fn class_line(alloc: Global, file: &ClassFile) -> Result<Vec<u8>, AllocError>
+pub fn class_line(alloc: Global, file: &ClassFile) -> Result<Vec<u8>, AllocError>
     ensures { IfOk result (λ text. text.items ≡ class_line (file_of file.now)) }
 {
     let mut text = Vec::new(alloc);
@@ -67,11 +67,7 @@ pub(crate) fn class_line(alloc: Global, file: &ClassFile) -> Result<Vec<u8>, All
     Ok(text)
 }
 
-pub(crate) fn field_line(
-    alloc: Global,
-    file: &ClassFile,
-    field: &Field,
-) -> Result<Vec<u8>, AllocError>
+pub fn field_line(alloc: Global, file: &ClassFile, field: &Field) -> Result<Vec<u8>, AllocError>
     ensures { IfOk result (λ text. text.items ≡ field_line file.now.pool (field_of field.now)) }
 {
     let mut text = Vec::new(alloc);
@@ -104,7 +100,7 @@ fn push_sizes(text: &mut Vec<u8>, code: &Code) -> Result<(), AllocError>
 }
 
 /// The line of a method without code.
-pub(crate) fn bare_method_line(
+pub fn bare_method_line(
     alloc: Global,
     file: &ClassFile,
     method: &Method,
@@ -118,7 +114,7 @@ pub(crate) fn bare_method_line(
 }
 
 /// The line of a method with code.
-pub(crate) fn method_line(
+pub fn method_line(
     alloc: Global,
     file: &ClassFile,
     method: &Method,
@@ -145,7 +141,7 @@ fn push_caught(text: &mut Vec<u8>, file: &ClassFile, catch_type: u16) -> Result<
 }
 
 /// The line of an entry of an exception table.
-pub(crate) fn catch_line(
+pub fn catch_line(
     alloc: Global,
     file: &ClassFile,
     entry: ExceptionEntry,

@@ -16,7 +16,7 @@ pub const MANY: u32 = 1000;
 /// A file's path and its bytes.
 pub type File = (&'static str, &'static [u8]);
 
-/// Files of which one fails after some calls, the call that opens or makes it among them.
+/// Files of which one fails at the call behind some others, the call that opens or makes it among them.
 #[derive(Drop)]
 pub struct FailingFolder<'a> {
     pub alloc: Global,
@@ -61,7 +61,7 @@ impl<'a> Folder for FailingFolder<'a> {
     }
 }
 
-/// Hands over bytes of memory for some reads. Each read after them fails.
+/// Hands over bytes of memory. The read behind some others fails, and those behind it go well.
 #[derive(Drop)]
 pub struct FailingReader<'a> {
     left: &'a [u8],
@@ -79,6 +79,7 @@ impl Read for FailingReader<'_> {
 
     fn read(&mut self, buf: &mut [u8]) -> io::Result<usize> {
         if self.reads == 0 {
+            self.reads = MANY;
             return Err(io::Error::from(ErrorKind::Other));
         }
         self.reads -= 1;
@@ -87,7 +88,7 @@ impl Read for FailingReader<'_> {
     }
 }
 
-/// Keeps what some writes write. Each write after them fails.
+/// Keeps what is written. The write behind some others fails, and those behind it go well.
 #[derive(Drop)]
 pub struct FailingWriter {
     pub written: Vec<u8>,
@@ -108,6 +109,7 @@ impl Write for FailingWriter {
 
     fn write(&mut self, buf: &[u8]) -> io::Result<usize> {
         if self.writes == 0 {
+            self.writes = MANY;
             return Err(io::Error::from(ErrorKind::Other));
         }
         self.writes -= 1;

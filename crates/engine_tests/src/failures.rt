@@ -1,6 +1,6 @@
 //! What is answered and written where a device fails.
 
-use crate::devices::{FailingFolder, FailingWriter, File, MANY};
+use crate::devices::{FailingFolder, FailingReader, FailingWriter, File, MANY};
 use class_builder::PRINTS_SEVEN;
 use engines::{Complaint, Counted, Fault, Open, Status, run};
 use std::alloc::{AllocError, Global};
@@ -30,8 +30,13 @@ const FILES: [File; 4] = [
     ("empty", &[]),
 ];
 
-/// The name by which these tests call the output.
+/// The names by which these tests call the output and the input.
 const OUTPUT: &str = "output";
+
+const INPUT: &str = "input";
+
+/// What the input has.
+const TEXT: &[u8] = b"0*8\n";
 
 /// The path of the file that is recorded.
 const RECORDED: &str = "recorded";
@@ -44,16 +49,50 @@ struct Done {
     devices: &'static [(&'static str, u32)],
 }
 
-const DONE: [Done; 4] = [
+const DONE: [Done; 9] = [
     Done {
         words: &["jvm", "run", "--record", RECORDED, "A"],
         written: "7\nthread 0 ended\nevents 8\nend quiet\n",
         devices: &[("A", 49), (OUTPUT, 6), (RECORDED, 10)],
     },
     Done {
-        words: &["jvm", "replay", "--schedule", "eight", "A"],
+        words: &["jvm", "run", "--seed", "1", "--record", RECORDED, "A", "B"],
         written: "7\nthread 0 ended\nevents 8\nend quiet\n",
-        devices: &[("eight", 4), ("A", 49), (OUTPUT, 6)],
+        devices: &[("A", 49), ("B", 11), (OUTPUT, 6), (RECORDED, 11)],
+    },
+    Done {
+        words: &["jvm", "replay", "--schedule", "eight", "A", "B"],
+        written: "7\nthread 0 ended\nevents 8\nend quiet\n",
+        devices: &[("eight", 4), ("A", 49), ("B", 11), (OUTPUT, 6)],
+    },
+    Done {
+        words: &[
+            "jvm",
+            "replay",
+            "--then-run",
+            "--record",
+            RECORDED,
+            "--schedule",
+            "eight",
+            "A",
+        ],
+        written: "7\nthread 0 ended\nevents 8\nend quiet\n",
+        devices: &[("eight", 4), ("A", 49), (OUTPUT, 6), (RECORDED, 10)],
+    },
+    Done {
+        words: &["jvm", "schedule", "eight"],
+        written: "0*8\n",
+        devices: &[("eight", 4), (OUTPUT, 0)],
+    },
+    Done {
+        words: &["jvm", "schedule", "--write", RECORDED],
+        written: "",
+        devices: &[(INPUT, 1), (RECORDED, 4)],
+    },
+    Done {
+        words: &["jvm", "--version"],
+        written: "jvm 0.1.0\n",
+        devices: &[(OUTPUT, 1)],
     },
     Done {
         words: &["jvm", "verify", "A", "B"],
@@ -94,7 +133,8 @@ fn outcome<R: Threads + Wait + Sync>(
     for word in words {
         texts.push(String::from_str(alloc, word)?)?;
     }
-    let mut input = Counted::new(alloc, b"".as_slice());
+    let reads = if failing == INPUT { calls } else { MANY };
+    let mut input = Counted::new(alloc, FailingReader::new(TEXT, reads));
     let answer = run(
         rt,
         alloc,

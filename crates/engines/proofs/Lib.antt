@@ -1,5 +1,6 @@
 pub mod DeviceLemmas
 pub mod EngineLemmas
+pub mod LibraryLemmas
 pub mod ListingLemmas
 pub mod OpeningLemmas
 pub mod RecordingLemmas

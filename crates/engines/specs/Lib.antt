@@ -2,6 +2,8 @@ pub mod Complaints
 pub mod Continuations
 pub mod Devices
 pub mod Engines
+pub mod Libraries
+pub mod LibraryMain
 pub mod Listings
 pub mod Opening
 pub mod Recordings

@@ -1,44 +1,54 @@
 -- What the engine of listings answers and writes, by the bytes that its devices hold. Where a device says nothing of its
 -- bytes, they are any that it may have handed over.
-use Rattle.std.specs.Prelude.{◌≡◌, ◌⊎◌, ℕ, List, Option, Some, None}
-use Rattle.model.specs.Tree.{FileTree}
-use Rattle.model.specs.Spells.{Spells}
-use Rattle.model.specs.Listing.{listing}
+use Rattle.std.specs.Prelude.{◌≡◌, ◌⊎◌, ℕ, List, length, Option}
+use Rattle.model.specs.Classes.{Program}
 use Rattle.model.specs.Devices.{AppendsFront}
-use Rattle.reading.specs.declared.fault.Cause.{Cause}
-use Rattle.classfile.specs.Decoding.{StandsAt}
+use Rattle.model.specs.Linkable.{AreSpelled}
+use Rattle.class_listings.specs.Listings.{IsFirstMalformed, listings}
 use Rattle.refusal.specs.declared.why.Refusal.{Refusal}
-use Rattle.refusal.specs.declared.why.RefusalKind.TheVariants as kinds
-use Rattle.engines.specs.Engines.{Reads, no_memory}
+use Rattle.engines.specs.Engines.{ReadsEach}
+use Rattle.engines.specs.Verifications.{IsUnread}
 use Rattle.engines.specs.declared.fault.Fault.{Fault}
 use Rattle.engines.specs.declared.fault.Fault.TheVariants as faults
 
--- the source holds the bytes of a class file, and this is the listing of its tree
-abbrev pub Lists : Option (List ℕ) → List ℕ → Type 0
-Lists left text = (bytes : List ℕ) × (tree : FileTree) × Reads left bytes × Spells bytes tree × (text ≡ listing tree)
+-- the sources hold the bytes of class files, and these are the listings of their trees, one behind the other
+abbrev pub Lists : List (Option (List ℕ)) → List ℕ → Type 0
+Lists lefts text = (files : List (List ℕ)) × (trees : Program) × ReadsEach lefts files × AreSpelled files trees × (text ≡ listings trees)
 
--- a front of the listing is written, which may have no byte
-abbrev pub ListsFront : Option (List ℕ) → Option (List ℕ) → Option (List ℕ) → Type 0
-ListsFront left old new = (text : List ℕ) × Lists left text × AppendsFront old new text
+-- a front of the listings is written, which may have no byte
+abbrev pub ListsFront : List (Option (List ℕ)) → Option (List ℕ) → Option (List ℕ) → Type 0
+ListsFront lefts old new = (text : List ℕ) × Lists lefts text × AppendsFront old new text
 
--- the class file is refused for a cause at an offset
-abbrev pub malformed : Cause → ℕ → Refusal
-malformed cause offset = record { kind = kinds.Malformed; file = Some 0; method = None; offset = Some offset; cause = Some cause }
-
--- the bytes are no class file, and this says why: the cause stands in them at the offset
-pub record IsMalformed (bytes : List ℕ) (refusal : Refusal) : Type 0 where
-  pub cause : Cause
-  pub offset : ℕ
-  pub told : refusal ≡ malformed cause offset
-  pub none : (tree : FileTree) → Spells bytes tree → ⊥
-  pub stands : StandsAt bytes cause offset
+-- the first of the files that is no class file is refused
+abbrev pub IsUndecoded : List (Option (List ℕ)) → Refusal → Type 0
+IsUndecoded lefts refusal = (files : List (List ℕ)) × ReadsEach lefts files × IsFirstMalformed files refusal
 
 -- When a fault is answered, and what is written then.
-abbrev pub IsUnlisted : Option (List ℕ) → Option (List ℕ) → Option (List ℕ) → Fault → Type 0
-IsUnlisted left old new faults.Device = (new ≡ old) ⊎ ListsFront left old new
+abbrev pub IsUnlisted : List (Option (List ℕ)) → Option (List ℕ) → Option (List ℕ) → Fault → Type 0
+IsUnlisted lefts old new faults.Device = (new ≡ old) ⊎ ListsFront lefts old new
 -- memory is wanted for the writing
-IsUnlisted left old new faults.Memory = ListsFront left old new
--- memory for the reading aside, the bytes are no class file
-IsUnlisted left old new (faults.Refusal refusal) = (new ≡ old) × ((refusal ≡ no_memory 0) ⊎ ((bytes : List ℕ) × Reads left bytes × IsMalformed bytes refusal))
-IsUnlisted left old new (faults.Schedule fault) = ⊥
-IsUnlisted left old new (faults.Text fault) = ⊥
+IsUnlisted lefts old new faults.Memory = ListsFront lefts old new
+-- memory for the reading aside, a file is no class file
+IsUnlisted lefts old new (faults.Refusal refusal) = (new ≡ old) × (IsUnread (length lefts) refusal ⊎ IsUndecoded lefts refusal)
+IsUnlisted lefts old new (faults.Schedule fault) = ⊥
+IsUnlisted lefts old new (faults.Text fault) = ⊥
+
+-- ---- with names and line numbers, of whose text nothing is said
+
+-- the sources hold the bytes of class files
+abbrev pub AreClassFiles : List (Option (List ℕ)) → Type 0
+AreClassFiles lefts = (files : List (List ℕ)) × (trees : Program) × ReadsEach lefts files × AreSpelled files trees
+
+-- a front of some text is written, which may have no byte
+abbrev pub NamesFront : List (Option (List ℕ)) → Option (List ℕ) → Option (List ℕ) → Type 0
+NamesFront lefts old new = AreClassFiles lefts × (text : List ℕ) × AppendsFront old new text
+
+-- When a fault is answered, and what is written then.
+abbrev pub IsUnnamed : List (Option (List ℕ)) → Option (List ℕ) → Option (List ℕ) → Fault → Type 0
+IsUnnamed lefts old new faults.Device = (new ≡ old) ⊎ NamesFront lefts old new
+-- memory is wanted for the text, or for its writing
+IsUnnamed lefts old new faults.Memory = NamesFront lefts old new
+-- memory for the reading aside, a file is no class file
+IsUnnamed lefts old new (faults.Refusal refusal) = (new ≡ old) × (IsUnread (length lefts) refusal ⊎ IsUndecoded lefts refusal)
+IsUnnamed lefts old new (faults.Schedule fault) = ⊥
+IsUnnamed lefts old new (faults.Text fault) = ⊥

@@ -3,6 +3,7 @@
 use crate::complaint::Complaint;
 use crate::fault::Fault;
 use crate::folder::Folder;
+use crate::given_paths::given_paths;
 use command_line::{Command, command};
 use explanation::{GivenFile, explain, explain_schedule, explain_text};
 use std::alloc::{AllocError, Global};
@@ -70,25 +71,32 @@ fn record_of(command: &Command) -> Option<&str> {
     }
 }
 
-/// The paths of the class files.
-fn files_of<'a>(alloc: Global, command: &'a Command) -> Result<Vec<&'a str>, AllocError> {
-    let mut paths = Vec::new(alloc);
+/// The paths of the class files, those of the folders that are given included.
+fn files_of<F: Folder>(
+    alloc: Global,
+    folder: &F,
+    command: &Command,
+) -> Result<Vec<String>, AllocError> {
     match command {
-        Command::Run(options) => push_all(&mut paths, &options.files)?,
-        Command::Replay(options) => push_all(&mut paths, &options.files)?,
-        Command::Trace(options) => push_all(&mut paths, &options.files)?,
-        Command::Verify(options) => push_all(&mut paths, &options.files)?,
-        Command::Disasm(options) => paths.push(options.file.as_str())?,
-        Command::Schedule(_) => {}
+        Command::Run(options) => options.files.clone(),
+        Command::Replay(options) => options.files.clone(),
+        Command::Trace(options) => options.files.clone(),
+        Command::Verify(options) => given_or_same(alloc, folder, &options.files),
+        Command::Disasm(options) => given_or_same(alloc, folder, &options.files),
+        Command::Schedule(_) => Ok(Vec::new(alloc)),
     }
-    Ok(paths)
 }
 
-fn push_all<'a>(paths: &mut Vec<&'a str>, files: &'a [String]) -> Result<(), AllocError> {
-    for file in files {
-        paths.push(file.as_str())?;
+/// The paths of the files that are given, and these paths where a folder can't be read.
+fn given_or_same<F: Folder>(
+    alloc: Global,
+    folder: &F,
+    paths: &Vec<String>,
+) -> Result<Vec<String>, AllocError> {
+    match given_paths(alloc, folder, paths) {
+        Ok(given) => Ok(given),
+        Err(_) => paths.clone(),
     }
-    Ok(())
 }
 
 /// The bytes of the file at a path.
@@ -107,7 +115,7 @@ fn line_of<F: Folder>(
     fault: &Fault,
     output: Option<ErrorKind>,
 ) -> Result<Option<Vec<u8>>, AllocError> {
-    let paths = files_of(alloc, command)?;
+    let paths = files_of(alloc, folder, command)?;
     let schedule = schedule_of(command);
     match fault {
         Fault::Device => match of_device(alloc, folder, schedule, &paths, output)? {
@@ -145,12 +153,13 @@ fn unrecorded(alloc: Global, path: Option<&str>) -> Result<Option<Vec<u8>>, Allo
 fn given<'a, F: Folder>(
     alloc: Global,
     folder: &F,
-    paths: &[&'a str],
+    paths: &'a [String],
 ) -> io::Result<Vec<GivenFile<'a>>> {
     let mut files = Vec::new(alloc);
     for path in paths {
-        let bytes = bytes_of(alloc, folder, path)?;
-        files.push(GivenFile { name: *path, bytes })?;
+        let bytes = bytes_of(alloc, folder, path.as_str())?;
+        let name = path.as_str();
+        files.push(GivenFile { name, bytes })?;
     }
     Ok(files)
 }
@@ -160,7 +169,7 @@ fn of_device<F: Folder>(
     alloc: Global,
     folder: &F,
     schedule: Option<&str>,
-    paths: &[&str],
+    paths: &[String],
     output: Option<ErrorKind>,
 ) -> Result<Option<Vec<u8>>, AllocError> {
     if let Some(kind) = output {
@@ -173,7 +182,7 @@ fn of_device<F: Folder>(
         }
     }
     for path in paths {
-        if let Err(error) = bytes_of(alloc, folder, path) {
+        if let Err(error) = bytes_of(alloc, folder, path.as_str()) {
             return Ok(Some(format!(in alloc; "{path}: {error}")?.into_bytes()));
         }
     }

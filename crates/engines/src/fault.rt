@@ -11,7 +11,7 @@ use schedule::ScheduleFault;
 use schedule_text::{EitherFault, TextFault};
 use std::alloc::{AllocError, AllocFailed};
 use std::io;
-use std::io::Write;
+use std::io::{ErrorKind, Write};
 
 /// Why an engine has no status.
 #[derive(Debug, Drop)]
@@ -85,6 +85,16 @@ impl From<DeviceFault> for Fault {
         match fault {
             DeviceFault::Device => Fault::Device,
             DeviceFault::Memory => Fault::Memory,
+        }
+    }
+}
+
+/// Where a folder can't be read.
+impl From<io::Error> for Fault {
+    fn from(error: io::Error) -> Fault {
+        match error.kind() {
+            ErrorKind::OutOfMemory => Fault::Memory,
+            _ => Fault::Device,
         }
     }
 }

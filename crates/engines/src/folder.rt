@@ -1,5 +1,6 @@
 //! Files by their paths.
 
+use std::alloc::Global;
 use std::io::{Read, Write};
 use std::rt::Files;
 use std::{fs, io};
@@ -17,6 +18,12 @@ pub trait Folder {
 
     /// Makes a file at a path, in place of one that is there.
     fn create(&self, path: &str) -> io::Result<Self::Created>;
+
+    /// The names of what lies in the folder at a path, in any order, or `None` where there is no folder. A place that
+    /// has files alone leaves this as it is.
+    fn names(&self, _alloc: Global, _path: &str) -> io::Result<Option<Vec<String>>> {
+        Ok(None)
+    }
 }
 
 /// The files of the system, from the folder on that the program runs in.
@@ -43,6 +50,22 @@ impl<R: Files> Folder for SystemFolder<'_, R> {
     fn create(&self, path: &str) -> io::Result<R::File> {
         fs::create(self.files, path)
     }
+
+    fn names(&self, alloc: Global, path: &str) -> io::Result<Option<Vec<String>>> {
+        match fs::metadata(self.files, path) {
+            Ok(found) if found.is_dir() => Ok(Some(names_in(alloc, self.files, path)?)),
+            _ => Ok(None),
+        }
+    }
+}
+
+/// The names of what lies in a folder of the system.
+fn names_in<R: Files>(alloc: Global, files: &R, path: &str) -> io::Result<Vec<String>> {
+    let mut names = Vec::new(alloc);
+    for entry in fs::read_dir(&(files, alloc), path)? {
+        names.push(String::from_str(alloc, entry?.file_name())?)?;
+    }
+    Ok(names)
 }
 
 /// The file at a path of a folder, which is opened by the first read and closed at its end.

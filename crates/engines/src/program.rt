@@ -5,7 +5,10 @@ use crate::continuing::continue_engine;
 use crate::device::Counted;
 use crate::fault::Fault;
 use crate::folder::{CreatedFile, Folder, NamedFile};
+use crate::given_paths::given_paths;
+use crate::library::verify_library_engine;
 use crate::listing::disasm_engine;
+use crate::names::names_engine;
 use crate::replaying::replay_engine;
 use crate::running::run_engine;
 use crate::status::Status;
@@ -157,8 +160,13 @@ fn verify<F: Folder, W: Sink>(
     options: &Verify,
     output: &mut W,
 ) -> Result<Status, Fault> {
-    let mut files = sources(alloc, folder, &options.files)?;
-    verify_engine(alloc, files.as_mut_slice(), output)
+    let paths = given_paths(alloc, folder, &options.files)?;
+    let mut files = sources(alloc, folder, &paths)?;
+    if options.library {
+        verify_library_engine(alloc, files.as_mut_slice(), output)
+    } else {
+        verify_engine(alloc, files.as_mut_slice(), output)
+    }
 }
 
 /// `disasm`.
@@ -168,8 +176,13 @@ fn disasm<F: Folder, W: Sink>(
     options: &Disasm,
     output: &mut W,
 ) -> Result<Status, Fault> {
-    let mut file = source(alloc, folder, &options.file);
-    disasm_engine(alloc, &mut file, output)
+    let paths = given_paths(alloc, folder, &options.files)?;
+    let mut files = sources(alloc, folder, &paths)?;
+    if options.names {
+        names_engine(alloc, files.as_mut_slice(), output)
+    } else {
+        disasm_engine(alloc, files.as_mut_slice(), output)
+    }
 }
 
 /// `schedule`.

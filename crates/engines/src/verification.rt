@@ -65,7 +65,7 @@ fn accepted_count(alloc: Global, files: &[Vec<u8>]) -> Result<usize, Refusal>
 }
 
 /// The line of so many classes.
-fn line_of(alloc: Global, count: usize) -> Result<String, AllocError>
+pub(crate) fn line_of(alloc: Global, count: usize) -> Result<String, AllocError>
     ensures { IfOk result (λ text. string_bytes text ≡ verified_line count) }
 {
     format!(in alloc; "verified {count} classes\n")

@@ -1,8 +1,8 @@
 //! An instruction in words: its mnemonic, and what it names in the constant pool.
 
 use crate::line::Line;
-use crate::mnemonics::mnemonic;
 use classfile::ClassFile;
+use left_out_opcodes::mnemonic;
 use model::Instr;
 use opcodes::decode_at;
 use std::alloc::AllocError;

@@ -7,7 +7,6 @@ mod instruction;
 mod line;
 mod malformed;
 mod method;
-mod mnemonics;
 mod outside;
 mod schedule_file;
 mod unresolved;

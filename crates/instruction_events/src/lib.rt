@@ -2,10 +2,12 @@
 //! is done, after its class, where it needs one (JVMS 2.11, 5.5).
 #![tactic(auto)]
 
+mod at_once;
 mod calls;
 mod events;
 mod fields;
 mod first;
 mod own;
 
+pub use at_once::instruction_at_once;
 pub use events::{instruction_event, known_instruction_event};

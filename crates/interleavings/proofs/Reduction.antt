@@ -71,19 +71,19 @@ still_by WrongKind w e = absurd (false≢true (sym w))
 still_by (Next cost s) w e = absurd (none-some s (sym e))
 
 -- a local event that can be done is done in each run to a quiet state, and may as well come first
-record Moved (files : Program) (frames : ℕ) (state : State) (events : List Event) (last : State) : Type 0 where
-  others : List Event
-  shorter : length events ≡ suc (length others)
-  ends : run_from files frames state others ≡ Some last
+pub record Moved (files : Program) (frames : ℕ) (state : State) (events : List Event) (last : State) : Type 0 where
+  pub others : List Event
+  pub shorter : length events ≡ suc (length others)
+  pub ends : run_from files frames state others ≡ Some last
 
 module _ (files : List (List ℕ)) (trees : Program) (accepted : IsAccepted files trees) (frames : ℕ) where
-  abbrev go : State → Event → Option State
+  abbrev pub go : State → Event → Option State
   go = step trees frames
 
-  abbrev event_0 : ℕ → Event
+  abbrev pub event_0 : ℕ → Event
   event_0 t = record { thread = t; pick = 0 }
 
-  local_step : (state : State) → IsWellTyped trees state → (event : Event) (own : StackOf Value) → next_local trees state event.thread ≡ Some own → (event.pick == 0) ≡ true → go state event ≡ Some (with_stack state event.thread own)
+  pub local_step : (state : State) → IsWellTyped trees state → (event : Event) (own : StackOf Value) → next_local trees state event.thread ≡ Some own → (event.pick == 0) ≡ true → go state event ≡ Some (with_stack state event.thread own)
   local_step state h event own e p = ap next_by (local_is_own files trees accepted frames state h event own e p)
 
   -- a thread of a local event is there
@@ -102,14 +102,14 @@ module _ (files : List (List ℕ)) (trees : Program) (accepted : IsAccepted file
       false≢true (sym still ∙ goes)
 
   module _ (last : State) (quiet : is_quiet trees frames last ≡ true) where
-    abbrev Runs : List Event → State → Type 0
+    abbrev pub Runs : List Event → State → Type 0
     Runs events state = run_from trees frames state events ≡ Some last
 
     -- what is known of the events after the first one
     abbrev Rest : ℕ → StackOf Value → List Event → Type 0
     Rest t own events = (m : State) → IsWellTyped trees m → next_local trees m t ≡ Some own → Runs events m → Moved trees frames (with_stack m t own) events last
 
-    move_front : (events : List Event) (state : State) → IsWellTyped trees state → (t : ℕ) (own : StackOf Value) → next_local trees state t ≡ Some own → Runs events state → Moved trees frames (with_stack state t own) events last
+    pub move_front : (events : List Event) (state : State) → IsWellTyped trees state → (t : ℕ) (own : StackOf Value) → next_local trees state t ≡ Some own → Runs events state → Moved trees frames (with_stack state t own) events last
     move_front [] state h t own e r =
         let same : state ≡ last = same_Some state last r in
         absurd (not_quiet state h (subst (λ s. is_quiet trees frames s ≡ true) (sym same) quiet) t own e)
@@ -182,7 +182,7 @@ module _ (files : List (List ℕ)) (trees : Program) (accepted : IsAccepted file
     explored_below zero events state h lt r = absurd (omega (arith, lt))
     explored_below (suc n) events state h lt r = either n events state h (omega (arith, lt)) r (explored_below n) (first_local trees state) refl
 
-  opened : IsWellTyped trees (opening values trees)
+  pub opened : IsWellTyped trees (opening values trees)
   opened = opening_typed trees
 
   pub explored : (events : List Event) (state : State) → run trees frames events ≡ Some state → is_quiet trees frames state ≡ true → (others : List Event) × (reduced_run trees frames others ≡ Some state)
@@ -190,7 +190,7 @@ module _ (files : List (List ℕ)) (trees : Program) (accepted : IsAccepted file
 
   -- ---- well-typed states of a run
 
-  run_typed : (events : List Event) (state last : State) → IsWellTyped trees state → run_from trees frames state events ≡ Some last → IsWellTyped trees last
+  pub run_typed : (events : List Event) (state last : State) → IsWellTyped trees state → run_from trees frames state events ≡ Some last → IsWellTyped trees last
   run_typed [] state last h r = subst (IsWellTyped trees) (same_Some state last r) h
   run_typed (event ∷ events) state last h r = by (go state event) refl r (λ m g y. run_typed events m last g y)
     where

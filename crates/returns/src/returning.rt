@@ -1,6 +1,8 @@
 //! Returns to the invoker.
 
-ghost use Rattle.std.specs.Prelude.{◌≡◌};
+ghost use Rattle.std.specs.Prelude.{◌≡◌, ℕ, Ok, true, false};
+ghost use Rattle.machine_state.specs.declared.answers.Effect.TheVariants as effect;
+ghost use Rattle.machine_state.specs.declared.state.Shared.{Shared};
 ghost use Rattle.returns.specs.Returned.{result_in, returning};
 ghost use Rattle.linked_frames.specs.Frames.{DoesOwn};
 
@@ -46,4 +48,22 @@ pub fn return_from(
     stack.return_to(next, returns)?;
     leave(shared, thread, entered);
     Ok(Effect::Done)
+}
+
+/// As `return_from`, of an invocation that entered no monitor: nothing is shared by it. Answers whether the frame has returned;
+/// where it hasn't, for a monitor that it would leave or for want of memory, nothing has changed.
+#[inline]
+pub fn return_alone(stack: &mut ThreadStack, program: &LinkedProgram, value: bool) -> bool
+    ensures done { result ≡ true → (t : ℕ) (shared : Shared) → DoesOwn program.now (returning value) t (Ok effect.Done) shared shared stack.old stack.new }
+    ensures still { result ≡ false → stack.new ≡ stack.old }
+{
+    if let Some(_entered) = entered_by_top(stack) {
+        return false;
+    }
+    let next = next_place_under(program, stack);
+    let returns = result_of(stack, value);
+    match stack.return_to(next, returns) {
+        Ok(()) => true,
+        Err(_) => false,
+    }
 }

@@ -1,6 +1,5 @@
 use Rattle.std.proofs.Common.{◌∙◌, ap, ap₂, codes}
 use Rattle.std.proofs.lemmas.Result.{IfOk-weaker}
-use Rattle.clap.specs.Simple.{app_of_fields}
 use Rattle.clap.specs.Words.{new_app}
 use Rattle.command_line.specs.CommandLine.{with_files, with_limits}
 use Rattle.command_line.proofs.ParserLemmas.{IsParser, with_argument}
@@ -8,8 +7,7 @@ use Rattle.command_line.proofs.parsers.run_parser.Goals as goal
 
 pub returns : goal.returns
 returns c =
-    let new : IsParser c.about.result (new_app (codes "run")) =
-    (ap app_of_fields c.about.ensures ∙ c.new.ensures.app, ap (λ fields. fields.has_globals) c.about.ensures ∙ c.new.ensures.local) in
+    let new : IsParser c.titled.result (new_app (codes "run")) = (c.titled.ensures.app, c.titled.ensures.local) in
     let workers = with_argument _ _ _ _ _ new c.argument.ensures.rule c.argument.ensures.local c.in_ok-arg.ensures in
     let budget = with_argument _ _ _ _ _ workers c.argument-2.ensures.rule c.argument-2.ensures.local c.in_ok-arg-2.ensures in
     let quantum = with_argument _ _ _ _ _ budget c.argument-3.ensures.rule c.argument-3.ensures.local c.in_ok-arg-3.ensures in

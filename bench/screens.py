@@ -1,0 +1,97 @@
+#!/usr/bin/env python3
+"""Runs the commands of documents, and compares what they print with the screens that the documents show.
+
+    screens.py PROGRAM [DOCUMENT..]
+
+PROGRAM is the built program `jvm`; without a document these are docs/TUTORIAL.md and docs/ERRORS.md. A document is run by
+one bash, from its first line to its last, at the top of a copy of tools/ and lessons/. In its blocks `text` a line
+that begins with `$ ` is a command, and the lines up to the next one are its screen, standard error included. Its blocks
+`sh` are run as they stand, but one that begins with `#!`, which becomes the file test.sh. There has to be a javac.
+
+Each screen that differs is shown. The status is 0 where none does.
+"""
+
+import difflib
+import os
+import shutil
+import subprocess
+import sys
+import tempfile
+
+TOP = os.path.dirname(os.path.dirname(os.path.realpath(__file__)))
+DOCUMENTS = ["docs/TUTORIAL.md", "docs/ERRORS.md"]
+MARK = "== the next screen =="
+
+
+def blocks(text):
+    """The blocks of a document, each by its kind and its lines, without what they are indented by."""
+    kind, lines, indent = None, [], ""
+    for line in text.split("\n"):
+        if line.strip().startswith("```"):
+            if kind is None:
+                kind, lines = line.strip()[3:], []
+                indent = line[: len(line) - len(line.lstrip())]
+            else:
+                yield kind, lines
+                kind = None
+        elif kind is not None:
+            lines.append(line.removeprefix(indent))
+
+
+def script_and_screens(text):
+    """What bash is to run, with a mark before each screen, and the screens that are to come, each behind its command."""
+    script, screens = ["exec 2>&1"], []
+    for kind, lines in blocks(text):
+        if kind == "sh" and lines[0].startswith("#!"):
+            script += ["cat > test.sh <<'END OF THE FILE'", *lines, "END OF THE FILE"]
+        elif kind == "sh":
+            script += lines
+        elif kind == "text":
+            for line in lines:
+                if line.startswith("$ "):
+                    screens.append((line, []))
+                    script += [f"echo '{MARK}'", line[2:]]
+                elif screens:
+                    screens[-1][1].append(line)
+    return "\n".join(script) + "\n", screens
+
+
+def copied(program, folder):
+    """Puts the tools, the lessons and the program into a folder, and answers the environment in which `jvm` is found."""
+    for name in ("tools", "lessons"):
+        shutil.copytree(os.path.join(TOP, name), os.path.join(folder, name))
+    place = os.path.join(folder, "bin")
+    os.mkdir(place)
+    os.symlink(os.path.realpath(program), os.path.join(place, "jvm"))
+    return {**os.environ, "PATH": place + os.pathsep + os.environ["PATH"]}
+
+
+def differing(program, document):
+    """How many screens of a document differ. They are shown."""
+    with open(os.path.join(TOP, document), encoding="utf-8") as file:
+        script, screens = script_and_screens(file.read())
+    with tempfile.TemporaryDirectory() as folder:
+        environment = copied(program, folder)
+        ran = subprocess.run(["bash", "-c", script], cwd=folder, env=environment, stdout=subprocess.PIPE)
+    came = ran.stdout.decode(errors="replace").split(MARK + "\n")[1:]
+    count = abs(len(came) - len(screens))
+    for (command, screen), text in zip(screens, came):
+        lines = text.removesuffix("\n").split("\n") if text else []
+        if lines != screen:
+            count += 1
+            print(f"{document}: {command}")
+            print("\n".join(difflib.unified_diff(screen, lines, "the document", "the program", lineterm="")))
+    print(f"{document}: {len(screens)} commands, {count} differ")
+    return count
+
+
+def main():
+    if len(sys.argv) < 2 or sys.argv[1] in ("-h", "--help"):
+        print(__doc__)
+        return 2
+    documents = sys.argv[2:] or DOCUMENTS
+    return 1 if sum(differing(sys.argv[1], document) for document in documents) else 0
+
+
+if __name__ == "__main__":
+    sys.exit(main())

@@ -1,0 +1,16 @@
+//! Sets of class files that are made by chance, for a program that tries `jvm`: with threads, monitors, wait sets, exceptions and
+//! initialisers. The same numbers that are drawn make the same files.
+#![tactic(auto)]
+
+mod blocks;
+mod body;
+mod classes;
+mod code;
+mod objects;
+mod opcode;
+mod random;
+mod statements;
+mod threads;
+
+pub use classes::{NAMES, class_files};
+pub use random::Random;
