@@ -1,6 +1,5 @@
 use Rattle.std.proofs.Common.{◌≡◌, ◌∙◌, ap, ap₂, codes, true, false}
 use Rattle.std.proofs.lemmas.Result.{IfOk-weaker}
-use Rattle.clap.specs.Simple.{app_of_fields}
 use Rattle.clap.specs.Words.{Rule, new_app, rule_of}
 use Rattle.command_line.specs.CommandLine.{schedule_option, with_files, with_limits}
 use Rattle.command_line.proofs.ParserLemmas.{IsParser, with_argument}
@@ -11,8 +10,7 @@ returns c =
     let schedule_is : rule_of c.required.result ≡ schedule_option =
     ap rule_of c.required.ensures ∙ ap {A = Rule} (λ rule. record rule { required = true }) c.path_argument-schedule.ensures.rule in
     let schedule_local : c.required.result.global ≡ false = ap (λ argument. argument.global) c.required.ensures ∙ c.path_argument-schedule.ensures.local in
-    let new : IsParser c.about.result (new_app (codes "trace")) =
-    (ap app_of_fields c.about.ensures ∙ c.new.ensures.app, ap (λ fields. fields.has_globals) c.about.ensures ∙ c.new.ensures.local) in
+    let new : IsParser c.titled.result (new_app (codes "trace")) = (c.titled.ensures.app, c.titled.ensures.local) in
     let schedule = with_argument _ _ _ _ _ new schedule_is schedule_local c.in_ok-arg.ensures in
     let from = with_argument _ _ _ _ _ schedule c.argument.ensures.rule c.argument.ensures.local c.in_ok-arg-2.ensures in
     let to = with_argument _ _ _ _ _ from c.argument-2.ensures.rule c.argument-2.ensures.local c.in_ok-arg-3.ensures in
