@@ -18,11 +18,9 @@ use Rattle.typed_runs.proofs.Settled.{lengths_same}
 use Rattle.interleavings.specs.Ends.{Has}
 use Rattle.searches.specs.Searches.{IsMet}
 use Rattle.searches.specs.Picks.{ArePicksInOrder}
-use Rattle.searches.proofs.Picks.{picks_in_order}
 use Rattle.linked_code.specs.declared.program.LinkedProgram.{LinkedProgram}
 use Rattle.machine_state.specs.declared.state.Shared.{Shared}
 use Rattle.same_states.specs.Same.{AreAlike, AreWordsTold}
-use Rattle.same_states.proofs.Told.{words_told}
 use Rattle.shown_runs.specs.Runs.{HasRun}
 use Rattle.met_states.specs.Met.{IsNextMet, AreAlikeStatesMet, AreNewStatesMet, AreHigherPicksLeft, AreOtherThreadsLeft, AreMetStatesKept, AreSearchesWhole}
 
@@ -40,8 +38,8 @@ run_more trees frames (first ∷ events) from state next event r e = by (step tr
     by None q rest = absurd (none-some state q)
     by (Some s) q rest = rest s q
 
-pub alike_met : AreAlikeStatesMet
-alike_met trees p bounds schedules events schedule event one other has first second alike state next r e =
+pub alike_met : AreWordsTold → AreAlikeStatesMet
+alike_met words_told trees p bounds schedules events schedule event one other has first second alike state next r e =
     let longer = run_more trees bounds.frames events (opening values trees) state next event r e in
     let is : first.lead.state ≡ next = same_Some first.lead.state next (sym first.lead.reached ∙ longer) in
     let same : first.at ≡ second.at = words_told trees p bounds _ _ one other first.at second.at first.shown second.shown alike in
@@ -70,8 +68,8 @@ enabled_where NotEnabled next e = absurd (none-some next e)
 enabled_where WrongKind next e = absurd (none-some next e)
 enabled_where (Next cost s) next e = refl
 
-pub higher_left : AreHigherPicksLeft
-higher_left trees frames schedules events state t low high le r off other next q e =
+pub higher_left : ArePicksInOrder → AreHigherPicksLeft
+higher_left picks_in_order trees frames schedules events state t low high le r off other next q e =
     let same : state ≡ other = same_Some state other (sym r ∙ q) in
     let on = enabled_where (stepped values trees frames other (record { thread = t; pick = high })) next e in
     let low_on = picks_in_order trees frames other t low high le on in

@@ -4,10 +4,15 @@
 
 ghost use Rattle.met_states.specs.Met.{AreAlikeStatesMet, AreNewStatesMet, AreHigherPicksLeft, AreOtherThreadsLeft, AreMetStatesKept, AreSearchesWhole};
 
+use same_states::words_are_told;
+use searches::picks_are_in_order;
+
 /// Where an event leads on from a schedule to a state that is alike to the one of another schedule, it has been met.
 pub fn alike_states_are_met()
     ensures holds { AreAlikeStatesMet }
-{}
+{
+    words_are_told();
+}
 
 /// Where the schedule that is longer by an event is listed, the state to which the event leads has been met.
 pub fn new_states_are_met()
@@ -17,7 +22,9 @@ pub fn new_states_are_met()
 /// Where an event of a thread is not enabled, the one with each higher pick leads nowhere.
 pub fn higher_picks_are_left()
     ensures holds { AreHigherPicksLeft }
-{}
+{
+    picks_are_in_order();
+}
 
 /// An event of a thread that isn't there leads nowhere.
 pub fn other_threads_are_left()
