@@ -49,8 +49,8 @@ fn bytes_of(code: &[u8], pc: usize) -> &[u8]
     &code[pc..pc + length]
 }
 
-/// The mnemonic and the operands of what begins at `pc`.
-fn push_meaning(
+/// Writes the mnemonic and the operands of what begins at `pc` behind a text.
+pub fn push_meaning(
     text: &mut Vec<u8>,
     file: &ClassFile,
     code: &[u8],

@@ -9,6 +9,6 @@ mod numbers;
 mod operands;
 mod switches;
 
-pub use instruction::instruction_line;
+pub use instruction::{instruction_line, push_meaning};
 pub use listing::list;
 pub use member::{bare_method_line, catch_line, class_line, field_line, method_line};

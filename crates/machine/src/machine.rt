@@ -92,6 +92,13 @@ impl Machine {
         &self.shared
     }
 
+    /// What its threads shared, and their stacks, once it is to do no more events.
+    pub fn into_shared(self) -> Shared
+        ensures { result ≡ self.shared }
+    {
+        self.shared
+    }
+
     /// Does an event, if it is enabled. `NotEnabled` where it isn't; an error where a limit forbids it, or memory is wanted. In both
     /// cases nothing has changed.
     pub fn step(&mut self, event: Event) -> Result<Answer, Refusal>
