@@ -28,7 +28,8 @@ use Rattle.model.specs.State.{Invocation, Initialisation, StackOf}
 use Rattle.traced_events.specs.Places.{Sees}
 use Rattle.traced_events.specs.declared.frames.FrameBefore.{FrameBefore}
 use Rattle.trace_text.specs.declared.form.Form.{Form}
-use Rattle.trace_text.specs.Lines.{AddsLine, class_in, end_words, frame_in, head_words, instruction_words, line_words, meaning_in, nowhere_in, part, place_in}
+use Rattle.trace_text.specs.JsonTexts.{text_member}
+use Rattle.trace_text.specs.Lines.{AddsLine, class_in, end_words, frame_in, head_words, instruction_words, line_words, meaning_in, method_members, nowhere_in, part, place_in}
 use Rattle.trace_text.specs.Methods.{IsPlaceOf, name_in, IsBodyOf}
 
 -- ---- the place of a number
@@ -80,6 +81,21 @@ method_named files place method e = ap (λ (o : Option Member). option_map_or (�
 
 pub class_at_number : (files : Program) (numbered : ℕ) (class : Name) → IsClassAt files numbered class → name_at files numbered ≡ class
 class_at_number files numbered class h = ap (λ (o : Option FileTree). option_map_or name_of o []) h.1 ∙ h.2
+
+-- ---- a method as members of an object
+
+pub members_told : {A E : Type 0} (result : Result A E) (files : Program) (numbered : ℕ) (place : MemberPlace) → IsPlaceOf files numbered place → (old mid new class name : List ℕ)
+    → class ≡ name_at files place.class → name ≡ name_in files place → mid ≡ old ++ text_member (codes "class") class → OnOk result (new ≡ mid ++ text_member (codes "method") name)
+    → (method : Member) → IsMethodAt files numbered method → OnOk result (new ≡ old ++ method_members method)
+members_told (Err fault) files numbered place p old mid new class name of_class of_name first second method at = tt
+members_told (Ok value) files numbered place p old mid new class name of_class of_name first second method at =
+    let same_class : class ≡ method.class = of_class ∙ class_named files place method (p method at) in
+    let same_name : name ≡ method.name = of_name ∙ method_named files place method (p method at) in
+    second
+    ∙ ap (λ (l : List ℕ). l ++ text_member (codes "method") name) first
+    ∙ append_assoc old (text_member (codes "class") class) (text_member (codes "method") name)
+    ∙ ap (λ (l : List ℕ). old ++ (text_member (codes "class") l ++ text_member (codes "method") name)) same_class
+    ∙ ap (λ (l : List ℕ). old ++ (text_member (codes "class") method.class ++ text_member (codes "method") l)) same_name
 
 -- ---- its body
 
@@ -182,12 +198,12 @@ no_instruction trees o class is (Invocation frame ∷ stack) s = let bad : Some 
 
 -- ---- the line
 
-pub told_line : {A E : Type 0} (result : Result A E) (form : Form) (trees : Program) (n t : ℕ) (stack : StackOf ℕ) (old a b c d e new source deed : List ℕ)
+pub told_line : {A E : Type 0} (result : Result A E) (form : Form) (trees : Program) (n t : ℕ) (stack : StackOf ℕ) (old a b c d e new source words deed : List ℕ)
     → a ≡ old ++ head_words form n t → b ≡ a ++ place_in form stack → c ≡ b ++ part form (codes " ") (codes "source") source
-    → d ≡ c ++ part form (codes " ") (codes "instruction") (instruction_words trees stack) → e ≡ d ++ part form (codes " | ") (codes "did") deed
+    → d ≡ c ++ part form (codes " ") (codes "instruction") words → words ≡ instruction_words trees stack → e ≡ d ++ part form (codes " | ") (codes "did") deed
     → OnOk result (new ≡ e ++ end_words form) → OnOk result (AddsLine form trees n t stack old new)
-told_line (Err fault) form trees n t stack old a b c d e new source deed ha hb hc hd he h = tt
-told_line (Ok value) form trees n t stack old a b c d e new source deed ha hb hc hd he h = (line_words form trees n t stack source deed, all, (source, deed, refl))
+told_line (Err fault) form trees n t stack old a b c d e new source words deed ha hb hc hd told he h = tt
+told_line (Ok value) form trees n t stack old a b c d e new source words deed ha hb hc hd told he h = (line_words form trees n t stack source deed, all, (source, deed, refl))
   where
     six : (u v w x y z : List ℕ) → a ≡ old ++ u → b ≡ a ++ v → c ≡ b ++ w → d ≡ c ++ x → e ≡ d ++ y → new ≡ e ++ z → new ≡ old ++ (u ++ (v ++ (w ++ (x ++ (y ++ z)))))
     six u v w x y z hu hv hw hx hy hz =
@@ -196,4 +212,4 @@ told_line (Ok value) form trees n t stack old a b c d e new source deed ha hb hc
         ∙ simp append_assoc
 
     all : new ≡ old ++ line_words form trees n t stack source deed
-    all = six (head_words form n t) (place_in form stack) (part form (codes " ") (codes "source") source) (part form (codes " ") (codes "instruction") (instruction_words trees stack)) (part form (codes " | ") (codes "did") deed) (end_words form) ha hb hc hd he h
+    all = six (head_words form n t) (place_in form stack) (part form (codes " ") (codes "source") source) (part form (codes " ") (codes "instruction") (instruction_words trees stack)) (part form (codes " | ") (codes "did") deed) (end_words form) ha hb hc (hd ∙ ap (λ (l : List ℕ). c ++ part form (codes " ") (codes "instruction") l) told) he h

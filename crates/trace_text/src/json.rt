@@ -1,18 +1,25 @@
 //! Texts of class files as strings of JSON (RFC 8259, section 7).
 
-ghost use Rattle.std.specs.Prelude.{◌≡◌, [], ◌∷◌, ◌≤◌, ◌<◌, ◌++◌, length, drop, OnOk};
-ghost use Rattle.model.specs.Listing.{hex_digit, hex_short};
+ghost use Rattle.std.specs.Prelude.{◌≡◌, ◌+◌, ◌≤◌, ◌<◌, [], ◌∷◌, ◌++◌, length, drop, OnOk};
+ghost use Rattle.model.specs.Listing.{byte_at, hex_digit, hex_short};
 ghost use Rattle.model.specs.Report.{number as digits};
 ghost use Rattle.trace_text.specs.JsonTexts.{escape, escaped, member, quoted, text_member, unit_of_three, unit_of_two, units};
 
 use crate::numbers::{push_number, push_words};
 use std::alloc::AllocError;
 
-/// A UTF-16 code unit, and how many bytes spell it behind its first.
+/// A UTF-16 code unit, and how many bytes spell it.
 #[derive(Clone, Copy, Debug)]
 struct Unit {
     value: u16,
-    more: usize,
+    size: usize,
+}
+
+/// The byte at a place, 0 behind the end.
+fn byte_at(bytes: &[u8], at: usize) -> u8
+    ensures { result ≡ byte_at bytes.now at }
+{
+    bytes.get(at).copied().unwrap_or(0)
 }
 
 fn unit_of_two(first: u8, second: u8) -> u16
@@ -27,38 +34,43 @@ fn unit_of_three(first: u8, second: u8, third: u8) -> u16
     u16::from(first % 16) * 4096 + u16::from(second % 64) * 64 + u16::from(third % 64)
 }
 
-/// The code unit with which a text begins in modified UTF-8 (JVMS 4.4.7).
-fn unit_at(first: u8, behind: &[u8]) -> Unit
-    ensures within { result.more ≤ length behind.now }
-    ensures spelled { units (first ∷ behind.now) ≡ result.value ∷ units (drop result.more behind.now) }
+/// The code unit that stands at a place of a text in modified UTF-8 (JVMS 4.4.7).
+fn unit_at(bytes: &[u8], at: usize) -> Unit
+    requires { at < length bytes.now }
+    ensures some { 0 < result.size }
+    ensures within { at + result.size ≤ length bytes.now }
+    ensures spelled { units (drop at bytes.now) ≡ result.value ∷ units (drop (at + result.size) bytes.now) }
 {
+    let first = byte_at(bytes, at);
+    let left = bytes.len() - at;
+    if left == 1 {
+        return Unit {
+            value: u16::from(first),
+            size: 1,
+        };
+    }
     if first < 0xc0 {
         return Unit {
             value: u16::from(first),
-            more: 0,
+            size: 1,
         };
     }
-    let [second, others @ ..] = behind else {
-        return Unit {
-            value: u16::from(first),
-            more: 0,
-        };
-    };
+    let second = byte_at(bytes, at + 1);
     if first < 0xe0 {
         return Unit {
-            value: unit_of_two(first, *second),
-            more: 1,
+            value: unit_of_two(first, second),
+            size: 2,
         };
     }
-    match others {
-        [third, ..] => Unit {
-            value: unit_of_three(first, *second, *third),
-            more: 2,
-        },
-        [] => Unit {
-            value: unit_of_two(first, *second),
-            more: 1,
-        },
+    if left == 2 {
+        return Unit {
+            value: unit_of_two(first, second),
+            size: 2,
+        };
+    }
+    Unit {
+        value: unit_of_three(first, second, byte_at(bytes, at + 2)),
+        size: 3,
     }
 }
 
@@ -103,11 +115,11 @@ fn push_unit(text: &mut Vec<u8>, unit: u16) -> Result<(), AllocError>
 fn push_escaped(text: &mut Vec<u8>, bytes: &[u8]) -> Result<(), AllocError>
     ensures { OnOk result (text.new.items ≡ text.old.items ++ escaped bytes.now) }
 {
-    let mut rest = bytes;
-    'units: while let [first, behind @ ..] = rest {
-        let unit = unit_at(*first, behind);
+    let mut at = 0;
+    'units: while at < bytes.len() {
+        let unit = unit_at(bytes, at);
         push_unit(text, unit.value)?;
-        rest = &behind[unit.more..];
+        at += unit.size;
     }
     Ok(())
 }
