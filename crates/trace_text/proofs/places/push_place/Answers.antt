@@ -1,4 +1,4 @@
-use Rattle.trace_text.proofs.MethodPlaces.{frame_told, class_told, nowhere_told}
+use Rattle.trace_text.proofs.MethodPlaces.{frame_told}
 use Rattle.trace_text.proofs.places.push_place.Goals as goal
 
 pub returns-in-Some : goal.returns-in-Some
