@@ -1,0 +1,4 @@
+mod Lines
+mod Passing
+mod Seen
+mod Traced
