@@ -43,8 +43,14 @@ fn told_event(
     before.look(machine.shared(), machine.program(), line.event.thread)?;
     match once(machine, line.event) {
         Stopped::Most => {
-            let Lines { text, spare } = lines;
-            push_line(text, spare, teller, line, before, machine.shared())?;
+            push_line(
+                &mut lines.text,
+                &mut lines.spare,
+                teller,
+                line,
+                before,
+                machine.shared(),
+            )?;
             Ok(Stopped::Most)
         }
         why => Ok(why),
