@@ -1,4 +1,4 @@
-mod Lines
+mod Gathering
 mod Passing
 mod Seen
 mod Traced

@@ -1,9 +1,9 @@
 -- Events that were done and told, some after others.
-use Rattle.std.proofs.Common.{◌≡◌, ◌≤◌, ◌<◌, ◌+◌, ℕ, zero, suc, List, [], ◌∷◌, ◌++◌, length, length-append, take, drop, replicate, Bool, true, false, Option, Some, refl, sym, ap, subst, ◌∙◌, append_assoc, take-append-drop, arith}
+use Rattle.std.proofs.Common.{◌≡◌, ◌≤◌, ◌<◌, ◌+◌, ◌-◌, ℕ, zero, suc, List, [], ◌∷◌, ◌++◌, length, length-append, take, drop, replicate, Bool, true, false, Option, Some, refl, sym, ap, subst, ◌∙◌, append_assoc, take-append-drop, arith}
 use Rattle.std.specs.Prelude.{OnErr, Result, Ok, Err}
 use Rattle.std.specs.Io.KnownBytes.{Appends}
 use Rattle.std.proofs.Math.Seq.{take-append-add, take-append_seam}
-use Rattle.std.proofs.lemmas.List.{append-nil, length-replicate, take_all, take-append-le, take-replicate}
+use Rattle.std.proofs.lemmas.List.{append-nil, replicate-append-replicate, take_all, take-append-le, take-replicate}
 use Rattle.model.specs.declared.event.Event.{Event}
 use Rattle.model.specs.Classes.{Program}
 use Rattle.model.specs.Devices.{AppendsFront}
@@ -20,7 +20,7 @@ use Rattle.traced_runs.specs.Telling.{AddsOne, AfterRun, AreCutShort, AreTold, G
 use Rattle.traced_runs.specs.Traces.{Tells, TellsIf}
 use Rattle.traced_runs.specs.Windows.{is_told}
 use Rattle.traced_runs.specs.declared.window.Window.{Window}
-use Rattle.traced_runs.proofs.Lines.{Held, gathers_front, gathers_on, line_gathered, more_told, none_gathered, none_told, one_told}
+use Rattle.traced_runs.proofs.Gathering.{Held, gathers_front, gathers_on, line_gathered, more_told, none_gathered, none_told, one_told}
 
 -- ---- one event
 
@@ -61,6 +61,11 @@ module _ (trees : Program) (window : Window) (old : MachineOf) (count : ℕ) (ev
   line_of frames done at told stopped.NotEnabled held before now adds = ([], refl, line_gathered held before now [] (adds ∙ sym (append-nil before)))
   line_of frames done at told (stopped.Refused refusal) held before now adds = ([], refl, line_gathered held before now [] (adds ∙ sym (append-nil before)))
 
+  pub line_told : (why : Stopped) (new : MachineOf) (held : Held) (before now : List ℕ) → is_told window count event.thread ≡ true → GoesThrough (times why, why) (event ∷ []) old new
+      → AfterRun trees old count (λ done. AddsOne why trees old.limits.frames before now done event) → HasTold trees window old count (event ∷ []) (times why) why new held held before now
+  line_told why new held before now told goes adds =
+      record { goes = goes; told = λ files done has at. line_of old.limits.frames done at told why held before now (adds files done has at) }
+
 -- ---- an event again and again that is not told
 
 pub none_of_entry : (trees : Program) (window : Window) (event : Event) (most count n : ℕ) (why : Stopped) (old new : MachineOf) → n ≤ most → GoesThrough (n, why) (replicate most event) old new
@@ -73,6 +78,35 @@ none_of_entry trees window event most count n why old new within goes untold hel
           let none : Tells trees old.limits.frames window done (replicate n event) [] = none_told trees old.limits.frames window n event done (λ k from to. untold k (omega arith) (omega arith)) in
           ([], subst (λ es. Tells trees old.limits.frames window done es []) (sym (take-replicate n most event within)) none, none_gathered held before);
     }
+
+at_most_once : (why : Stopped) → times why ≤ 1
+at_most_once stopped.Most = omega arith
+at_most_once stopped.NotEnabled = omega arith
+at_most_once (stopped.Refused told) = omega arith
+
+-- and once
+pub none_of_event : (trees : Program) (window : Window) (event : Event) (count : ℕ) (why : Stopped) (old new : MachineOf) → is_told window count event.thread ≡ false
+    → GoesThrough (times why, why) (event ∷ []) old new → (held : Held) (before : List ℕ) → HasTold trees window old count (event ∷ []) (times why) why new held held before before
+none_of_event trees window event count why old new untold goes held before =
+    none_of_entry trees window event 1 count (times why) why old new (at_most_once why) goes (λ k from to. let same : k ≡ count = omega arith in ap (λ j. is_told window j event.thread) same ∙ untold) held before
+
+-- ---- more of what was gathered is written
+
+pub eased : (trees : Program) (window : Window) (m : MachineOf) (count : ℕ) (schedule : List Event) (n : ℕ) (why : Stopped) (after : MachineOf) (old mid new : Held) (before between now : List ℕ)
+    → HasTold trees window m count schedule n why after old mid before between → Gathers mid new between now [] → HasTold trees window m count schedule n why after old new before now
+eased trees window m count schedule n why after old mid new before between now has_told more =
+    record {
+      goes = has_told.goes;
+      told = λ files done has at.
+          let told = has_told.told files done has at in
+          (told.0, told.1, subst (Gathers old new before now) (append-nil told.0) (gathers_on old mid new before between now told.0 [] told.2 more));
+    }
+
+-- all of it is
+pub flushed : (trees : Program) (window : Window) (m : MachineOf) (count : ℕ) (schedule : List Event) (n : ℕ) (why : Stopped) (after : MachineOf) (old mid new : Held) (before between : List ℕ)
+    → HasTold trees window m count schedule n why after old mid before between → Appends mid new between → HasTold trees window m count schedule n why after old new before []
+flushed trees window m count schedule n why after old mid new before between has_told written =
+    eased trees window m count schedule n why after old mid new before between [] has_told (between, written, refl)
 
 -- ---- some events after others
 
@@ -216,3 +250,45 @@ writing_stops trees window m count schedule n why after old mid new before now h
       told = subst (λ es. Tells trees m.limits.frames window done es told.0) those told.1;
       written = subst (λ l. AppendsFront old new (before ++ l)) (append-nil told.0) (gathers_front old mid new before now told.0 [] told.2 nothing);
     }
+
+-- ---- an event again and again
+
+no_times : (why : Stopped) → (why ≡ stopped.Most → ⊥) → times why ≡ 0
+no_times stopped.Most not_most = absurd (not_most refl)
+no_times stopped.NotEnabled not_most = refl
+no_times (stopped.Refused told) not_most = refl
+
+module _ (trees : Program) (window : Window) (m : MachineOf) (count : ℕ) (event : Event) (k : ℕ) (between : MachineOf) (old mid : Held) (before gathered : List ℕ)
+    (so_far : HasPassed trees window m count (replicate k event) k between old mid before gathered) (number : ℕ) (here : number ≡ count + k) where
+  split : (most : ℕ) → k < most → replicate most event ≡ replicate k event ++ (event ∷ [] ++ replicate (most - (k + 1)) event)
+  split most within =
+      let sum : k + (1 + (most - (k + 1))) ≡ most = omega arith in
+      sym (ap (λ l. replicate k event ++ l) (replicate-append-replicate 1 (most - (k + 1)) event) ∙ replicate-append-replicate k (1 + (most - (k + 1))) event ∙ ap (λ j. replicate j event) sum)
+
+  pub again_on : (why : Stopped) → why ≡ stopped.Most → (after : MachineOf) (new : Held) (now : List ℕ) → HasTold trees window between number (event ∷ []) (times why) why after mid new gathered now
+      → HasPassed trees window m count (replicate (k + 1) event) (k + 1) after old new before now
+  again_on why most after new now next =
+      let placed : HasTold trees window between (count + k) (event ∷ []) (times why) why after mid new gathered now =
+      subst (λ j. HasTold trees window between j (event ∷ []) (times why) why after mid new gathered now) here next
+      in
+      let done : HasTold trees window between (count + k) (event ∷ []) 1 stopped.Most after mid new gathered now =
+      subst (λ w. HasTold trees window between (count + k) (event ∷ []) (times w) w after mid new gathered now) most placed
+      in
+      subst (λ es. HasPassed trees window m count es (k + 1) after old new before now) (replicate-append-replicate k 1 event)
+      (told_on trees window m count (replicate k event) k between old mid before gathered so_far (event ∷ []) 1 after new now done)
+
+  pub again_until : (most : ℕ) → k < most → (why : Stopped) → (why ≡ stopped.Most → ⊥) → (after : MachineOf) (new : Held) (now : List ℕ) → HasTold trees window between number (event ∷ []) (times why) why after mid new gathered now
+      → HasTold trees window m count (replicate most event) k why after old new before now
+  again_until most within why not_most after new now next =
+      let placed : HasTold trees window between (count + k) (event ∷ []) (times why) why after mid new gathered now =
+      subst (λ j. HasTold trees window between j (event ∷ []) (times why) why after mid new gathered now) here next
+      in
+      let none : k + times why ≡ k = omega (arith, no_times why not_most) in
+      subst (λ j. HasTold trees window m count (replicate most event) j why after old new before now) none
+      (told_until trees window m count (replicate k event) k between old mid before gathered so_far (event ∷ []) (times why) why after new now placed not_most (replicate most event)
+      (replicate (most - (k + 1)) event) (split most within))
+
+  pub again_short : (most : ℕ) → k < most → (new : Held) → StopsShort trees window between number (event ∷ []) mid new gathered → StopsShort trees window m count (replicate most event) old new before
+  again_short most within new next =
+      let placed : StopsShort trees window between (count + k) (event ∷ []) mid new gathered = subst (λ j. StopsShort trees window between j (event ∷ []) mid new gathered) here next in
+      told_short trees window m count (replicate k event) k between old mid before gathered so_far (event ∷ []) new placed (replicate most event) (replicate (most - (k + 1)) event) (split most within)

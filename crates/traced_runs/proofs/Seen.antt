@@ -1,5 +1,5 @@
 -- A thread that is seen before its event stands in the state where it is seen to stand.
-use Rattle.std.proofs.Common.{◌≡◌, ℕ, zero, suc, List, [], ◌∷◌, ◌++◌, length, map, Option, Some, None, refl, sym, ap, subst, ◌∙◌}
+use Rattle.std.proofs.Common.{◌≡◌, ℕ, zero, suc, List, [], ◌∷◌, ◌++◌, length, map, Option, Some, None, true, refl, sym, ap, subst, ◌∙◌}
 use Rattle.std.specs.Prelude.{slice_get, unwrap_or, Result, Ok, Err, OnOk}
 use Rattle.std.specs.Option.{option_map}
 use Rattle.std.proofs.lemmas.Option.{slice_get-map}
@@ -77,4 +77,4 @@ module _ (trees : Program) (m : MachineOf) (files : List (List ℕ)) (done : Lis
       let words : stack_at at t ≡ map_stack word_of (stack_at lead.state t) = ap (λ (s : StateOf ℕ). stack_at s t) lead.are.are ∙ stack_of_words lead.state t in
       let by_words : IsLine trees n t (map_stack word_of (stack_at lead.state t)) added.0 = subst (λ (stack : StackOf ℕ). IsLine trees n t stack added.0) words added.2 in
       let by_values : IsLine trees n t (stack_at lead.state t) added.0 = line_of_values word_of trees n t (stack_at lead.state t) added.0 by_words in
-      (added.0, added.1, lead.state, lead.reached, subst (λ (k : ℕ). IsLine trees k t (stack_at lead.state t) added.0) (sym count) by_values)
+      (added.0, added.1, (lead.state, lead.reached, subst (λ (k : ℕ). IsLine trees k t (stack_at lead.state t) added.0) (sym count) by_values))

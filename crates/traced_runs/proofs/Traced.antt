@@ -25,7 +25,7 @@ use Rattle.disasm.proofs.Writing.{none_written}
 use Rattle.traced_runs.specs.Telling.{HasTold, StopsShort}
 use Rattle.traced_runs.specs.Traces.{IsTrace, Tells, WritesFront}
 use Rattle.traced_runs.specs.declared.window.Window.{Window}
-use Rattle.traced_runs.proofs.Lines.{Held}
+use Rattle.traced_runs.proofs.Gathering.{Held}
 
 module _ (trees : Program) (window : Window) (limits : Limits) (events : List Event) where
   -- nothing is written where nothing is done

@@ -101,7 +101,7 @@ pub(crate) fn entry<W: Sink>(
     if telling.window.leaves_out(first, entry) {
         return Ok(machine.repeat(entry.event, entry.repeat));
     }
-    for done in 0..entry.repeat {
+    'events: for done in 0..entry.repeat {
         let line = Line {
             number: first + u64::from(done),
             event: entry.event,

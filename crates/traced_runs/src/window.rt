@@ -1,6 +1,6 @@
 //! Which events are told.
 
-ghost use Rattle.std.specs.Prelude.{◌≡◌, ◌+◌, ◌<◌, ◌≤◌, false, IsTrue};
+ghost use Rattle.std.specs.Prelude.{◌≡◌, ◌+◌, ◌^◌, ◌<◌, ◌≤◌, false, IsTrue};
 ghost use Rattle.traced_runs.specs.Windows.{has_thread, is_told};
 
 use model::ScheduleEntry;
@@ -33,9 +33,12 @@ impl Window {
 
     /// Whether no event of an entry is told that begins at a number.
     pub(crate) fn leaves_out(self, number: u64, entry: ScheduleEntry) -> bool
+        requires { number + entry.repeat < 2 ^ 64 }
         ensures { IsTrue result → (n : _) → number ≤ n → n < number + entry.repeat → is_told self n entry.event.thread ≡ false }
     {
-        let behind = number.saturating_add(u64::from(entry.repeat));
-        self.to < number || behind <= self.from || !self.has_thread(entry.event.thread)
+        if !self.has_thread(entry.event.thread) {
+            return true;
+        }
+        self.to < number || number + u64::from(entry.repeat) <= self.from
     }
 }
