@@ -1,7 +1,7 @@
 #!/usr/bin/env python3
 """Traces by plain_machine.py: what `jvm trace` has to print, worked out by a machine of its own.
 
-    traces.py [--from N] [--to N] [--only N] --schedule FILE FILE..
+    traces.py [--columns | --json] [--from N] [--to N] [--only N] --schedule FILE FILE..
     traces.py --write
 
 The schedule is a text. What an event did is told by the state before it and the state after it, as docs/FORMATS.md says.
@@ -9,6 +9,7 @@ With --write the traces of the lessons below become cases of `crates/conformance
 """
 
 import argparse
+import json
 import pathlib
 import re
 import sys
@@ -123,7 +124,34 @@ class Lines:
         if not found or self.source is None:
             return ""
         last = max(start for start, _ in found)
-        return f" {self.source}:{[line for start, line in found if start == last][-1]}"
+        return f"{self.source}:{[line for start, line in found if start == last][-1]}"
+
+
+class Told:
+    """An event that was done: where its thread stood, as `Class.method offset`, a class or `-`, and the rest of its line."""
+
+    def __init__(self, number, thread, method, source, instruction, words):
+        self.number, self.thread, self.method = number, thread, method
+        self.source, self.instruction, self.did = source, instruction, ", ".join(words)
+
+    def words(self):
+        parts = [str(self.thread), self.method, self.source, self.instruction]
+        return " ".join(part for part in parts if part) + (f" | {self.did}" if self.did else "")
+
+    def line(self, form):
+        if form == "json":
+            return json.dumps(self.members(), separators=(",", ":"))
+        if form == "columns":
+            return f"{self.number:7} {24 * min(self.thread, 7) * ' '}{self.words()}"
+        return f"{self.number} {self.words()}"
+
+    def members(self):
+        found = re.fullmatch(r"(.*)\.(.*) (\d+)", self.method)
+        place = {} if self.method == "-" else {"class": self.method}
+        if found:
+            place = {"class": found[1], "method": found[2], "offset": int(found[3])}
+        rest = {"source": self.source, "instruction": self.instruction, "did": self.did}
+        return {"event": self.number, "thread": self.thread, **place, **{key: part for key, part in rest.items() if part}}
 
 
 class Traced(Machine):
@@ -169,17 +197,16 @@ class Traced(Machine):
         if isinstance(top, Frame):
             method = top.method
             source = self.sources[method.owner.name].at(method, top.at) if method.owner.name in self.sources else ""
-            return f"{method.owner.name}.{method.name} {top.at}{source} {instruction(method, top.at)}"
-        return top.of.name if top else "-"
+            return f"{method.owner.name}.{method.name} {top.at}", source, instruction(method, top.at)
+        return top.of.name if top else "-", "", ""
 
     def told(self, number, pick=0):
-        """Does an event, and answers its line."""
+        """Does an event, and tells it."""
         thread = self.threads[number] if number < len(self.threads) else None
         if thread is None:
             raise NotEnabled("none")
         at, place = self.done, self.place(thread)
-        words = self.words(thread, number, pick)
-        return f"{at} {number} {place}{' | ' if words else ''}{', '.join(words)}"
+        return Told(at, number, *place, self.words(thread, number, pick))
 
     def words(self, thread, number, pick):
         """Does an event, and answers what it did."""
@@ -315,14 +342,14 @@ class Traced(Machine):
         return [f"pushes {self.value(top.stack[-1], result)}"]
 
 
-def trace(files, entries, first=0, last=None, only=None):
+def trace(files, entries, first=0, last=None, only=None, form="plain"):
     """What `jvm trace` prints, and its status."""
     machine, lines, end = Traced(files), [], None
     for thread, pick, repeat in entries:
         for _ in range(repeat):
             at = machine.done
             try:
-                line = machine.told(thread, pick)
+                told = machine.told(thread, pick)
             except NotEnabled:
                 end = f"not enabled {machine.done}"
             except Refused as why:
@@ -330,7 +357,7 @@ def trace(files, entries, first=0, last=None, only=None):
             if end:
                 break
             if first <= at and (last is None or at <= last) and only in (None, thread):
-                lines.append(line + "\n")
+                lines.append(told.line(form) + "\n")
         if end:
             break
     end = end or ("schedule" if enabled(machine) else "quiet")
@@ -412,13 +439,15 @@ def main():
         return write()
     parser = argparse.ArgumentParser()
     parser.add_argument("--schedule", required=True)
+    for form in ("columns", "json"):
+        parser.add_argument(f"--{form}", action="store_const", const=form, dest="form", default="plain")
     for name in ("--from", "--to", "--only"):
         parser.add_argument(name, type=int, dest=name[2:] + "_")
     parser.add_argument("files", nargs="+")
     words = parser.parse_args()
     files = [pathlib.Path(path).read_bytes() for path in words.files]
     entries = entries_of(pathlib.Path(words.schedule).read_text())
-    text, status = trace(files, entries, words.from_ or 0, words.to_, words.only_)
+    text, status = trace(files, entries, words.from_ or 0, words.to_, words.only_, words.form)
     sys.stdout.write(text)
     return status
 
