@@ -146,22 +146,25 @@ impl NumberOption {
     }
 }
 
-/// The options of `replay` and `run` that take a number.
-const OF_BOTH: [NumberOption; 6] = [BUDGET, OBJECTS, CELLS, MONITORS, THREADS, FRAMES];
+/// The options of `replay`, `run` and `trace` that take a number.
+const OF_ALL: [NumberOption; 5] = [OBJECTS, CELLS, MONITORS, THREADS, FRAMES];
 
-/// Those of `run` alone.
-const OF_RUN: [NumberOption; 3] = [WORKERS, QUANTUM, SEED];
+/// Those of `run`.
+const OF_RUN: [NumberOption; 4] = [WORKERS, BUDGET, QUANTUM, SEED];
 
-/// Those of `trace` alone.
+/// Those of `replay`.
+const OF_REPLAY: [NumberOption; 1] = [BUDGET];
+
+/// Those of `trace`.
 const OF_TRACE: [NumberOption; 3] = [FROM, TO, ONLY];
 
 /// The option with this name behind two hyphens, of the subcommand that is so called.
 fn number_option(subcommand: &str, word: &str) -> Option<NumberOption> {
     let name = word.strip_prefix("--")?;
     match subcommand {
-        "replay" => named(&OF_BOTH, name),
-        "trace" => named(&OF_BOTH, name).or(named(&OF_TRACE, name)),
-        "run" => named(&OF_BOTH, name).or(named(&OF_RUN, name)),
+        "replay" => named(&OF_ALL, name).or(named(&OF_REPLAY, name)),
+        "trace" => named(&OF_ALL, name).or(named(&OF_TRACE, name)),
+        "run" => named(&OF_ALL, name).or(named(&OF_RUN, name)),
         _ => None,
     }
 }

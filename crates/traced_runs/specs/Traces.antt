@@ -1,6 +1,5 @@
 -- A run told event by event (own): each line says where its thread stood in the state to which the events before it led.
-use Rattle.std.specs.Prelude.{◌≡◌, ℕ, List, [], ◌∷◌, ◌++◌, Option, Some, None, Bool, true, false, ◌&&◌, ◌==◌, length, nat_le, slice_get, unwrap_or}
-use Rattle.std.specs.Io.KnownBytes.{Appends}
+use Rattle.std.specs.Prelude.{◌≡◌, ℕ, List, [], ◌∷◌, ◌++◌, Option, Some, Bool, true, false, length, slice_get, unwrap_or}
 use Rattle.model.specs.declared.end.End.{End}
 use Rattle.model.specs.declared.event.Event.{Event}
 use Rattle.model.specs.declared.limits.Limits.{Limits}
@@ -11,16 +10,8 @@ use Rattle.model.specs.Run.{run}
 use Rattle.model.specs.State.{StackOf, State, StateOf}
 use Rattle.machine_replay.specs.Replays.{IsReplay}
 use Rattle.trace_text.specs.Lines.{IsLine}
+use Rattle.traced_runs.specs.Windows.{is_told}
 use Rattle.traced_runs.specs.declared.window.Window.{Window}
-
--- ---- which events are told
-
-abbrev pub has_thread : Option ℕ → ℕ → Bool
-has_thread None t = true
-has_thread (Some only) t = only == t
-
-abbrev pub is_told : Window → (n t : ℕ) → Bool
-is_told window n t = nat_le window.from n && nat_le n window.to && has_thread window.only t
 
 -- ---- the lines
 
@@ -37,7 +28,7 @@ TellsIf false trees frames before event line = line ≡ []
 abbrev pub Tells : Program → (frames : ℕ) → Window → (before events : List Event) → (text : List ℕ) → Type 0
 Tells trees frames window before [] text = text ≡ []
 Tells trees frames window before (event ∷ events) text =
-    (line rest : List ℕ) × (text ≡ line ++ rest) × TellsIf (is_told window (length before) event.thread) trees frames before event line
+    (line : List ℕ) × (rest : List ℕ) × (text ≡ line ++ rest) × TellsIf (is_told window (length before) event.thread) trees frames before event line
     × Tells trees frames window (before ++ event ∷ []) events rest
 
 -- ---- a whole run
@@ -47,7 +38,13 @@ pub record IsTrace (trees : Program) (events : List Event) (limits : Limits) (wi
   pub replay : IsReplay trees events limits r end
   pub told : Tells trees limits.frames window [] replay.front text
 
--- before an error a front of the lines of a front of the events is written
-abbrev pub WritesFront : Program → List Event → Limits → Window → Option (List ℕ) → Option (List ℕ) → Type 0
-WritesFront trees events limits window old new =
-    (front left : List Event) × (text : List ℕ) × (events ≡ front ++ left) × Tells trees limits.frames window [] front text × AppendsFront old new text
+-- before an error a front of the lines of the events that were done is written, and those are a front of the events
+pub record WritesFront (trees : Program) (events : List Event) (limits : Limits) (window : Window) (old new : Option (List ℕ)) : Type 0 where
+  pub front : List Event
+  pub left : List Event
+  pub events_are : events ≡ front ++ left
+  pub state : State
+  pub reached : run trees limits.frames front ≡ Some state
+  pub text : List ℕ
+  pub told : Tells trees limits.frames window [] front text
+  pub written : AppendsFront old new text

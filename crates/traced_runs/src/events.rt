@@ -1,5 +1,10 @@
 //! Events that are done, each with its line.
 
+ghost use Rattle.std.specs.Prelude.{◌+◌, ◌^◌, ◌<◌, [], ◌∷◌, IfOk, OnErr, replicate};
+ghost use Rattle.model.specs.Devices.{Counts};
+ghost use Rattle.schedule_runs.specs.Done.{GoesThrough};
+ghost use Rattle.traced_runs.specs.Telling.{AddsOne, AfterRun, HasTold, StopsShort, times};
+
 use crate::lines::Lines;
 use crate::window::Window;
 use machine::{Machine, Stopped};
@@ -15,6 +20,14 @@ pub(crate) struct Telling<'a> {
     pub(crate) window: Window,
 }
 
+/// Does an event. Returns why it was not done, or `Most`.
+fn once(machine: &mut Machine, event: Event) -> Stopped
+    ensures { GoesThrough (times result, result) (event ∷ []) machine.old machine.new }
+{
+    let (_, why) = machine.repeat(event, 1);
+    why
+}
+
 /// Does an event, and gathers its line. Returns why it was not done, or `Most`.
 fn told_event(
     machine: &mut Machine,
@@ -22,23 +35,29 @@ fn told_event(
     before: &mut Before,
     line: Line,
     lines: &mut Lines,
-) -> Result<Stopped, AllocError> {
+) -> Result<Stopped, AllocError>
+    ensures goes { IfOk result (λ why. GoesThrough (times why, why) (line.event ∷ []) machine.old machine.new) }
+    ensures told { IfOk result (λ why. AfterRun teller.now.linked.now machine.old line.number (λ done.
+        AddsOne why teller.now.linked.now machine.old.limits.frames lines.old.text.items lines.new.text.items done line.event)) }
+{
     before.look(machine.shared(), machine.program(), line.event.thread)?;
-    let (_, why) = machine.repeat(line.event, 1);
-    if let Stopped::Most = why {
-        push_line(
-            &mut lines.text,
-            &mut lines.spare,
-            teller,
-            line,
-            before,
-            machine.shared(),
-        )?;
+    match once(machine, line.event) {
+        Stopped::Most => {
+            push_line(
+                &mut lines.text,
+                &mut lines.spare,
+                teller,
+                line,
+                before,
+                machine.shared(),
+            )?;
+            Ok(Stopped::Most)
+        }
+        why => Ok(why),
     }
-    Ok(why)
 }
 
-/// Does an event of a number, and tells it, if it is to be told.
+/// Does an event of a number, and tells it, if it is to be told. Returns why it was not done, or `Most`.
 fn event<W: Sink>(
     machine: &mut Machine,
     telling: Telling<'_>,
@@ -46,10 +65,15 @@ fn event<W: Sink>(
     line: Line,
     lines: &mut Lines,
     output: &mut W,
-) -> Result<Stopped, DeviceFault> {
+) -> Result<Stopped, DeviceFault>
+    ensures told { IfOk result (λ why. HasTold telling.entry.teller.now.linked.now telling.entry.window machine.old line.number (line.event ∷ []) (times why) why machine.new
+        (W.contents output.old) (W.contents output.new) lines.old.text.items lines.new.text.items) }
+    ensures part { OnErr result (StopsShort telling.entry.teller.now.linked.now telling.entry.window machine.old line.number (line.event ∷ [])
+        (W.contents output.old) (W.contents output.new) lines.old.text.items) }
+    ensures counted { Counts result (W.failures output.old) (W.failures output.new) }
+{
     if !telling.window.has(line.number, line.event.thread) {
-        let (_, why) = machine.repeat(line.event, 1);
-        return Ok(why);
+        return Ok(once(machine, line.event));
     }
     let why = told_event(machine, telling.teller, before, line, lines)?;
     lines.ease(output)?;
@@ -66,11 +90,18 @@ pub(crate) fn entry<W: Sink>(
     entry: ScheduleEntry,
     lines: &mut Lines,
     output: &mut W,
-) -> Result<(u32, Stopped), DeviceFault> {
+) -> Result<(u32, Stopped), DeviceFault>
+    requires { first + entry.repeat < 2 ^ 64 }
+    ensures told { IfOk result (λ r. HasTold telling.entry.teller.now.linked.now telling.entry.window machine.old first (replicate entry.repeat entry.event) r.0 r.1 machine.new
+        (W.contents output.old) (W.contents output.new) lines.old.text.items lines.new.text.items) }
+    ensures part { OnErr result (StopsShort telling.entry.teller.now.linked.now telling.entry.window machine.old first (replicate entry.repeat entry.event)
+        (W.contents output.old) (W.contents output.new) lines.old.text.items) }
+    ensures counted { Counts result (W.failures output.old) (W.failures output.new) }
+{
     if telling.window.leaves_out(first, entry) {
         return Ok(machine.repeat(entry.event, entry.repeat));
     }
-    for done in 0..entry.repeat {
+    'events: for done in 0..entry.repeat {
         let line = Line {
             number: first + u64::from(done),
             event: entry.event,

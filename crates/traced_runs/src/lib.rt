@@ -3,8 +3,8 @@
 
 mod events;
 mod lines;
-mod trace;
+mod run;
 mod window;
 
-pub use trace::trace;
+pub use run::trace;
 pub use window::Window;

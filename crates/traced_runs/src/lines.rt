@@ -1,5 +1,10 @@
 //! Lines on their way to where they are written.
 
+ghost use Rattle.std.specs.Prelude.{◌≡◌, [], OnErr, OnOk};
+ghost use Rattle.std.specs.Io.KnownBytes.{Appends};
+ghost use Rattle.model.specs.Devices.{AppendsFront, Counts};
+ghost use Rattle.traced_runs.specs.Telling.{Gathers};
+
 use model::{DeviceFault, Sink};
 use std::alloc::Global;
 
@@ -15,7 +20,9 @@ pub(crate) struct Lines {
 }
 
 impl Lines {
-    pub(crate) fn new(alloc: Global) -> Lines {
+    pub(crate) fn new(alloc: Global) -> Lines
+        ensures { result.text.items ≡ [] }
+    {
         Lines {
             text: Vec::new(alloc),
             spare: Vec::new(alloc),
@@ -23,14 +30,23 @@ impl Lines {
     }
 
     /// Writes the text.
-    pub(crate) fn flush<W: Sink>(&mut self, output: &mut W) -> Result<(), DeviceFault> {
+    pub(crate) fn flush<W: Sink>(&mut self, output: &mut W) -> Result<(), DeviceFault>
+        ensures written { OnOk result (Appends (W.contents output.old) (W.contents output.new) self.old.text.items) }
+        ensures none { OnOk result (self.new.text.items ≡ []) }
+        ensures part { OnErr result (AppendsFront (W.contents output.old) (W.contents output.new) self.old.text.items) }
+        ensures counted { Counts result (W.failures output.old) (W.failures output.new) }
+    {
         output.write_all(self.text.as_slice())?;
         self.text.clear();
         Ok(())
     }
 
     /// Writes the text, if it is long.
-    pub(crate) fn ease<W: Sink>(&mut self, output: &mut W) -> Result<(), DeviceFault> {
+    pub(crate) fn ease<W: Sink>(&mut self, output: &mut W) -> Result<(), DeviceFault>
+        ensures gathered { OnOk result (Gathers (W.contents output.old) (W.contents output.new) self.old.text.items self.new.text.items []) }
+        ensures part { OnErr result (AppendsFront (W.contents output.old) (W.contents output.new) self.old.text.items) }
+        ensures counted { Counts result (W.failures output.old) (W.failures output.new) }
+    {
         if self.text.len() < GATHERED {
             return Ok(());
         }
