@@ -4,6 +4,7 @@ ghost use Rattle.std.specs.Prelude.{OnOk};
 ghost use Rattle.traced_events.specs.Places.{Sees};
 ghost use Rattle.trace_text.specs.Lines.{AddsLine};
 
+use crate::form::Form;
 use crate::parts::{Part, push_end, push_head, push_part};
 use crate::places::{push_instruction, push_place, push_source};
 use crate::sorts::{Sort, sort_of};
@@ -17,11 +18,12 @@ use opcodes::decode_at;
 use std::alloc::AllocError;
 use traced_events::{Before, told_of};
 
-/// An event that was done, and its number, counted from 0.
+/// What a line is of: an event that was done, by its number, counted from 0; and the form of the line.
 #[derive(Clone, Copy, Debug, PartialEq, Eq)]
 pub struct Line {
     pub number: u64,
     pub event: Event,
+    pub form: Form,
 }
 
 const SOURCE: Part = Part {
@@ -110,7 +112,7 @@ fn push_deed(
     }
 }
 
-/// Writes the line of an event behind a text in the teller's form, by what was seen before it and the state after it: the event's
+/// Writes the line of an event behind a text, by what was seen before it and the state after it: the event's
 /// number and its thread, where the thread stood, the source, the instruction, and what it did. A spare text is used for it. The
 /// only error is a want of memory.
 pub fn push_line(
@@ -122,18 +124,18 @@ pub fn push_line(
     shared: &Shared,
 ) -> Result<(), AllocError>
     ensures { (stack : _) → Sees teller.now.linked.now before.now.frame before.now.class stack
-        → OnOk result (AddsLine teller.now.form teller.now.linked.now line.number line.event.thread stack text.old.items text.new.items) }
+        → OnOk result (AddsLine line.form teller.now.linked.now line.number line.event.thread stack text.old.items text.new.items) }
 {
-    push_head(text, teller.form, line)?;
-    push_place(text, teller, before)?;
+    push_head(text, line)?;
+    push_place(text, teller, line.form, before)?;
     spare.clear();
     push_source(spare, teller, before)?;
-    push_part(text, teller.form, SOURCE, spare.as_slice())?;
+    push_part(text, line.form, SOURCE, spare.as_slice())?;
     spare.clear();
     push_instruction(spare, teller, before)?;
-    push_part(text, teller.form, INSTRUCTION, spare.as_slice())?;
+    push_part(text, line.form, INSTRUCTION, spare.as_slice())?;
     spare.clear();
     push_deed(spare, teller, shared, before, line.event)?;
-    push_part(text, teller.form, DEED, spare.as_slice())?;
-    push_end(text, teller.form)
+    push_part(text, line.form, DEED, spare.as_slice())?;
+    push_end(text, line.form)
 }

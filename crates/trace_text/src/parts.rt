@@ -20,10 +20,10 @@ fn push_indent(text: &mut Vec<u8>, thread: u16) -> Result<(), AllocError>
 }
 
 /// The number of an event and that of its thread.
-pub(crate) fn push_head(text: &mut Vec<u8>, form: Form, line: Line) -> Result<(), AllocError>
-    ensures { OnOk result (text.new.items ≡ text.old.items ++ head_words form line.number line.event.thread) }
+pub(crate) fn push_head(text: &mut Vec<u8>, line: Line) -> Result<(), AllocError>
+    ensures { OnOk result (text.new.items ≡ text.old.items ++ head_words line.form line.number line.event.thread) }
 {
-    match form {
+    match line.form {
         Form::Plain => {
             push_number(text, line.number)?;
             push_words(text, " ")?;

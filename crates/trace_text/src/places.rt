@@ -17,11 +17,16 @@ use std::alloc::AllocError;
 use traced_events::{Before, FrameBefore};
 
 /// ` Counter.run 12`, of a frame.
-fn push_frame(text: &mut Vec<u8>, teller: &Teller<'_>, frame: FrameBefore) -> Result<(), AllocError>
+fn push_frame(
+    text: &mut Vec<u8>,
+    teller: &Teller<'_>,
+    form: Form,
+    frame: FrameBefore,
+) -> Result<(), AllocError>
     ensures { (method : _) → IsMethodAt teller.now.linked.now frame.method method
-        → OnOk result (text.new.items ≡ text.old.items ++ frame_in teller.now.form method frame.offset) }
+        → OnOk result (text.new.items ≡ text.old.items ++ frame_in form method frame.offset) }
 {
-    if let Form::Json = teller.form {
+    if let Form::Json = form {
         teller.push_method_members(text, frame.method)?;
         return push_number_member(text, "offset", u64::from(frame.offset));
     }
@@ -56,17 +61,18 @@ fn push_nowhere(text: &mut Vec<u8>, form: Form) -> Result<(), AllocError>
 pub(crate) fn push_place(
     text: &mut Vec<u8>,
     teller: &Teller<'_>,
+    form: Form,
     before: &Before,
 ) -> Result<(), AllocError>
     ensures { (stack : _) → Sees teller.now.linked.now before.now.frame before.now.class stack
-        → OnOk result (text.new.items ≡ text.old.items ++ place_in teller.now.form stack) }
+        → OnOk result (text.new.items ≡ text.old.items ++ place_in form stack) }
 {
     if let Some(frame) = before.frame {
-        return push_frame(text, teller, frame);
+        return push_frame(text, teller, form, frame);
     }
     match before.class {
-        Some(class) => push_class(text, teller.form, teller.class_name(u32::from(class))),
-        None => push_nowhere(text, teller.form),
+        Some(class) => push_class(text, form, teller.class_name(u32::from(class))),
+        None => push_nowhere(text, form),
     }
 }
 

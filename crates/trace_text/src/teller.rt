@@ -7,7 +7,6 @@ ghost use Rattle.method_links.specs.Numbers.{AreNumbersOf};
 ghost use Rattle.trace_text.specs.Lines.{method_members, method_words};
 ghost use Rattle.trace_text.specs.Methods.{IsPlaceOf, IsBodyOf, name_in};
 
-use crate::form::Form;
 use crate::json::push_text_member;
 use hierarchy::{ClassSet, MemberPlace};
 use linked_code::LinkedProgram;
@@ -16,10 +15,9 @@ use method_code::MethodCode;
 use method_links::MethodNumbers;
 use std::alloc::{AllocError, Global};
 
-/// Class files that are linked, the program that runs them, what the numbers in it stand for, and how its events are told.
+/// Class files that are linked, the program that runs them, and what the numbers in it stand for.
 #[derive(Drop)]
 pub struct Teller<'a> {
-    pub(crate) form: Form,
     pub(crate) linked: &'a Linked,
     pub(crate) program: &'a LinkedProgram,
     numbers: MethodNumbers,
@@ -50,19 +48,16 @@ fn method_name(set: &ClassSet, place: MemberPlace) -> &[u8]
 }
 
 impl<'a> Teller<'a> {
-    /// Of linked class files and their program, whose events are told in this form. The only error is a want of memory.
+    /// Of linked class files and their program. The only error is a want of memory.
     pub fn new(
         alloc: Global,
-        form: Form,
         linked: &'a Linked,
         program: &'a LinkedProgram,
     ) -> Result<Teller<'a>, AllocError>
-        ensures linked { IfOk result (λ teller. teller.linked.now ≡ linked.entry.now) }
-        ensures form { IfOk result (λ teller. teller.form ≡ form) }
+        ensures { IfOk result (λ teller. teller.linked.now ≡ linked.entry.now) }
     {
         let numbers = MethodNumbers::new(alloc, linked.set())?;
         Ok(Teller {
-            form,
             linked,
             program,
             numbers,
@@ -108,6 +103,7 @@ impl<'a> Teller<'a> {
         text.extend_from_slice(method_name(set, place))?;
         Ok(())
     }
+
     /// The same as members of an object.
     pub(crate) fn push_method_members(
         &self,
