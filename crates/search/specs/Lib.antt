@@ -1,1 +1,4 @@
+pub mod Machines
+pub mod States
 pub mod Verdicts
+pub mod Visits

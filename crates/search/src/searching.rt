@@ -1,17 +1,18 @@
 //! The search.
 
-ghost use Rattle.std.specs.Prelude.{IfOk};
+ghost use Rattle.std.specs.Prelude.{◌<◌, [], length, IfOk};
 ghost use Rattle.search.specs.Verdicts.{Says};
+ghost use Rattle.search.specs.Visits.{HasVisited, Visits, ListsOr};
 
-use crate::outcomes::{Outcome, list};
+use crate::expanding::expand;
+use crate::machines::outcome_of;
 use crate::states::States;
-use crate::wanted::Wanted;
 use hierarchy::ClassSet;
-use machine::Machine;
-use machine_reports::{is_quiet, thread_ends};
-use machine_state::Answer;
-use model::{Event, Limits};
+use met_states::{met_states_are_kept, searches_are_whole};
+use model::Limits;
+use run_outcomes::{Outcome, Outcomes, Wanted};
 use schedule::Schedule;
+use searches::searches_are_complete;
 use std::alloc::{AllocError, Global};
 use std::sync::Arc;
 use verified_programs::verified_program;
@@ -23,62 +24,98 @@ pub enum Verdict {
     /// A schedule of a run whose outcome is wanted.
     Found(Schedule),
     /// The outcomes of all runs that end, none of which is wanted.
-    Complete(Vec<Outcome>),
+    Complete(Outcomes),
     /// Nothing: there are more states than were allowed, or an event was refused at a limit.
     GaveUp,
 }
 
-/// The outcome of the state that a machine is in, if no thread may go on there.
-fn outcome_of(
-    alloc: Global,
-    classes: &ClassSet,
-    machine: &Machine,
-) -> Result<Option<Outcome>, AllocError> {
-    let shared = machine.shared();
-    let frames = machine.limits().frames as usize;
-    let threads = thread_ends(alloc, classes, machine.program(), shared, frames)?;
-    if !is_quiet(&threads) {
-        return Ok(None);
-    }
-    Ok(Some(Outcome {
-        printed: Vec::from_slice(alloc, &shared.printed)?,
-        threads,
-    }))
+/// What a search answers, and how many states it met.
+#[derive(Drop)]
+pub struct Searched {
+    pub verdict: Verdict,
+    pub states: u32,
 }
 
-/// Adds the states to which the events of a thread lead from a state. Returns false where it gives up.
-fn expand_thread(
-    states: &mut States,
-    number: u32,
-    thread: u16,
-    most: u32,
-) -> Result<bool, AllocError> {
-    'picks: for pick in 0..=u16::MAX {
-        let Some(mut machine) = states.machine(number)? else {
-            return Ok(false);
-        };
-        let event = Event { thread, pick };
-        match machine.step(event) {
-            Ok(Answer::Done) => {
-                if !states.add(number, event, &machine, most)? {
-                    return Ok(false);
-                }
-            }
-            Ok(Answer::NotEnabled) => return Ok(true),
-            Err(_) => return Ok(false),
-        }
+/// What a search comes to at a state.
+#[derive(Drop)]
+pub(crate) enum Visit {
+    /// Its outcome is listed, if no thread may step there, and the states to which events lead from it are met.
+    Visited,
+    /// Its outcome is wanted.
+    Found(Schedule),
+    GaveUp,
+}
+
+/// Lists the outcome of a state, if there is one, unless it is wanted: then the answer is true.
+fn is_found(wanted: &Wanted, outcomes: &mut Outcomes, outcome: Option<Outcome>) -> Result<bool, AllocError>
+    ensures { IfOk result (λ found. ListsOr wanted.now outcome found outcomes.old outcomes.new) }
+{
+    let Some(outcome) = outcome else {
+        return Ok(false);
+    };
+    if wanted.is(&outcome) {
+        return Ok(true);
     }
+    outcomes.add(outcome)?;
     Ok(false)
 }
 
-/// Adds the states to which events lead from a state. Returns false where it gives up.
-fn expand(states: &mut States, number: u32, threads: u16, most: u32) -> Result<bool, AllocError> {
-    'threads: for thread in 0..threads {
-        if !expand_thread(states, number, thread, most)? {
-            return Ok(false);
+/// Visits the state of a number, all below which have been visited. The classes are those of the files.
+fn visit(
+    alloc: Global,
+    classes: &ClassSet,
+    wanted: &Wanted,
+    states: &mut States,
+    outcomes: &mut Outcomes,
+    number: u32,
+    most: u32,
+) -> Result<Visit, AllocError>
+    requires visited { HasVisited classes.now states.old.limits wanted.now states.old outcomes.old number }
+    requires number { number < length states.old.schedules }
+    ensures { IfOk result (λ v. Visits classes.now states.old.limits wanted.now number v states.new outcomes.new) }
+{
+    met_states_are_kept();
+    let machine = states.machine(number)?;
+    let outcome = outcome_of(alloc, classes, &machine)?;
+    if is_found(wanted, outcomes, outcome)? {
+        return Ok(Visit::Found(states.schedule(number)?));
+    }
+    if expand(states, number, &machine, most)? {
+        Ok(Visit::Visited)
+    } else {
+        Ok(Visit::GaveUp)
+    }
+}
+
+/// Visits states from the opening state on, up to so many.
+fn visit_all(
+    alloc: Global,
+    classes: &ClassSet,
+    wanted: &Wanted,
+    states: &mut States,
+    most: u32,
+) -> Result<Verdict, AllocError>
+    requires { HasVisited classes.now states.old.limits wanted.now states.old [] 0 }
+    ensures { IfOk result (Says classes.now states.old.limits wanted.now) }
+{
+    searches_are_whole();
+    searches_are_complete();
+    let mut outcomes = Outcomes::new(alloc);
+    'states: for number in 0..most {
+        if number >= states.len() {
+            return Ok(Verdict::Complete(outcomes));
+        }
+        match visit(alloc, classes, wanted, states, &mut outcomes, number, most)? {
+            Visit::Visited => {}
+            Visit::Found(schedule) => return Ok(Verdict::Found(schedule)),
+            Visit::GaveUp => return Ok(Verdict::GaveUp),
         }
     }
-    Ok(true)
+    if states.len() <= most {
+        Ok(Verdict::Complete(outcomes))
+    } else {
+        Ok(Verdict::GaveUp)
+    }
 }
 
 /// Searches all schedules of verified class files (JVMS 2.5, 2.6, 5.5, chapter 6; JLS 17), as far as so many states, for a run whose
@@ -89,29 +126,14 @@ pub fn search(
     limits: Limits,
     wanted: &Wanted,
     most: u32,
-) -> Result<Verdict, AllocError>
-    ensures { IfOk result (Says verified.now limits wanted.now) }
+) -> Result<Searched, AllocError>
+    ensures { IfOk result (λ s. Says verified.now limits wanted.now s.verdict) }
 {
     let program = Arc::new(alloc, verified_program(alloc, verified)?)?;
     let mut states = States::new(alloc, program, limits)?;
-    let mut outcomes: Vec<Outcome> = Vec::new(alloc);
-    'states: for number in 0..most {
-        if number >= states.len() {
-            return Ok(Verdict::Complete(outcomes));
-        }
-        let Some(machine) = states.machine(number)? else {
-            return Ok(Verdict::GaveUp);
-        };
-        if let Some(outcome) = outcome_of(alloc, verified.linked().set(), &machine)? {
-            if wanted.is(&outcome) {
-                return Ok(Verdict::Found(states.tree.schedule(number)?));
-            }
-            list(&mut outcomes, outcome)?;
-        }
-        let threads = machine.shared().threads.len() as u16;
-        if !expand(&mut states, number, threads, most)? {
-            return Ok(Verdict::GaveUp);
-        }
-    }
-    Ok(Verdict::GaveUp)
+    let verdict = visit_all(alloc, verified.linked().set(), wanted, &mut states, most)?;
+    Ok(Searched {
+        verdict,
+        states: states.len(),
+    })
 }

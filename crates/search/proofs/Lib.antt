@@ -1,0 +1,6 @@
+mod Machines
+mod Schedules
+mod Growth
+mod Expanding
+mod Visits
+mod Whole
