@@ -12,6 +12,10 @@ use Rattle.interleavings.specs.Ends.{Outcome, Has}
 use Rattle.run_outcomes.specs.Outcomes.{outcome_cmp, AreInOrder, IsAdded}
 use Rattle.run_outcomes.proofs.Orders.{outcomes_total, same_outcome}
 
+pub none_in_order : AreInOrder []
+unfolding IsStrictlySortedBy
+none_in_order = tt
+
 -- ---- members
 
 first_of : (x : Outcome) (xs : List Outcome) → Has (x ∷ xs) x

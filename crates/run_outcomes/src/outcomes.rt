@@ -77,9 +77,12 @@ impl Outcomes {
         ensures ok { OnOk result (IsAdded (told_by outcome) self.old self.new) }
         ensures err { OnErr result (self.new ≡ self.old) }
     {
-        if let Some(at) = place_of(&self.listed, &outcome) {
-            self.listed.insert(at, outcome)?;
+        match place_of(&self.listed, &outcome) {
+            None => Ok(()),
+            Some(at) => {
+                self.listed.insert(at, outcome)?;
+                Ok(())
+            }
         }
-        Ok(())
     }
 }

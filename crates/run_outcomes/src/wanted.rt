@@ -1,6 +1,6 @@
 //! What a search is to find.
 
-ghost use Rattle.std.specs.Prelude.{◌≡◌, ◌↔◌, IsTrue, map};
+ghost use Rattle.std.specs.Prelude.{◌≡◌, ◌↔◌, IsTrue};
 ghost use Rattle.std.specs.List.{list_any};
 ghost use Rattle.model.specs.Report.{end_state_of};
 ghost use Rattle.run_outcomes.specs.Outcomes.{told_by, IsWanted};
@@ -38,13 +38,13 @@ fn has_thrown(thread: &EndState) -> bool
 }
 
 fn any_is_stuck(threads: &[EndState]) -> bool
-    ensures { result ≡ list_any spec.is_stuck (map end_state_of threads.now) }
+    ensures { result ≡ list_any (λ thread. spec.is_stuck (end_state_of thread)) threads.now }
 {
     threads.iter().any(is_stuck)
 }
 
 fn any_has_thrown(threads: &[EndState]) -> bool
-    ensures { result ≡ list_any spec.has_thrown (map end_state_of threads.now) }
+    ensures { result ≡ list_any (λ thread. spec.has_thrown (end_state_of thread)) threads.now }
 {
     threads.iter().any(has_thrown)
 }

@@ -104,7 +104,7 @@ reports_at trees m p shared limits r program_is shared_is limits_are reports =
     subst (λ q. Reports trees q m.shared m.limits.frames 0 r) program_is by_shared
 
 module _ (reported : AreReportsOfWords) (trees : Program) (m : MachineOf) (r : Report) (reports : Reports trees m.program m.shared m.limits.frames 0 r) (quiet : Bool)
-(quiet_is : AreQuietAt r.threads.items quiet) where
+    (quiet_is : AreQuietAt r.threads.items quiet) where
   record IsTold (state : State) : Type 0 where
     quiet_so : quiet ≡ is_quiet trees m.limits.frames state
     printed : r.printed.items ≡ state.world.printed
