@@ -1,7 +1,6 @@
 -- When a search has met the state to which an event leads on from a schedule (own).
 use Rattle.std.specs.Prelude.{◌≡◌, ◌≤◌, ℕ, List, [], ◌∷◌, ◌++◌, length, Some, IsTrue, IsFalse}
 use Rattle.model.specs.declared.event.Event.{Event}
-use Rattle.model.specs.Accepted.{IsAccepted}
 use Rattle.model.specs.Classes.{Program}
 use Rattle.model.specs.LimitStands.{Bounds}
 use Rattle.model.specs.Run.{run, is_quiet}

@@ -1,4 +1,4 @@
-use Rattle.met_states.proofs.Met.{alike_met}
+use Rattle.met_states.proofs.Bridge.{alike_met}
 use Rattle.met_states.proofs.alike_states_are_met.Goals as goal
 
 pub returns : goal.returns

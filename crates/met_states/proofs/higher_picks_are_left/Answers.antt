@@ -1,4 +1,4 @@
-use Rattle.met_states.proofs.Met.{higher_left}
+use Rattle.met_states.proofs.Bridge.{higher_left}
 use Rattle.met_states.proofs.higher_picks_are_left.Goals as goal
 
 pub returns : goal.returns

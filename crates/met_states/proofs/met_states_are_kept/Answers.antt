@@ -1,4 +1,4 @@
-use Rattle.met_states.proofs.Met.{kept_met}
+use Rattle.met_states.proofs.Bridge.{kept_met}
 use Rattle.met_states.proofs.met_states_are_kept.Goals as goal
 
 pub returns : goal.returns

@@ -1,4 +1,4 @@
-use Rattle.met_states.proofs.Met.{new_met}
+use Rattle.met_states.proofs.Bridge.{new_met}
 use Rattle.met_states.proofs.new_states_are_met.Goals as goal
 
 pub returns : goal.returns

@@ -1,4 +1,4 @@
-use Rattle.met_states.proofs.Met.{others_left}
+use Rattle.met_states.proofs.Bridge.{others_left}
 use Rattle.met_states.proofs.other_threads_are_left.Goals as goal
 
 pub returns : goal.returns

@@ -1,5 +1,5 @@
 use Rattle.run_outcomes.proofs.Places.{told_here, told_there, told_beyond, told_last}
-use Rattle.std.proofs.Common.{◌≤◌, length, arith}
+use Rattle.std.proofs.Common.{arith}
 use Rattle.run_outcomes.proofs.outcomes.place_of.Goals as goal
 
 pub returns-in-Less : goal.returns-in-Less

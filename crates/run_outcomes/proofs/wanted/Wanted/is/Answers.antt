@@ -1,4 +1,3 @@
-use Rattle.run_outcomes.specs.Outcomes.{told_by, is_stuck, has_thrown, IsWanted}
 use Rattle.run_outcomes.proofs.Places.{stuck_told, thrown_told}
 use Rattle.run_outcomes.proofs.wanted.Wanted.is.Goals as goal
 

@@ -1,28 +1,21 @@
 -- What a search has met.
-use Rattle.std.proofs.Common.{◌≡◌, ◌≤◌, ℕ, List, [], ◌∷◌, ◌++◌, length, Bool, true, false, Option, Some, None, refl, sym, ap, ◌∙◌, subst, arith}
+use Rattle.std.proofs.Common.{◌≡◌, ◌≤◌, ℕ, List, [], ◌∷◌, ◌++◌, length, true, Option, Some, None, refl, sym, ap, ◌∙◌, subst, arith}
 use Rattle.std.specs.Prelude.{slice_get}
 use Rattle.std.specs.Option.{option_and_then}
 use Rattle.std.proofs.lemmas.Bool.{false≢true}
 use Rattle.std.proofs.lemmas.Option.{same_Some, none-some, slice_get_past}
 use Rattle.model.specs.declared.event.Event.{Event}
-use Rattle.model.specs.declared.value.Value.{Value}
 use Rattle.model.specs.Classes.{Program}
-use Rattle.model.specs.LimitStands.{Bounds}
 use Rattle.model.specs.Opening.{opening}
 use Rattle.model.specs.Operands.{values}
-use Rattle.model.specs.Run.{run, run_from}
+use Rattle.model.specs.Run.{run_from}
 use Rattle.model.specs.State.{types_of, State, StateOf}
 use Rattle.model.specs.Step.{SteppedOf, NotEnabled, WrongKind, Next, is_enabled_by, next_by, event_of, stepped, step}
 use Rattle.model.specs.Words.{words_of}
 use Rattle.typed_runs.proofs.Settled.{lengths_same}
-use Rattle.interleavings.specs.Ends.{Has}
-use Rattle.searches.specs.Searches.{IsMet}
 use Rattle.searches.specs.Picks.{ArePicksInOrder}
-use Rattle.linked_code.specs.declared.program.LinkedProgram.{LinkedProgram}
-use Rattle.machine_state.specs.declared.state.Shared.{Shared}
-use Rattle.same_states.specs.Same.{AreAlike, AreWordsTold}
-use Rattle.shown_runs.specs.Runs.{HasRun}
-use Rattle.met_states.specs.Met.{IsNextMet, AreAlikeStatesMet, AreNewStatesMet, AreHigherPicksLeft, AreOtherThreadsLeft, AreMetStatesKept, AreSearchesWhole}
+use Rattle.same_states.specs.Same.{AreWordsTold}
+use Rattle.met_states.specs.Met.{AreAlikeStatesMet, AreNewStatesMet, AreHigherPicksLeft, AreOtherThreadsLeft, AreMetStatesKept, AreSearchesWhole}
 
 -- ---- one event more
 
