@@ -1,6 +1,6 @@
-mod Machines
+mod Shown
 mod Schedules
 mod Growth
-mod Expanding
+mod Expanded
 mod Visits
 mod Whole

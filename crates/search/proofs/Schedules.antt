@@ -20,7 +20,7 @@ use Rattle.schedule_tree.specs.Trees.{way_at, with_way}
 use Rattle.met_states.specs.Met.{AreAlikeStatesMet}
 use Rattle.search.specs.Machines.{IsAt, GoesBy}
 use Rattle.search.specs.States.{StatesOf, IsSchedule, IsInState, IsMetFrom, IsAfter, Grows, IsPushed}
-use Rattle.search.proofs.Machines.{gone_on, run_of}
+use Rattle.search.proofs.Shown.{gone_on, run_of}
 
 -- ---- a schedule by its number
 

@@ -61,7 +61,7 @@ fn is_found(wanted: &Wanted, outcomes: &mut Outcomes, outcome: Option<Outcome>) 
 }
 
 /// Visits the state of a number, all below which have been visited. The classes are those of the files.
-fn visit(
+fn visit_state(
     alloc: Global,
     classes: &ClassSet,
     wanted: &Wanted,
@@ -105,7 +105,7 @@ fn visit_all(
         if number >= states.len() {
             return Ok(Verdict::Complete(outcomes));
         }
-        match visit(alloc, classes, wanted, states, &mut outcomes, number, most)? {
+        match visit_state(alloc, classes, wanted, states, &mut outcomes, number, most)? {
             Visit::Visited => {}
             Visit::Found(schedule) => return Ok(Verdict::Found(schedule)),
             Visit::GaveUp => return Ok(Verdict::GaveUp),

@@ -14,7 +14,7 @@ use Rattle.met_states.specs.Met.{IsNextMet, AreHigherPicksLeft, AreOtherThreadsL
 use Rattle.search.specs.Machines.{GoesBy}
 use Rattle.search.specs.States.{StatesOf, IsSchedule, IsInState, IsMetFrom, AreMetByThread, AreMetByThreads, AreAllMet, Grows, GrowsTo}
 use Rattle.search.proofs.Growth.{stays, further, within, earlier, still_met, gave_up, went_on}
-use Rattle.search.proofs.Machines.{run_of}
+use Rattle.search.proofs.Shown.{run_of}
 
 -- so it is of each below a number
 pub record HasGrown (P : StatesOf → ℕ → Type 0) (old new : StatesOf) (below : ℕ) : Type 0 where
