@@ -67,7 +67,9 @@ class CaseFolder:
     def write(self, names, folder):
         """Writes files into a folder."""
         for name in names:
-            (pathlib.Path(folder) / name).write_bytes(self.files[name])
+            path = pathlib.Path(folder) / name
+            path.parent.mkdir(parents=True, exist_ok=True)
+            path.write_bytes(self.files[name])
 
 
 def changed(data, words, is_copy):
