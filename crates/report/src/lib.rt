@@ -10,6 +10,8 @@ use crate::lines::{push_end, push_printed, push_threads};
 use model::{End, Report};
 use std::alloc::{AllocError, Global};
 
+pub use lines::push_thread;
+
 /// The text of a report: each printed number on a line, in decimal; for each thread a line `thread`, its number and
 /// its state; a line `events` with their number; and a line `end` that says why no more were done. A thread's state
 /// is `ended`, `threw` with the name of the exception's class, `blocked`, `waiting`, `joining`, `initialising` or

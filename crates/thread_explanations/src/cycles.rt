@@ -1,0 +1,44 @@
+//! Threads that wait for each other.
+
+use std::alloc::{AllocError, Global};
+
+/// The thread for which a thread waits, if it waits for one.
+fn next_of(waits: &[Option<u16>], thread: u16) -> Option<u16> {
+    waits.get(usize::from(thread)).copied()?
+}
+
+/// The cycle of threads, each of which waits for the next one and the last for the first, whose least thread is this, if it is in one.
+fn cycle_from(
+    alloc: Global,
+    waits: &[Option<u16>],
+    least: u16,
+) -> Result<Option<Vec<u16>>, AllocError> {
+    let mut members = Vec::new(alloc);
+    let mut at = least;
+    for _ in 0..waits.len() {
+        members.push(at)?;
+        match next_of(waits, at) {
+            Some(next) if next == least => return Ok(Some(members)),
+            Some(next) if next > least => at = next,
+            _ => return Ok(None),
+        }
+    }
+    Ok(None)
+}
+
+/// The cycles of threads, each of which waits for the next one and the last for the first: each cycle once, from its least thread on.
+pub(crate) fn cycles(
+    alloc: Global,
+    waits: &[Option<u16>],
+) -> Result<Vec<Vec<u16>>, AllocError> {
+    let mut found = Vec::new(alloc);
+    for thread in 0..=u16::MAX {
+        if usize::from(thread) >= waits.len() {
+            return Ok(found);
+        }
+        if let Some(cycle) = cycle_from(alloc, waits, thread)? {
+            found.push(cycle)?;
+        }
+    }
+    Ok(found)
+}
