@@ -78,7 +78,7 @@ fn watched(
 }
 
 /// The throw that a watch has seen, with the cause that another one has seen.
-fn thrown(watch: Watch, cause: Option<Watch>) -> Thrown {
+fn thrown_by(watch: Watch, cause: Option<Watch>) -> Thrown {
     let Some(throw) = watch.into_seen() else {
         return Thrown {
             stack: None,
@@ -126,7 +126,7 @@ pub(crate) fn throws_of(
     let mut causes = causes.into_iter();
     let mut throws = Vec::new(alloc);
     for watch in watches {
-        throws.push(thrown(watch, causes.next()))?;
+        throws.push(thrown_by(watch, causes.next()))?;
     }
     Ok(throws)
 }

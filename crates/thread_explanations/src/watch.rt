@@ -100,7 +100,7 @@ impl Watch {
     ) -> Result<(), AllocError> {
         let thrown = thrown_in(shared, thread);
         if thrown != self.thrown && thrown == self.sought {
-            self.seen = Some(self.throw(alloc)?);
+            self.seen = Some(self.seen_throw(alloc)?);
         }
         match shared.stacks.get(usize::from(thread)) {
             Some(stack) => self.go_on(stack.frame_count()),
@@ -109,7 +109,7 @@ impl Watch {
     }
 
     /// The throw, by what was seen before the event.
-    fn throw(&self, alloc: Global) -> Result<Throw, AllocError> {
+    fn seen_throw(&self, alloc: Global) -> Result<Throw, AllocError> {
         let stack = StackPlaces::copied(alloc, self.top, &self.callers)?;
         let failed = match (self.initialising, self.thrown) {
             (Some(class), Some(exception)) => Some((class, exception)),
