@@ -1,5 +1,6 @@
 -- The lines that stand below those of threads.
-use Rattle.std.specs.Prelude.{ℕ, List, [], map, vec_items, slice_get, Vec, Global}
+use Rattle.std.specs.Prelude.{ℕ, List, [], map, vec_items, slice_get, Vec}
+use Rattle.std.specs.Global.{Global}
 use Rattle.std.specs.Option.{option_map_or}
 use Rattle.thread_explanations.specs.declared.details.Details.{Details}
 

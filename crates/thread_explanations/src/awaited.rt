@@ -38,9 +38,15 @@ fn object_under(frame: Option<&Frame>, operands: usize) -> Option<u32> {
     frame?.operand(operands).checked_sub(1)
 }
 
+/// The Class object of a class.
+fn class_object_of(class: u16) -> u32 {
+    FIRST_CLASS_OBJECT + u32::from(class)
+}
+
 /// The Class object of the class that declares a method.
 fn class_object(program: &LinkedProgram, method: u32) -> Option<u32> {
-    Some(FIRST_CLASS_OBJECT + u32::from(method_at(program, method)?.class))
+    let row = method_at(program, method)?;
+    Some(class_object_of(row.class))
 }
 
 /// The object whose monitor an instruction enters, if it enters one: `monitorenter`, or the call of a synchronized method.

@@ -45,10 +45,10 @@ pub(crate) fn cycles(
     ensures { IfOk result (λ found. All (λ cycle. IsCycle waits.now cycle.items) found.items) }
 {
     let mut found = Vec::new(alloc);
-    for thread in 0..=u16::MAX {
-        if usize::from(thread) >= waits.len() {
+    for number in 0..waits.len() {
+        let Ok(thread) = u16::try_from(number) else {
             return Ok(found);
-        }
+        };
         if let Some(cycle) = cycle_from(alloc, waits, thread)? {
             found.push(cycle)?;
         }

@@ -80,9 +80,13 @@ fn facts_of(
 }
 
 /// The lines of each thread that stands so.
-fn thread_lines(alloc: Global, facts: Facts<'_>) -> Result<Vec<Vec<Vec<u8>>>, AllocError> {
+fn thread_lines(
+    alloc: Global,
+    facts: Facts<'_>,
+    ends: &[EndState],
+) -> Result<Vec<Vec<Vec<u8>>>, AllocError> {
     let mut threads = Vec::new(alloc);
-    for (thread, end) in facts.ends.iter().enumerate() {
+    for (thread, end) in ends.iter().enumerate() {
         let number = u16::try_from(thread).unwrap_or(u16::MAX);
         threads.push(match end {
             EndState::Ended => Vec::new(alloc),
@@ -115,7 +119,7 @@ pub(crate) fn details_of(
         ends,
     };
     Ok(Details {
-        threads: thread_lines(alloc, facts)?,
+        threads: thread_lines(alloc, facts, ends)?,
         deadlocks: deadlock_lines(alloc, &threads, ends)?,
     })
 }

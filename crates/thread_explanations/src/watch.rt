@@ -99,7 +99,7 @@ impl Watch {
         thread: u16,
     ) -> Result<(), AllocError> {
         let thrown = thrown_in(shared, thread);
-        if thrown != self.thrown && thrown == self.sought {
+        if self.is_seeking() && thrown != self.thrown && thrown == self.sought {
             self.seen = Some(self.seen_throw(alloc)?);
         }
         match shared.stacks.get(usize::from(thread)) {
