@@ -30,11 +30,7 @@ fn offset_of(program: &LinkedProgram, method: u32, place: usize) -> u16 {
 }
 
 /// `Counter.java:12`, where the class file tells its source and its lines. Whether it does.
-fn push_line(
-    text: &mut Vec<u8>,
-    method: &MethodCode<'_>,
-    offset: u16,
-) -> Result<bool, AllocError> {
+fn push_line(text: &mut Vec<u8>, method: &MethodCode<'_>, offset: u16) -> Result<bool, AllocError> {
     let Some(source) = source_file(method.file()) else {
         return Ok(false);
     };

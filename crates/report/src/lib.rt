@@ -7,10 +7,9 @@ ghost use Rattle.std.specs.Prelude.{◌≡◌, IfOk, map};
 ghost use Rattle.model.specs.Report.{end_state_of, report_text};
 
 use crate::lines::{push_end, push_printed, push_threads};
+pub use lines::push_thread;
 use model::{End, Report};
 use std::alloc::{AllocError, Global};
-
-pub use lines::push_thread;
 
 /// The text of a report: each printed number on a line, in decimal; for each thread a line `thread`, its number and
 /// its state; a line `events` with their number; and a line `end` that says why no more were done. A thread's state

@@ -1,5 +1,5 @@
 -- Threads that wait for each other (own; JLS 17.1, 17.2.3; JVMS 5.5).
-use Rattle.std.specs.Prelude.{◌≡◌, ◌<◌, ℕ, List, [], ◌∷◌, length, Option, Some, None, slice_get}
+use Rattle.std.specs.Prelude.{◌≡◌, ◌<◌, ℕ, List, [], ◌∷◌, length, Option, Some, slice_get}
 use Rattle.std.specs.Option.{option_and_then}
 
 -- the thread for which a thread waits, if it waits for one

@@ -85,9 +85,7 @@ fn entered_next(
 ) -> Option<u32> {
     match stack.top() {
         Top::Empty => entered_first(shared, program, thread),
-        Top::Invocation => {
-            entered_by(program, stack.frame(), instruction_at(program, stack)?)
-        }
+        Top::Invocation => { entered_by(program, stack.frame(), instruction_at(program, stack)?) }
         Top::Initialisation { .. } => None,
     }
 }

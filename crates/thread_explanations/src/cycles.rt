@@ -38,10 +38,7 @@ fn cycle_from(
 }
 
 /// The cycles of threads, each of which waits for the next one and the last for the first: each cycle once, from its least thread on.
-pub(crate) fn cycles(
-    alloc: Global,
-    waits: &[Option<u16>],
-) -> Result<Vec<Vec<u16>>, AllocError>
+pub(crate) fn cycles(alloc: Global, waits: &[Option<u16>]) -> Result<Vec<Vec<u16>>, AllocError>
     ensures { IfOk result (λ found. All (λ cycle. IsCycle waits.now cycle.items) found.items) }
 {
     let mut found = Vec::new(alloc);

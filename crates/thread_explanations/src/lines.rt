@@ -59,11 +59,7 @@ impl Facts<'_> {
     }
 
     /// `at Counter.run(Counter.java:12)`, for each frame that is told, and how many more there are.
-    fn push_stack(
-        &self,
-        lines: &mut Vec<Vec<u8>>,
-        stack: &StackPlaces,
-    ) -> Result<(), AllocError> {
+    fn push_stack(&self, lines: &mut Vec<Vec<u8>>, stack: &StackPlaces) -> Result<(), AllocError> {
         for frame in &stack.told {
             let mut line = Vec::from_slice(self.alloc, b"at ")?;
             self.place(&mut line, *frame)?;
@@ -127,13 +123,21 @@ impl Facts<'_> {
                 self.monitor(&mut line, "waits for the monitor of ", object, by)?;
             }
             Awaited::MonitorAgain(object) => {
-                self.monitor(&mut line, "waits to enter again the monitor of ", object, by)?;
+                self.monitor(
+                    &mut line,
+                    "waits to enter again the monitor of ",
+                    object,
+                    by,
+                )?;
             }
             Awaited::Notification(object) => {
                 push_words(&mut line, "is in the wait set of ")?;
                 self.object(&mut line, object)?;
             }
-            Awaited::End(_) if by == Some(thread) => push_words(&mut line, "waits for its own end")?,
+            Awaited::End(_) if by == Some(thread) => push_words(
+                &mut line,
+                "waits for its own end",
+            )?,
             Awaited::End(_) => self.by_thread(&mut line, "waits for the end of ", by)?,
             Awaited::Class(class) => self.class(&mut line, class, by)?,
         }
