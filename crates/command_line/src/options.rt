@@ -26,7 +26,7 @@ pub struct Run {
     pub limits: LimitOptions,
     /// The paths of the class files. The first holds the class whose `main` is run.
     pub files: Vec<String>,
-    /// Whether a refusal is explained.
+    /// Whether a refusal is explained, and what threads are about.
     pub explain: bool,
 }
 
@@ -92,7 +92,7 @@ pub struct Replay {
     pub limits: LimitOptions,
     /// The paths of the class files. The first holds the class whose `main` is run.
     pub files: Vec<String>,
-    /// Whether a refusal is explained.
+    /// Whether a refusal is explained, and what threads are about.
     pub explain: bool,
 }
 
