@@ -1,8 +1,8 @@
 //! `hostile SHAPE [NUMBER]` makes class files of a shape that is hard to link or to verify, and links and verifies them, with
-//! as much of each kind in them as the number says. It prints the number, the bytes of the files, and whether they pass. How
-//! much processor time each took, and the peak memory of the process, it says on standard error. With no number it begins
-//! with 8 and doubles it until a run takes ten seconds, the files have more than a million bytes, or they don't pass; and it
-//! says on standard error, too, to which power of the bytes the time grew from one run to the next. With no shape it prints
+//! as much of each kind in them as the number says. It prints the number, the bytes of the files, and whether they pass.
+//! With no number it begins with 8 and doubles it until a run takes some seconds, the files have a million bytes, or they
+//! don't pass; and it prints, too, how many microseconds of processor time linking and verification took, to which power of
+//! the bytes the time grew from one run to the next, and the peak memory of the process so far. With no shape it prints
 //! their names. `bench/hostile.py` makes a table of it.
 
 use crate::arguments::number;
@@ -18,11 +18,11 @@ use std::fs;
 use std::time::CpuClock;
 use verifier::verify;
 
-/// How long the longest run takes, in microseconds.
-const LONGEST: u64 = 10_000_000;
+/// A run that takes longer, in microseconds, is the last one.
+const LONGEST: u64 = 5_000_000;
 
-/// The most bytes of the files.
-const LARGEST: u64 = 1_000_000;
+/// A run over files of more bytes is the last one.
+const LARGEST: u64 = 500_000;
 
 /// Of a run: the bytes of the files, and the microseconds of linking and of verification.
 #[derive(Clone, Copy)]
@@ -85,7 +85,7 @@ fn exponent(before: Run, after: Run) -> Option<u64> {
     time.saturating_mul(100).checked_div(bytes)
 }
 
-/// The line of the process's peak memory, where the system tells it.
+/// Tells the process's peak memory, where the system tells it.
 fn tell_peak(rt: &HostRuntime) -> Result<()> {
     let Ok(status) = fs::read_to_string(rt, "/proc/self/status") else {
         return Ok(());
@@ -94,7 +94,7 @@ fn tell_peak(rt: &HostRuntime) -> Result<()> {
         if line.starts_with("VmHWM:") {
             for word in line.split_whitespace() {
                 if let Ok(kilobytes) = word.parse::<u32>() {
-                    eprintln!(rt; "peak {kilobytes} kilobytes")?;
+                    print!(rt; ", peak {kilobytes} kilobytes")?;
                 }
             }
         }
@@ -104,36 +104,41 @@ fn tell_peak(rt: &HostRuntime) -> Result<()> {
 
 /// Tells how long a run took, and how the time grew from the one before.
 fn tell_times(rt: &HostRuntime, before: Option<Run>, run: Run) -> Result<()> {
-    eprintln!(rt; "link {} verify {} microseconds", run.link, run.verify)?;
+    print!(rt; ", link {} verify {} microseconds", run.link, run.verify)?;
     if let Some(before) = before {
         if let Some(hundredths) = exponent(before, run) {
-            eprintln!(rt; "exponent {hundredths} hundredths")?;
+            print!(rt; ", exponent {hundredths} hundredths")?;
         }
     }
     tell_peak(rt)
 }
 
 /// A run of a shape, where its files pass.
-fn shape_run(rt: &HostRuntime, shape: &str, number: u32, before: Option<Run>) -> Result<Option<Run>> {
+fn shape_run(rt: &HostRuntime, shape: &str, number: u32) -> Result<Option<Run>> {
     let files = class_files(rt.alloc(), shape, number)?.context("which shape")?;
     let (run, refusal) = run_of(rt, files.as_slice())?;
-    print!(rt; "{shape} {number}: {} bytes, ", run.bytes)?;
-    if let Some(refusal) = refusal {
-        tell_refusal(rt, &refusal)?;
-        return Ok(None);
+    print!(rt; "{shape} {number}: {} bytes ", run.bytes)?;
+    match refusal {
+        Some(refusal) => {
+            tell_refusal(rt, &refusal)?;
+            Ok(None)
+        }
+        None => {
+            print!(rt; "verified")?;
+            Ok(Some(run))
+        }
     }
-    println!(rt; "verified")?;
-    tell_times(rt, before, run)?;
-    Ok(Some(run))
 }
 
 /// Runs of a shape, with twice the number each time.
 fn all_runs(rt: &HostRuntime, shape: &str) -> Result<()> {
     let mut before = None;
     for power in 3..24u32 {
-        let Some(run) = shape_run(rt, shape, 1 << power, before)? else {
+        let Some(run) = shape_run(rt, shape, 1 << power)? else {
             return Ok(());
         };
+        tell_times(rt, before, run)?;
+        println!(rt; "")?;
         if run.time() > LONGEST || run.bytes > LARGEST {
             return Ok(());
         }
@@ -153,7 +158,9 @@ pub fn run(rt: &HostRuntime, mut args: Args) -> Result<()> {
         None => all_runs(rt, shape.as_str()),
         Some(word) => {
             let number = number(Some(word), "which number")?;
-            shape_run(rt, shape.as_str(), number, None)?;
+            if shape_run(rt, shape.as_str(), number)?.is_some() {
+                println!(rt; "")?;
+            }
             Ok(())
         }
     }
