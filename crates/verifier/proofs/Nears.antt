@@ -164,7 +164,7 @@ module _ (files : Program) (ordered : IsOrdered files) (body : Body) (found : Fo
   skip_near near lead h e above known =
       let at = typed_in files found lead.offset above.there above.typed in
       let by_handler : IsReachedBy files (typing_of (tables_in files found).types) near.offset known.other lead.offset (Some h) =
-        subst (IsReachedBy files (typing_of (tables_in files found).types) near.offset known.other lead.offset) e known.reached.0 in
+      subst (IsReachedBy files (typing_of (tables_in files found).types) near.offset known.other lead.offset) e known.reached.0 in
       let r = by_handler above.covers in
       let same : r.there ≡ parts_in files above.there = same_Some r.there (parts_in files above.there) (sym r.typed ∙ ap entry_of at) in
       let below = subst (λ t. is_frame_below files (led_to files known.other known.other (Some h)) t ≡ true) same r.above in

@@ -130,7 +130,13 @@ impl Found {
     }
 
     /// Whether a lead to a handler needs no merge.
-    fn has_merged(&self, method: &MethodCode<'_>, origin: &Origin, handler: Handler, to: usize) -> bool
+    fn has_merged(
+        &self,
+        method: &MethodCode<'_>,
+        origin: &Origin,
+        handler: Handler,
+        to: usize,
+    ) -> bool
         ensures { IsTrue result → IsSomeAnd origin.now.near (λ near. IsAbove (files_of method.now) self.now near handler to) }
     {
         match &origin.near {
