@@ -11,19 +11,18 @@ use Rattle.model.specs.Names.{Member}
 use Rattle.model.specs.Tree.{Entry}
 use Rattle.model.specs.Classes.{Program, Body}
 use Rattle.model.specs.Instruction.{Sized, sized_at}
-use Rattle.model.specs.Operands.{values, over_types, is_ready}
-use Rattle.model.specs.Types.{type_meets}
+use Rattle.model.specs.Operands.{values}
 use Rattle.model.specs.Sites.{MeaningOf, Site, site_with}
 use Rattle.model.specs.Meanings.{meaning_of}
 use Rattle.model.specs.Step.{covers}
 use Rattle.model.specs.TypeOrder.{FrameType, is_frame_below, is_local_below, is_mark_below}
-use Rattle.model.specs.Typing.{Typing, Reaches, may_stand, successors, caught_type, handler_type, handlers_from, flow_by, flow_at, flow}
+use Rattle.model.specs.Typing.{Typing, Reaches, successors, caught_type, handler_type, handlers_from, flow_by, flow_at, flow}
 use Rattle.types.specs.View.{type_in}
 use Rattle.types.specs.declared.verification_type.VerificationType.{VerificationType}
 use Rattle.types.specs.declared.verification_type.VerificationType.TheVariants as type
 use Rattle.typing_search.specs.Orders.{IsOrdered}
 use Rattle.typing_search.specs.Search.{AreReached, Raised}
-use Rattle.typing_search.specs.Tables.{entry_of, typing_of, waits, waiting_at}
+use Rattle.typing_search.specs.Tables.{entry_of, typing_of, waits}
 use Rattle.typing_search.proofs.Merging.{waits_other}
 use Rattle.typing_search.proofs.Orders.{below_parts, from_parts}
 use Rattle.typing_search.proofs.Searching.{reached_parts, reaches_up}
@@ -86,17 +85,6 @@ module _ (from to : List VerificationType) (changes : List Change) (i : ℕ) (d 
       ∙ (ap (λ l. slice_set l c.local c.of) done
       ∙ (ap (λ k. slice_set (upto to from i) k c.of) f
       ∙ (ap (λ t. slice_set (upto to from i) i t) g ∙ (next_set to from i d long within ∙ ap (upto to from) n)))))
-
-no_more : (to from : List VerificationType) (i : ℕ) → length from ≡ length to → length to ≡ i → upto to from i ≡ to
-no_more [] [] i l e = subst (λ k. upto [] [] k ≡ []) e refl
-no_more [] (y ∷ from) i l e = absurd cc
-no_more (x ∷ to) [] i l e = absurd cc
-no_more (x ∷ to) (y ∷ from) i l e =
-    let m : length from ≡ length to = omega (arith, l) in
-    subst (λ k. upto (x ∷ to) (y ∷ from) k ≡ x ∷ to) e (ap (λ z. x ∷ z) (no_more to from (length to) m refl))
-
-pub all_changed : (from to : List VerificationType) (changes : List Change) (i : ℕ) → length from ≡ length to → length to ≡ i → changed from changes ≡ upto to from i → changed from changes ≡ to
-all_changed from to changes i l e done = done ∙ no_more to from i l e
 
 -- ---- the type at a place of runs
 

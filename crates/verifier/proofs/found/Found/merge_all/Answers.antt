@@ -1,4 +1,4 @@
-use Rattle.std.proofs.Common.{◌∙◌, ◌+◌, [], ◌∷◌, drop, get_or, None, subst}
+use Rattle.std.proofs.Common.{◌+◌, [], ◌∷◌, drop, get_or, None, subst}
 use Rattle.typing_search.specs.Search.{Clashes}
 use Rattle.typing_search.specs.Tables.{typing_of}
 use Rattle.typing_search.proofs.Linking.{ordered_from}
