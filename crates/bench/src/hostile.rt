@@ -26,13 +26,13 @@ const LARGEST: u64 = 500_000;
 
 /// Of a run: the bytes of the files, and the microseconds of linking and of verification.
 #[derive(Clone, Copy)]
-struct Run {
+struct Measured {
     bytes: u64,
     link: u64,
     verify: u64,
 }
 
-impl Run {
+impl Measured {
     fn time(self) -> u64 {
         self.link.saturating_add(self.verify)
     }
@@ -61,7 +61,7 @@ fn refusal_of(alloc: Global, linked: Linked) -> Option<Refusal> {
 }
 
 /// Links and verifies files, and says why they are refused, where they are.
-fn run_of(rt: &HostRuntime, files: &[Vec<u8>]) -> Result<(Run, Option<Refusal>)> {
+fn run_of(rt: &HostRuntime, files: &[Vec<u8>]) -> Result<(Measured, Option<Refusal>)> {
     let start = now(rt)?;
     let linked = link(rt.alloc(), files);
     let middle = now(rt)?;
@@ -70,7 +70,7 @@ fn run_of(rt: &HostRuntime, files: &[Vec<u8>]) -> Result<(Run, Option<Refusal>)>
         Err(refusal) => Some(refusal),
     };
     let end = now(rt)?;
-    let run = Run {
+    let run = Measured {
         bytes: bytes_of(files),
         link: middle.saturating_sub(start),
         verify: end.saturating_sub(middle),
@@ -79,7 +79,7 @@ fn run_of(rt: &HostRuntime, files: &[Vec<u8>]) -> Result<(Run, Option<Refusal>)>
 }
 
 /// The hundredths of the power of the bytes to which the time grew.
-fn exponent(before: Run, after: Run) -> Option<u64> {
+fn exponent(before: Measured, after: Measured) -> Option<u64> {
     let bytes = thousandths(after.bytes).checked_sub(thousandths(before.bytes))?;
     let time = thousandths(after.time()).checked_sub(thousandths(before.time()))?;
     time.saturating_mul(100).checked_div(bytes)
@@ -103,7 +103,7 @@ fn tell_peak(rt: &HostRuntime) -> Result<()> {
 }
 
 /// Tells how long a run took, and how the time grew from the one before.
-fn tell_times(rt: &HostRuntime, before: Option<Run>, run: Run) -> Result<()> {
+fn tell_times(rt: &HostRuntime, before: Option<Measured>, run: Measured) -> Result<()> {
     print!(rt; ", link {} verify {} microseconds", run.link, run.verify)?;
     if let Some(before) = before {
         if let Some(hundredths) = exponent(before, run) {
@@ -114,7 +114,7 @@ fn tell_times(rt: &HostRuntime, before: Option<Run>, run: Run) -> Result<()> {
 }
 
 /// A run of a shape, where its files pass.
-fn shape_run(rt: &HostRuntime, shape: &str, number: u32) -> Result<Option<Run>> {
+fn shape_run(rt: &HostRuntime, shape: &str, number: u32) -> Result<Option<Measured>> {
     let files = class_files(rt.alloc(), shape, number)?.context("which shape")?;
     let (run, refusal) = run_of(rt, files.as_slice())?;
     print!(rt; "{shape} {number}: {} bytes ", run.bytes)?;
