@@ -1,5 +1,5 @@
 -- What stands at the place of a method's number.
-use Rattle.std.proofs.Common.{◌≡◌, ℕ, List, [], ◌∷◌, ◌++◌, length, map, Bool, true, Option, Some, None, Result, codes, refl, sym, ap, subst, ◌∙◌}
+use Rattle.std.proofs.Common.{◌≡◌, ℕ, List, [], ◌∷◌, ◌++◌, length, map, Bool, true, Option, Some, None, Result, Ok, Err, codes, refl, sym, ap, subst, append_assoc, ◌∙◌}
 use Rattle.std.specs.Prelude.{slice_get, OnOk}
 use Rattle.std.specs.Option.{option_and_then, option_map, option_map_or}
 use Rattle.std.specs.List.{list_all}
@@ -28,7 +28,7 @@ use Rattle.model.specs.Report.{number}
 use Rattle.model.specs.State.{Invocation, Initialisation, StackOf}
 use Rattle.traced_events.specs.Places.{Sees}
 use Rattle.traced_events.specs.declared.frames.FrameBefore.{FrameBefore}
-use Rattle.trace_text.specs.Lines.{method_words, place_words}
+use Rattle.trace_text.specs.Lines.{AddsLine, instruction_words, line_words, meaning_in, method_words, place_words}
 use Rattle.trace_text.specs.Methods.{IsPlaceOf, name_in, IsBodyOf}
 
 -- ---- the place of a number
@@ -135,3 +135,44 @@ frame_words trees seen o class is old new result h (Invocation frame ∷ stack) 
     let offset : seen.offset ≡ frame.place.offset = ap (λ (f : FrameBefore). f.offset) (sym same) ∙ s.4 in
     subst (λ n. OnOk result (new ≡ old ++ (method_words frame.method ++ (codes " " ++ number n)))) offset
     (h frame.method (subst (λ (f : FrameBefore). IsMethodAt trees f.method frame.method) same s.3))
+
+-- ---- the instruction of a frame on top
+
+words_of : (trees : Program) (method : Member) (offset : ℕ) (found : Option MethodCode) → classes.body_of trees method ≡ option_map body_of found
+    → option_map_or (λ (m : MethodCode). meaning_in offset (body_of m)) found [] ≡ option_map_or (meaning_in offset) (classes.body_of trees method) []
+words_of trees method offset None e = ap (λ (o : Option Body). option_map_or (meaning_in offset) o []) (sym e)
+words_of trees method offset (Some m) e = ap (λ (o : Option Body). option_map_or (meaning_in offset) o []) (sym e)
+
+pub instruction_told : (trees : Program) (seen : FrameBefore) (o : Option FrameBefore) (class : Option ℕ) → o ≡ Some seen → (found : Option MethodCode) → IsBodyOf trees seen.method found
+    → (old new : List ℕ) {A E : Type 0} (result : Result A E) → OnOk result (new ≡ old ++ option_map_or (λ (m : MethodCode). meaning_in seen.offset (body_of m)) found [])
+    → (stack : StackOf ℕ) → Sees trees o class stack → OnOk result (new ≡ old ++ instruction_words trees stack)
+instruction_told trees seen o class is found b old new result h [] s = let bad : None ≡ Some seen = sym s.0 ∙ is in cc
+instruction_told trees seen o class is found b old new result h (Initialisation on_top phase ∷ stack) s = let bad : None ≡ Some seen = sym s.1 ∙ is in cc
+instruction_told trees seen o class is found b old new result h (Invocation frame ∷ stack) s =
+    let both : Some s.0 ≡ Some seen = sym s.1 ∙ is in
+    let same : s.0 ≡ seen = cc in
+    let offset : seen.offset ≡ frame.place.offset = ap (λ (f : FrameBefore). f.offset) (sym same) ∙ s.4 in
+    let at : IsMethodAt trees seen.method frame.method = subst (λ (f : FrameBefore). IsMethodAt trees f.method frame.method) same s.3 in
+    let words = words_of trees frame.method seen.offset found (b frame.method at) in
+    subst (λ n. OnOk result (new ≡ old ++ option_map_or (meaning_in n) (classes.body_of trees frame.method) [])) offset
+    (subst (λ l. OnOk result (new ≡ old ++ l)) words h)
+
+-- no frame is on top
+pub no_instruction : (trees : Program) (o : Option FrameBefore) (class : Option ℕ) → o ≡ None → (stack : StackOf ℕ) → Sees trees o class stack → instruction_words trees stack ≡ []
+no_instruction trees o class is [] s = refl
+no_instruction trees o class is (Initialisation on_top phase ∷ stack) s = refl
+no_instruction trees o class is (Invocation frame ∷ stack) s = let bad : Some s.0 ≡ None = sym s.1 ∙ is in cc
+
+-- ---- the line
+
+pub told_line : {A E : Type 0} (result : Result A E) (trees : Program) (n t : ℕ) (stack : StackOf ℕ) (old a b c d e new source deed : List ℕ)
+    → a ≡ old ++ (number n ++ (codes " " ++ (number t ++ codes " "))) → b ≡ a ++ place_words stack → c ≡ b ++ source → d ≡ c ++ instruction_words trees stack → e ≡ d ++ deed
+    → OnOk result (new ≡ e ++ codes "\n") → OnOk result (AddsLine trees n t stack old new)
+told_line (Err fault) trees n t stack old a b c d e new source deed ha hb hc hd he h = tt
+told_line (Ok value) trees n t stack old a b c d e new source deed ha hb hc hd he h = (line_words trees n t stack source deed, all, (source, deed, refl))
+  where
+    all : new ≡ old ++ line_words trees n t stack source deed
+    all =
+        h
+        ∙ ap (λ (l : List ℕ). l ++ codes "\n") (he ∙ ap (λ (l : List ℕ). l ++ deed) (hd ∙ ap (λ (l : List ℕ). l ++ instruction_words trees stack) (hc ∙ ap (λ (l : List ℕ). l ++ source) (hb ∙ ap (λ (l : List ℕ). l ++ place_words stack) ha))))
+        ∙ simp append_assoc
