@@ -95,7 +95,6 @@ module _ (ways : List (List ScheduleEntry)) (number : ℕ) (lt : number < length
       (subst (λ s. IsPushed number event (record { program = p; limits = limits; schedules = map events_of ways }) s) (sym new_is) here)
     where
       same : map events_of (with_way ways number entry) ≡ map events_of ways ++ (events_of way ++ event ∷ []) ∷ []
-      unfolding way
       same = schedules
 
       kept : (k : ℕ) (events : List Event) → slice_get (map events_of ways) k ≡ Some events → slice_get (map events_of (with_way ways number entry)) k ≡ Some events

@@ -153,9 +153,9 @@ module _ (trees : Program) (limits : Limits) (want : Wanted) (s : StatesOf) (out
 
         met : (k : ℕ) → k < suc number → ((nat_le number k ≡ true) × (number ≤ k)) ⊎ ((nat_le number k ≡ false) × (k < number)) → AreAllMet s_new k
         met k before (inl h) = let here : number ≡ k = omega (arith, before, h.1) in subst (AreAllMet s_new) here (grown.then refl)
-        met k before (inr h) event =
+        met k before (inr h) =
             let inside : k < length s.schedules = omega (arith, h.1, lt) in
-            still_met s s_new grown.grows k inside kept event (visited.met k h.1 event)
+            λ event. still_met s s_new grown.grows k inside kept event (visited.met k h.1 event)
 
         listed_now : (k : ℕ) (events : List Event) (state : State) → k < suc number → IsSchedule s_new k events → run trees limits.frames events ≡ Some state → IsTrue (is_quiet trees limits.frames state)
             → Has new (outcome_of trees limits.frames state)

@@ -41,8 +41,8 @@ module _ (trees : Program) (limits : Limits) (want : Wanted) (s : StatesOf) (out
   }
 
   pub complete : AreSearchesWhole → AreSearchesComplete → IsComplete trees limits want outcomes
-  complete whole complete =
+  complete is_whole are_complete =
       record {
-        all = complete visited.program.files trees visited.program.accepted limits.frames s.schedules outcomes (whole trees limits.frames s.schedules outcomes met_all);
+        all = are_complete visited.program.files trees visited.program.accepted limits.frames s.schedules outcomes (is_whole trees limits.frames s.schedules outcomes met_all);
         none = visited.outcomes_are.none;
       }
