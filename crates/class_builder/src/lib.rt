@@ -1,11 +1,14 @@
-//! Class files for tests: a constant pool that has each entry once, a class whose parts are given by their texts, and a
-//! class file as bytes.
+//! Class files for tests and trials: a constant pool that has each entry once, a class whose parts are given by their texts, code
+//! that grows, and a class file as bytes.
 #![tactic(auto)]
 
 mod bytes;
 mod class;
+mod code;
+pub mod opcode;
 mod pool;
 
 pub use bytes::PRINTS_SEVEN;
 pub use class::{ClassBuilder, CodeParts};
+pub use code::{CodeBuilder, Jump};
 pub use pool::{Member, PoolBuilder};

@@ -24,6 +24,7 @@ use Rattle.command_line.specs.declared.options.Run.{Run}
 use Rattle.command_line.specs.declared.options.RunOptions.{RunOptions}
 use Rattle.command_line.specs.declared.options.Schedule.{Schedule}
 use Rattle.command_line.specs.declared.options.ThenRun.{ThenRun}
+use Rattle.command_line.specs.declared.options.Trace.{Trace}
 use Rattle.command_line.specs.declared.options.Verify.{Verify}
 
 -- `--NAME NUMBER`, a number from least to most
@@ -107,6 +108,16 @@ jvm_run = with_files (with_limits (with_rule (with_run_options (new_app (codes "
 abbrev pub jvm_replay : App
 jvm_replay = with_files (with_limits (with_then_run (with_rule (new_app (codes "replay")) schedule_option))) class_files
 
+-- which events are told: from one number up to another, of one thread
+abbrev pub with_window : App → App
+with_window app = with_rule (with_rule (with_rule app
+    (number_option (codes "from") 0 4294967295))
+    (number_option (codes "to") 0 4294967295))
+    (number_option (codes "only") 0 65535)
+
+abbrev pub jvm_trace : App
+jvm_trace = with_files (with_limits (with_window (with_rule (new_app (codes "trace")) schedule_option))) class_files
+
 abbrev pub jvm_verify : App
 jvm_verify = with_files (with_rule (new_app (codes "verify")) (flag (codes "library"))) class_files
 
@@ -121,10 +132,11 @@ abbrev pub with_version : Shape → Shape
 with_version shape = record shape { has_version = true; subcommand_required = true }
 
 abbrev pub jvm : App
-jvm = with_subcommand (with_subcommand (with_subcommand (with_subcommand (with_subcommand
+jvm = with_subcommand (with_subcommand (with_subcommand (with_subcommand (with_subcommand (with_subcommand
     (record (new_app (codes "jvm")) { top = with_version (new_app (codes "jvm")).top })
     jvm_run.top)
     jvm_replay.top)
+    jvm_trace.top)
     jvm_verify.top)
     jvm_disasm.top)
     jvm_schedule.top
@@ -186,6 +198,16 @@ pub record AreValues (rows : List Row) (replay : Replay) : Type 0 where
   pub files : all_of (codes "files") rows ≡ Some (map string_bytes replay.files.items)
   pub explain : replay.explain ≡ is_set (first_of (codes "explain") rows)
 
+-- the values that the words give to `jvm trace`
+pub record AreTraceValues (rows : List Row) (trace : Trace) : Type 0 where
+  pub schedule : first_of (codes "schedule") rows ≡ Some (string_bytes trace.schedule)
+  pub from : IsNumber 0 4294967295 (first_of (codes "from") rows) trace.from
+  pub to : IsNumber 0 4294967295 (first_of (codes "to") rows) trace.to
+  pub only : IsNumber 0 65535 (first_of (codes "only") rows) trace.only
+  pub limits : AreLimitNumbers rows trace.limits
+  pub files : all_of (codes "files") rows ≡ Some (map string_bytes trace.files.items)
+  pub explain : trace.explain ≡ is_set (first_of (codes "explain") rows)
+
 -- the values that the words give to `jvm verify`
 pub record AreVerifyValues (rows : List Row) (verify : Verify) : Type 0 where
   pub files : all_of (codes "files") rows ≡ Some (map string_bytes verify.files.items)
@@ -208,6 +230,7 @@ pub record AreScheduleValues (rows : List Row) (schedule : Schedule) : Type 0 wh
 abbrev pub Spells : List Text → Command → Type 0
 Spells words (commands.Run run) = (rows : List Row) × (subcommand_of jvm words ≡ Some (codes "run", rows)) × AreRunValues rows run
 Spells words (commands.Replay replay) = (rows : List Row) × (subcommand_of jvm words ≡ Some (codes "replay", rows)) × AreValues rows replay
+Spells words (commands.Trace trace) = (rows : List Row) × (subcommand_of jvm words ≡ Some (codes "trace", rows)) × AreTraceValues rows trace
 Spells words (commands.Verify verify) = (rows : List Row) × (subcommand_of jvm words ≡ Some (codes "verify", rows)) × AreVerifyValues rows verify
 Spells words (commands.Disasm disasm) = (rows : List Row) × (subcommand_of jvm words ≡ Some (codes "disasm", rows)) × AreDisasmValues rows disasm
 Spells words (commands.Schedule schedule) = (rows : List Row) × (subcommand_of jvm words ≡ Some (codes "schedule", rows)) × AreScheduleValues rows schedule

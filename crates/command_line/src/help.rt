@@ -73,6 +73,26 @@ Statuses:
 Example:
   jvm replay --schedule a.schedule --then-run A.class";
 
+/// What stands below the options of `trace`.
+pub(crate) const TRACE_PAGE: &str = "\
+What it does:
+  Runs class files under a schedule as `jvm replay` does, and tells each event on
+  a line: its number, its thread, where the thread stood, the instruction, and
+  what it did. Behind the lines it prints the report. Events are counted from 0;
+  those that are not told are done all the same.
+
+Statuses:
+  0  all threads have ended
+  1  all threads have ended, some by an exception
+  2  a class file or the schedule is refused
+  3  an event was not enabled, or was refused for a limit, or memory was missing
+  4  nothing can go on, and a thread hasn't ended
+  5  the schedule is used up, and a thread can go on
+  6  the command is wrong, or a file can't be read, or the output not written
+
+Example:
+  jvm trace --schedule a.schedule --from 100 --to 120 A.class";
+
 /// What stands below the options of `verify`.
 pub(crate) const VERIFY_PAGE: &str = "\
 What it does:

@@ -9,7 +9,7 @@ mod parsers;
 mod usage;
 
 pub use options::{
-    Command, Disasm, LimitOptions, Replay, Run, RunOptions, Schedule, ThenRun, Verify,
+    Command, Disasm, LimitOptions, Replay, Run, RunOptions, Schedule, ThenRun, Trace, Verify,
 };
 pub use parse::command;
 pub use usage::Usage;

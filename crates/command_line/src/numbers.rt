@@ -48,6 +48,27 @@ pub(crate) const SEED: NumberOption = NumberOption {
     help: "Has one worker, which picks by this number whose turn it is",
 };
 
+pub(crate) const FROM: NumberOption = NumberOption {
+    name: "from",
+    least: 0,
+    most: u32::MAX,
+    help: "The number of the first event that is told, counted from 0",
+};
+
+pub(crate) const TO: NumberOption = NumberOption {
+    name: "to",
+    least: 0,
+    most: u32::MAX,
+    help: "The number of the last event that is told",
+};
+
+pub(crate) const ONLY: NumberOption = NumberOption {
+    name: "only",
+    least: 0,
+    most: 65_535,
+    help: "The thread whose events are told",
+};
+
 pub(crate) const OBJECTS: NumberOption = NumberOption {
     name: "objects",
     least: 0,
@@ -125,18 +146,25 @@ impl NumberOption {
     }
 }
 
-/// The options of `replay` and `run` that take a number.
-const OF_BOTH: [NumberOption; 6] = [BUDGET, OBJECTS, CELLS, MONITORS, THREADS, FRAMES];
+/// The options of `replay`, `run` and `trace` that take a number.
+const OF_ALL: [NumberOption; 5] = [OBJECTS, CELLS, MONITORS, THREADS, FRAMES];
 
-/// Those of `run` alone.
-const OF_RUN: [NumberOption; 3] = [WORKERS, QUANTUM, SEED];
+/// Those of `run`.
+const OF_RUN: [NumberOption; 4] = [WORKERS, BUDGET, QUANTUM, SEED];
+
+/// Those of `replay`.
+const OF_REPLAY: [NumberOption; 1] = [BUDGET];
+
+/// Those of `trace`.
+const OF_TRACE: [NumberOption; 3] = [FROM, TO, ONLY];
 
 /// The option with this name behind two hyphens, of the subcommand that is so called.
 fn number_option(subcommand: &str, word: &str) -> Option<NumberOption> {
     let name = word.strip_prefix("--")?;
     match subcommand {
-        "replay" => named(&OF_BOTH, name),
-        "run" => named(&OF_BOTH, name).or(named(&OF_RUN, name)),
+        "replay" => named(&OF_ALL, name).or(named(&OF_REPLAY, name)),
+        "trace" => named(&OF_ALL, name).or(named(&OF_TRACE, name)),
+        "run" => named(&OF_ALL, name).or(named(&OF_RUN, name)),
         _ => None,
     }
 }

@@ -9,6 +9,7 @@ use model::Limits;
 pub enum Command {
     Run(Run),
     Replay(Replay),
+    Trace(Trace),
     Verify(Verify),
     Disasm(Disasm),
     Schedule(Schedule),
@@ -89,6 +90,24 @@ pub struct Replay {
     pub schedule: String,
     /// How the run goes on where the schedule ends, if it does.
     pub then_run: Option<ThenRun>,
+    pub limits: LimitOptions,
+    /// The paths of the class files. The first holds the class whose `main` is run.
+    pub files: Vec<String>,
+    /// Whether a refusal is explained.
+    pub explain: bool,
+}
+
+/// `jvm trace`: class files are run under a schedule, and the run is told event by event.
+#[derive(Debug, Drop, PartialEq, Eq)]
+pub struct Trace {
+    /// The path of the schedule file.
+    pub schedule: String,
+    /// The number of the first event that is told, and `None` for 0.
+    pub from: Option<u32>,
+    /// The number of the last event that is told, and `None` for that of the run.
+    pub to: Option<u32>,
+    /// The thread whose events are told, and `None` for all.
+    pub only: Option<u32>,
     pub limits: LimitOptions,
     /// The paths of the class files. The first holds the class whose `main` is run.
     pub files: Vec<String>,

@@ -4,13 +4,16 @@ ghost use Rattle.std.specs.Prelude.{◌≡◌, ◌⊎◌, false, Some, codes, ma
 ghost use Rattle.std.specs.Option.{option_map};
 ghost use Rattle.clap.specs.Words.{HasMatchesOf, all_of, first_of, found_of, kind_of, rows_of};
 ghost use Rattle.clap.specs.declared.error.kind.ErrorKind.TheVariants.{UnknownArgument as unknown_argument};
-ghost use Rattle.command_line.specs.CommandLine.{AreDisasmValues, AreLimitNumbers, AreRunNumbers, AreRunValues, AreScheduleValues, AreValues, AreVerifyValues, Asks, Fails, IsThenRun, Refuses, Spells, is_set as is_true, jvm, usage_of};
+ghost use Rattle.command_line.specs.CommandLine.{AreDisasmValues, AreLimitNumbers, AreRunNumbers, AreRunValues, AreScheduleValues, AreTraceValues, AreValues, AreVerifyValues, Asks, Fails, IsThenRun, Refuses, Spells, is_set as is_true, jvm, usage_of};
 
 use crate::numbers::{
-    BUDGET, CELLS, FRAMES, MONITORS, OBJECTS, QUANTUM, SEED, THREADS, WORKERS, negative_number,
+    BUDGET, CELLS, FRAMES, FROM, MONITORS, OBJECTS, ONLY, QUANTUM, SEED, THREADS, TO, WORKERS,
+    negative_number,
 };
 use crate::options;
-use crate::options::{Disasm, LimitOptions, Replay, Run, RunOptions, Schedule, ThenRun, Verify};
+use crate::options::{
+    Disasm, LimitOptions, Replay, Run, RunOptions, Schedule, ThenRun, Trace, Verify,
+};
 use crate::parsers::program;
 use crate::usage::Usage;
 use clap::ArgMatches;
@@ -28,6 +31,9 @@ pub fn command(alloc: Global, words: &[String]) -> Result<options::Command, Usag
     }
     if let Some(replay) = matches.subcommand_matches("replay") {
         return Ok(options::Command::Replay(replay_of(alloc, replay)?));
+    }
+    if let Some(trace) = matches.subcommand_matches("trace") {
+        return Ok(options::Command::Trace(trace_of(alloc, trace)?));
     }
     if let Some(verify) = matches.subcommand_matches("verify") {
         return Ok(options::Command::Verify(verify_of(alloc, verify)?));
@@ -119,6 +125,28 @@ fn replay_of(alloc: Global, matches: &ArgMatches<'_>) -> Result<Replay, Usage>
     Ok(Replay {
         schedule,
         then_run,
+        limits,
+        files,
+        explain: is_set(matches, "explain"),
+    })
+}
+
+fn trace_of(alloc: Global, matches: &ArgMatches<'_>) -> Result<Trace, Usage>
+    ensures values { IfOk result (AreTraceValues (rows_of (found_of matches.now))) }
+    ensures none { IfErr result (λ usage. Refuses usage ((trace : _)
+        → AreTraceValues (rows_of (found_of matches.now)) trace → ⊥)) }
+{
+    let schedule = required_path_of(alloc, matches, "schedule")?;
+    let from = FROM.number(alloc, matches)?;
+    let to = TO.number(alloc, matches)?;
+    let only = ONLY.number(alloc, matches)?;
+    let limits = limits_of(alloc, matches)?;
+    let files = files_of(alloc, matches)?;
+    Ok(Trace {
+        schedule,
+        from,
+        to,
+        only,
         limits,
         files,
         explain: is_set(matches, "explain"),

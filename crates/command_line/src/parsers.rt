@@ -3,13 +3,15 @@
 ghost use Rattle.std.specs.Prelude.{◌≡◌, false, IfOk, IfErr};
 ghost use Rattle.clap.specs.Words.{app_of, kind_of, new_app, rule_of};
 ghost use Rattle.clap.specs.declared.error.kind.ErrorKind.TheVariants.{OutOfMemory as no_memory};
-ghost use Rattle.command_line.specs.CommandLine.{IsLocal, class_files, flag, jvm, jvm_disasm, jvm_replay, jvm_run, jvm_schedule, jvm_verify, one_file, path_option, record_option, with_files as over_files, with_limits as limited};
+ghost use Rattle.command_line.specs.CommandLine.{IsLocal, class_files, flag, jvm, jvm_disasm, jvm_replay, jvm_run, jvm_schedule, jvm_trace, jvm_verify, one_file, path_option, record_option, with_files as over_files, with_limits as limited};
 
 use crate::help::{
     ABOUT, AFTER, DISASM_PAGE, FILES_HELP, LISTED_HELP, REPLAY_PAGE, RUN_PAGE, SCHEDULE_PAGE,
-    VERIFIED_HELP, VERIFY_PAGE, VERSION,
+    TRACE_PAGE, VERIFIED_HELP, VERIFY_PAGE, VERSION,
 };
-use crate::numbers::{BUDGET, CELLS, FRAMES, MONITORS, OBJECTS, QUANTUM, SEED, THREADS, WORKERS};
+use crate::numbers::{
+    BUDGET, CELLS, FRAMES, FROM, MONITORS, OBJECTS, ONLY, QUANTUM, SEED, THREADS, TO, WORKERS,
+};
 use clap::{Arg, ArgAction};
 use std::alloc::{AllocError, Global};
 
@@ -25,6 +27,7 @@ pub(crate) fn program<'a>(alloc: Global) -> Result<clap::Command<'a>, clap::Erro
         .subcommand_required(true)
         .subcommand(run_parser(alloc)?)?
         .subcommand(replay_parser(alloc)?)?
+        .subcommand(trace_parser(alloc)?)?
         .subcommand(verify_parser(alloc)?)?
         .subcommand(disasm_parser(alloc)?)?
         .subcommand(schedule_parser(alloc)?)?;
@@ -84,6 +87,27 @@ fn replay_parser<'a>(alloc: Global) -> Result<clap::Command<'a>, AllocError>
     with_files(
         alloc,
         with_limits(alloc, replay)?,
+        files_argument(alloc, FILES_HELP),
+    )
+}
+
+fn trace_parser<'a>(alloc: Global) -> Result<clap::Command<'a>, AllocError>
+    ensures { IfOk result (λ trace. (app_of trace ≡ jvm_trace) × IsLocal trace) }
+{
+    let schedule = path_argument(alloc, "schedule", "The schedule file, or its text");
+    let trace = titled(
+        alloc,
+        "trace",
+        "Runs class files under the schedule of a file, and tells the run event by event",
+        TRACE_PAGE,
+    )
+    .arg(schedule.required(true))?
+    .arg(FROM.argument(alloc))?
+    .arg(TO.argument(alloc))?
+    .arg(ONLY.argument(alloc))?;
+    with_files(
+        alloc,
+        with_limits(alloc, trace)?,
         files_argument(alloc, FILES_HELP),
     )
 }

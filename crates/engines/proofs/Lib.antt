@@ -5,4 +5,5 @@ pub mod ListingLemmas
 pub mod OpeningLemmas
 pub mod RecordingLemmas
 pub mod RunLemmas
+pub mod TraceLemmas
 pub mod VerificationLemmas

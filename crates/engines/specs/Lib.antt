@@ -11,5 +11,6 @@ pub mod Refusals
 pub mod Replays
 pub mod Runs
 pub mod Statuses
+pub mod Traces
 pub mod Transcriptions
 pub mod Verifications

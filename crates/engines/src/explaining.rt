@@ -36,6 +36,7 @@ fn asks(command: &Command) -> bool {
     match command {
         Command::Run(options) => options.explain,
         Command::Replay(options) => options.explain,
+        Command::Trace(options) => options.explain,
         Command::Verify(options) => options.explain,
         Command::Disasm(options) => options.explain,
         Command::Schedule(options) => options.explain,
@@ -54,6 +55,7 @@ fn indented(alloc: Global, line: &[u8]) -> Result<Vec<u8>, AllocError> {
 fn schedule_of(command: &Command) -> Option<&str> {
     match command {
         Command::Replay(options) => Some(options.schedule.as_str()),
+        Command::Trace(options) => Some(options.schedule.as_str()),
         Command::Schedule(options) if !options.write => Some(options.file.as_str()),
         _ => None,
     }
@@ -78,6 +80,7 @@ fn files_of<F: Folder>(
     match command {
         Command::Run(options) => options.files.clone(),
         Command::Replay(options) => options.files.clone(),
+        Command::Trace(options) => options.files.clone(),
         Command::Verify(options) => given_or_same(alloc, folder, &options.files),
         Command::Disasm(options) => given_or_same(alloc, folder, &options.files),
         Command::Schedule(_) => Ok(Vec::new(alloc)),

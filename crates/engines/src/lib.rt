@@ -19,6 +19,7 @@ mod recording;
 mod replaying;
 mod running;
 mod status;
+mod tracing;
 mod transcribing;
 mod verification;
 
@@ -36,6 +37,7 @@ pub use program::run;
 pub use replaying::replay_engine;
 pub use running::run_engine;
 pub use status::Status;
+pub use tracing::trace_engine;
 pub use transcribing::{schedule_engine, write_schedule_engine};
 pub use verification::verify_engine;
 pub use workers::{Gate, Open};

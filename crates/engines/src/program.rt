@@ -12,13 +12,15 @@ use crate::names::names_engine;
 use crate::replaying::replay_engine;
 use crate::running::run_engine;
 use crate::status::Status;
+use crate::tracing::trace_engine;
 use crate::transcribing::{schedule_engine, write_schedule_engine};
 use crate::verification::verify_engine;
-use command_line::{Command, Disasm, Replay, Run, Schedule, Usage, Verify, command};
+use command_line::{Command, Disasm, Replay, Run, Schedule, Trace, Usage, Verify, command};
 use model::{DeviceFault, Sink, Source};
 use std::alloc::{AllocError, Global};
 use std::sync::Wait;
 use std::thread::Threads;
+use traced_runs::Window;
 use workers::Gate;
 
 /// Does what the words say, the program's name first, and answers the status or why there is none.
@@ -70,6 +72,7 @@ fn done<R: Threads + Wait + Sync, G: Gate + Sync, F: Folder, I: Source, W: Sink>
     match command {
         Command::Run(options) => run_files(rt, alloc, gate, folder, options, output),
         Command::Replay(options) => replay(alloc, folder, options, output),
+        Command::Trace(options) => trace(alloc, folder, options, output),
         Command::Verify(options) => verify(alloc, folder, options, output),
         Command::Disasm(options) => disasm(alloc, folder, options, output),
         Command::Schedule(options) => schedule(alloc, folder, options, input, output),
@@ -121,6 +124,33 @@ fn replay<F: Folder, W: Sink>(
             &mut recorder(alloc, folder, &then_run.record),
         ),
     }
+}
+
+/// `trace`.
+fn trace<F: Folder, W: Sink>(
+    alloc: Global,
+    folder: &F,
+    options: &Trace,
+    output: &mut W,
+) -> Result<Status, Fault> {
+    let mut schedule = source(alloc, folder, &options.schedule);
+    let mut files = sources(alloc, folder, &options.files)?;
+    let window = Window {
+        from: u64::from(options.from.unwrap_or(0)),
+        to: match options.to {
+            Some(last) => u64::from(last),
+            None => u64::MAX,
+        },
+        only: options.only,
+    };
+    trace_engine(
+        alloc,
+        &mut schedule,
+        files.as_mut_slice(),
+        &options.limits,
+        window,
+        output,
+    )
 }
 
 /// `verify`.

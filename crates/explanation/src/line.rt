@@ -2,7 +2,7 @@
 
 use std::alloc::{AllocError, Global};
 
-/// A line without its end. Names in it are the bytes of the files.
+/// A line without its end. Names in it are the bytes of the files, but that no control character parts the line.
 #[derive(Drop)]
 pub(crate) struct Line {
     alloc: Global,
@@ -20,12 +20,22 @@ impl Line {
 
     /// Adds words.
     pub(crate) fn say(&mut self, words: &str) -> Result<(), AllocError> {
-        self.name(words.as_bytes())
+        Ok(self.bytes.extend_from_slice(words.as_bytes())?)
     }
 
-    /// Adds a name.
+    /// Adds a name. A backslash in it is doubled, and a control character of ASCII becomes `\x` and its two hexadecimal digits.
     pub(crate) fn name(&mut self, name: &[u8]) -> Result<(), AllocError> {
-        Ok(self.bytes.extend_from_slice(name)?)
+        for byte in name {
+            match *byte {
+                b'\\' => self.say("\\\\")?,
+                0..32 | 127 => {
+                    self.say("\\x")?;
+                    self.byte(*byte)?;
+                }
+                other => self.bytes.push(other)?,
+            }
+        }
+        Ok(())
     }
 
     /// Adds a number.

@@ -11,7 +11,7 @@ use Rattle.model.specs.Tree.{Entry, FieldTree, MethodPart, CodeOf, SkippedOfMeth
 use Rattle.model.specs.Spelling.{entry_at}
 use Rattle.model.specs.Spells.{IsWhole}
 use Rattle.model.specs.Pool.{class_name_at}
-use Rattle.model.specs.Conditions.{text_at, is_class, names_utf8, names_class, entry_indices, exception_indices, skipped_indices, method_part_indices, field_indices, method_indices}
+use Rattle.model.specs.Conditions.{text_at, names_utf8, names_class, entry_indices, exception_indices, skipped_indices, method_part_indices, field_indices, method_indices}
 use Rattle.model.specs.BuiltIn.{built_in_classes}
 use Rattle.model.specs.Classes.{Program, class_of, is_method, declared_in, code_in}
 use Rattle.model.specs.DescriptorScan.{element_at, field_at, field_type, parameters_at, method_type}

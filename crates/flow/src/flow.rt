@@ -9,7 +9,7 @@ ghost use Rattle.method_code.specs.Linked.{IsLinked};
 ghost use Rattle.method_code.specs.View.{files_of, member_of, body_of};
 ghost use Rattle.method_code.specs.Site.{site_of};
 ghost use Rattle.flow.specs.Handlers.{AreHandlers};
-ghost use Rattle.flow.specs.Leads.{lead_in};
+ghost use Rattle.flow.specs.Leads.{lead_in, LeadOn};
 
 use crate::handler::Handler;
 use crate::lead::{Lead, add_handlers, leads_on};
@@ -51,7 +51,8 @@ pub fn flow_at(
     requires linked { IsLinked (files_of method.now) }
     requires handlers { AreHandlers method.now handlers.now }
     requires start { IsTrue (is_start (body_of method.now).code.code offset) }
-    ensures { IfOk result (λ o. option_map (λ v. map (lead_in (files_of method.now) frame.old frame.new) v.items) o ≡ flow (files_of method.now) (member_of method.now) (body_of method.now) offset (frame_in (files_of method.now) frame.old)) }
+    ensures flow { IfOk result (λ o. option_map (λ v. map (lead_in (files_of method.now) frame.old frame.new) v.items) o ≡ flow (files_of method.now) (member_of method.now) (body_of method.now) offset (frame_in (files_of method.now) frame.old)) }
+    ensures handlers { IfOk result (λ o. IfSome o (λ v. LeadOn offset handlers.now v.items)) }
 {
     let Some(site) = site_at(method, offset as u16) else {
         return Ok(None);

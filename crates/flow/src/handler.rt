@@ -1,6 +1,7 @@
 //! The handlers of a method, with the types of what they catch.
 
 ghost use Rattle.std.specs.Prelude.{◌≡◌, false, IfOk};
+ghost use Rattle.model.specs.Step.{covers};
 ghost use Rattle.model.specs.Typing.{caught_class, caught_type};
 ghost use Rattle.types.specs.View.{type_in};
 ghost use Rattle.described_types.specs.Described.{type_missing};
@@ -21,6 +22,16 @@ use types::VerificationType;
 pub struct Handler {
     pub entry: ExceptionEntry,
     pub caught: VerificationType,
+}
+
+impl Handler {
+    /// Whether an offset lies in the range of the entry (JVMS 4.7.3).
+    pub fn covers(self, offset: usize) -> bool
+        ensures { result ≡ covers offset self.entry }
+    {
+        let entry = self.entry;
+        entry.start as usize <= offset && offset < entry.end as usize
+    }
 }
 
 /// The class that an entry takes; each Throwable where it names none (JVMS 4.7.3).

@@ -3,4 +3,4 @@
 
 mod run;
 
-pub use run::{open_machine, replay};
+pub use run::{open_machine, replay, report_after};

@@ -44,8 +44,9 @@ fn end_of(why: Stopped, done: u64, quiet: bool) -> End
     }
 }
 
-/// The report of what a machine shows after so many events, and why no more were done. The classes are those of its files.
-fn told(
+/// The report of what a machine shows after so many events, and why no more were done. The classes are those of its files. The only
+/// error is a want of memory.
+pub fn report_after(
     alloc: Global,
     machine: &Machine,
     classes: &ClassSet,
@@ -82,5 +83,5 @@ pub fn replay(
     no_event_is_wrong();
     let mut machine = open_machine(alloc, verified, limits)?;
     let (done, why) = run_schedule(&mut machine, schedule);
-    told(alloc, &machine, verified.linked().set(), done, why)
+    report_after(alloc, &machine, verified.linked().set(), done, why)
 }

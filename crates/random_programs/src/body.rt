@@ -1,10 +1,11 @@
 //! The body of a method: its code with what that names.
 
 use crate::blocks::Open;
-use crate::code::CodeBuilder;
-use crate::opcode::{ALOAD, ASTORE, DUP, ILOAD, INVOKEINTERFACE, INVOKESPECIAL, ISTORE, NEW};
 use crate::random::Random;
-use class_builder::{Member, PoolBuilder};
+use class_builder::opcode::{
+    ALOAD, ASTORE, DUP, ILOAD, INVOKEINTERFACE, INVOKESPECIAL, ISTORE, NEW,
+};
+use class_builder::{CodeBuilder, Member, PoolBuilder};
 use std::alloc::{AllocError, Global};
 
 /// The local variables 1 to 3 are ints.

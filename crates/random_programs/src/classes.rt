@@ -4,12 +4,11 @@
 use crate::body::{
     ARRAY, BOX, Body, CAUGHT, COUNTERS, DEPTH, MAX_LOCALS, MAX_STACK, OBJECT, THREAD,
 };
-use crate::code::CodeBuilder;
-use crate::opcode::{
+use crate::random::Random;
+use class_builder::opcode::{
     ACONST_NULL, ALOAD, ASTORE, ICONST_0, INVOKESPECIAL, ISTORE, NEWARRAY, PUTSTATIC,
 };
-use crate::random::Random;
-use class_builder::{ClassBuilder, CodeParts};
+use class_builder::{ClassBuilder, CodeBuilder, CodeParts};
 use std::alloc::{AllocError, Global};
 
 /// The names of the classes, in the order of their files.

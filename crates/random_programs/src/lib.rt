@@ -5,9 +5,7 @@
 mod blocks;
 mod body;
 mod classes;
-mod code;
 mod objects;
-mod opcode;
 mod random;
 mod statements;
 mod threads;

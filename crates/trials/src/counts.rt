@@ -56,7 +56,7 @@ impl Counts {
 /// The command, and what came of it: why it was refused, or how its report ends.
 fn words_of(alloc: Global, command: &str, outcome: &Outcome) -> Result<String, AllocError> {
     let mut words = String::from_str(alloc, command)?;
-    let said = last_line(&outcome.said);
+    let said = first_line(&outcome.said);
     if !said.is_empty() {
         push_fault(&mut words, said)?;
     } else if last_line(&outcome.written).starts_with(b"end ") {
@@ -65,6 +65,11 @@ fn words_of(alloc: Global, command: &str, outcome: &Outcome) -> Result<String, A
         words.push_str(" accepted")?;
     }
     Ok(words)
+}
+
+/// The first line, without its end. Where a name in it has a line feed, it is a beginning of the line.
+fn first_line(text: &[u8]) -> &[u8] {
+    text.split(|byte| *byte == b'\n').next().unwrap_or(text)
 }
 
 /// The last line, without its end.

@@ -172,13 +172,17 @@ impl SetTrial {
         })
     }
 
-    /// Changes a file, and tries the set again; and then the schedule file, where one was recorded. Answers what is wrong.
+    /// Changes the schedule file, and replays the files under it; and then changes a file, again and again, and tries the set each
+    /// time. Answers what is wrong.
     pub fn try_changes<R: Threads + Wait + Sync>(
         &mut self,
         rt: &R,
         random: &mut Random,
         counts: &mut Counts,
     ) -> io::Result<Option<&'static str>> {
+        self.schedule = changed(self.alloc, self.schedule.as_slice(), random)?;
+        let words = self.replay_words()?;
+        self.outcome_of_all(rt, words.as_str(), counts, "replay of a changed schedule")?;
         for _ in 0..CHANGES {
             let place = random.place(self.files.len());
             let Some(file) = self.files.get_mut(place) else {
@@ -189,9 +193,6 @@ impl SetTrial {
                 return Ok(Some(what));
             }
         }
-        self.schedule = changed(self.alloc, self.schedule.as_slice(), random)?;
-        let words = self.replay_words()?;
-        self.outcome_of_all(rt, words.as_str(), counts, "replay of a changed schedule")?;
         Ok(None)
     }
 

@@ -26,6 +26,7 @@ use Rattle.verifier.specs.Found.{Tables, tables_in, led_to, leads_in, AreOver, I
 use Rattle.verifier.specs.Verified.{OnUnverified}
 use Rattle.verifier.specs.declared.fault.MethodFault.{MethodFault}
 use Rattle.verifier.specs.declared.fault.MethodFault.TheVariants.{Unverified, OutOfMemory}
+use Rattle.flow.specs.declared.handler.Handler.{Handler}
 use Rattle.flow.specs.declared.lead.Lead.{Lead}
 use Rattle.verifier.specs.declared.found.Origin.{Origin}
 use Rattle.verifier.specs.declared.found.Found.{Found}
@@ -92,15 +93,15 @@ join_in files set a b x y o p same e f g h =
 -- ---- leads
 
 -- a handler begins with the exception alone on the stack
-pub lead_caught : (files : Program) (before after left : Parts) (t : VerificationType) (o : Option VerificationType) → left.locals ≡ before.locals → left.stack ≡ t ∷ [] → left.constructed ≡ before.constructed → o ≡ Some t → parts_in files left ≡ led_to files before after o
-lead_caught files before after left t o e f g h =
+pub lead_caught : (files : Program) (before after left : Parts) (h : Handler) (o : Option Handler) → left.locals ≡ before.locals → left.stack ≡ h.caught ∷ [] → left.constructed ≡ before.constructed → o ≡ Some h → parts_in files left ≡ led_to files before after o
+lead_caught files before after left handler o e f g h =
     let by_parts : List VerificationType → List VerificationType → Bool → Parts = λ locals stack constructed. record { locals = locals; stack = stack; constructed = constructed } in
     ap (λ l. parts_in files (by_parts l left.stack left.constructed)) e
     ∙ (ap (λ l. parts_in files (by_parts before.locals l left.constructed)) f
-    ∙ (ap (λ c. parts_in files (by_parts before.locals (t ∷ []) c)) g ∙ sym (ap (led_to files before after) h)))
+    ∙ (ap (λ c. parts_in files (by_parts before.locals (handler.caught ∷ []) c)) g ∙ sym (ap (led_to files before after) h)))
 
 abbrev lead_of : Program → Parts → Parts → Lead → ℕ × frames.FrameType
-lead_of files before after lead = (lead.offset, led_to files before after lead.caught)
+lead_of files before after lead = (lead.offset, led_to files before after lead.handler)
 
 -- the leads up to one, which is the next, and those after it
 pub leads_more : (files : Program) (origin : Origin) (leads : List Lead) (i : ℕ) (d : Lead) → i < length leads → leads_in files origin (take i leads) ++ leads_in files origin (get_or leads i d ∷ []) ≡ leads_in files origin (take (i + 1) leads)
@@ -119,14 +120,14 @@ pub all_leads : (files : Program) (origin : Origin) (leads : List Lead) (i : ℕ
 all_leads files origin leads i l = ap (leads_in files origin) (take_all i leads l)
 
 -- a lead by the parts of the frame types before and after the instruction
-lead_same : (files : Program) (before after : FrameType) (o : Option VerificationType) → frame_at files before after o ≡ led_to files (parts_of before) (parts_of after) o
+lead_same : (files : Program) (before after : FrameType) (o : Option Handler) → frame_at files before after o ≡ led_to files (parts_of before) (parts_of after) o
 lead_same files before after None = refl
-lead_same files before after (Some t) = refl
+lead_same files before after (Some h) = refl
 
 leads_same : (files : Program) (before after : FrameType) (leads : List Lead) → map (lead_in files before after) leads ≡ map (lead_of files (parts_of before) (parts_of after)) leads
 leads_same files before after [] = refl
 leads_same files before after (lead ∷ leads) =
-    ap (λ t. (lead.offset, t) ∷ map (lead_in files before after) leads) (lead_same files before after lead.caught) ∙ ap (λ l. lead_of files (parts_of before) (parts_of after) lead ∷ l) (leads_same files before after leads)
+    ap (λ t. (lead.offset, t) ∷ map (lead_in files before after) leads) (lead_same files before after lead.handler) ∙ ap (λ l. lead_of files (parts_of before) (parts_of after) lead ∷ l) (leads_same files before after leads)
 
 -- what an instruction leads to from a frame type that was found
 pub flows_to : (files : Program) (method : Member) (body : Body) (offset : ℕ) (found : Parts) (before after : FrameType) (origin : Origin) (leads listed : List Lead) → parts_of before ≡ found → origin.before ≡ found → origin.after ≡ parts_of after

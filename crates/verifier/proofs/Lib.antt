@@ -1,5 +1,6 @@
 pub mod Linked
 pub mod Runs
+pub mod Nears
 pub mod Entries
 pub mod Merges
 pub mod Turns

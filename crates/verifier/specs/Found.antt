@@ -4,13 +4,13 @@ use Rattle.std.specs.List.{AllByRecursion}
 use Rattle.model.specs.Names.{Member}
 use Rattle.model.specs.Classes.{Program, Body}
 use Rattle.model.specs.TypeOrder as frames
-use Rattle.types.specs.declared.verification_type.VerificationType.{VerificationType}
 use Rattle.typing_search.specs.Search.{Search, Merged, Clashes}
 use Rattle.typing_search.specs.Tables.{typing_of, waits, waiting_at}
 use Rattle.typing_search.specs.Weights.{IsLowFrame, work, places}
 use Rattle.typing_search.specs.Decided.{IsBounded}
 use Rattle.verifier.specs.declared.found.Found.{Found}
 use Rattle.verifier.specs.declared.found.Origin.{Origin}
+use Rattle.flow.specs.declared.handler.Handler.{Handler}
 use Rattle.flow.specs.declared.lead.Lead.{Lead}
 use Rattle.method_code.specs.declared.declaration.MethodCode.{MethodCode}
 use Rattle.method_code.specs.View.{files_of, member_of, body_of}
@@ -25,12 +25,12 @@ tables_in files found = record { types = map (option_map (parts_in files)) found
 
 -- the frame type to which an instruction leads: the one after it; or at a handler the one before it, with what is caught alone
 -- on the stack
-abbrev pub led_to : Program → Parts → Parts → Option VerificationType → frames.FrameType
+abbrev pub led_to : Program → Parts → Parts → Option Handler → frames.FrameType
 led_to files before after None = parts_in files after
-led_to files before after (Some t) = parts_in files (record before { stack = t ∷ [] })
+led_to files before after (Some h) = parts_in files (record before { stack = h.caught ∷ [] })
 
 abbrev pub leads_in : Program → Origin → List Lead → List (ℕ × frames.FrameType)
-leads_in files origin leads = map (λ (lead : Lead). (lead.offset, led_to files origin.before origin.after lead.caught)) leads
+leads_in files origin leads = map (λ (lead : Lead). (lead.offset, led_to files origin.before origin.after lead.handler)) leads
 
 -- nothing is found at so many offsets, and none waits
 pub record IsEmpty (offsets : ℕ) (found : Found) : Type 0 where

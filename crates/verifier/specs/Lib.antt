@@ -2,5 +2,6 @@ pub mod Waiting
 pub mod Packed
 pub mod Raised
 pub mod Found
+pub mod Near
 pub mod Verified
 pub mod Places

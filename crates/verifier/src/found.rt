@@ -1,21 +1,22 @@
 //! The frame types that a search has found, and how more are merged into them.
 
-ghost use Rattle.std.specs.Prelude.{◌≡◌, ◌<◌, [], ◌∷◌, length, List, false, slice_index_or, slice_set, Some, OnOk, IfOk, IfErr};
+ghost use Rattle.std.specs.Prelude.{◌≡◌, ◌<◌, [], ◌∷◌, length, false, slice_index_or, slice_set, Some, OnOk, IfOk, IfErr, IfSome, IsSomeAnd, IsTrue};
 ghost use Rattle.model.specs.InstructionStarts.{starts as starts_of};
 ghost use Rattle.typing_search.specs.Tables.{waiting_at};
 ghost use Rattle.method_code.specs.Linked.{IsLinked};
 ghost use Rattle.method_code.specs.View.{files_of, body_of};
-ghost use Rattle.flow.specs.declared.lead.Lead.{Lead};
 ghost use Rattle.verifier.specs.Packed.{parts_in};
 ghost use Rattle.verifier.specs.Found.{tables_in, leads_in, AreOver, IsEmpty, MergesInto, ClashesWith};
+ghost use Rattle.verifier.specs.Near.{IsAbove, AreKnown, IsSameOrigin};
 ghost use Rattle.verifier.specs.Verified.{OnUnverified};
 
 use crate::fault::MethodFault;
 use crate::frames::is_sized;
+use crate::near::{Near, are_below};
 use crate::packed::PackedFrame;
 use crate::raised::{Raised, merge_frames};
 use crate::waiting::Waiting;
-use flow::Lead;
+use flow::{Handler, Lead};
 use method_code::MethodCode;
 use std::alloc::{AllocError, Global};
 
@@ -41,6 +42,8 @@ pub(crate) struct Origin {
     pub before: PackedFrame,
     /// The frame type after it.
     pub after: PackedFrame,
+    /// An instruction whose leads are merged already, if one is at hand.
+    pub near: Option<Near>,
 }
 
 /// Whether an instruction begins at an offset.
@@ -112,6 +115,36 @@ impl Found {
         }
     }
 
+    /// Whether a frame type is at or above what a handler begins with, since it was merged at an instruction near by, and what
+    /// changed since then is below it.
+    fn is_above(&self, method: &MethodCode<'_>, near: &Near, handler: Handler, to: usize) -> bool
+        ensures { IsTrue result → IsAbove (files_of method.now) self.now near.now handler to }
+    {
+        if !handler.covers(near.offset) || to >= self.types.len() {
+            return false;
+        }
+        match &self.types[to] {
+            Some(there) => are_below(method.set(), &near.changes, there),
+            None => false,
+        }
+    }
+
+    /// Whether a lead to a handler needs no merge.
+    fn has_merged(
+        &self,
+        method: &MethodCode<'_>,
+        origin: &Origin,
+        handler: Handler,
+        to: usize,
+    ) -> bool
+        ensures { IsTrue result → IsSomeAnd origin.now.near (λ near. IsAbove (files_of method.now) self.now near handler to) }
+    {
+        match &origin.near {
+            Some(near) => self.is_above(method, near, handler, to),
+            None => false,
+        }
+    }
+
     /// Merges one of all to which an instruction leads.
     fn merge_lead(
         &mut self,
@@ -124,21 +157,25 @@ impl Found {
         requires linked { IsLinked (files_of method.now) }
         requires starts { starts.now ≡ starts_of (body_of method.now).code.code }
         requires over { AreOver (body_of method.now) (tables_in (files_of method.now) self.old) }
+        requires known { IfSome origin.old.near (λ near. AreKnown (files_of method.now) (tables_in (files_of method.now) self.old) origin.old.before near (lead ∷ [])) }
         ensures merged { OnOk result (MergesInto method.now self.old (leads_in (files_of method.now) origin.old (lead ∷ [])) self.new) }
         ensures clash { IfErr result (λ fault. OnUnverified fault (ClashesWith method.now self.old (leads_in (files_of method.now) origin.old (lead ∷ [])))) }
-        ensures origin { (leads : List Lead) → leads_in (files_of method.now) origin.new leads ≡ leads_in (files_of method.now) origin.old leads }
+        ensures origin { IsSameOrigin origin.old origin.new }
     {
         let edge = Edge {
             from: origin.offset,
             to: lead.offset,
         };
-        match lead.caught {
+        match lead.handler {
             None => match self.merge(alloc, method, starts, edge, &origin.after) {
                 Ok(()) => Ok(()),
                 Err(fault) => Err(fault),
             },
-            Some(t) => {
-                origin.before.leave_on_stack(t)?;
+            Some(handler) => {
+                if self.has_merged(method, origin, handler, lead.offset) {
+                    return Ok(());
+                }
+                origin.before.leave_on_stack(handler.caught)?;
                 match self.merge(alloc, method, starts, edge, &origin.before) {
                     Ok(()) => Ok(()),
                     Err(fault) => Err(fault),
@@ -159,6 +196,7 @@ impl Found {
         requires linked { IsLinked (files_of method.now) }
         requires starts { starts.now ≡ starts_of (body_of method.now).code.code }
         requires over { AreOver (body_of method.now) (tables_in (files_of method.now) self.old) }
+        requires known { IfSome origin.near (λ near. AreKnown (files_of method.now) (tables_in (files_of method.now) self.old) origin.before near leads.now) }
         ensures merged { OnOk result (MergesInto method.now self.old (leads_in (files_of method.now) origin leads.now) self.new) }
         ensures clash { IfErr result (λ fault. OnUnverified fault (ClashesWith method.now self.old (leads_in (files_of method.now) origin leads.now))) }
     {

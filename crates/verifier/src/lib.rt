@@ -6,6 +6,7 @@ mod fault;
 mod found;
 mod frames;
 mod method;
+mod near;
 mod packed;
 mod raised;
 mod run;

@@ -1,6 +1,6 @@
 //! The worklist (JVMS 4.10.2.2): it takes the lowest offset that waits, and merges what its instruction leads to.
 
-ghost use Rattle.std.specs.Prelude.{◌≡◌, ◌<◌, length, OnOk, IfOk, IfErr};
+ghost use Rattle.std.specs.Prelude.{◌≡◌, ◌<◌, length, OnOk, IfOk, IfErr, IfSome};
 ghost use Rattle.model.specs.InstructionStarts.{starts as starts_of};
 ghost use Rattle.model.specs.Typing.{HasTyping};
 ghost use Rattle.typing_search.specs.Search.{HasNoTyping};
@@ -8,15 +8,17 @@ ghost use Rattle.method_code.specs.Linked.{IsLinked};
 ghost use Rattle.method_code.specs.View.{files_of, member_of, body_of};
 ghost use Rattle.flow.specs.Handlers.{AreHandlers};
 ghost use Rattle.verifier.specs.Found.{tables_in, waiting_again, IsSearch, HasTurned};
+ghost use Rattle.verifier.specs.Near.{IsNear};
 ghost use Rattle.verifier.specs.Verified.{OnUnverified};
 
 use crate::fault::MethodFault;
 use crate::found::{Edge, Found, Origin};
+use crate::near::{Near, near_found};
 use crate::packed::PackedFrame;
-use flow::{Handler, entry_frame, flow_at, handlers};
+use flow::{Handler, Lead, entry_frame, flow_at, handlers};
 use method_code::MethodCode;
 use opcodes::starts;
-use std::alloc::Global;
+use std::alloc::{AllocError, Global};
 
 /// A search that has found the frame type where the method begins.
 fn begin(alloc: Global, method: &MethodCode<'_>, starts: &[bool]) -> Result<Found, MethodFault>
@@ -34,7 +36,28 @@ fn begin(alloc: Global, method: &MethodCode<'_>, starts: &[bool]) -> Result<Foun
     }
 }
 
-/// Merges what the instruction at an offset leads to, which has been taken off.
+/// The instruction that was looked at last, if it is near to the one at an offset, which leads to handlers.
+fn last_if_near(
+    alloc: Global,
+    found: &Found,
+    before: &PackedFrame,
+    offset: usize,
+    last: usize,
+    leads: &[Lead],
+) -> Result<Option<Near>, AllocError>
+    ensures near { IfOk result (λ o. IfSome o (IsNear found.now before.now)) }
+    ensures other { IfOk result (λ o. IfSome o (λ near. near.offset ≡ offset → ⊥)) }
+{
+    let Some(lead) = leads.last() else {
+        return Ok(None);
+    };
+    if lead.handler.is_none() || last == offset {
+        return Ok(None);
+    }
+    near_found(alloc, found, before, last)
+}
+
+/// Merges what the instruction at an offset leads to, which has been taken off. The last one that was taken off is told.
 fn turn(
     alloc: Global,
     method: &MethodCode<'_>,
@@ -42,6 +65,7 @@ fn turn(
     handlers: &[Handler],
     found: &mut Found,
     offset: usize,
+    last: usize,
 ) -> Result<(), MethodFault>
     requires linked { IsLinked (files_of method.now) }
     requires starts { starts.now ≡ starts_of (body_of method.now).code.code }
@@ -61,10 +85,12 @@ fn turn(
         Ok(None) => Err(MethodFault::Unverified { offset }),
         Ok(Some(leads)) => {
             let after = PackedFrame::pack(alloc, &frame)?;
+            let near = last_if_near(alloc, found, &before, offset, last, &leads)?;
             let origin = Origin {
                 offset,
                 before,
                 after,
+                near,
             };
             match found.merge_all(alloc, method, starts, origin, &leads) {
                 Ok(()) => Ok(()),
@@ -86,10 +112,12 @@ pub fn verify_method(alloc: Global, method: &MethodCode<'_>) -> Result<(), Metho
         Ok(found) => found,
         Err(fault) => return Err(fault),
     };
+    let mut last: usize = 0;
     while let Some(offset) = found.waiting.take_lowest() {
-        if let Err(fault) = turn(alloc, method, &starts, &handlers, &mut found, offset) {
+        if let Err(fault) = turn(alloc, method, &starts, &handlers, &mut found, offset, last) {
             return Err(fault);
         }
+        last = offset;
     }
     Ok(())
 }

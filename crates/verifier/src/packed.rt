@@ -1,9 +1,10 @@
 //! Frame types as a search keeps them.
 
-ghost use Rattle.std.specs.Prelude.{◌≡◌, [], ◌∷◌, length, IfOk, OnOk, IsTrue};
+ghost use Rattle.std.specs.Prelude.{◌≡◌, [], ◌∷◌, length, slice_index_or, IfOk, OnOk, IsTrue};
+ghost use Rattle.types.specs.declared.verification_type.VerificationType.TheVariants as type;
 ghost use Rattle.verifier.specs.Packed.{parts_of};
 
-use crate::run::{Run, are_same_runs, are_same_types, runs_of, types_of};
+use crate::run::{Run, are_same_runs, are_same_types, runs_of, type_at, types_of};
 use std::alloc::{AllocError, Global};
 use std::marker::Model;
 use types::{FrameType, VerificationType};
@@ -87,6 +88,27 @@ impl PackedFrame {
         self.constructed == other.constructed
             && are_same_types(&self.stack, &other.stack)
             && are_same_runs(&self.locals, &other.locals)
+    }
+
+    /// The types of the local variables.
+    pub fn locals(&self, alloc: Global) -> Result<Vec<VerificationType>, AllocError>
+        ensures { IfOk result (λ types. types.items ≡ self.now.locals) }
+    {
+        types_of(alloc, &self.locals, self.local_count)
+    }
+
+    /// The type of a local variable; where there is none, what is not usable.
+    pub fn local_at(&self, local: usize) -> VerificationType
+        ensures { result ≡ slice_index_or self.now.locals local type.Unusable }
+    {
+        type_at(&self.locals, local)
+    }
+
+    /// Whether both are constructed, or none is.
+    pub fn is_as_constructed(&self, other: &PackedFrame) -> bool
+        ensures { IsTrue result → self.now.constructed ≡ other.now.constructed }
+    {
+        self.constructed == other.constructed
     }
 
     /// How many local variables there are.

@@ -1,6 +1,7 @@
 //! Runs of types: so many of one type, one after another.
 
-ghost use Rattle.std.specs.Prelude.{◌≡◌, ◌++◌, replicate, OnOk, IfOk, IsTrue};
+ghost use Rattle.std.specs.Prelude.{◌≡◌, ◌++◌, replicate, slice_index_or, OnOk, IfOk, IsTrue};
+ghost use Rattle.types.specs.declared.verification_type.VerificationType.TheVariants as type;
 ghost use Rattle.verifier.specs.Packed.{unpacked};
 
 use std::alloc::{AllocError, Global};
@@ -14,7 +15,7 @@ pub(crate) struct Run {
 }
 
 /// Whether two types are the same, by place and all.
-fn is_same_type(a: VerificationType, b: VerificationType) -> bool
+pub(crate) fn is_same_type(a: VerificationType, b: VerificationType) -> bool
     ensures { IsTrue result → a ≡ b }
 {
     a == b
@@ -93,6 +94,20 @@ pub(crate) fn types_of(
         add_run(&mut types, *run)?;
     }
     Ok(types)
+}
+
+/// The type at a place of runs; past their end what is not usable.
+pub(crate) fn type_at(runs: &[Run], place: usize) -> VerificationType
+    ensures { result ≡ slice_index_or (unpacked runs.now) place type.Unusable }
+{
+    let mut left = place;
+    'runs: for run in runs {
+        if left < run.count {
+            return run.of;
+        }
+        left -= run.count;
+    }
+    VerificationType::Unusable
 }
 
 /// Adds the types of a run.

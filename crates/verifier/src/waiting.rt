@@ -36,6 +36,13 @@ impl Waiting {
         Ok(Waiting { marks, lowest: 0 })
     }
 
+    /// Whether an offset waits.
+    pub fn has(&self, offset: usize) -> bool
+        ensures { result ≡ waits self.now offset }
+    {
+        offset < self.marks.len() && self.marks[offset]
+    }
+
     /// From now on the offset waits.
     pub fn add(&mut self, offset: usize)
         requires { offset < length self.old }

@@ -9,7 +9,7 @@ use Rattle.method_code.specs.declared.declaration.MethodCode.{MethodCode}
 use Rattle.method_code.specs.Linked.{IsLinked}
 use Rattle.method_code.specs.View.{files_of, member_of, body_of}
 use Rattle.method_code.specs.Site.{site_of}
-use Rattle.flow.specs.Leads.{lead_on}
+use Rattle.flow.specs.Leads.{lead_on, handler_leads}
 use Rattle.flow.specs.Successors.{successors_by}
 use Rattle.flow.proofs.Refused.{not_refused}
 use Rattle.flow.proofs.Flowing.{flow_refused, flow_allowed, leads_in_all, site_said, none_through, some_through}
@@ -23,8 +23,8 @@ overflow_cast-offset c =
     let short = m.declared.is_short in
     omega (arith, within, short)
 
-pub returns-then-not-may_stand : goal.returns-then-not-may_stand
-returns-then-not-may_stand c =
+pub returns-then-not-may_stand-clause-flow : goal.returns-then-not-may_stand-clause-flow
+returns-then-not-may_stand-clause-flow c =
     let m = c.args.method.now in
     let s = c.in-Some.site in
     let old = c.args.frame.now in
@@ -47,8 +47,8 @@ successors-requires-clause-linked c =
     (subst S back (subst (λ n. is_start (body_of m).code.code n ≡ true) (sym said.0) c.requires.start))
     (subst I back (subst (λ n. instr_at (body_of m).code.code n ≡ Some s.instr) (sym said.0) said.1))
 
-pub returns-in_default-found : goal.returns-in_default-found
-returns-in_default-found c =
+pub returns-in_default-found-clause-flow : goal.returns-in_default-found-clause-flow
+returns-in_default-found-clause-flow c =
     let m = c.args.method.now in
     let s = c.in-Some.site in
     let old = c.args.frame.now in
@@ -61,8 +61,8 @@ returns-in_default-found c =
     subst P same (sym (allowed ∙ ap (option_map (λ l. l ++ handlers_from files (body_of s.method).pool s.offset t (body_of s.method).code.exceptions)) none))
     ∙ ap (flow_at (files_of m) (frame_in (files_of m) old)) c.in-Some.ensures.value
 
-pub returns : goal.returns
-returns c =
+pub returns-clause-flow : goal.returns-clause-flow
+returns-clause-flow c =
     let m = c.args.method.now in
     let s = c.in-Some.site in
     let old = c.args.frame.now in
@@ -84,3 +84,10 @@ returns c =
     (c.in_ok-leads.ensures ∙ ap (map lead_on) c.deref.ensures) c.in_ok-add_handlers.ensures refl)
     ∙ subst P same (sym here)
     ∙ ap (flow_at (files_of m) (frame_in (files_of m) old)) c.in-Some.ensures.value
+
+pub returns-clause-handlers : goal.returns-clause-handlers
+returns-clause-handlers c =
+    record {
+      targets = c.in-Some-found.targets.items;
+      are = c.in_ok-add_handlers.ensures ∙ ap (λ l. l ++ handler_leads c.args.offset c.args.handlers.now) (c.in_ok-leads.ensures ∙ ap (map lead_on) c.deref.ensures);
+    }

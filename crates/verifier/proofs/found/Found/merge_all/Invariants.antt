@@ -1,12 +1,12 @@
-use Rattle.std.proofs.Common.{◌≡◌, List, take}
+use Rattle.std.proofs.Common.{take}
 use Rattle.method_code.specs.View.{files_of}
 use Rattle.verifier.specs.Found.{leads_in, MergesInto}
-use Rattle.flow.specs.declared.lead.Lead.{Lead}
+use Rattle.verifier.specs.Near.{IsSameOrigin}
 use Rattle.verifier.proofs.found.Found.merge_all.Given as goal
 
 abbrev pub invariant-loop-lead : goal.invariant-loop-lead
 invariant-loop-lead l =
     record {
       merged : MergesInto l.method l.fn.self (leads_in (files_of l.method) l.fn.origin (take l.lead-index l.leads)) l.self;
-      origin : (leads : List Lead) → leads_in (files_of l.method) l.origin leads ≡ leads_in (files_of l.method) l.fn.origin leads;
+      origin : IsSameOrigin l.fn.origin l.origin;
     }

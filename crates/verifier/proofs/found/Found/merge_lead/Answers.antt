@@ -1,8 +1,10 @@
 use Rattle.std.proofs.Common.{◌∷◌, [], subst, sym}
-use Rattle.method_code.specs.View.{files_of}
+use Rattle.typing_search.proofs.Linking.{ordered_from}
+use Rattle.method_code.specs.View.{files_of, body_of}
 use Rattle.verifier.specs.Found.{led_to, ClashesWith}
 use Rattle.verifier.specs.Verified.{OnUnverified}
 use Rattle.verifier.proofs.Entries.{lead_caught}
+use Rattle.verifier.proofs.Nears.{skips}
 use Rattle.verifier.proofs.found.Found.merge_lead.Goals as goal
 
 pub returns-in-Err-clause-clash : goal.returns-in-Err-clause-clash
@@ -14,4 +16,11 @@ pub returns-in-Err-merge-clause-clash : goal.returns-in-Err-merge-clause-clash
 returns-in-Err-merge-clause-clash c =
     let m = c.args.method.now in
     let kept = c.in_ok-leave_on_stack-in-Some.ensures in
-    subst (λ t. OnUnverified c.in-Err-merge.fault (ClashesWith m c.args.self.now ((c.args.lead.offset, t) ∷ []))) (lead_caught (files_of m) c.args.origin.now.before c.args.origin.now.after c.leave_on_stack.new.self c.in-Some.t _ kept.locals kept.stack kept.constructed c.in-Some.is) c.in-Err-merge.ensures.clash
+    subst (λ t. OnUnverified c.in-Err-merge.fault (ClashesWith m c.args.self.now ((c.args.lead.offset, t) ∷ []))) (lead_caught (files_of m) c.args.origin.now.before c.args.origin.now.after c.leave_on_stack.new.self c.in-Some.handler _ kept.locals kept.stack kept.constructed c.in-Some.is) c.in-Err-merge.ensures.clash
+
+pub returns-then-has_merged-clause-merged : goal.returns-then-has_merged-clause-merged
+returns-then-has_merged-clause-merged c =
+    let m = c.args.method.now in
+    let files = files_of m in
+    let origin = c.args.origin.now in
+    skips files (ordered_from files c.requires.linked.1.no_refusal) (body_of m) c.args.self.now c.requires.over origin.before origin.after origin.near c.args.lead c.in-Some.handler c.in-Some.is (c.has_merged.ensures c.if-has_merged.true) c.requires.known

@@ -1,6 +1,6 @@
 use Rattle.std.proofs.Common.{◌∙◌}
 use Rattle.machine_replay.proofs.Telling.{tells}
-use Rattle.machine_replay.proofs.run.told.Goals as goal
+use Rattle.machine_replay.proofs.run.report_after.Goals as goal
 
 pub returns : goal.returns
 returns c =

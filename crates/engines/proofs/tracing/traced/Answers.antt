@@ -1,0 +1,45 @@
+use Rattle.std.proofs.Common.{inl, map, subst, sym, vec_items, ◌∙◌}
+use Rattle.std.proofs.lemmas.Result.{err_from_is_err_and}
+use Rattle.std.specs.Io.KnownBytes.{Appends}
+use Rattle.model.specs.Devices.{AppendsFront}
+use Rattle.model.specs.Schedule.{events_of}
+use Rattle.engines.proofs.TraceLemmas.{all_written, lines_alone, report_fails}
+use Rattle.engines.proofs.tracing.traced.Goals as goal
+
+pub returns-in_err-report-clause-part : goal.returns-in_err-report-clause-part
+returns-in_err-report-clause-part g c =
+    let p = err_from_is_err_and c.from_residual.result c.from_residual.ensures.1 in
+    let given = c.args.opened.now in
+    rw p.1 (λ bytes options opened. inl (record { trees = given.verified; events = events_of given.schedule; limits = given.limits; opened = opened; lines = c.in_err-report.ensures.part }))
+
+pub returns-in_err-text-clause-part : goal.returns-in_err-text-clause-part
+returns-in_err-text-clause-part g c =
+    let p = err_from_is_err_and c.from_residual-in_err-text.result c.from_residual-in_err-text.ensures.1 in
+    let given = c.args.opened.now in
+    let contents = g.W.Sink.contents in
+    rw p.1
+    (λ bytes options opened.
+        lines_alone bytes (map vec_items given.files.items) options c.args.window given.verified (events_of given.schedule) given.limits c.in_ok-report.report c.in_ok-report.end
+        (contents c.args.output.now) (contents c.trace.new.output) c.in_ok-report.ensures.traced opened)
+
+pub returns-in_err-write_all-clause-part : goal.returns-in_err-write_all-clause-part
+returns-in_err-write_all-clause-part g c =
+    let p = err_from_is_err_and c.from_residual-in_err-write_all.result c.from_residual-in_err-write_all.ensures.1 in
+    let given = c.args.opened.now in
+    let contents = g.W.Sink.contents in
+    let front = subst (AppendsFront (contents c.trace.new.output) (contents c.write_all.new.self)) (c.as_slice.ensures.value ∙ c.in_ok-text.ensures) c.in_err-write_all.ensures.part in
+    rw p.1
+    (λ bytes options opened.
+        report_fails bytes (map vec_items given.files.items) options c.args.window given.verified (events_of given.schedule) given.limits c.in_ok-report.report c.in_ok-report.end
+        (contents c.args.output.now) (contents c.trace.new.output) c.in_ok-report.ensures.traced opened (contents c.write_all.new.self) front)
+
+pub returns-clause-traced : goal.returns-clause-traced
+returns-clause-traced g c =
+    let given = c.args.opened.now in
+    let contents = g.W.Sink.contents in
+    let written = subst (Appends (contents c.trace.new.output) (contents c.write_all.new.self)) (c.as_slice.ensures.value ∙ c.in_ok-text.ensures) c.in_ok-write_all.ensures.written in
+    λ bytes options opened.
+    let all = all_written bytes (map vec_items given.files.items) options c.args.window given.verified (events_of given.schedule) given.limits c.in_ok-report.report c.in_ok-report.end
+    (contents c.args.output.now) (contents c.trace.new.output) c.in_ok-report.ensures.traced opened (contents c.write_all.new.self) written
+    in
+    (all.0, record all.1 { ended = c.of.ensures ∙ all.1.ended }, all.2)

@@ -1,0 +1,15 @@
+//! The line that tells an event: who did it and where, its instruction, and in words what it did.
+#![tactic(auto)]
+
+mod line;
+mod numbers;
+mod objects;
+mod places;
+mod sorts;
+mod teller;
+mod threads;
+mod values;
+mod words;
+
+pub use line::{Line, push_line};
+pub use teller::Teller;

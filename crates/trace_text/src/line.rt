@@ -1,0 +1,132 @@
+//! The line of an event.
+
+ghost use Rattle.std.specs.Prelude.{◌≡◌, ◌++◌, codes, OnOk};
+ghost use Rattle.model.specs.Report.{number as digits};
+ghost use Rattle.traced_events.specs.Places.{Sees};
+ghost use Rattle.trace_text.specs.Lines.{AddsLine};
+
+use crate::sorts::{Sort, sort_of};
+use crate::numbers::{push_number, push_words};
+use crate::places::{push_instruction, push_place, push_source};
+use crate::teller::Teller;
+use crate::words::Words;
+use classfile::Reference;
+use machine_state::Shared;
+use method_code::MethodCode;
+use model::{Event, Instr};
+use opcodes::decode_at;
+use std::alloc::AllocError;
+use traced_events::{Before, told_of};
+
+/// An event that was done, and its number, counted from 0.
+#[derive(Clone, Copy, Debug, PartialEq, Eq)]
+pub struct Line {
+    pub number: u64,
+    pub event: Event,
+}
+
+/// The field that an instruction names.
+fn field_of<'a>(method: &MethodCode<'a>, instr: Instr) -> Option<Reference<'a>> {
+    match instr {
+        Instr::Field { index, .. } => method.file.field_reference(index),
+        _ => None,
+    }
+}
+
+/// The instruction at which a method stands.
+fn instr_of(method: &MethodCode<'_>, offset: u16) -> Option<Instr> {
+    decode_at(&method.code().code, usize::from(offset))
+}
+
+/// What an event did whose thread stood at no instruction.
+fn push_plain(
+    text: &mut Vec<u8>,
+    teller: &Teller<'_>,
+    shared: &Shared,
+    before: &Before,
+    event: Event,
+) -> Result<(), AllocError> {
+    let words = Words {
+        teller,
+        shared,
+        field: None,
+        sort: Sort::Int,
+    };
+    words.push(text, before, told_of(before, shared, teller.program, event))
+}
+
+/// What an event did whose thread stood in a method.
+fn push_in_method(
+    text: &mut Vec<u8>,
+    teller: &Teller<'_>,
+    shared: &Shared,
+    before: &Before,
+    event: Event,
+    method: &MethodCode<'_>,
+    offset: u16,
+) -> Result<(), AllocError> {
+    let Some(instr) = instr_of(method, offset) else {
+        return push_plain(text, teller, shared, before, event);
+    };
+    let words = Words {
+        teller,
+        shared,
+        field: field_of(method, instr),
+        sort: sort_of(method.file(), instr),
+    };
+    words.push(text, before, told_of(before, shared, teller.program, event))
+}
+
+/// What an event did.
+fn push_deed(
+    text: &mut Vec<u8>,
+    teller: &Teller<'_>,
+    shared: &Shared,
+    before: &Before,
+    event: Event,
+) -> Result<(), AllocError> {
+    let Some(frame) = before.frame else {
+        return push_plain(text, teller, shared, before, event);
+    };
+    match teller.method(frame.method) {
+        Some(method) => {
+            push_in_method(text, teller, shared, before, event, &method, frame.offset)
+        }
+        None => push_plain(text, teller, shared, before, event),
+    }
+}
+
+/// The number of an event and of its thread, each with a space behind it.
+fn push_head(text: &mut Vec<u8>, line: Line) -> Result<(), AllocError>
+    ensures { OnOk result (text.new.items ≡ text.old.items ++ (digits line.number ++ (codes " " ++ (digits line.event.thread ++ codes " ")))) }
+{
+    push_number(text, line.number)?;
+    push_words(text, " ")?;
+    push_number(text, u64::from(line.event.thread))?;
+    push_words(text, " ")
+}
+
+/// Writes the line of an event behind a text, by what was seen before it and the state after it: the event's number and its thread,
+/// where the thread stood, the source, the instruction, and what it did. A spare text is used for it. The only error is a want of memory.
+pub fn push_line(
+    text: &mut Vec<u8>,
+    spare: &mut Vec<u8>,
+    teller: &Teller<'_>,
+    line: Line,
+    before: &Before,
+    shared: &Shared,
+) -> Result<(), AllocError>
+    ensures { (stack : _) → Sees teller.now.linked.now before.now.frame before.now.class stack
+        → OnOk result (AddsLine teller.now.linked.now line.number line.event.thread stack text.old.items text.new.items) }
+{
+    push_head(text, line)?;
+    push_place(text, teller, before)?;
+    spare.clear();
+    push_source(spare, teller, before)?;
+    text.extend_from_slice(spare.as_slice())?;
+    push_instruction(text, teller, before)?;
+    spare.clear();
+    push_deed(spare, teller, shared, before, line.event)?;
+    text.extend_from_slice(spare.as_slice())?;
+    push_words(text, "\n")
+}

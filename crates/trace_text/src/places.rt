@@ -1,0 +1,112 @@
+//! Where a thread stands before its event, and its instruction.
+
+ghost use Rattle.std.specs.Prelude.{◌≡◌, ◌++◌, codes, OnOk};
+ghost use Rattle.linked_code.specs.Numbers.{IsMethodAt};
+ghost use Rattle.model.specs.Report.{number as digits};
+ghost use Rattle.method_code.specs.View.{body_of};
+ghost use Rattle.traced_events.specs.Places.{Sees};
+ghost use Rattle.trace_text.specs.Lines.{instruction_words, meaning_in, method_words, place_words};
+
+use crate::numbers::{push_number, push_words};
+use crate::teller::Teller;
+use disasm::push_meaning;
+use method_code::MethodCode;
+use source_lines::{line_at, source_file};
+use std::alloc::AllocError;
+use traced_events::{Before, FrameBefore};
+
+/// `Counter.run 12`, of a frame.
+fn push_frame(
+    text: &mut Vec<u8>,
+    teller: &Teller<'_>,
+    frame: FrameBefore,
+) -> Result<(), AllocError>
+    ensures { (method : _) → IsMethodAt teller.now.linked.now frame.method method → OnOk result (text.new.items ≡ text.old.items ++ (method_words method ++ (codes " " ++ digits frame.offset))) }
+{
+    teller.push_method(text, frame.method)?;
+    push_words(text, " ")?;
+    push_number(text, u64::from(frame.offset))
+}
+
+/// `Counter.run 12`, or the class that the thread initialises, or `-`.
+pub(crate) fn push_place(
+    text: &mut Vec<u8>,
+    teller: &Teller<'_>,
+    before: &Before,
+) -> Result<(), AllocError>
+    ensures { (stack : _) → Sees teller.now.linked.now before.now.frame before.now.class stack → OnOk result (text.new.items ≡ text.old.items ++ place_words stack) }
+{
+    if let Some(frame) = before.frame {
+        return push_frame(text, teller, frame);
+    }
+    match before.class {
+        Some(class) => Ok(text.extend_from_slice(teller.class_name(u32::from(class)))?),
+        None => push_words(text, "-"),
+    }
+}
+
+/// `Counter.java:12` behind a space, where the class file tells it.
+fn push_line_of(
+    text: &mut Vec<u8>,
+    method: &MethodCode<'_>,
+    offset: u16,
+) -> Result<(), AllocError> {
+    let Some(source) = source_file(method.file()) else {
+        return Ok(());
+    };
+    let Some(line) = line_at(method.file(), method.code(), offset) else {
+        return Ok(());
+    };
+    text.push(b' ')?;
+    text.extend_from_slice(source)?;
+    text.push(b':')?;
+    push_number(text, u64::from(line))
+}
+
+/// The same of the frame on top.
+pub(crate) fn push_source(
+    text: &mut Vec<u8>,
+    teller: &Teller<'_>,
+    before: &Before,
+) -> Result<(), AllocError> {
+    let Some(frame) = before.frame else {
+        return Ok(());
+    };
+    match teller.method(frame.method) {
+        Some(method) => push_line_of(text, &method, frame.offset),
+        None => Ok(()),
+    }
+}
+
+/// The instruction at an offset as a listing has it, behind a space.
+fn push_meaning_in(
+    text: &mut Vec<u8>,
+    method: &MethodCode<'_>,
+    offset: u16,
+) -> Result<(), AllocError>
+    ensures { OnOk result (text.new.items ≡ text.old.items ++ meaning_in offset (body_of method.now)) }
+{
+    let code = &method.code().code;
+    if usize::from(offset) >= code.len() {
+        return Ok(());
+    }
+    push_words(text, " ")?;
+    push_meaning(text, method.file(), code, usize::from(offset))
+}
+
+/// The instruction of the frame on top.
+pub(crate) fn push_instruction(
+    text: &mut Vec<u8>,
+    teller: &Teller<'_>,
+    before: &Before,
+) -> Result<(), AllocError>
+    ensures { (stack : _) → Sees teller.now.linked.now before.now.frame before.now.class stack → OnOk result (text.new.items ≡ text.old.items ++ instruction_words teller.now.linked.now stack) }
+{
+    let Some(frame) = before.frame else {
+        return Ok(());
+    };
+    match teller.method(frame.method) {
+        Some(method) => push_meaning_in(text, &method, frame.offset),
+        None => Ok(()),
+    }
+}

@@ -1,0 +1,43 @@
+//! Threads.
+
+use crate::numbers::{push_number, push_words};
+use crate::objects::push_object;
+use crate::teller::Teller;
+use machine_state::Shared;
+use std::alloc::AllocError;
+
+/// `thread 1`.
+pub(crate) fn push_thread(text: &mut Vec<u8>, thread: u16) -> Result<(), AllocError> {
+    push_words(text, "thread ")?;
+    push_number(text, u64::from(thread))
+}
+
+/// The thread of a Thread object, or the object, where its thread was not started.
+pub(crate) fn push_thread_of(
+    text: &mut Vec<u8>,
+    teller: &Teller<'_>,
+    shared: &Shared,
+    object: u32,
+) -> Result<(), AllocError> {
+    match shared.threads.number(object) {
+        Some(thread) => push_thread(text, thread),
+        None => push_object(text, teller, &shared.heap, object),
+    }
+}
+
+/// `thread 1`, `threads 1, 2`, or `no thread`.
+pub(crate) fn push_threads(text: &mut Vec<u8>, threads: &[u16]) -> Result<(), AllocError> {
+    match threads {
+        [] => push_words(text, "no thread"),
+        [thread] => push_thread(text, *thread),
+        [first, others @ ..] => {
+            push_words(text, "threads ")?;
+            push_number(text, u64::from(*first))?;
+            for other in others {
+                push_words(text, ", ")?;
+                push_number(text, u64::from(*other))?;
+            }
+            Ok(())
+        }
+    }
+}

@@ -1,0 +1,4 @@
+mod Gathering
+mod Passing
+mod Seen
+mod Traced

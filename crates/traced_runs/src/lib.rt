@@ -1,0 +1,10 @@
+//! A run under a schedule, told event by event.
+#![tactic(auto)]
+
+mod events;
+mod lines;
+mod run;
+mod window;
+
+pub use run::trace;
+pub use window::Window;
