@@ -5,9 +5,9 @@ ghost use Rattle.model.specs.Report.{number as digits};
 ghost use Rattle.traced_events.specs.Places.{Sees};
 ghost use Rattle.trace_text.specs.Lines.{AddsLine};
 
-use crate::sorts::{Sort, sort_of};
 use crate::numbers::{push_number, push_words};
 use crate::places::{push_instruction, push_place, push_source};
+use crate::sorts::{Sort, sort_of};
 use crate::teller::Teller;
 use crate::words::Words;
 use classfile::Reference;

@@ -16,11 +16,7 @@ use std::alloc::AllocError;
 use traced_events::{Before, FrameBefore};
 
 /// `Counter.run 12`, of a frame.
-fn push_frame(
-    text: &mut Vec<u8>,
-    teller: &Teller<'_>,
-    frame: FrameBefore,
-) -> Result<(), AllocError>
+fn push_frame(text: &mut Vec<u8>, teller: &Teller<'_>, frame: FrameBefore) -> Result<(), AllocError>
     ensures { (method : _) → IsMethodAt teller.now.linked.now frame.method method → OnOk result (text.new.items ≡ text.old.items ++ (method_words method ++ (codes " " ++ digits frame.offset))) }
 {
     teller.push_method(text, frame.method)?;

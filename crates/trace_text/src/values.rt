@@ -1,8 +1,8 @@
 //! Values.
 
-use crate::sorts::Sort;
 use crate::numbers::{push_signed, push_words};
 use crate::objects::push_object;
+use crate::sorts::Sort;
 use crate::teller::Teller;
 use heap::Heap;
 use std::alloc::AllocError;

@@ -1,8 +1,8 @@
 //! In words what an event did.
 
-use crate::sorts::Sort;
 use crate::numbers::{push_number, push_ordinal, push_signed, push_words};
 use crate::objects::push_object;
+use crate::sorts::Sort;
 use crate::teller::Teller;
 use crate::threads::{push_thread_of, push_threads};
 use crate::values::push_value;
@@ -89,7 +89,14 @@ impl Words<'_, '_, '_, '_> {
         if entries.count > 0 {
             push_words(text, " (")?;
             push_number(text, u64::from(entries.count))?;
-            push_words(text, if entries.count == 1 { " entry left)" } else { " entries left)" })?;
+            push_words(
+                text,
+                if entries.count == 1 {
+                    " entry left)"
+                } else {
+                    " entries left)"
+                },
+            )?;
         }
         Ok(())
     }
@@ -165,10 +172,13 @@ impl Words<'_, '_, '_, '_> {
         entries: Entries,
         cause: WakeCause,
     ) -> Result<(), AllocError> {
-        push_words(text, match cause {
-            WakeCause::Notified => "was notified, enters monitor of ",
-            WakeCause::Interrupted => "was interrupted, enters monitor of ",
-        })?;
+        push_words(
+            text,
+            match cause {
+                WakeCause::Notified => "was notified, enters monitor of ",
+                WakeCause::Interrupted => "was interrupted, enters monitor of ",
+            },
+        )?;
         self.object(text, entries.object)?;
         push_words(text, " again")?;
         if entries.count > 1 {

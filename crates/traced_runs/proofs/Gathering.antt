@@ -36,8 +36,7 @@ module _ (trees : Program) (frames : ℕ) (window : Window) where
   pub none_told : (k : ℕ) (event : Event) (done : List Event) → ((n : ℕ) → length done ≤ n → n < length done + k → is_told window n event.thread ≡ false) → Tells trees frames window done (replicate k event) []
   none_told zero event done untold = refl
   none_told (suc k) event done untold =
-      let longer : length (done ++ event ∷ []) ≡ length done + 1 = length-append done (event ∷ []) in
-      (
+      let longer : length (done ++ event ∷ []) ≡ length done + 1 = length-append done (event ∷ []) in (
         [],
         [],
         refl,

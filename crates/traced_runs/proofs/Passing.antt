@@ -52,8 +52,7 @@ module _ (trees : Program) (window : Window) (old : MachineOf) (count : ℕ) (ev
   line_of : (frames : ℕ) (done : List Event) → length done ≡ count → is_told window count event.thread ≡ true → (why : Stopped) (held : Held) (before now : List ℕ)
       → AddsOne why trees frames before now done event → AreTold trees frames window done (take (times why) (event ∷ [])) held held before now
   line_of frames done at told stopped.Most held before now adds =
-      let here : is_told window (length done) event.thread ≡ true = ap (λ k. is_told window k event.thread) at ∙ told in
-      (
+      let here : is_told window (length done) event.thread ≡ true = ap (λ k. is_told window k event.thread) at ∙ told in (
         adds.0,
         one_told trees frames window done event adds.0 (subst (λ b. TellsIf b trees frames done event adds.0) (sym here) adds.2),
         line_gathered held before now adds.0 adds.1,
@@ -136,8 +135,7 @@ module _ (trees : Program) (window : Window) (m : MachineOf) (count : ℕ) (sche
         → AreTold trees m.limits.frames window done (schedule ++ more) old new before now
     both_told more new now then =
         let first = so_far.told files done has at in
-        let here : Tells trees m.limits.frames window (done ++ schedule) more then.0 = subst (λ frames. Tells trees frames window (done ++ schedule) more then.0) same_frames then.1 in
-        (
+        let here : Tells trees m.limits.frames window (done ++ schedule) more then.0 = subst (λ frames. Tells trees frames window (done ++ schedule) more then.0) same_frames then.1 in (
           first.0 ++ then.0,
           more_told trees m.limits.frames window done schedule more first.0 then.0 first.1 here,
           gathers_on old mid new before gathered now first.0 then.0 first.2 then.2,
@@ -158,9 +156,9 @@ module _ (trees : Program) (window : Window) (m : MachineOf) (count : ℕ) (sche
               let is_passed = passed_is files done has at in
               let those : take (n + k) all ≡ schedule ++ take k more =
               ap (take (n + k)) is
-                  ∙ ap (λ j. take (j + k) (schedule ++ (more ++ rest))) is_passed.0
-                  ∙ take-append-add schedule (more ++ rest) k
-                  ∙ ap (λ l. schedule ++ l) (take-append-le k more rest (within files done has))
+              ∙ ap (λ j. take (j + k) (schedule ++ (more ++ rest))) is_passed.0
+              ∙ take-append-add schedule (more ++ rest) k
+              ∙ ap (λ l. schedule ++ l) (take-append-le k more rest (within files done has))
               in
               subst (λ es. AreTold trees m.limits.frames window done es old new before now) (sym those)
               (both_told files done has at (take k more) new now (next.told files (done ++ schedule) is_passed.1 (behind files done has at)));

@@ -63,8 +63,7 @@ module _ (trees : Program) (window : Window) (limits : Limits) (events : List Ev
           let many : n ≡ length replay.front = sym on.count ∙ replay.count in
           let those : take n events ≡ replay.front = ap (λ k. take k events) many ∙ ap (take (length replay.front)) replay.events_are ∙ take-append_seam replay.front replay.left in
           let by_frames : Tells trees limits.frames window [] (take n events) told.0 = subst (λ frames. Tells trees frames window [] (take n events) told.0) frames_are told.1 in
-          let all : told.2.0 ≡ told.0 = sym (append-nil told.2.0) ∙ sym told.2.2 in
-          (
+          let all : told.2.0 ≡ told.0 = sym (append-nil told.2.0) ∙ sym told.2.2 in (
             told.0,
             record { replay = replay; told = subst (λ es. Tells trees limits.frames window [] es told.0) those by_frames },
             subst (Appends held now) all told.2.1,

@@ -66,14 +66,7 @@ fn events<W: Sink>(
 {
     let mut before = Before::new(alloc);
     let mut lines = Lines::new(alloc);
-    let done = gathered(
-        machine,
-        telling,
-        &mut before,
-        schedule,
-        &mut lines,
-        output,
-    )?;
+    let done = gathered(machine, telling, &mut before, schedule, &mut lines, output)?;
     lines.flush(output)?;
     Ok(done)
 }

@@ -19,8 +19,8 @@ returns-in_err-text-clause-part g c =
     let contents = g.W.Sink.contents in
     rw p.1
     (λ bytes options opened.
-        lines_alone bytes (map vec_items given.files.items) options c.args.window given.verified (events_of given.schedule) given.limits c.in_ok-report.report c.in_ok-report.end
-        (contents c.args.output.now) (contents c.trace.new.output) c.in_ok-report.ensures.traced opened)
+    lines_alone bytes (map vec_items given.files.items) options c.args.window given.verified (events_of given.schedule) given.limits c.in_ok-report.report c.in_ok-report.end
+    (contents c.args.output.now) (contents c.trace.new.output) c.in_ok-report.ensures.traced opened)
 
 pub returns-in_err-write_all-clause-part : goal.returns-in_err-write_all-clause-part
 returns-in_err-write_all-clause-part g c =
@@ -30,8 +30,8 @@ returns-in_err-write_all-clause-part g c =
     let front = subst (AppendsFront (contents c.trace.new.output) (contents c.write_all.new.self)) (c.as_slice.ensures.value ∙ c.in_ok-text.ensures) c.in_err-write_all.ensures.part in
     rw p.1
     (λ bytes options opened.
-        report_fails bytes (map vec_items given.files.items) options c.args.window given.verified (events_of given.schedule) given.limits c.in_ok-report.report c.in_ok-report.end
-        (contents c.args.output.now) (contents c.trace.new.output) c.in_ok-report.ensures.traced opened (contents c.write_all.new.self) front)
+    report_fails bytes (map vec_items given.files.items) options c.args.window given.verified (events_of given.schedule) given.limits c.in_ok-report.report c.in_ok-report.end
+    (contents c.args.output.now) (contents c.trace.new.output) c.in_ok-report.ensures.traced opened (contents c.write_all.new.self) front)
 
 pub returns-clause-traced : goal.returns-clause-traced
 returns-clause-traced g c =
