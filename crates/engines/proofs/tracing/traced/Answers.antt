@@ -1,8 +1,10 @@
-use Rattle.std.proofs.Common.{inl, map, subst, sym, vec_items, ◌∙◌}
+use Rattle.std.proofs.Common.{List, ℕ, inl, map, subst, sym, vec_items, ◌∙◌}
 use Rattle.std.proofs.lemmas.Result.{err_from_is_err_and}
 use Rattle.std.specs.Io.KnownBytes.{Appends}
 use Rattle.model.specs.Devices.{AppendsFront}
 use Rattle.model.specs.Schedule.{events_of}
+use Rattle.engines.specs.Traces.{IsTraced}
+use Rattle.engines.specs.declared.status.Status.{Status}
 use Rattle.engines.proofs.TraceLemmas.{all_written, lines_alone, report_fails}
 use Rattle.engines.proofs.tracing.traced.Goals as goal
 
@@ -39,7 +41,10 @@ returns-clause-traced g c =
     let contents = g.W.Sink.contents in
     let written = subst (Appends (contents c.trace.new.output) (contents c.write_all.new.self)) (c.as_slice.ensures.value ∙ c.in_ok-text.ensures) c.in_ok-write_all.ensures.written in
     λ bytes options opened.
-    let all = all_written bytes (map vec_items given.files.items) options c.args.window given.verified (events_of given.schedule) given.limits c.in_ok-report.report c.in_ok-report.end
-    (contents c.args.output.now) (contents c.trace.new.output) c.in_ok-report.ensures.traced opened (contents c.write_all.new.self) written
-    in
-    (all.0, record all.1 { ended = c.of.ensures ∙ all.1.ended }, all.2)
+    subst
+    (λ (status : Status). (text : List ℕ)
+    × IsTraced bytes (map vec_items given.files.items) options c.args.window text status
+    × Appends (contents c.args.output.now) (contents c.write_all.new.self) text)
+    (sym c.of.ensures)
+    (all_written bytes (map vec_items given.files.items) options c.args.window given.verified (events_of given.schedule) given.limits c.in_ok-report.report c.in_ok-report.end
+    (contents c.args.output.now) (contents c.trace.new.output) c.in_ok-report.ensures.traced opened (contents c.write_all.new.self) written)
