@@ -27,7 +27,7 @@ pub struct Run {
     pub limits: LimitOptions,
     /// The paths of the class files. The first holds the class whose `main` is run.
     pub files: Vec<String>,
-    /// Whether a refusal is explained.
+    /// Whether a refusal is explained, and what threads are about.
     pub explain: bool,
 }
 
@@ -93,7 +93,7 @@ pub struct Replay {
     pub limits: LimitOptions,
     /// The paths of the class files. The first holds the class whose `main` is run.
     pub files: Vec<String>,
-    /// Whether a refusal is explained.
+    /// Whether a refusal is explained, and what threads are about.
     pub explain: bool,
 }
 
@@ -111,7 +111,7 @@ pub struct Trace {
     pub limits: LimitOptions,
     /// The paths of the class files. The first holds the class whose `main` is run.
     pub files: Vec<String>,
-    /// Whether a refusal is explained.
+    /// Whether a refusal is explained, and what threads are about.
     pub explain: bool,
 }
 

@@ -232,7 +232,7 @@ fn with_limits<'a>(
         .arg(FRAMES.argument(alloc))
 }
 
-/// The command with the flag that asks for a second line behind a refusal, and with files behind all options.
+/// The command with the flag that asks for an explanation, and with files behind all options.
 fn with_files<'a>(
     alloc: Global,
     command: clap::Command<'a>,
@@ -244,7 +244,7 @@ fn with_files<'a>(
     let explain = flag_argument(
         alloc,
         "explain",
-        "Tells on a second line why files are refused",
+        "Tells why files are refused, or what threads wait for",
     );
     command.arg(explain)?.arg(files)
 }

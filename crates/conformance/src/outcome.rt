@@ -66,10 +66,21 @@ pub fn write_outcome<R: Threads + Wait + Sync, F: Folder, W: Write>(
 ) -> io::Result<()> {
     let mut input = Counted::new(alloc, input);
     let mut output = Counted::new(alloc, Vec::new(alloc));
-    let outcome = run(rt, alloc, &Open, folder, words, &mut input, &mut output);
+    let mut explanation = Vec::new(alloc);
+    let outcome = run(
+        rt,
+        alloc,
+        &Open,
+        folder,
+        words,
+        &mut input,
+        &mut output,
+        &mut explanation,
+    );
     let failure = output.failure();
     let written = output.into_inner();
     to.write_all(written.as_slice())?;
+    to.write_all(explanation.as_slice())?;
     let status = match outcome {
         Ok(status) => status,
         Err(complaint) => {

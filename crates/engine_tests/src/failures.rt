@@ -143,6 +143,7 @@ fn outcome<R: Threads + Wait + Sync>(
         texts.as_slice(),
         &mut input,
         &mut output,
+        &mut Vec::new(alloc),
     );
     Ok((answer, output.into_inner().written))
 }

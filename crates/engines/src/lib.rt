@@ -19,6 +19,7 @@ mod recording;
 mod replaying;
 mod running;
 mod status;
+mod telling;
 mod tracing;
 mod transcribing;
 mod verification;

@@ -12,10 +12,13 @@ use crate::names::names_engine;
 use crate::replaying::replay_engine;
 use crate::running::run_engine;
 use crate::status::Status;
+use crate::telling::{KeptFile, told_record, told_threads};
 use crate::tracing::trace_engine;
 use crate::transcribing::{schedule_engine, write_schedule_engine};
 use crate::verification::verify_engine;
-use command_line::{Command, Disasm, Replay, Run, Schedule, Trace, Usage, Verify, command};
+use command_line::{
+    Command, Disasm, LimitOptions, Replay, Run, Schedule, ThenRun, Trace, Usage, Verify, command,
+};
 use model::{DeviceFault, Sink, Source};
 use std::alloc::{AllocError, Global};
 use std::sync::Wait;
@@ -28,7 +31,8 @@ use workers::Gate;
 /// The files that they name are those of the folder; the text of a schedule that is to become a file is read from the
 /// input. A report, a listing, the line of a verification, the text of a schedule, or the help or the version that the words
 /// ask for is written to the output, and nothing else but a schedule file, where one is asked for, to the folder. The gate is
-/// told what the workers of a run do. The complaint is for the caller to tell.
+/// told what the workers of a run do. The complaint is for the caller to tell, and so is the explanation: where the words ask for
+/// one by `--explain`, it is what the threads of a run are about that did not end normally.
 pub fn run<R: Threads + Wait + Sync, G: Gate + Sync, F: Folder, I: Source, W: Sink>(
     rt: &R,
     alloc: Global,
@@ -37,9 +41,22 @@ pub fn run<R: Threads + Wait + Sync, G: Gate + Sync, F: Folder, I: Source, W: Si
     words: &[String],
     input: &mut I,
     output: &mut W,
+    explanation: &mut Vec<u8>,
 ) -> Result<Status, Complaint> {
     match command(alloc, words) {
-        Ok(command) => Ok(done(rt, alloc, gate, folder, &command, input, output)?),
+        Ok(command) => {
+            let status = done(
+                rt,
+                alloc,
+                gate,
+                folder,
+                &command,
+                input,
+                output,
+                explanation,
+            )?;
+            Ok(status)
+        }
         Err(usage) => told(alloc, usage, output),
     }
 }
@@ -68,11 +85,12 @@ fn done<R: Threads + Wait + Sync, G: Gate + Sync, F: Folder, I: Source, W: Sink>
     command: &Command,
     input: &mut I,
     output: &mut W,
+    explanation: &mut Vec<u8>,
 ) -> Result<Status, Fault> {
     match command {
-        Command::Run(options) => run_files(rt, alloc, gate, folder, options, output),
-        Command::Replay(options) => replay(alloc, folder, options, output),
-        Command::Trace(options) => trace(alloc, folder, options, output),
+        Command::Run(options) => run_files(rt, alloc, gate, folder, options, output, explanation),
+        Command::Replay(options) => replay(alloc, folder, options, output, explanation),
+        Command::Trace(options) => trace(alloc, folder, options, output, explanation),
         Command::Verify(options) => verify(alloc, folder, options, output),
         Command::Disasm(options) => disasm(alloc, folder, options, output),
         Command::Schedule(options) => schedule(alloc, folder, options, input, output),
@@ -87,10 +105,11 @@ fn run_files<R: Threads + Wait + Sync, G: Gate + Sync, F: Folder, W: Sink>(
     folder: &F,
     options: &Run,
     output: &mut W,
+    explanation: &mut Vec<u8>,
 ) -> Result<Status, Fault> {
     let mut files = sources(alloc, folder, &options.files)?;
-    let mut record = recorder(alloc, folder, &options.record);
-    run_engine(
+    let mut record = recorder(alloc, folder, &options.record, options.explain);
+    let status = run_engine(
         rt,
         alloc,
         gate,
@@ -99,7 +118,12 @@ fn run_files<R: Threads + Wait + Sync, G: Gate + Sync, F: Folder, W: Sink>(
         &options.options,
         output,
         &mut record,
-    )
+    )?;
+    if options.explain {
+        let told = explained_record(alloc, folder, record, &options.files, &options.limits);
+        *explanation = told.unwrap_or(Vec::new(alloc));
+    }
+    Ok(status)
 }
 
 /// `replay`.
@@ -108,22 +132,48 @@ fn replay<F: Folder, W: Sink>(
     folder: &F,
     options: &Replay,
     output: &mut W,
+    explanation: &mut Vec<u8>,
+) -> Result<Status, Fault> {
+    if let Some(then_run) = &options.then_run {
+        return replay_on(alloc, folder, options, then_run, output, explanation);
+    }
+    let limits = &options.limits;
+    let mut schedule = source(alloc, folder, &options.schedule);
+    let mut files = sources(alloc, folder, &options.files)?;
+    let status = replay_engine(alloc, &mut schedule, files.as_mut_slice(), limits, output)?;
+    if options.explain {
+        let told = explained(alloc, folder, &options.schedule, &options.files, limits);
+        *explanation = told.unwrap_or(Vec::new(alloc));
+    }
+    Ok(status)
+}
+
+/// `replay --then-run`.
+fn replay_on<F: Folder, W: Sink>(
+    alloc: Global,
+    folder: &F,
+    options: &Replay,
+    then_run: &ThenRun,
+    output: &mut W,
+    explanation: &mut Vec<u8>,
 ) -> Result<Status, Fault> {
     let mut schedule = source(alloc, folder, &options.schedule);
     let mut files = sources(alloc, folder, &options.files)?;
-    let files = files.as_mut_slice();
-    match &options.then_run {
-        None => replay_engine(alloc, &mut schedule, files, &options.limits, output),
-        Some(then_run) => continue_engine(
-            alloc,
-            &mut schedule,
-            files,
-            &options.limits,
-            then_run.budget(),
-            output,
-            &mut recorder(alloc, folder, &then_run.record),
-        ),
+    let mut record = recorder(alloc, folder, &then_run.record, options.explain);
+    let status = continue_engine(
+        alloc,
+        &mut schedule,
+        files.as_mut_slice(),
+        &options.limits,
+        then_run.budget(),
+        output,
+        &mut record,
+    )?;
+    if options.explain {
+        let told = explained_record(alloc, folder, record, &options.files, &options.limits);
+        *explanation = told.unwrap_or(Vec::new(alloc));
     }
+    Ok(status)
 }
 
 /// `trace`.
@@ -132,25 +182,61 @@ fn trace<F: Folder, W: Sink>(
     folder: &F,
     options: &Trace,
     output: &mut W,
+    explanation: &mut Vec<u8>,
 ) -> Result<Status, Fault> {
+    let limits = &options.limits;
     let mut schedule = source(alloc, folder, &options.schedule);
     let mut files = sources(alloc, folder, &options.files)?;
-    let window = Window {
+    let status = trace_engine(
+        alloc,
+        &mut schedule,
+        files.as_mut_slice(),
+        limits,
+        window_of(options),
+        output,
+    )?;
+    if options.explain {
+        let told = explained(alloc, folder, &options.schedule, &options.files, limits);
+        *explanation = told.unwrap_or(Vec::new(alloc));
+    }
+    Ok(status)
+}
+
+/// Which events are told: from the first one on, to the last one, and of all threads, where the words don't say.
+fn window_of(options: &Trace) -> Window {
+    Window {
         from: u64::from(options.from.unwrap_or(0)),
         to: match options.to {
             Some(last) => u64::from(last),
             None => u64::MAX,
         },
         only: options.only,
-    };
-    trace_engine(
-        alloc,
-        &mut schedule,
-        files.as_mut_slice(),
-        &options.limits,
-        window,
-        output,
-    )
+    }
+}
+
+/// What the threads are about that did not end normally, after the events of the schedule.
+fn explained<F: Folder>(
+    alloc: Global,
+    folder: &F,
+    schedule: &String,
+    files: &Vec<String>,
+    limits: &LimitOptions,
+) -> Result<Vec<u8>, Fault> {
+    let mut schedule = source(alloc, folder, schedule);
+    let mut files = sources(alloc, folder, files)?;
+    told_threads(alloc, &mut schedule, files.as_mut_slice(), limits)
+}
+
+/// The same of the schedule that was recorded.
+fn explained_record<F: Folder>(
+    alloc: Global,
+    folder: &F,
+    record: Option<Counted<KeptFile<'_, F>>>,
+    files: &Vec<String>,
+    limits: &LimitOptions,
+) -> Result<Vec<u8>, Fault> {
+    let mut files = sources(alloc, folder, files)?;
+    told_record(alloc, record, files.as_mut_slice(), limits)
 }
 
 /// `verify`.
@@ -200,16 +286,19 @@ fn schedule<F: Folder, I: Source, W: Sink>(
     }
 }
 
-/// The file at a path that is to be recorded, if one is.
+/// The file at a path that is to be recorded, if one is, and where its bytes are kept, if they are.
 fn recorder<'a, F: Folder>(
     alloc: Global,
     folder: &'a F,
     path: &'a Option<String>,
-) -> Option<Counted<CreatedFile<'a, F>>> {
-    match path {
-        Some(path) => Some(created(alloc, folder, path)),
-        None => None,
-    }
+    is_kept: bool,
+) -> Option<Counted<KeptFile<'a, F>>> {
+    let file = match path {
+        Some(path) => Some(CreatedFile::new(folder, path.as_str())),
+        None if is_kept => None,
+        None => return None,
+    };
+    Some(Counted::new(alloc, KeptFile::new(alloc, file, is_kept)))
 }
 
 /// The file at a path, as a sink.

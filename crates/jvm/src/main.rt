@@ -18,8 +18,8 @@ use std::{env, io};
 fn main(rt: HostRuntime) -> ExitCode {
     let status = match words(&rt) {
         Ok(words) => {
-            let (outcome, second) = done(&rt, words.as_slice(), rt.stderr().is_terminal());
-            told(&rt, outcome, second)
+            let (outcome, explanation) = done(&rt, words.as_slice(), rt.stderr().is_terminal());
+            told(&rt, outcome, explanation)
         }
         Err(error) => without_words(&rt, &error),
     };
@@ -33,7 +33,8 @@ fn words(rt: &HostRuntime) -> io::Result<Vec<String>> {
 }
 
 /// What comes of the words, which are done over the files of the system, the standard input and the standard output, with the
-/// second line of a complaint that there may be. A person reads the standard error if it is a terminal.
+/// explanation that there may be: the second line of a complaint, or what threads are about. A person reads the standard error if it
+/// is a terminal.
 fn done<R: Files + Input + Print + Eprint + Clock + AllocGlobal + Threads + Wait + Sync>(
     rt: &R,
     words: &[String],
@@ -43,6 +44,7 @@ fn done<R: Files + Input + Print + Eprint + Clock + AllocGlobal + Threads + Wait
     let mut output = Counted::new(rt.alloc(), Cleared::new(&progress, io::writer(rt)));
     let mut input = Counted::new(rt.alloc(), rt.reader());
     let folder = SystemFolder::new(rt);
+    let mut threads = Vec::new(rt.alloc());
     let outcome = run(
         rt,
         rt.alloc(),
@@ -51,10 +53,11 @@ fn done<R: Files + Input + Print + Eprint + Clock + AllocGlobal + Threads + Wait
         words,
         &mut input,
         &mut output,
+        &mut threads,
     );
     progress.clear();
-    let second = match &outcome {
-        Ok(_) => None,
+    let explanation = match &outcome {
+        Ok(_) => Some(threads),
         Err(complaint) => second_line(
             rt.alloc(),
             &folder,
@@ -64,7 +67,7 @@ fn done<R: Files + Input + Print + Eprint + Clock + AllocGlobal + Threads + Wait
             output.failure(),
         ),
     };
-    (outcome, second)
+    (outcome, explanation)
 }
 
 /// The status where the words can't be had: they aren't text, or there is no memory for them.
@@ -81,20 +84,24 @@ fn without_words(rt: &HostRuntime, error: &io::Error) -> Status {
     Status::Unusable
 }
 
-/// The status, after a complaint has been told, with the second line that there may be.
-fn told(rt: &HostRuntime, outcome: Result<Status, Complaint>, second: Option<Vec<u8>>) -> Status
+/// The status, after a complaint has been told, and the explanation that there may be. Where the standard error fails, the status alone
+/// tells the complaint.
+fn told(
+    rt: &HostRuntime,
+    outcome: Result<Status, Complaint>,
+    explanation: Option<Vec<u8>>,
+) -> Status
     ensures { MatchResult outcome (λ status. result ≡ status) (λ complaint. result ≡ complaint_status complaint) }
 {
-    match outcome {
+    let status = match outcome {
         Ok(status) => status,
         Err(complaint) => {
-            let status = Status::of_complaint(&complaint);
-            // Where the standard error fails, the status alone tells the complaint.
             let _ = complaint.write_text(&mut rt.stderr());
-            if let Some(line) = second {
-                let _ = Write::write_all(&mut rt.stderr(), &line);
-            }
-            status
+            Status::of_complaint(&complaint)
         }
+    };
+    if let Some(text) = explanation {
+        let _ = Write::write_all(&mut rt.stderr(), &text);
     }
+    status
 }

@@ -7,6 +7,7 @@ ghost use Rattle.std.specs.Prelude.{◌≡◌, IfOk, map};
 ghost use Rattle.model.specs.Report.{end_state_of, report_text};
 
 use crate::lines::{push_end, push_printed, push_threads};
+pub use lines::push_thread;
 use model::{End, Report};
 use std::alloc::{AllocError, Global};
 

@@ -47,7 +47,8 @@ fn push_state(text: &mut Vec<u8>, state: &EndState) -> Result<(), AllocError>
     }
 }
 
-fn push_thread(
+/// Writes the line of a thread of a report behind a text, by its number and how it stands.
+pub fn push_thread(
     alloc: Global,
     text: &mut Vec<u8>,
     thread: usize,

@@ -66,6 +66,7 @@ pub fn outcome_of<R: Threads + Wait + Sync>(
         words.as_slice(),
         &mut input,
         &mut output,
+        &mut said,
     );
     let status = match answer {
         Ok(status) => status,

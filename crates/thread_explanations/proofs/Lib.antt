@@ -1,0 +1,2 @@
+mod Threads
+mod Paths
