@@ -9,7 +9,6 @@ With --write the traces of the lessons below become cases of `crates/conformance
 """
 
 import argparse
-import json
 import pathlib
 import re
 import sys
@@ -127,6 +126,19 @@ class Lines:
         return f"{self.source}:{[line for start, line in found if start == last][-1]}"
 
 
+def json_text(text):
+    """A text of class files as a string of JSON: each UTF-16 code unit that its bytes spell in modified UTF-8 (JVMS 4.4.7)."""
+    spelled = text.encode("latin-1").replace(b"\xc0\x80", b"\0").decode("utf-8", "surrogatepass")
+    units = re.findall(b"..", spelled.encode("utf-16-be", "surrogatepass"), re.S)
+    return '"' + "".join(json_unit(int.from_bytes(unit, "big")) for unit in units) + '"'
+
+
+def json_unit(unit):
+    if chr(unit) in '"\\':
+        return "\\" + chr(unit)
+    return chr(unit) if 0x20 <= unit < 0x7F else f"\\u{unit:04x}"
+
+
 class Told:
     """An event that was done: where its thread stood, as `Class.method offset`, a class or `-`, and the rest of its line."""
 
@@ -140,13 +152,14 @@ class Told:
 
     def line(self, form):
         if form == "json":
-            return json.dumps(self.members(), separators=(",", ":"))
+            values = {key: json_text(part) if isinstance(part, str) else part for key, part in self.members().items()}
+            return "{" + ",".join(f'"{key}":{value}' for key, value in values.items()) + "}"
         if form == "columns":
             return f"{self.number:7} {24 * min(self.thread, 7) * ' '}{self.words()}"
         return f"{self.number} {self.words()}"
 
     def members(self):
-        found = re.fullmatch(r"(.*)\.(.*) (\d+)", self.method)
+        found = re.fullmatch(r"(.*)\.(.*) (\d+)", self.method, re.S)
         place = {} if self.method == "-" else {"class": self.method}
         if found:
             place = {"class": found[1], "method": found[2], "offset": int(found[3])}
@@ -367,24 +380,28 @@ def trace(files, entries, first=0, last=None, only=None, form="plain"):
 # The lessons that are traced: folder, schedule, class files, options, and how the schedule goes on.
 TRACED = [
     ("lost-update", "lost", ["LostUpdate"], {}, "1*4 0*10"),
+    ("lost-update", "lost", ["LostUpdate"], {"from": 20, "to": 35, "form": "columns"}, "1*4 0*10"),
     ("lost-update", "lost-repaired", ["Repaired"], {"only": 2}, ""),
     ("bounded-buffer", "barges-in", ["IfForWhile"], {"from": 26}, "1*20"),
     ("wrong-waiter", "second-is-woken", ["WrongWaiter"], {"from": 40}, "0*2 2*5"),
     ("interrupted-wait", "within", ["InterruptedWait"], {"from": 10}, "1*30"),
     ("missed-notify", "in-time", ["MissedNotify"], {"from": 15, "to": 30}, "1*12 0*5"),
     ("class-initialisation", "thread-1-first", ["Initialisers", "Left", "Right"], {}, "0*4"),
+    ("class-initialisation", "thread-1-first", ["Initialisers", "Left", "Right"], {"form": "json"}, "0*4"),
 ]
 
-def lined():
+
+def lined(half=b"half", source=b"A.java"):
     """A class whose main divides by zero, and catches that, with its source and its lines (JVMS 4.7.10, 4.7.12)."""
     sys.path.insert(0, str(ROOT / "tools"))
     from class_files import MAGIC_AND_VERSION, u2, u4, utf8
 
     class_entry = lambda name: b"\x07" + u2(name)
+    stored = lambda data: b"\x01" + u2(len(data)) + data
     pool = [
         utf8("A"), class_entry(1), utf8("java/lang/Object"), class_entry(3), utf8("main"), utf8("([Ljava/lang/String;)V"),
-        utf8("Code"), utf8("java/lang/ArithmeticException"), class_entry(8), utf8("half"), utf8("(I)I"),
-        utf8("LineNumberTable"), utf8("A.java"), utf8("SourceFile"), b"\x0c" + u2(10) + u2(11), b"\x0a" + u2(2) + u2(15),
+        utf8("Code"), utf8("java/lang/ArithmeticException"), class_entry(8), stored(half), utf8("(I)I"),
+        utf8("LineNumberTable"), stored(source), utf8("SourceFile"), b"\x0c" + u2(10) + u2(11), b"\x0a" + u2(2) + u2(15),
     ]
 
     def method(flags, name, descriptor, stack, local_count, code, handlers, lines):
@@ -401,6 +418,15 @@ def lined():
     return head + u2(2) + main + half + u2(1) + u2(14) + u4(2) + u2(13)
 
 
+# Names in modified UTF-8: a NUL has two bytes, and a character outside of the first 65,536 is a pair of surrogates.
+ODD = lined(b'h"a\\l\nf\xc0\x80', b"\xc3\xa9\xed\xa0\xbd\xed\xb8\x80.java")
+
+LINED = [
+    ("lines", "plain", lined(), "An exception leaves a synchronized method, and is caught."),
+    ("names", "json", ODD, "Names have a quotation mark, a backslash, a line feed, a NUL, a letter with an accent, and a face."),
+]
+
+
 def case_lines(name, data, words):
     return [f"file {name}", *hex_lines(re.findall("..?.?.?.?.?.?.?", data.hex()), 12)] if data else [f"case {name}", f"  {words}"]
 
@@ -413,16 +439,20 @@ def cases():
         files = compiled(LESSONS / folder)
         stored = re.sub(r"#.*", "", (LESSONS / folder / f"{schedule}.schedule").read_text())
         entries = entries_of(f"{stored} {more}")
-        told, status = trace([files[f"{name}.class"] for name in names], entries, options.get("from", 0), options.get("to"), options.get("only"))
-        given = "".join(f" --{key} {value}" for key, value in options.items())
-        name = f"trace-{folder}-{schedule}"
+        form = options.get("form", "plain")
+        told, status = trace([files[f"{name}.class"] for name in names], entries, options.get("from", 0), options.get("to"), options.get("only"), form)
+        given = "".join(f" --{value}" if key == "form" else f" --{key} {value}" for key, value in options.items())
+        name = f"trace-{folder}-{schedule}{'' if form == 'plain' else f'-{form}'}"
         words = f"trace --schedule {name}.schedule{given} {' '.join(f'{folder}/{name}.class' for name in names)}"
         text += [f"text {name}.schedule", f"  {' '.join([*stored.split(), *more.split()])}", *case_lines(name, None, words)]
         printed.append(f"case {name}\n{told}status {status}\n")
-    told, status = trace([lined()], [(0, 0, 13)])
-    text += ["", "# A class file that tells its source and its lines: an exception leaves a synchronized method, and is caught."]
-    text += [*case_lines("lined/A.class", lined(), None), "text lined.schedule", "  0*13", *case_lines("trace-lines", None, "trace --schedule lined.schedule lined/A.class")]
-    printed.append(f"case trace-lines\n{told}status {status}\n")
+    text += ["", "# Of the next class files, which tell their source and their lines.", "text lined.schedule", "  0*13"]
+    for name, form, data, comment in LINED:
+        told, status = trace([data], [(0, 0, 13)], form=form)
+        given = "" if form == "plain" else f" --{form}"
+        text += ["", f"# {comment}", *case_lines(f"{name}/A.class", data, None)]
+        text += case_lines(f"trace-{name}", None, f"trace{given} --schedule lined.schedule {name}/A.class")
+        printed.append(f"case trace-{name}\n{told}status {status}\n")
     return "\n".join([*text, ""]), "".join(printed)
 
 

@@ -25,6 +25,8 @@ use Rattle.command_line.specs.declared.options.RunOptions.{RunOptions}
 use Rattle.command_line.specs.declared.options.Schedule.{Schedule}
 use Rattle.command_line.specs.declared.options.ThenRun.{ThenRun}
 use Rattle.command_line.specs.declared.options.Trace.{Trace}
+use Rattle.command_line.specs.declared.options.TraceForm.{TraceForm}
+use Rattle.command_line.specs.declared.options.TraceForm.TheVariants as forms
 use Rattle.command_line.specs.declared.options.Verify.{Verify}
 
 -- `--NAME NUMBER`, a number from least to most
@@ -115,8 +117,12 @@ with_window app = with_rule (with_rule (with_rule app
     (number_option (codes "to") 0 4294967295))
     (number_option (codes "only") 0 65535)
 
+-- in which form they are told
+abbrev pub with_form : App → App
+with_form app = with_rule (with_rule app (flag (codes "columns"))) (flag (codes "json"))
+
 abbrev pub jvm_trace : App
-jvm_trace = with_files (with_limits (with_window (with_rule (new_app (codes "trace")) schedule_option))) class_files
+jvm_trace = with_files (with_limits (with_form (with_window (with_rule (new_app (codes "trace")) schedule_option)))) class_files
 
 abbrev pub jvm_verify : App
 jvm_verify = with_files (with_rule (new_app (codes "verify")) (flag (codes "library"))) class_files
@@ -198,12 +204,19 @@ pub record AreValues (rows : List Row) (replay : Replay) : Type 0 where
   pub files : all_of (codes "files") rows ≡ Some (map string_bytes replay.files.items)
   pub explain : replay.explain ≡ is_set (first_of (codes "explain") rows)
 
+-- the words ask for this form of a trace, and for no other
+abbrev pub IsTraceForm : List Row → TraceForm → Type 0
+IsTraceForm rows forms.Plain = (is_set (first_of (codes "columns") rows) ≡ false) × (is_set (first_of (codes "json") rows) ≡ false)
+IsTraceForm rows forms.Columns = (is_set (first_of (codes "columns") rows) ≡ true) × (is_set (first_of (codes "json") rows) ≡ false)
+IsTraceForm rows forms.Json = (is_set (first_of (codes "columns") rows) ≡ false) × (is_set (first_of (codes "json") rows) ≡ true)
+
 -- the values that the words give to `jvm trace`
 pub record AreTraceValues (rows : List Row) (trace : Trace) : Type 0 where
   pub schedule : first_of (codes "schedule") rows ≡ Some (string_bytes trace.schedule)
   pub from : IsNumber 0 4294967295 (first_of (codes "from") rows) trace.from
   pub to : IsNumber 0 4294967295 (first_of (codes "to") rows) trace.to
   pub only : IsNumber 0 65535 (first_of (codes "only") rows) trace.only
+  pub form : IsTraceForm rows trace.form
   pub limits : AreLimitNumbers rows trace.limits
   pub files : all_of (codes "files") rows ≡ Some (map string_bytes trace.files.items)
   pub explain : trace.explain ≡ is_set (first_of (codes "explain") rows)

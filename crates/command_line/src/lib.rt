@@ -9,7 +9,8 @@ mod parsers;
 mod usage;
 
 pub use options::{
-    Command, Disasm, LimitOptions, Replay, Run, RunOptions, Schedule, ThenRun, Trace, Verify,
+    Command, Disasm, LimitOptions, Replay, Run, RunOptions, Schedule, ThenRun, Trace, TraceForm,
+    Verify,
 };
 pub use parse::command;
 pub use usage::Usage;

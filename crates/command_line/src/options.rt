@@ -108,11 +108,23 @@ pub struct Trace {
     pub to: Option<u32>,
     /// The thread whose events are told, and `None` for all.
     pub only: Option<u32>,
+    pub form: TraceForm,
     pub limits: LimitOptions,
     /// The paths of the class files. The first holds the class whose `main` is run.
     pub files: Vec<String>,
     /// Whether a refusal is explained, and what threads are about.
     pub explain: bool,
+}
+
+/// How a trace tells each event.
+#[derive(Clone, Copy, Debug, PartialEq, Eq)]
+pub enum TraceForm {
+    /// In words.
+    Plain,
+    /// In words, with a column for each thread.
+    Columns,
+    /// As an object of JSON.
+    Json,
 }
 
 /// How a run goes on where a schedule ends.

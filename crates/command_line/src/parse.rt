@@ -4,7 +4,7 @@ ghost use Rattle.std.specs.Prelude.{◌≡◌, ◌⊎◌, false, Some, codes, ma
 ghost use Rattle.std.specs.Option.{option_map};
 ghost use Rattle.clap.specs.Words.{HasMatchesOf, all_of, first_of, found_of, kind_of, rows_of};
 ghost use Rattle.clap.specs.declared.error.kind.ErrorKind.TheVariants.{UnknownArgument as unknown_argument};
-ghost use Rattle.command_line.specs.CommandLine.{AreDisasmValues, AreLimitNumbers, AreRunNumbers, AreRunValues, AreScheduleValues, AreTraceValues, AreValues, AreVerifyValues, Asks, Fails, IsThenRun, Refuses, Spells, is_set as is_true, jvm, usage_of};
+ghost use Rattle.command_line.specs.CommandLine.{AreDisasmValues, AreLimitNumbers, AreRunNumbers, AreRunValues, AreScheduleValues, AreTraceValues, AreValues, AreVerifyValues, Asks, Fails, IsThenRun, IsTraceForm, Refuses, Spells, is_set as is_true, jvm, usage_of};
 
 use crate::numbers::{
     BUDGET, CELLS, FRAMES, FROM, MONITORS, OBJECTS, ONLY, QUANTUM, SEED, THREADS, TO, WORKERS,
@@ -12,7 +12,7 @@ use crate::numbers::{
 };
 use crate::options;
 use crate::options::{
-    Disasm, LimitOptions, Replay, Run, RunOptions, Schedule, ThenRun, Trace, Verify,
+    Disasm, LimitOptions, Replay, Run, RunOptions, Schedule, ThenRun, Trace, TraceForm, Verify,
 };
 use crate::parsers::program;
 use crate::usage::Usage;
@@ -140,6 +140,7 @@ fn trace_of(alloc: Global, matches: &ArgMatches<'_>) -> Result<Trace, Usage>
     let from = FROM.number(alloc, matches)?;
     let to = TO.number(alloc, matches)?;
     let only = ONLY.number(alloc, matches)?;
+    let form = form_of(alloc, matches)?;
     let limits = limits_of(alloc, matches)?;
     let files = files_of(alloc, matches)?;
     Ok(Trace {
@@ -147,6 +148,7 @@ fn trace_of(alloc: Global, matches: &ArgMatches<'_>) -> Result<Trace, Usage>
         from,
         to,
         only,
+        form,
         limits,
         files,
         explain: is_set(matches, "explain"),
@@ -190,6 +192,25 @@ fn schedule_of(alloc: Global, matches: &ArgMatches<'_>) -> Result<Schedule, Usag
         write: is_set(matches, "write"),
         explain: is_set(matches, "explain"),
     })
+}
+
+/// The form in which a trace is asked for. It is at most one.
+fn form_of(alloc: Global, matches: &ArgMatches<'_>) -> Result<TraceForm, Usage>
+    ensures form { IfOk result (IsTraceForm (rows_of (found_of matches.now))) }
+    ensures none { IfErr result (λ usage. Refuses usage ((form : _)
+        → IsTraceForm (rows_of (found_of matches.now)) form → ⊥)) }
+{
+    let columns = is_set(matches, "columns");
+    let json = is_set(matches, "json");
+    if columns && json {
+        Err(Usage::two_forms(alloc))
+    } else if columns {
+        Ok(TraceForm::Columns)
+    } else if json {
+        Ok(TraceForm::Json)
+    } else {
+        Ok(TraceForm::Plain)
+    }
 }
 
 /// How the run goes on where the schedule ends. Its options stand beside `--then-run` alone.

@@ -95,6 +95,8 @@ fn trace_parser<'a>(alloc: Global) -> Result<clap::Command<'a>, AllocError>
     ensures { IfOk result (λ trace. (app_of trace ≡ jvm_trace) × IsLocal trace) }
 {
     let schedule = path_argument(alloc, "schedule", "The schedule file, or its text");
+    let columns = flag_argument(alloc, "columns", "Gives each thread a column of its own");
+    let json = flag_argument(alloc, "json", "Tells each event as an object of JSON");
     let trace = titled(
         alloc,
         "trace",
@@ -104,7 +106,9 @@ fn trace_parser<'a>(alloc: Global) -> Result<clap::Command<'a>, AllocError>
     .arg(schedule.required(true))?
     .arg(FROM.argument(alloc))?
     .arg(TO.argument(alloc))?
-    .arg(ONLY.argument(alloc))?;
+    .arg(ONLY.argument(alloc))?
+    .arg(columns)?
+    .arg(json)?;
     with_files(
         alloc,
         with_limits(alloc, trace)?,

@@ -53,6 +53,15 @@ impl Usage {
         ))
     }
 
+    /// That a trace is asked for in two forms, in the parser's words for what doesn't go together.
+    pub(crate) fn two_forms(alloc: Global) -> Usage
+        ensures { Asks result → ⊥ }
+    {
+        Usage::told(format!(in alloc;
+            "error: the argument '--columns' cannot be used with '--json'\n\n{MORE}\n"
+        ))
+    }
+
     /// What a text says, where there was memory for it.
     fn told(text: Result<String, AllocError>) -> Usage
         ensures { Asks result → ⊥ }

@@ -17,13 +17,14 @@ use crate::tracing::trace_engine;
 use crate::transcribing::{schedule_engine, write_schedule_engine};
 use crate::verification::verify_engine;
 use command_line::{
-    Command, Disasm, LimitOptions, Replay, Run, Schedule, ThenRun, Trace, Usage, Verify, command,
+    Command, Disasm, LimitOptions, Replay, Run, Schedule, ThenRun, Trace, TraceForm, Usage, Verify,
+    command,
 };
 use model::{DeviceFault, Sink, Source};
 use std::alloc::{AllocError, Global};
 use std::sync::Wait;
 use std::thread::Threads;
-use traced_runs::Window;
+use traced_runs::{Form, Window};
 use workers::Gate;
 
 /// Does what the words say, the program's name first, and answers the status or why there is none.
@@ -202,7 +203,7 @@ fn trace<F: Folder, W: Sink>(
     Ok(status)
 }
 
-/// Which events are told: from the first one on, to the last one, and of all threads, where the words don't say.
+/// Which events are told, and in which form: from the first one on, to the last one, and of all threads, where the words don't say.
 fn window_of(options: &Trace) -> Window {
     Window {
         from: u64::from(options.from.unwrap_or(0)),
@@ -211,6 +212,11 @@ fn window_of(options: &Trace) -> Window {
             None => u64::MAX,
         },
         only: options.only,
+        form: match options.form {
+            TraceForm::Plain => Form::Plain,
+            TraceForm::Columns => Form::Columns,
+            TraceForm::Json => Form::Json,
+        },
     }
 }
 

@@ -1,1 +1,2 @@
-pub mod MethodPlaces
+mod Escapes
+mod MethodPlaces

@@ -1,5 +1,5 @@
 -- What stands at the place of a method's number.
-use Rattle.std.proofs.Common.{◌≡◌, ℕ, List, [], ◌∷◌, ◌++◌, length, map, Bool, true, Option, Some, None, Result, Ok, Err, codes, refl, sym, ap, subst, append_assoc, ◌∙◌}
+use Rattle.std.proofs.Common.{◌≡◌, ℕ, List, [], ◌∷◌, ◌++◌, true, Option, Some, None, Result, Ok, Err, codes, refl, sym, ap, subst, append_assoc, ◌∙◌}
 use Rattle.std.specs.Prelude.{slice_get, OnOk}
 use Rattle.std.specs.Option.{option_and_then, option_map, option_map_or}
 use Rattle.std.specs.List.{list_all}
@@ -24,11 +24,12 @@ use Rattle.method_code.proofs.Firsts.{method_there}
 use Rattle.method_code.proofs.Rights.{method_right, class_right, classes_right}
 use Rattle.method_links.specs.Methods.{member_of, member_at, methods_of}
 use Rattle.method_links.specs.Methods as method_links
-use Rattle.model.specs.Report.{number}
 use Rattle.model.specs.State.{Invocation, Initialisation, StackOf}
 use Rattle.traced_events.specs.Places.{Sees}
 use Rattle.traced_events.specs.declared.frames.FrameBefore.{FrameBefore}
-use Rattle.trace_text.specs.Lines.{AddsLine, instruction_words, line_words, meaning_in, method_words, place_words}
+use Rattle.trace_text.specs.declared.form.Form.{Form}
+use Rattle.trace_text.specs.JsonTexts.{text_member}
+use Rattle.trace_text.specs.Lines.{AddsLine, class_in, end_words, frame_in, head_words, instruction_words, line_words, meaning_in, method_members, nowhere_in, part, place_in}
 use Rattle.trace_text.specs.Methods.{IsPlaceOf, name_in, IsBodyOf}
 
 -- ---- the place of a number
@@ -81,6 +82,21 @@ method_named files place method e = ap (λ (o : Option Member). option_map_or (�
 pub class_at_number : (files : Program) (numbered : ℕ) (class : Name) → IsClassAt files numbered class → name_at files numbered ≡ class
 class_at_number files numbered class h = ap (λ (o : Option FileTree). option_map_or name_of o []) h.1 ∙ h.2
 
+-- ---- a method as members of an object
+
+pub members_told : {A E : Type 0} (result : Result A E) (files : Program) (numbered : ℕ) (place : MemberPlace) → IsPlaceOf files numbered place → (old mid new class name : List ℕ)
+    → class ≡ name_at files place.class → name ≡ name_in files place → mid ≡ old ++ text_member (codes "class") class → OnOk result (new ≡ mid ++ text_member (codes "method") name)
+    → (method : Member) → IsMethodAt files numbered method → OnOk result (new ≡ old ++ method_members method)
+members_told (Err fault) files numbered place p old mid new class name of_class of_name first second method at = tt
+members_told (Ok value) files numbered place p old mid new class name of_class of_name first second method at =
+    let same_class : class ≡ method.class = of_class ∙ class_named files place method (p method at) in
+    let same_name : name ≡ method.name = of_name ∙ method_named files place method (p method at) in
+    second
+    ∙ ap (λ (l : List ℕ). l ++ text_member (codes "method") name) first
+    ∙ append_assoc old (text_member (codes "class") class) (text_member (codes "method") name)
+    ∙ ap (λ (l : List ℕ). old ++ (text_member (codes "class") l ++ text_member (codes "method") name)) same_class
+    ∙ ap (λ (l : List ℕ). old ++ (text_member (codes "class") method.class ++ text_member (codes "method") l)) same_name
+
 -- ---- its body
 
 module _ (files : Program) (linked : IsLinked files) (place : MemberPlace) (method : Member) (t : IsThere files place method) where
@@ -122,19 +138,36 @@ pub body_found : (files : Program) → IsLinked files → (numbered : ℕ) (plac
     → IsBodyOf files numbered found
 body_found files linked numbered place p found e method at = body_is files linked place method (there files place method (p method at)) found e
 
--- ---- a frame on top
+-- ---- where a thread stands
 
-pub frame_words : (trees : Program) (seen : FrameBefore) (o : Option FrameBefore) (class : Option ℕ) → o ≡ Some seen → (old new : List ℕ) {A E : Type 0} (result : Result A E)
-    → ((method : Member) → IsMethodAt trees seen.method method → OnOk result (new ≡ old ++ (method_words method ++ (codes " " ++ number seen.offset))))
-    → (stack : StackOf ℕ) → Sees trees o class stack → OnOk result (new ≡ old ++ place_words stack)
-frame_words trees seen o class is old new result h [] s = let bad : None ≡ Some seen = sym s.0 ∙ is in cc
-frame_words trees seen o class is old new result h (Initialisation on_top phase ∷ stack) s = let bad : None ≡ Some seen = sym s.1 ∙ is in cc
-frame_words trees seen o class is old new result h (Invocation frame ∷ stack) s =
+pub frame_told : (form : Form) (trees : Program) (seen : FrameBefore) (o : Option FrameBefore) (class : Option ℕ) → o ≡ Some seen → (old new : List ℕ) {A E : Type 0} (result : Result A E)
+    → ((method : Member) → IsMethodAt trees seen.method method → OnOk result (new ≡ old ++ frame_in form method seen.offset))
+    → (stack : StackOf ℕ) → Sees trees o class stack → OnOk result (new ≡ old ++ place_in form stack)
+frame_told form trees seen o class is old new result h [] s = let bad : None ≡ Some seen = sym s.0 ∙ is in cc
+frame_told form trees seen o class is old new result h (Initialisation on_top phase ∷ stack) s = let bad : None ≡ Some seen = sym s.1 ∙ is in cc
+frame_told form trees seen o class is old new result h (Invocation frame ∷ stack) s =
     let both : Some s.0 ≡ Some seen = sym s.1 ∙ is in
     let same : s.0 ≡ seen = cc in
     let offset : seen.offset ≡ frame.place.offset = ap (λ (f : FrameBefore). f.offset) (sym same) ∙ s.4 in
-    subst (λ n. OnOk result (new ≡ old ++ (method_words frame.method ++ (codes " " ++ number n)))) offset
+    subst (λ n. OnOk result (new ≡ old ++ frame_in form frame.method n)) offset
     (h frame.method (subst (λ (f : FrameBefore). IsMethodAt trees f.method frame.method) same s.3))
+
+pub class_told : (form : Form) (trees : Program) (seen : ℕ) (frame : Option FrameBefore) (o : Option ℕ) → frame ≡ None → o ≡ Some seen → (name : Name) → name ≡ name_at trees seen
+    → (old new : List ℕ) {A E : Type 0} (result : Result A E) → OnOk result (new ≡ old ++ class_in form name)
+    → (stack : StackOf ℕ) → Sees trees frame o stack → OnOk result (new ≡ old ++ place_in form stack)
+class_told form trees seen frame o none is name named old new result h [] s = let bad : None ≡ Some seen = sym s.1 ∙ is in cc
+class_told form trees seen frame o none is name named old new result h (Invocation on_top ∷ stack) s = let bad : Some s.0 ≡ None = sym s.1 ∙ none in cc
+class_told form trees seen frame o none is name named old new result h (Initialisation on_top phase ∷ stack) s =
+    let both : Some s.0 ≡ Some seen = sym s.2 ∙ is in
+    let same : s.0 ≡ seen = cc in
+    let at : name_at trees seen ≡ on_top = class_at_number trees seen on_top (subst (λ n. IsClassAt trees n on_top) same s.3) in
+    subst (λ n. OnOk result (new ≡ old ++ class_in form n)) (named ∙ at) h
+
+pub nowhere_told : (form : Form) (trees : Program) (frame : Option FrameBefore) (class : Option ℕ) → frame ≡ None → class ≡ None → (old new : List ℕ) {A E : Type 0} (result : Result A E)
+    → OnOk result (new ≡ old ++ nowhere_in form) → (stack : StackOf ℕ) → Sees trees frame class stack → OnOk result (new ≡ old ++ place_in form stack)
+nowhere_told form trees frame class no_frame no_class old new result h [] s = h
+nowhere_told form trees frame class no_frame no_class old new result h (Invocation on_top ∷ stack) s = let bad : Some s.0 ≡ None = sym s.1 ∙ no_frame in cc
+nowhere_told form trees frame class no_frame no_class old new result h (Initialisation on_top phase ∷ stack) s = let bad : Some s.0 ≡ None = sym s.2 ∙ no_class in cc
 
 -- ---- the instruction of a frame on top
 
@@ -165,14 +198,18 @@ no_instruction trees o class is (Invocation frame ∷ stack) s = let bad : Some 
 
 -- ---- the line
 
-pub told_line : {A E : Type 0} (result : Result A E) (trees : Program) (n t : ℕ) (stack : StackOf ℕ) (old a b c d e new source deed : List ℕ)
-    → a ≡ old ++ (number n ++ (codes " " ++ (number t ++ codes " "))) → b ≡ a ++ place_words stack → c ≡ b ++ source → d ≡ c ++ instruction_words trees stack → e ≡ d ++ deed
-    → OnOk result (new ≡ e ++ codes "\n") → OnOk result (AddsLine trees n t stack old new)
-told_line (Err fault) trees n t stack old a b c d e new source deed ha hb hc hd he h = tt
-told_line (Ok value) trees n t stack old a b c d e new source deed ha hb hc hd he h = (line_words trees n t stack source deed, all, (source, deed, refl))
+pub told_line : {A E : Type 0} (result : Result A E) (form : Form) (trees : Program) (n t : ℕ) (stack : StackOf ℕ) (old a b c d e new source words deed : List ℕ)
+    → a ≡ old ++ head_words form n t → b ≡ a ++ place_in form stack → c ≡ b ++ part form (codes " ") (codes "source") source
+    → d ≡ c ++ part form (codes " ") (codes "instruction") words → words ≡ instruction_words trees stack → e ≡ d ++ part form (codes " | ") (codes "did") deed
+    → OnOk result (new ≡ e ++ end_words form) → OnOk result (AddsLine form trees n t stack old new)
+told_line (Err fault) form trees n t stack old a b c d e new source words deed ha hb hc hd told he h = tt
+told_line (Ok value) form trees n t stack old a b c d e new source words deed ha hb hc hd told he h = (line_words form trees n t stack source deed, all, (source, deed, refl))
   where
-    all : new ≡ old ++ line_words trees n t stack source deed
-    all =
-        h
-        ∙ ap (λ (l : List ℕ). l ++ codes "\n") (he ∙ ap (λ (l : List ℕ). l ++ deed) (hd ∙ ap (λ (l : List ℕ). l ++ instruction_words trees stack) (hc ∙ ap (λ (l : List ℕ). l ++ source) (hb ∙ ap (λ (l : List ℕ). l ++ place_words stack) ha))))
+    six : (u v w x y z : List ℕ) → a ≡ old ++ u → b ≡ a ++ v → c ≡ b ++ w → d ≡ c ++ x → e ≡ d ++ y → new ≡ e ++ z → new ≡ old ++ (u ++ (v ++ (w ++ (x ++ (y ++ z)))))
+    six u v w x y z hu hv hw hx hy hz =
+        hz
+        ∙ ap (λ (l : List ℕ). l ++ z) (hy ∙ ap (λ (l : List ℕ). l ++ y) (hx ∙ ap (λ (l : List ℕ). l ++ x) (hw ∙ ap (λ (l : List ℕ). l ++ w) (hv ∙ ap (λ (l : List ℕ). l ++ v) hu))))
         ∙ simp append_assoc
+
+    all : new ≡ old ++ line_words form trees n t stack source deed
+    all = six (head_words form n t) (place_in form stack) (part form (codes " ") (codes "source") source) (part form (codes " ") (codes "instruction") (instruction_words trees stack)) (part form (codes " | ") (codes "did") deed) (end_words form) ha hb hc (hd ∙ ap (λ (l : List ℕ). c ++ part form (codes " ") (codes "instruction") l) told) he h

@@ -1,2 +1,3 @@
+pub mod JsonTexts
 pub mod Lines
 pub mod Methods

@@ -1,9 +1,12 @@
 //! The line that tells an event: who did it and where, its instruction, and in words what it did.
 #![tactic(auto)]
 
+mod form;
+mod json;
 mod line;
 mod numbers;
 mod objects;
+mod parts;
 mod places;
 mod sorts;
 mod teller;
@@ -11,5 +14,6 @@ mod threads;
 mod values;
 mod words;
 
+pub use form::Form;
 pub use line::{Line, push_line};
 pub use teller::Teller;

@@ -1,11 +1,11 @@
 //! The line of an event.
 
-ghost use Rattle.std.specs.Prelude.{◌≡◌, ◌++◌, codes, OnOk};
-ghost use Rattle.model.specs.Report.{number as digits};
+ghost use Rattle.std.specs.Prelude.{OnOk};
 ghost use Rattle.traced_events.specs.Places.{Sees};
 ghost use Rattle.trace_text.specs.Lines.{AddsLine};
 
-use crate::numbers::{push_number, push_words};
+use crate::form::Form;
+use crate::parts::{Part, push_end, push_head, push_part};
 use crate::places::{push_instruction, push_place, push_source};
 use crate::sorts::{Sort, sort_of};
 use crate::teller::Teller;
@@ -18,12 +18,28 @@ use opcodes::decode_at;
 use std::alloc::AllocError;
 use traced_events::{Before, told_of};
 
-/// An event that was done, and its number, counted from 0.
+/// What a line is of: an event that was done, by its number, counted from 0; and the form of the line.
 #[derive(Clone, Copy, Debug, PartialEq, Eq)]
 pub struct Line {
     pub number: u64,
     pub event: Event,
+    pub form: Form,
 }
+
+const SOURCE: Part = Part {
+    mark: " ",
+    key: "source",
+};
+
+const INSTRUCTION: Part = Part {
+    mark: " ",
+    key: "instruction",
+};
+
+const DEED: Part = Part {
+    mark: " | ",
+    key: "did",
+};
 
 /// The field that an instruction names.
 fn field_of<'a>(method: &MethodCode<'a>, instr: Instr) -> Option<Reference<'a>> {
@@ -96,18 +112,9 @@ fn push_deed(
     }
 }
 
-/// The number of an event and of its thread, each with a space behind it.
-fn push_head(text: &mut Vec<u8>, line: Line) -> Result<(), AllocError>
-    ensures { OnOk result (text.new.items ≡ text.old.items ++ (digits line.number ++ (codes " " ++ (digits line.event.thread ++ codes " ")))) }
-{
-    push_number(text, line.number)?;
-    push_words(text, " ")?;
-    push_number(text, u64::from(line.event.thread))?;
-    push_words(text, " ")
-}
-
-/// Writes the line of an event behind a text, by what was seen before it and the state after it: the event's number and its thread,
-/// where the thread stood, the source, the instruction, and what it did. A spare text is used for it. The only error is a want of memory.
+/// Writes the line of an event behind a text, by what was seen before it and the state after it: the event's
+/// number and its thread, where the thread stood, the source, the instruction, and what it did. A spare text is used for it. The
+/// only error is a want of memory.
 pub fn push_line(
     text: &mut Vec<u8>,
     spare: &mut Vec<u8>,
@@ -117,16 +124,18 @@ pub fn push_line(
     shared: &Shared,
 ) -> Result<(), AllocError>
     ensures { (stack : _) → Sees teller.now.linked.now before.now.frame before.now.class stack
-        → OnOk result (AddsLine teller.now.linked.now line.number line.event.thread stack text.old.items text.new.items) }
+        → OnOk result (AddsLine line.form teller.now.linked.now line.number line.event.thread stack text.old.items text.new.items) }
 {
     push_head(text, line)?;
-    push_place(text, teller, before)?;
+    push_place(text, teller, line.form, before)?;
     spare.clear();
     push_source(spare, teller, before)?;
-    text.extend_from_slice(spare.as_slice())?;
-    push_instruction(text, teller, before)?;
+    push_part(text, line.form, SOURCE, spare.as_slice())?;
+    spare.clear();
+    push_instruction(spare, teller, before)?;
+    push_part(text, line.form, INSTRUCTION, spare.as_slice())?;
     spare.clear();
     push_deed(spare, teller, shared, before, line.event)?;
-    text.extend_from_slice(spare.as_slice())?;
-    push_words(text, "\n")
+    push_part(text, line.form, DEED, spare.as_slice())?;
+    push_end(text, line.form)
 }

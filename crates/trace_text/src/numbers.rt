@@ -1,7 +1,8 @@
 //! Words and numbers.
 
-ghost use Rattle.std.specs.Prelude.{◌≡◌, ◌++◌, OnOk};
+ghost use Rattle.std.specs.Prelude.{◌≡◌, ◌++◌, replicate, OnOk};
 ghost use Rattle.model.specs.Report.{number as digits};
+ghost use Rattle.trace_text.specs.Lines.{in_seven};
 
 use itoa::Buffer;
 use std::alloc::AllocError;
@@ -18,6 +19,27 @@ pub(crate) fn push_number(text: &mut Vec<u8>, number: u64) -> Result<(), AllocEr
 {
     let mut buffer = Buffer::new();
     text.extend_from_slice(buffer.format(number).as_bytes())?;
+    Ok(())
+}
+
+/// So many spaces.
+pub(crate) fn push_spaces(text: &mut Vec<u8>, count: usize) -> Result<(), AllocError>
+    ensures { OnOk result (text.new.items ≡ text.old.items ++ replicate count 32) }
+{
+    'spaces: for _ in 0..count {
+        text.push(b' ')?;
+    }
+    Ok(())
+}
+
+/// A number in seven places or more.
+pub(crate) fn push_in_seven(text: &mut Vec<u8>, number: u64) -> Result<(), AllocError>
+    ensures { OnOk result (text.new.items ≡ text.old.items ++ in_seven number) }
+{
+    let mut buffer = Buffer::new();
+    let digits = buffer.format(number).as_bytes();
+    push_spaces(text, 7usize.saturating_sub(digits.len()))?;
+    text.extend_from_slice(digits)?;
     Ok(())
 }
 

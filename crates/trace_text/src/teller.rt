@@ -4,9 +4,10 @@ ghost use Rattle.std.specs.Prelude.{◌≡◌, ◌++◌, IfOk, OnOk};
 ghost use Rattle.hierarchy.specs.Places.{name_at};
 ghost use Rattle.linked_code.specs.Numbers.{IsMethodAt};
 ghost use Rattle.method_links.specs.Numbers.{AreNumbersOf};
-ghost use Rattle.trace_text.specs.Lines.{method_words};
+ghost use Rattle.trace_text.specs.Lines.{method_members, method_words};
 ghost use Rattle.trace_text.specs.Methods.{IsPlaceOf, IsBodyOf, name_in};
 
+use crate::json::push_text_member;
 use hierarchy::{ClassSet, MemberPlace};
 use linked_code::LinkedProgram;
 use linker::Linked;
@@ -101,5 +102,19 @@ impl<'a> Teller<'a> {
         text.extend_from_slice(b".")?;
         text.extend_from_slice(method_name(set, place))?;
         Ok(())
+    }
+
+    /// The same as members of an object.
+    pub(crate) fn push_method_members(
+        &self,
+        text: &mut Vec<u8>,
+        number: u32,
+    ) -> Result<(), AllocError>
+        ensures { (method : _) → IsMethodAt self.now.linked.now number method → OnOk result (text.new.items ≡ text.old.items ++ method_members method) }
+    {
+        let place = self.place(number);
+        let set = self.linked.set();
+        push_text_member(text, "class", class_name(set, place.class))?;
+        push_text_member(text, "method", method_name(set, place))
     }
 }

@@ -309,16 +309,15 @@ impl Words<'_, '_, '_, '_> {
         }
     }
 
-    /// The same with the exception that is pending since, and the end of the thread. Parts stand behind ` | ` and then `, `.
+    /// The same with the exception that is pending since, and the end of the thread. `, ` stands between two parts.
     pub(crate) fn push(
         &self,
         text: &mut Vec<u8>,
         before: &Before,
         told: Told,
     ) -> Result<(), AllocError> {
-        let mut link = " | ";
+        let mut link = "";
         if told.deed != Deed::Nothing {
-            push_words(text, link)?;
             self.deed(text, before, told.deed)?;
             link = ", ";
         }

@@ -29,8 +29,8 @@ module _ (trees : Program) (frames : ℕ) (window : Window) where
     more_told (done ++ event ∷ []) events more first.1 rest first.4 (subst (λ (d : List Event). Tells trees frames window d more rest) (sym (append_assoc done (event ∷ []) events)) then),
   )
 
-  left_out : (done : List Event) (event : Event) (b : Bool) → b ≡ false → TellsIf b trees frames done event []
-  left_out done event b is = subst (λ (x : Bool). TellsIf x trees frames done event []) (sym is) refl
+  left_out : (done : List Event) (event : Event) (b : Bool) → b ≡ false → TellsIf b window.form trees frames done event []
+  left_out done event b is = subst (λ (x : Bool). TellsIf x window.form trees frames done event []) (sym is) refl
 
   -- those of an event again and again that is not told
   pub none_told : (k : ℕ) (event : Event) (done : List Event) → ((n : ℕ) → length done ≤ n → n < length done + k → is_told window n event.thread ≡ false) → Tells trees frames window done (replicate k event) []
@@ -45,7 +45,7 @@ module _ (trees : Program) (frames : ℕ) (window : Window) where
       )
 
   -- that of one event
-  pub one_told : (done : List Event) (event : Event) (line : List ℕ) → TellsIf (is_told window (length done) event.thread) trees frames done event line → Tells trees frames window done (event ∷ []) line
+  pub one_told : (done : List Event) (event : Event) (line : List ℕ) → TellsIf (is_told window (length done) event.thread) window.form trees frames done event line → Tells trees frames window done (event ∷ []) line
   one_told done event line tells = (line, [], sym (append-nil line), tells, refl)
 
 -- ---- what is gathered

@@ -50,18 +50,18 @@ done_once event n why old new goes = (
 module _ (trees : Program) (window : Window) (old : MachineOf) (count : ℕ) (event : Event) where
   -- its line, where it was done and is told
   line_of : (frames : ℕ) (done : List Event) → length done ≡ count → is_told window count event.thread ≡ true → (why : Stopped) (held : Held) (before now : List ℕ)
-      → AddsOne why trees frames before now done event → AreTold trees frames window done (take (times why) (event ∷ [])) held held before now
+      → AddsOne why window.form trees frames before now done event → AreTold trees frames window done (take (times why) (event ∷ [])) held held before now
   line_of frames done at told stopped.Most held before now adds =
       let here : is_told window (length done) event.thread ≡ true = ap (λ k. is_told window k event.thread) at ∙ told in (
         adds.0,
-        one_told trees frames window done event adds.0 (subst (λ b. TellsIf b trees frames done event adds.0) (sym here) adds.2),
+        one_told trees frames window done event adds.0 (subst (λ b. TellsIf b window.form trees frames done event adds.0) (sym here) adds.2),
         line_gathered held before now adds.0 adds.1,
       )
   line_of frames done at told stopped.NotEnabled held before now adds = ([], refl, line_gathered held before now [] (adds ∙ sym (append-nil before)))
   line_of frames done at told (stopped.Refused refusal) held before now adds = ([], refl, line_gathered held before now [] (adds ∙ sym (append-nil before)))
 
   pub line_told : (why : Stopped) (new : MachineOf) (held : Held) (before now : List ℕ) → is_told window count event.thread ≡ true → GoesThrough (times why, why) (event ∷ []) old new
-      → AfterRun trees old count (λ done. AddsOne why trees old.limits.frames before now done event) → HasTold trees window old count (event ∷ []) (times why) why new held held before now
+      → AfterRun trees old count (λ done. AddsOne why window.form trees old.limits.frames before now done event) → HasTold trees window old count (event ∷ []) (times why) why new held held before now
   line_told why new held before now told goes adds =
       record { goes = goes; told = λ files done has at. line_of old.limits.frames done at told why held before now (adds files done has at) }
 

@@ -17,6 +17,7 @@ use Rattle.machine.specs.Machines.{MachineOf}
 use Rattle.schedule_runs.specs.Done.{HasDone}
 use Rattle.traced_events.specs.declared.frames.FrameBefore.{FrameBefore}
 use Rattle.traced_events.specs.Places.{IsSeen, IsSeenIf, IsSeenOf, Sees}
+use Rattle.trace_text.specs.declared.form.Form.{Form}
 use Rattle.trace_text.specs.Lines.{AddsLine, IsLine}
 use Rattle.traced_runs.specs.Traces.{TellsIf, stack_at}
 
@@ -50,10 +51,10 @@ seen_at trees p (shown ∷ others) [] t frame class shows seen = absurd shows
 -- ---- words and values
 
 -- a line tells no word
-line_of_values : {A B : Type 0} (f : A → B) (trees : Program) (n t : ℕ) (stack : StackOf A) (line : List ℕ) → IsLine trees n t (map_stack f stack) line → IsLine trees n t stack line
-line_of_values f trees n t [] line is = is
-line_of_values f trees n t (model.Invocation frame ∷ stack) line is = is
-line_of_values f trees n t (model.Initialisation class phase ∷ stack) line is = is
+line_of_values : {A B : Type 0} (f : A → B) (form : Form) (trees : Program) (n t : ℕ) (stack : StackOf A) (line : List ℕ) → IsLine form trees n t (map_stack f stack) line → IsLine form trees n t stack line
+line_of_values f form trees n t [] line is = is
+line_of_values f form trees n t (model.Invocation frame ∷ stack) line is = is
+line_of_values f form trees n t (model.Initialisation class phase ∷ stack) line is = is
 
 mapped_or : {A B : Type 0} (f : A → B) (found : Option (StackOf A)) → unwrap_or (option_map (map_stack f) found) [] ≡ map_stack f (unwrap_or found [])
 mapped_or f None = refl
@@ -64,17 +65,17 @@ stack_of_words state t = ap (λ (o : Option (StackOf ℕ)). unwrap_or o []) (sli
 
 -- ---- the line of the next event
 
-module _ (trees : Program) (m : MachineOf) (files : List (List ℕ)) (done : List Event) (has : HasDone m files trees done) (n : ℕ) (count : length done ≡ n) (event : Event) where
+module _ (form : Form) (trees : Program) (m : MachineOf) (files : List (List ℕ)) (done : List Event) (has : HasDone m files trees done) (n : ℕ) (count : length done ≡ n) (event : Event) where
   -- where it is said of whatever stack is seen, it is said of the thread's own
   pub own_line : (frame : Option FrameBefore) (class : Option ℕ) → IsSeenOf m.program m.shared event.thread frame class → (old new : List ℕ)
-      → ((stack : StackOf ℕ) → Sees trees frame class stack → AddsLine trees n event.thread stack old new)
-      → (line : List ℕ) × (new ≡ old ++ line) × TellsIf true trees m.limits.frames done event line
+      → ((stack : StackOf ℕ) → Sees trees frame class stack → AddsLine form trees n event.thread stack old new)
+      → (line : List ℕ) × (new ≡ old ++ line) × TellsIf true form trees m.limits.frames done event line
   own_line frame class seen old new adds =
       let lead = has.run.lead in
       let at = has.run.at in
       let t = event.thread in
       let added = adds (stack_at at t) (seen_at trees m.program m.shared.stacks.items at.stacks t frame class has.run.shown.stacks seen) in
       let words : stack_at at t ≡ map_stack word_of (stack_at lead.state t) = ap (λ (s : StateOf ℕ). stack_at s t) lead.are.are ∙ stack_of_words lead.state t in
-      let by_words : IsLine trees n t (map_stack word_of (stack_at lead.state t)) added.0 = subst (λ (stack : StackOf ℕ). IsLine trees n t stack added.0) words added.2 in
-      let by_values : IsLine trees n t (stack_at lead.state t) added.0 = line_of_values word_of trees n t (stack_at lead.state t) added.0 by_words in
-      (added.0, added.1, (lead.state, lead.reached, subst (λ (k : ℕ). IsLine trees k t (stack_at lead.state t) added.0) (sym count) by_values))
+      let by_words : IsLine form trees n t (map_stack word_of (stack_at lead.state t)) added.0 = subst (λ (stack : StackOf ℕ). IsLine form trees n t stack added.0) words added.2 in
+      let by_values : IsLine form trees n t (stack_at lead.state t) added.0 = line_of_values word_of form trees n t (stack_at lead.state t) added.0 by_words in
+      (added.0, added.1, (lead.state, lead.reached, subst (λ (k : ℕ). IsLine form trees k t (stack_at lead.state t) added.0) (sym count) by_values))

@@ -10,6 +10,7 @@ use Rattle.machine.specs.declared.machine.Stopped.{Stopped}
 use Rattle.machine.specs.declared.machine.Stopped.TheVariants as stopped
 use Rattle.machine.specs.Machines.{MachineOf}
 use Rattle.schedule_runs.specs.Done.{HasDone, GoesThrough}
+use Rattle.trace_text.specs.declared.form.Form.{Form}
 use Rattle.traced_runs.specs.Traces.{Tells, TellsIf}
 use Rattle.traced_runs.specs.declared.window.Window.{Window}
 
@@ -26,10 +27,10 @@ AfterRun trees m count P = (files : List (List ℕ)) (done : List Event) → Has
 -- ---- lines that are gathered
 
 -- the line of the next event stands behind a text now, if that was done
-abbrev pub AddsOne : Stopped → Program → (frames : ℕ) → (old new : List ℕ) → (done : List Event) → Event → Type 0
-AddsOne stopped.Most trees frames old new done event = (line : List ℕ) × (new ≡ old ++ line) × TellsIf true trees frames done event line
-AddsOne stopped.NotEnabled trees frames old new done event = new ≡ old
-AddsOne (stopped.Refused told) trees frames old new done event = new ≡ old
+abbrev pub AddsOne : Stopped → Form → Program → (frames : ℕ) → (old new : List ℕ) → (done : List Event) → Event → Type 0
+AddsOne stopped.Most form trees frames old new done event = (line : List ℕ) × (new ≡ old ++ line) × TellsIf true form trees frames done event line
+AddsOne stopped.NotEnabled form trees frames old new done event = new ≡ old
+AddsOne (stopped.Refused told) form trees frames old new done event = new ≡ old
 
 -- of what was gathered and a text behind it, a front is written, and the rest is gathered now
 abbrev pub Gathers : (old new : Option (List ℕ)) → (before now text : List ℕ) → Type 0

@@ -10,6 +10,7 @@ use Rattle.model.specs.Run.{run}
 use Rattle.model.specs.State.{StackOf, State, StateOf}
 use Rattle.machine_replay.specs.Replays.{IsReplay}
 use Rattle.trace_text.specs.Lines.{IsLine}
+use Rattle.trace_text.specs.declared.form.Form.{Form}
 use Rattle.traced_runs.specs.Windows.{is_told}
 use Rattle.traced_runs.specs.declared.window.Window.{Window}
 
@@ -20,15 +21,15 @@ abbrev pub stack_at : {A : Type 0} → StateOf A → ℕ → StackOf A
 stack_at state t = unwrap_or (slice_get state.stacks t) []
 
 -- the line of an event in the state to which those before it led, if it is told
-abbrev pub TellsIf : Bool → Program → (frames : ℕ) → (before : List Event) → Event → (line : List ℕ) → Type 0
-TellsIf true trees frames before event line = (state : State) × (run trees frames before ≡ Some state) × IsLine trees (length before) event.thread (stack_at state event.thread) line
-TellsIf false trees frames before event line = line ≡ []
+abbrev pub TellsIf : Bool → Form → Program → (frames : ℕ) → (before : List Event) → Event → (line : List ℕ) → Type 0
+TellsIf true form trees frames before event line = (state : State) × (run trees frames before ≡ Some state) × IsLine form trees (length before) event.thread (stack_at state event.thread) line
+TellsIf false form trees frames before event line = line ≡ []
 
 -- the lines of events, behind those before them
 abbrev pub Tells : Program → (frames : ℕ) → Window → (before events : List Event) → (text : List ℕ) → Type 0
 Tells trees frames window before [] text = text ≡ []
 Tells trees frames window before (event ∷ events) text =
-    (line : List ℕ) × (rest : List ℕ) × (text ≡ line ++ rest) × TellsIf (is_told window (length before) event.thread) trees frames before event line
+    (line : List ℕ) × (rest : List ℕ) × (text ≡ line ++ rest) × TellsIf (is_told window (length before) event.thread) window.form trees frames before event line
     × Tells trees frames window (before ++ event ∷ []) events rest
 
 -- ---- a whole run

@@ -1,6 +1,6 @@
 //! Events that are done, each with its line.
 
-ghost use Rattle.std.specs.Prelude.{◌+◌, ◌^◌, ◌<◌, [], ◌∷◌, IfOk, OnErr, replicate};
+ghost use Rattle.std.specs.Prelude.{◌≡◌, ◌+◌, ◌^◌, ◌<◌, [], ◌∷◌, IfOk, OnErr, replicate};
 ghost use Rattle.model.specs.Devices.{Counts};
 ghost use Rattle.schedule_runs.specs.Done.{GoesThrough};
 ghost use Rattle.traced_runs.specs.Telling.{AddsOne, AfterRun, HasTold, StopsShort, times};
@@ -38,7 +38,7 @@ fn told_event(
 ) -> Result<Stopped, AllocError>
     ensures goes { IfOk result (λ why. GoesThrough (times why, why) (line.event ∷ []) machine.old machine.new) }
     ensures told { IfOk result (λ why. AfterRun teller.now.linked.now machine.old line.number (λ done.
-        AddsOne why teller.now.linked.now machine.old.limits.frames lines.old.text.items lines.new.text.items done line.event)) }
+        AddsOne why line.form teller.now.linked.now machine.old.limits.frames lines.old.text.items lines.new.text.items done line.event)) }
 {
     before.look(machine.shared(), machine.program(), line.event.thread)?;
     match once(machine, line.event) {
@@ -66,6 +66,7 @@ fn event<W: Sink>(
     lines: &mut Lines,
     output: &mut W,
 ) -> Result<Stopped, DeviceFault>
+    requires { line.form ≡ telling.entry.window.form }
     ensures told { IfOk result (λ why. HasTold telling.entry.teller.now.linked.now telling.entry.window machine.old line.number (line.event ∷ []) (times why) why machine.new
         (W.contents output.old) (W.contents output.new) lines.old.text.items lines.new.text.items) }
     ensures part { OnErr result (StopsShort telling.entry.teller.now.linked.now telling.entry.window machine.old line.number (line.event ∷ [])
@@ -105,6 +106,7 @@ pub(crate) fn entry<W: Sink>(
         let line = Line {
             number: first + u64::from(done),
             event: entry.event,
+            form: telling.window.form,
         };
         match event(machine, telling, before, line, lines, output)? {
             Stopped::Most => {}

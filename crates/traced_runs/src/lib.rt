@@ -7,4 +7,5 @@ mod run;
 mod window;
 
 pub use run::trace;
+pub use trace_text::Form;
 pub use window::Window;

@@ -4,13 +4,16 @@ ghost use Rattle.std.specs.Prelude.{◌≡◌, ◌+◌, ◌^◌, ◌<◌, ◌≤
 ghost use Rattle.traced_runs.specs.Windows.{has_thread, is_told};
 
 use model::ScheduleEntry;
+use trace_text::Form;
 
-/// The events that are told: those with a number from `from` to `to`, counted from 0, of one thread, or of all.
+/// The events that are told: those with a number from `from` to `to`, counted from 0, of one thread, or of all; and the form of
+/// their lines.
 #[derive(Clone, Copy, Debug, PartialEq, Eq)]
 pub struct Window {
     pub from: u64,
     pub to: u64,
     pub only: Option<u32>,
+    pub form: Form,
 }
 
 impl Window {

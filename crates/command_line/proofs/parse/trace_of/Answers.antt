@@ -13,6 +13,7 @@ returns-clause-values c = record {
   from = c.in_ok-from.ensures.number;
   to = c.in_ok-to.ensures.number;
   only = c.in_ok-only.ensures.number;
+  form = c.in_ok-form.ensures.form;
   limits = c.in_ok-limits.ensures.limits;
   files = c.in_ok-files.ensures.files;
   explain = c.is_set.ensures;

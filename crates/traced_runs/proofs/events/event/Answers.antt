@@ -1,6 +1,7 @@
-use Rattle.std.proofs.Common.{◌≡◌, ◌∷◌, [], Bool, false, true, sym, ◌∙◌}
+use Rattle.std.proofs.Common.{◌≡◌, ◌∷◌, [], Bool, false, true, subst, sym, ◌∙◌}
 use Rattle.std.proofs.lemmas.Result.{err_from_is_err_and}
-use Rattle.traced_runs.specs.Telling.{HasTold, times}
+use Rattle.trace_text.specs.declared.form.Form.{Form}
+use Rattle.traced_runs.specs.Telling.{AddsOne, AfterRun, HasTold, times}
 use Rattle.traced_runs.specs.Windows.{is_told}
 use Rattle.traced_runs.proofs.Passing.{eased, line_told, none_done, none_of_event, writing_stops}
 use Rattle.traced_runs.proofs.events.event.Goals as goal
@@ -27,8 +28,8 @@ returns-in_err-ease-clause-part g c =
     let why = c.in_ok-why.why in
     let held = g.W.Sink.contents c.args.output.now in
     let told : is_told window line.number line.event.thread ≡ true = cc in
-    let has_told = line_told trees window c.args.machine.now line.number line.event why c.told_event.new.machine held c.args.lines.now.text.items c.told_event.new.lines.text.items told c.in_ok-why.ensures.goes
-    c.in_ok-why.ensures.told
+    let adds = subst (λ (form : Form). AfterRun trees c.args.machine.now line.number (λ done. AddsOne why form trees c.args.machine.now.limits.frames c.args.lines.now.text.items c.told_event.new.lines.text.items done line.event)) c.requires c.in_ok-why.ensures.told in
+    let has_told = line_told trees window c.args.machine.now line.number line.event why c.told_event.new.machine held c.args.lines.now.text.items c.told_event.new.lines.text.items told c.in_ok-why.ensures.goes adds
     in
     rw p.1
     (writing_stops trees window c.args.machine.now line.number (line.event ∷ []) (times why) why c.told_event.new.machine held held (g.W.Sink.contents c.ease.new.output) c.args.lines.now.text.items
@@ -42,8 +43,8 @@ returns-clause-told g c =
     let why = c.in_ok-why.why in
     let held = g.W.Sink.contents c.args.output.now in
     let told : is_told window line.number line.event.thread ≡ true = cc in
-    let has_told = line_told trees window c.args.machine.now line.number line.event why c.told_event.new.machine held c.args.lines.now.text.items c.told_event.new.lines.text.items told c.in_ok-why.ensures.goes
-    c.in_ok-why.ensures.told
+    let adds = subst (λ (form : Form). AfterRun trees c.args.machine.now line.number (λ done. AddsOne why form trees c.args.machine.now.limits.frames c.args.lines.now.text.items c.told_event.new.lines.text.items done line.event)) c.requires c.in_ok-why.ensures.told in
+    let has_told = line_told trees window c.args.machine.now line.number line.event why c.told_event.new.machine held c.args.lines.now.text.items c.told_event.new.lines.text.items told c.in_ok-why.ensures.goes adds
     in
     eased trees window c.args.machine.now line.number (line.event ∷ []) (times why) why c.told_event.new.machine held held (g.W.Sink.contents c.ease.new.output) c.args.lines.now.text.items
     c.told_event.new.lines.text.items c.ease.new.self.text.items has_told c.in_ok-ease.ensures.gathered

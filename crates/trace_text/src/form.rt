@@ -1,0 +1,12 @@
+//! The forms of a trace.
+
+/// How an event is told: a line in each form.
+#[derive(Clone, Copy, Debug, PartialEq, Eq)]
+pub enum Form {
+    /// In words, with a space between two parts.
+    Plain,
+    /// The same, with a column for each thread.
+    Columns,
+    /// As an object of JSON.
+    Json,
+}
