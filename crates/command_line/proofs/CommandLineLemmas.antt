@@ -11,7 +11,7 @@ use Rattle.clap.specs.declared.parser.matches.SubCommand.{SubCommand}
 use Rattle.clap.specs.declared.error.Error.{Error}
 use Rattle.clap.specs.declared.error.kind.ErrorKind.{ErrorKind}
 use Rattle.clap.specs.declared.error.kind.ErrorKind.TheVariants as errors
-use Rattle.command_line.specs.CommandLine.{AreDisasmValues, AreRunValues, AreScheduleValues, AreTraceValues, AreValues, AreVerifyValues, Asks, Fails, IsNumber, IsThenRun, IsTraceForm, Refuses, Spells, SpellsNothing, is_set, jvm, usage_by, usage_of}
+use Rattle.command_line.specs.CommandLine.{AreDisasmValues, AreRunValues, AreScheduleValues, AreTraceValues, AreValues, AreVerifyValues, Asks, Fails, IsNumber, IsThenRun, Refuses, Spells, SpellsNothing, jvm, usage_by, usage_of}
 use Rattle.command_line.specs.declared.usage.Usage.{Usage}
 use Rattle.command_line.specs.declared.usage.Usage.TheVariants.{Parser, Number, Asked, OutOfMemory}
 use Rattle.command_line.specs.declared.options.Command.{Command}
@@ -22,8 +22,6 @@ use Rattle.command_line.specs.declared.options.Run.{Run}
 use Rattle.command_line.specs.declared.options.Schedule.{Schedule}
 use Rattle.command_line.specs.declared.options.ThenRun.{ThenRun}
 use Rattle.command_line.specs.declared.options.Trace.{Trace}
-use Rattle.command_line.specs.declared.options.TraceForm.{TraceForm}
-use Rattle.command_line.specs.declared.options.TraceForm.TheVariants as forms
 use Rattle.command_line.specs.declared.options.Verify.{Verify}
 
 -- a mistake is refused for a reason that holds
@@ -322,9 +320,3 @@ refuses_more (Asked error) reason other on known = elim known [ ]
 pub no_budget : (rows : List Row) → ((number : Option ℕ) → IsNumber 0 4294967295 (first_of (codes "budget") rows) number → ⊥) → (then_run : Option ThenRun) → IsThenRun rows then_run → ⊥
 no_budget rows none None are = none None (subst (λ text. IsNumber 0 4294967295 text None) (sym are.1) tt)
 no_budget rows none (Some then_run) are = none then_run.budget are.1.budget
-
--- a trace has no two forms
-pub no_form : (rows : List Row) → is_set (first_of (codes "columns") rows) ≡ true → is_set (first_of (codes "json") rows) ≡ true → (form : TraceForm) → IsTraceForm rows form → ⊥
-no_form rows columns json forms.Plain is = let bad : true ≡ false = sym columns ∙ is.0 in cc
-no_form rows columns json forms.Columns is = let bad : true ≡ false = sym json ∙ is.1 in cc
-no_form rows columns json forms.Json is = let bad : true ≡ false = sym columns ∙ is.0 in cc

@@ -66,7 +66,7 @@ fn event<W: Sink>(
     lines: &mut Lines,
     output: &mut W,
 ) -> Result<Stopped, DeviceFault>
-    requires { line.form ≡ telling.entry.window.form }
+    requires { line.form ≡ telling.window.form }
     ensures told { IfOk result (λ why. HasTold telling.entry.teller.now.linked.now telling.entry.window machine.old line.number (line.event ∷ []) (times why) why machine.new
         (W.contents output.old) (W.contents output.new) lines.old.text.items lines.new.text.items) }
     ensures part { OnErr result (StopsShort telling.entry.teller.now.linked.now telling.entry.window machine.old line.number (line.event ∷ [])
