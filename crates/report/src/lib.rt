@@ -6,7 +6,9 @@ mod lines;
 ghost use Rattle.std.specs.Prelude.{◌≡◌, IfOk, map};
 ghost use Rattle.model.specs.Report.{end_state_of, report_text};
 
-use crate::lines::{push_end, push_printed, push_threads};
+pub use crate::lines::{push_line, push_printed, push_threads};
+
+use crate::lines::push_end;
 use model::{End, Report};
 use std::alloc::{AllocError, Global};
 

@@ -7,7 +7,8 @@ ghost use Rattle.model.specs.Report.{end_state_of, end_words, line, number, sign
 use model::{End, EndState};
 use std::alloc::{AllocError, Global};
 
-fn push_line(text: &mut Vec<u8>, words: &[u8]) -> Result<(), AllocError>
+/// A line of these words.
+pub fn push_line(text: &mut Vec<u8>, words: &[u8]) -> Result<(), AllocError>
     ensures { OnOk result (text.new.items ≡ text.old.items ++ line words.now) }
 {
     text.extend_from_slice(words)?;
@@ -16,7 +17,7 @@ fn push_line(text: &mut Vec<u8>, words: &[u8]) -> Result<(), AllocError>
 }
 
 /// A line for each printed number.
-pub(crate) fn push_printed(
+pub fn push_printed(
     alloc: Global,
     text: &mut Vec<u8>,
     printed: &[i32],
@@ -61,7 +62,7 @@ fn push_thread(
 }
 
 /// A line for each thread.
-pub(crate) fn push_threads(
+pub fn push_threads(
     alloc: Global,
     text: &mut Vec<u8>,
     threads: &[EndState],

@@ -1,0 +1,7 @@
+//! The text of what a search over all schedules answers, and the status.
+#![tactic(auto)]
+
+mod answers;
+mod outcomes;
+
+pub use answers::Answer;
