@@ -11,12 +11,17 @@ use crate::listing::disasm_engine;
 use crate::names::names_engine;
 use crate::replaying::replay_engine;
 use crate::running::run_engine;
+use crate::searching::{printed_lines, search_engine};
 use crate::status::Status;
 use crate::tracing::trace_engine;
 use crate::transcribing::{schedule_engine, write_schedule_engine};
 use crate::verification::verify_engine;
-use command_line::{Command, Disasm, Replay, Run, Schedule, Trace, Usage, Verify, command};
+use command_line::{
+    Command, Disasm, Goal, Replay, Run, Schedule, Search, Trace, Usage, Verify, command,
+};
 use model::{DeviceFault, Sink, Source};
+use run_outcomes::Wanted;
+use search::states_within;
 use std::alloc::{AllocError, Global};
 use std::sync::Wait;
 use std::thread::Threads;
@@ -73,6 +78,7 @@ fn done<R: Threads + Wait + Sync, G: Gate + Sync, F: Folder, I: Source, W: Sink>
         Command::Run(options) => run_files(rt, alloc, gate, folder, options, output),
         Command::Replay(options) => replay(alloc, folder, options, output),
         Command::Trace(options) => trace(alloc, folder, options, output),
+        Command::Search(options) => search(alloc, folder, options, output),
         Command::Verify(options) => verify(alloc, folder, options, output),
         Command::Disasm(options) => disasm(alloc, folder, options, output),
         Command::Schedule(options) => schedule(alloc, folder, options, input, output),
@@ -151,6 +157,43 @@ fn trace<F: Folder, W: Sink>(
         window,
         output,
     )
+}
+
+/// `search`.
+fn search<F: Folder, W: Sink>(
+    alloc: Global,
+    folder: &F,
+    options: &Search,
+    output: &mut W,
+) -> Result<Status, Fault> {
+    let wanted = wanted_by(alloc, folder, &options.goal)?;
+    let mut files = sources(alloc, folder, &options.files)?;
+    search_engine(
+        alloc,
+        files.as_mut_slice(),
+        &options.limits,
+        &wanted,
+        options.states().min(states_within(options.memory())),
+        output,
+        &mut recorder(alloc, folder, &options.record),
+    )
+}
+
+/// The outcome that a search is to find, where one is asked for.
+fn wanted_by<F: Folder>(
+    alloc: Global,
+    folder: &F,
+    goal: &Option<Goal>,
+) -> Result<Wanted, Fault> {
+    Ok(match goal {
+        None => Wanted::Nothing,
+        Some(Goal::Deadlock) => Wanted::Stuck,
+        Some(Goal::Uncaught) => Wanted::Uncaught,
+        Some(Goal::Output(numbers)) => Wanted::Printed(printed_lines(alloc, numbers.as_bytes())?),
+        Some(Goal::Differs(path)) => {
+            Wanted::PrintedOther(source(alloc, folder, path).read_all(alloc)?)
+        }
+    })
 }
 
 /// `verify`.

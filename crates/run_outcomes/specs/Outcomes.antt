@@ -1,12 +1,12 @@
 -- Outcomes of runs that have ended: which of them are wanted, and lists of them (own).
-use Rattle.std.specs.Prelude.{◌≡◌, ◌⊎◌, ℕ, List, [], Option, Some, None, Bool, false, IsTrue, map}
+use Rattle.std.specs.Prelude.{◌≡◌, ◌⊎◌, ℕ, ℤ, List, [], Option, Some, None, Bool, false, IsTrue, map}
 use Rattle.std.specs.Cmp.Lexicographic.{slice_cmp}
-use Rattle.std.specs.List.{insert, list_any}
+use Rattle.std.specs.List.{flat_map, insert, list_any}
 use Rattle.std.specs.List.Sorted.{IsStrictlySortedBy}
 use Rattle.std.specs.BTreeSet.{insert_key}
 use Rattle.std.specs.Ordering.{nat_cmp, int_cmp, ordering_then}
 use Rattle.std.specs.declared.cmp.Ordering.{Ordering}
-use Rattle.model.specs.Report.{ThreadEnd, Ended, Threw, Blocked, Waiting, Joining, Initialising, Runnable, end_state_of}
+use Rattle.model.specs.Report.{ThreadEnd, Ended, Threw, Blocked, Waiting, Joining, Initialising, Runnable, end_state_of, line, signed_number}
 use Rattle.interleavings.specs.Ends.{Outcome, Has}
 use Rattle.run_outcomes.specs.declared.outcomes.Outcome.{Outcome as TheOutcome}
 use Rattle.run_outcomes.specs.declared.wanted.Wanted.{Wanted}
@@ -33,11 +33,16 @@ abbrev pub has_thrown : ThreadEnd → Bool
 has_thrown (Threw name) = Bool.true
 has_thrown end = false
 
+-- the text of printed numbers, each on a line
+abbrev pub printed_text : List ℤ → List ℕ
+printed_text printed = flat_map (λ z. line (signed_number z)) printed
+
 abbrev pub IsWanted : Wanted → Outcome → Type 0
 IsWanted wanted.Nothing o = ⊥
 IsWanted wanted.Stuck o = IsTrue (list_any is_stuck o.ends)
 IsWanted wanted.Uncaught o = IsTrue (list_any has_thrown o.ends)
-IsWanted (wanted.Printed printed) o = o.printed ≡ printed.items
+IsWanted (wanted.Printed text) o = printed_text o.printed ≡ text.items
+IsWanted (wanted.PrintedOther text) o = printed_text o.printed ≡ text.items → ⊥
 
 -- ---- their order
 

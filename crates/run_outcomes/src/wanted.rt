@@ -1,6 +1,6 @@
 //! What a search is to find.
 
-ghost use Rattle.std.specs.Prelude.{◌≡◌, ◌↔◌, IsTrue};
+ghost use Rattle.std.specs.Prelude.{◌≡◌, ◌↔◌, IfOk, IsTrue};
 ghost use Rattle.std.specs.List.{list_any};
 ghost use Rattle.model.specs.Report.{end_state_of};
 ghost use Rattle.run_outcomes.specs.Outcomes.{told_by, IsWanted};
@@ -8,6 +8,8 @@ ghost use Rattle.run_outcomes.specs.Outcomes as spec;
 
 use crate::outcomes::Outcome;
 use model::EndState;
+use report::push_printed;
+use std::alloc::{AllocError, Global};
 
 /// The outcome that a search is to find.
 #[derive(Drop)]
@@ -18,8 +20,10 @@ pub enum Wanted {
     Stuck,
     /// A thread ended with an exception that nothing caught.
     Uncaught,
-    /// These numbers were printed, in this order.
-    Printed(Vec<i32>),
+    /// This text is what was printed: each number in decimal, and a line feed behind it.
+    Printed(Vec<u8>),
+    /// Another text than this is.
+    PrintedOther(Vec<u8>),
 }
 
 fn is_stuck(thread: &EndState) -> bool
@@ -49,22 +53,32 @@ fn any_has_thrown(threads: &[EndState]) -> bool
     threads.iter().any(has_thrown)
 }
 
-fn are_same(one: &[i32], other: &[i32]) -> bool
+fn are_same(one: &[u8], other: &[u8]) -> bool
     ensures { IsTrue result ↔ (one.now ≡ other.now) }
 {
     one == other
 }
 
+/// Whether a text is what was printed. The only error is a want of memory.
+fn is_printed(alloc: Global, outcome: &Outcome, text: &[u8]) -> Result<bool, AllocError>
+    ensures { IfOk result (λ b. IsTrue b ↔ (spec.printed_text outcome.now.printed.items ≡ text.now)) }
+{
+    let mut printed = Vec::new(alloc);
+    push_printed(alloc, &mut printed, &outcome.printed)?;
+    Ok(are_same(&printed, text))
+}
+
 impl Wanted {
-    /// Whether an outcome is wanted.
-    pub fn is(&self, outcome: &Outcome) -> bool
-        ensures { IsTrue result ↔ IsWanted self.now (told_by outcome.now) }
+    /// Whether an outcome is wanted. The only error is a want of memory.
+    pub fn is(&self, alloc: Global, outcome: &Outcome) -> Result<bool, AllocError>
+        ensures { IfOk result (λ b. IsTrue b ↔ IsWanted self.now (told_by outcome.now)) }
     {
         match self {
-            Wanted::Nothing => false,
-            Wanted::Stuck => any_is_stuck(&outcome.threads),
-            Wanted::Uncaught => any_has_thrown(&outcome.threads),
-            Wanted::Printed(printed) => are_same(&outcome.printed, printed),
+            Wanted::Nothing => Ok(false),
+            Wanted::Stuck => Ok(any_is_stuck(&outcome.threads)),
+            Wanted::Uncaught => Ok(any_has_thrown(&outcome.threads)),
+            Wanted::Printed(text) => is_printed(alloc, outcome, text),
+            Wanted::PrintedOther(text) => Ok(!is_printed(alloc, outcome, text)?),
         }
     }
 }

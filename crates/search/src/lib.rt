@@ -7,3 +7,4 @@ mod searching;
 mod states;
 
 pub use searching::{Searched, Verdict, search};
+pub use states::states_within;

@@ -47,13 +47,18 @@ pub(crate) enum Visit {
 }
 
 /// Lists the outcome of a state, if there is one, unless it is wanted: then the answer is true.
-fn is_found(wanted: &Wanted, outcomes: &mut Outcomes, outcome: Option<Outcome>) -> Result<bool, AllocError>
+fn is_found(
+    alloc: Global,
+    wanted: &Wanted,
+    outcomes: &mut Outcomes,
+    outcome: Option<Outcome>,
+) -> Result<bool, AllocError>
     ensures { IfOk result (λ found. ListsOr wanted.now outcome found outcomes.old outcomes.new) }
 {
     let Some(outcome) = outcome else {
         return Ok(false);
     };
-    if wanted.is(&outcome) {
+    if wanted.is(alloc, &outcome)? {
         return Ok(true);
     }
     outcomes.add(outcome)?;
@@ -77,7 +82,7 @@ fn visit_state(
     met_states_are_kept();
     let machine = states.machine(number)?;
     let outcome = outcome_of(alloc, classes, &machine)?;
-    if is_found(wanted, outcomes, outcome)? {
+    if is_found(alloc, wanted, outcomes, outcome)? {
         return Ok(Visit::Found(states.schedule(number)?));
     }
     if expand(states, number, &machine, most)? {

@@ -20,6 +20,15 @@ use std::alloc::{AllocError, Global};
 use std::marker::Model;
 use std::sync::Arc;
 
+/// How many bytes a state takes at most: its event and its place in the tree of schedules, its hash and its place in the index, each in
+/// a list that may have as much room again, and stands twice while it is moved to one with more room.
+const STATE_BYTES: u32 = 128;
+
+/// How many states there may be, so that they don't take more than so many bytes.
+pub fn states_within(bytes: u32) -> u32 {
+    bytes / STATE_BYTES
+}
+
 /// States by their numbers: number 0 is the opening state, and an event leads to each other one from one with a lower number.
 #[derive(Drop)]
 pub(crate) struct States {

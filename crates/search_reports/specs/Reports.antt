@@ -1,17 +1,17 @@
--- The text of what a search answers, and the status (own).
+-- The text of what a search answers (own).
 use Rattle.std.specs.Prelude.{◌≡◌, ℕ, suc, ℤ, pos, List, [], ◌∷◌, ◌++◌, length, map, codes, refl}
-use Rattle.std.specs.List.{flat_map}
 use Rattle.std.specs.Fmt.{digits}
 use Rattle.model.specs.declared.end.End.TheVariants as ends
 use Rattle.model.specs.declared.report.Report.{Report}
-use Rattle.model.specs.Report.{Ended, Blocked, end_state_of, number, signed_number, line, thread_lines, report_text}
+use Rattle.model.specs.Report.{Ended, Blocked, end_state_of, number, line, thread_lines, report_text}
 use Rattle.interleavings.specs.Ends.{Outcome}
+use Rattle.run_outcomes.specs.Outcomes.{printed_text}
 use Rattle.search_reports.specs.declared.answers.Answer.{Answer}
 use Rattle.search_reports.specs.declared.answers.Answer.TheVariants as answer
 
 -- the numbers that were printed, and the threads by their numbers
 abbrev pub outcome_lines : Outcome → List ℕ
-outcome_lines o = flat_map (λ z. line (signed_number z)) o.printed ++ thread_lines 0 o.ends
+outcome_lines o = printed_text o.printed ++ thread_lines 0 o.ends
 
 -- outcomes that are numbered from i
 abbrev pub outcome_texts : ℕ → List Outcome → List ℕ
@@ -20,24 +20,18 @@ outcome_texts i (o ∷ others) = (line (codes "outcome " ++ number i) ++ outcome
 
 -- where an outcome was wanted the report of its run, else all outcomes
 abbrev pub found_text : Answer → List ℕ
-found_text (answer.Found r) = report_text r.printed.items (map end_state_of r.threads.items) r.events ends.Quiet
+found_text (answer.Found schedule r) = report_text r.printed.items (map end_state_of r.threads.items) r.events ends.Quiet
 found_text (answer.Complete outcomes) = outcome_texts 1 outcomes ++ line (codes "outcomes " ++ number (length outcomes))
 found_text answer.GaveUp = []
 
 abbrev pub answer_word : Answer → List ℕ
-answer_word (answer.Found r) = codes "found"
+answer_word (answer.Found schedule r) = codes "found"
 answer_word (answer.Complete outcomes) = codes "complete"
 answer_word answer.GaveUp = codes "gave up"
 
 -- that, how many states were met, and what the answer is
 abbrev pub search_text : Answer → ℕ → List ℕ
 search_text a states = found_text a ++ (line (codes "states " ++ number states) ++ line (codes "search " ++ answer_word a))
-
--- the number by which the caller of the program sees it
-abbrev pub status_of : Answer → ℕ
-status_of (answer.Found r) = 1
-status_of (answer.Complete outcomes) = 0
-status_of answer.GaveUp = 5
 
 -- ---- examples
 

@@ -1,7 +1,9 @@
-//! The text of what a search over all schedules answers, and the status.
+//! What a search over all schedules answers, and the text of it.
 #![tactic(auto)]
 
 mod answers;
 mod outcomes;
+mod searching;
 
-pub use answers::Answer;
+pub use answers::{Answer, SearchReport};
+pub use searching::search_report;
