@@ -180,11 +180,7 @@ fn search<F: Folder, W: Sink>(
 }
 
 /// The outcome that a search is to find, where one is asked for.
-fn wanted_by<F: Folder>(
-    alloc: Global,
-    folder: &F,
-    goal: &Option<Goal>,
-) -> Result<Wanted, Fault> {
+fn wanted_by<F: Folder>(alloc: Global, folder: &F, goal: &Option<Goal>) -> Result<Wanted, Fault> {
     Ok(match goal {
         None => Wanted::Nothing,
         Some(Goal::Deadlock) => Wanted::Stuck,

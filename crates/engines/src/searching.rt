@@ -99,10 +99,7 @@ fn found_file(
 }
 
 /// Writes the schedule file, where there is one.
-fn write_found<V: Sink>(
-    recorder: &mut Option<V>,
-    file: &Option<Vec<u8>>,
-) -> Result<(), DeviceFault>
+fn write_found<V: Sink>(recorder: &mut Option<V>, file: &Option<Vec<u8>>) -> Result<(), DeviceFault>
     requires { IsTrue (is_some file.now) → IsTrue (is_some recorder.old) }
     ensures written { OnOk result (RecordsFound (option_map V.contents recorder.old) (option_map V.contents recorder.new)
         (option_map vec_items file.now)) }
