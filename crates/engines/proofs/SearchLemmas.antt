@@ -1,6 +1,7 @@
 -- Why class files are not searched, and how far what a search says is written.
 use Rattle.std.proofs.Common.{◌≡◌, ℕ, ◌<◌, Bool, List, length, Option, Some, None, inl, refl, sym, subst, ◌∙◌}
 use Rattle.std.specs.Prelude.{IsTrue, is_some}
+use Rattle.std.specs.Option.{option_map}
 use Rattle.model.specs.declared.device.DeviceFault.{DeviceFault}
 use Rattle.model.specs.declared.device.DeviceFault.TheVariants as devices
 use Rattle.model.specs.Schedule.{Recording}
@@ -10,9 +11,11 @@ use Rattle.search_reports.specs.declared.answers.Answer.{Answer}
 use Rattle.search_reports.specs.declared.answers.Answer.TheVariants as answers
 use Rattle.engines.specs.Devices.{fault_of}
 use Rattle.engines.specs.Engines.{IsOfFile}
-use Rattle.engines.specs.Searches.{IsFileOf, IsUnsearched, SearchesPart}
+use Rattle.engines.specs.Runs.{recording_of}
+use Rattle.engines.specs.Searches.{IsFileOf, IsSearched, IsUnsearched, SearchesPart}
 use Rattle.engines.specs.declared.fault.Fault.{Fault}
 use Rattle.engines.specs.declared.fault.Fault.TheVariants as faults
+use Rattle.engines.specs.declared.status.Status.{Status}
 
 module _ (lefts : List (Option (List ℕ))) (asked : LimitOptions) (want : Wanted) (recorded : Bool) where
   -- a class file isn't read, and nothing is written
@@ -41,3 +44,12 @@ asked_for recording recorded answers.GaveUp file is there = absurd (none_there f
   where
     none_there : (file : Option (List ℕ)) → file ≡ None → IsTrue (is_some file) → ⊥
     none_there file e t = let bad : IsTrue (is_some {A = List ℕ} None) = subst (λ f. IsTrue (is_some f)) e t in cc
+
+pub file_is_asked_for : (files : List (List ℕ)) (asked : LimitOptions) (want : Wanted) (recorded : Bool) (text : List ℕ) (file : Option (List ℕ)) (status : Status)
+    → IsSearched files asked want recorded text file status → IsTrue (is_some file) → IsTrue recorded
+file_is_asked_for files asked want recorded text file status searched there = asked_for (recording_of searched.limits files) recorded searched.answer file searched.spelled there
+
+-- a file's bytes are there where the file is
+pub is_there : {F : Type 0} {bytes : F → List ℕ} (file : Option F) → IsTrue (is_some file) → IsTrue (is_some (option_map bytes file))
+is_there (Some f) there = there
+is_there None there = there

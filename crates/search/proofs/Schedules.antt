@@ -1,8 +1,8 @@
 -- The schedules of the states that were met.
 use Rattle.std.proofs.Common.{◌≡◌, ℕ, zero, suc, ◌+◌, ◌<◌, ◌^◌, List, [], ◌∷◌, ◌++◌, length, map, get_or, replicate, Some, Result, Ok, Err, refl, sym, ap, subst, ◌∙◌, length-append, lit<, arith}
-use Rattle.std.specs.Prelude.{slice_get, slice_index_or, IfOk}
+use Rattle.std.specs.Prelude.{slice_get, slice_index_or, IfOk, OnOk}
 use Rattle.std.specs.Option.{option_map}
-use Rattle.std.proofs.lemmas.List.{append-nil, append_assoc, map_push}
+use Rattle.std.proofs.lemmas.List.{append-nil, append_assoc, map_push, length-map}
 use Rattle.std.proofs.lemmas.List.Concat.{flat_map-append}
 use Rattle.std.proofs.lemmas.Option.{same_Some, none-some, slice_get-map, slice_get-get_or, slice_get_within, get_or_from_slice_get}
 use Rattle.model.specs.declared.event.Event.{Event}
@@ -39,10 +39,11 @@ module _ (s : StatesOf) (number : ℕ) where
   in_state : (events : List Event) (m : MachineOf) → IsSchedule s number events → IsAt s.program s.limits events m → IsInState s number m
   in_state events m is at others are = subst (λ l. IsAt s.program s.limits l m) (same_Some events others (sym is ∙ are)) at
 
-  pub in_state_if : (p : LinkedProgram) (events : List Event) → p ≡ s.program → IsSchedule s number events → {E : Type 0} (result : Result MachineOf E) → IfOk result (IsAt p s.limits events)
-      → IfOk result (IsInState s number)
-  in_state_if p events same is (Ok m) at = in_state events m is (subst (λ q. IsAt q s.limits events m) same at)
-  in_state_if p events same is (Err x) at = tt
+  pub in_state_if : (p : LinkedProgram) (limits : Limits) (events : List Event) → p ≡ s.program → limits ≡ s.limits → IsSchedule s number events → {E : Type 0} (result : Result MachineOf E)
+      → IfOk result (IsAt p limits events) → IfOk result (IsInState s number)
+  in_state_if p limits events same_program same_limits is (Ok m) at =
+      in_state events m is (subst (λ q. IsAt q s.limits events m) same_program (subst (λ l. IsAt p l events m) same_limits at))
+  in_state_if p limits events same_program same_limits is (Err x) at = tt
 
   pub after : (event : Event) (old new : MachineOf) → IsInState s number old → GoesBy (Ok answer.Done) event old new → IsAfter s number event new
   after event old new in_old goes events is = gone_on s.program s.limits events event old new (in_old events is) goes
@@ -111,3 +112,14 @@ module _ (ways : List (List ScheduleEntry)) (number : ℕ) (lt : number < length
       here : IsPushed number event (record { program = p; limits = limits; schedules = map events_of ways })
           (record { program = p; limits = limits; schedules = map events_of (with_way ways number entry) })
       here = record { grows = record { program = refl; limits_are = refl; kept = kept }; has = has }
+
+-- where there was memory for it
+pub pushed_if : (ways longer : List (List ScheduleEntry)) (number : ℕ) (event : Event) (p : LinkedProgram) (limits : Limits) (old new : StatesOf)
+    → record { program = p; limits = limits; schedules = map events_of ways } ≡ old → new ≡ record { program = p; limits = limits; schedules = map events_of longer }
+    → longer ≡ with_way ways number (record { event = event; repeat = 1 }) → number < length old.schedules → {E : Type 0} (result : Result (Unit {0}) E) → OnOk result (IsPushed number event old new)
+pushed_if ways longer number event p limits old new old_is new_is longer_is lt (Ok u) =
+    pushed ways number within event p limits old new (sym old_is) (new_is ∙ ap (λ l. let s : StatesOf = record { program = p; limits = limits; schedules = map events_of l } in s) longer_is)
+  where
+    within : number < length ways
+    within = subst (λ n. number < n) (sym (ap (λ (s : StatesOf). length s.schedules) old_is) ∙ length-map ways events_of) lt
+pushed_if ways longer number event p limits old new old_is new_is longer_is lt (Err x) = tt

@@ -2,7 +2,6 @@
 use Rattle.std.specs.Prelude.{◌≡◌, ℕ, List, Some}
 use Rattle.model.specs.declared.end.End.TheVariants as ends
 use Rattle.model.specs.declared.event.Event.{Event}
-use Rattle.model.specs.declared.event.ScheduleEntry.{ScheduleEntry}
 use Rattle.model.specs.declared.limits.Limits.{Limits}
 use Rattle.model.specs.declared.report.Report.{Report}
 use Rattle.model.specs.Classes.{Program}
@@ -10,7 +9,8 @@ use Rattle.model.specs.Meaning.{meaning}
 use Rattle.model.specs.Schedule.{events_of}
 use Rattle.machine_replay.specs.Replays.{text_of}
 use Rattle.run_outcomes.specs.declared.wanted.Wanted.{Wanted}
-use Rattle.search.specs.Verdicts.{IsFound, IsComplete}
+use Rattle.search.specs.declared.searching.Verdict.{Verdict}
+use Rattle.search.specs.Verdicts.{IsFound, IsComplete, Says}
 use Rattle.search_reports.specs.declared.answers.Answer.{Answer}
 use Rattle.search_reports.specs.declared.answers.Answer.TheVariants as answer
 
@@ -25,6 +25,6 @@ Answers trees limits want (answer.Found schedule r) = IsFound trees limits want 
 Answers trees limits want (answer.Complete outcomes) = IsComplete trees limits want outcomes
 Answers trees limits want answer.GaveUp = Unit {0}
 
--- if such a run is wanted, this answers so
-abbrev pub IsAnswerTo : Program → Limits → (schedule : List ScheduleEntry) → Answer → Type 0
-IsAnswerTo trees limits schedule a = (want : Wanted) → IsFound trees limits want (events_of schedule) → Answers trees limits want a
+-- if this is what the search says, whatever was wanted, that answers it
+abbrev pub IsAnswerTo : Program → Limits → Verdict → Answer → Type 0
+IsAnswerTo trees limits v a = (want : Wanted) → Says trees limits want v → Answers trees limits want a

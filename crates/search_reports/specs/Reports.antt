@@ -13,10 +13,14 @@ use Rattle.search_reports.specs.declared.answers.Answer.TheVariants as answer
 abbrev pub outcome_lines : Outcome → List ℕ
 outcome_lines o = printed_text o.printed ++ thread_lines 0 o.ends
 
+-- an outcome with its number
+abbrev pub outcome_text : ℕ → Outcome → List ℕ
+outcome_text i o = line (codes "outcome " ++ number i) ++ outcome_lines o
+
 -- outcomes that are numbered from i
 abbrev pub outcome_texts : ℕ → List Outcome → List ℕ
 outcome_texts i [] = []
-outcome_texts i (o ∷ others) = (line (codes "outcome " ++ number i) ++ outcome_lines o) ++ outcome_texts (suc i) others
+outcome_texts i (o ∷ others) = outcome_text i o ++ outcome_texts (suc i) others
 
 -- where an outcome was wanted the report of its run, else all outcomes
 abbrev pub found_text : Answer → List ℕ

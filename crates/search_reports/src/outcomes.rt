@@ -3,7 +3,7 @@
 ghost use Rattle.std.specs.Prelude.{◌≡◌, ◌++◌, OnOk, codes, length, map};
 ghost use Rattle.model.specs.Report.{line, number};
 ghost use Rattle.run_outcomes.specs.Outcomes.{told_by};
-ghost use Rattle.search_reports.specs.Reports.{outcome_lines, outcome_texts};
+ghost use Rattle.search_reports.specs.Reports.{outcome_text, outcome_texts};
 
 use report::{push_line, push_printed, push_threads};
 use run_outcomes::{Outcome, Outcomes};
@@ -16,7 +16,7 @@ fn push_outcome(
     place: usize,
     outcome: &Outcome,
 ) -> Result<(), AllocError>
-    ensures { OnOk result (text.new.items ≡ text.old.items ++ (line (codes "outcome " ++ number place) ++ outcome_lines (told_by outcome.now))) }
+    ensures { OnOk result (text.new.items ≡ text.old.items ++ outcome_text place (told_by outcome.now)) }
 {
     push_line(text, format!(in alloc; "outcome {place}")?.as_bytes())?;
     push_printed(alloc, text, &outcome.printed)?;
@@ -27,7 +27,7 @@ fn push_outcome(
 fn push_each(alloc: Global, text: &mut Vec<u8>, outcomes: &[Outcome]) -> Result<(), AllocError>
     ensures { OnOk result (text.new.items ≡ text.old.items ++ outcome_texts 1 (map told_by outcomes.now)) }
 {
-    'outcomes: for (at, outcome) in outcomes.iter().enumerate() {
+    for (at, outcome) in outcomes.iter().enumerate() {
         push_outcome(alloc, text, at + 1, outcome)?;
     }
     Ok(())

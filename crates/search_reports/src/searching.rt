@@ -1,6 +1,7 @@
 //! A search, and the report of the run that it finds.
 
 ghost use Rattle.std.specs.Prelude.{IfOk};
+ghost use Rattle.search.specs.declared.searching.Verdict.TheVariants as verdicts;
 ghost use Rattle.search_reports.specs.Answers.{Answers, IsAnswerTo};
 
 use crate::answers::{Answer, SearchReport};
@@ -19,13 +20,29 @@ fn found(
     limits: Limits,
     schedule: Schedule,
 ) -> Result<Answer, AllocError>
-    ensures { IfOk result (IsAnswerTo verified.now limits schedule) }
+    ensures { IfOk result (IsAnswerTo verified.now limits (verdicts.Found schedule)) }
 {
     let (report, end) = replay(alloc, verified, &schedule, limits)?;
     match end {
         End::Quiet => Ok(Answer::Found(schedule, report)),
         // an event of such a run is refused for want of memory alone
         End::Schedule | End::Budget | End::NotEnabled(_) | End::Refused(_, _) => Err(AllocError),
+    }
+}
+
+/// What a search says, with the report of the run that it finds. The only error is a want of memory.
+fn answer_to(
+    alloc: Global,
+    verified: &Verified,
+    limits: Limits,
+    verdict: Verdict,
+) -> Result<Answer, AllocError>
+    ensures { IfOk result (IsAnswerTo verified.now limits verdict) }
+{
+    match verdict {
+        Verdict::Found(schedule) => found(alloc, verified, limits, schedule),
+        Verdict::Complete(outcomes) => Ok(Answer::Complete(outcomes)),
+        Verdict::GaveUp => Ok(Answer::GaveUp),
     }
 }
 
@@ -42,10 +59,6 @@ pub fn search_report(
 {
     let searched = search(alloc, verified, limits, wanted, most)?;
     let states = searched.states;
-    let answer = match searched.verdict {
-        Verdict::Found(schedule) => found(alloc, verified, limits, schedule)?,
-        Verdict::Complete(outcomes) => Answer::Complete(outcomes),
-        Verdict::GaveUp => Answer::GaveUp,
-    };
+    let answer = answer_to(alloc, verified, limits, searched.verdict)?;
     Ok(SearchReport { answer, states })
 }
