@@ -13,7 +13,7 @@ use Rattle.machine.specs.Machines.{MachineOf}
 use Rattle.met_states.specs.Met.{IsNextMet, AreHigherPicksLeft, AreOtherThreadsLeft, AreMetStatesKept}
 use Rattle.search.specs.Machines.{GoesBy}
 use Rattle.search.specs.States.{StatesOf, IsSchedule, IsInState, IsMetFrom, AreMetByThread, AreMetByThreads, AreAllMet, Grows, GrowsTo}
-use Rattle.search.proofs.Growth.{stays, further, within, earlier, still_met, gave_up, went_on}
+use Rattle.search.proofs.Growth.{stays, further, within, earlier, still_met, went_on}
 use Rattle.search.proofs.Shown.{run_of}
 
 -- so it is of each below a number
@@ -32,8 +32,9 @@ module _ (P : StatesOf → ℕ → Type 0) where
         each = below_more (P new) i (λ k lt. keeps k more.grows (so_far.each k lt)) (more.then refl);
       }
 
-  pub ends : (Q : StatesOf → Type 0) (old mid new : StatesOf) (i : ℕ) → HasGrown P old mid i → GrowsTo (λ s. P s i) mid new false → GrowsTo Q old new false
-  ends Q old mid new i so_far more = gave_up Q old new (further old mid new so_far.grows more.grows)
+  pub goes_further_if : (old mid new : StatesOf) (i : ℕ) → ((k : ℕ) → Grows mid new → P mid k → P new k) → HasGrown P old mid i → (went_on : Bool) → GrowsTo (λ s. P s i) mid new went_on → went_on ≡ true
+      → HasGrown P old new (i + 1)
+  goes_further_if old mid new i keeps so_far went_on more e = goes_further old mid new i keeps so_far (subst (GrowsTo (λ s. P s i) mid new) e more)
 
 -- ---- picks
 
@@ -72,8 +73,8 @@ IsThreadMet number s thread = AreMetByThread s number thread
 pub thread_kept : AreMetStatesKept → (number : ℕ) (mid new : StatesOf) → number < length mid.schedules → (k : ℕ) → Grows mid new → IsThreadMet number mid k → IsThreadMet number new k
 thread_kept kept number mid new lt k grows met pick = still_met mid new grows number lt kept (event_at k pick) (met pick)
 
-pub all_threads : (number threads : ℕ) (old new : StatesOf) → HasGrown (IsThreadMet number) old new threads → GrowsTo (λ s. AreMetByThreads s number threads) old new true
-all_threads number threads old new so_far = went_on (λ s. AreMetByThreads s number threads) old new so_far.grows so_far.each
+pub all_threads : (number threads at : ℕ) (old new : StatesOf) → at ≡ threads → HasGrown (IsThreadMet number) old new at → GrowsTo (λ s. AreMetByThreads s number threads) old new true
+all_threads number threads at old new e so_far = went_on (λ s. AreMetByThreads s number threads) old new so_far.grows (subst (λ n. AreMetByThreads new number n) e so_far.each)
 
 -- ---- all
 

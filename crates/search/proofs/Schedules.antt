@@ -114,12 +114,12 @@ module _ (ways : List (List ScheduleEntry)) (number : ℕ) (lt : number < length
       here = record { grows = record { program = refl; limits_are = refl; kept = kept }; has = has }
 
 -- where there was memory for it
-pub pushed_if : (ways longer : List (List ScheduleEntry)) (number : ℕ) (event : Event) (p : LinkedProgram) (limits : Limits) (old new : StatesOf)
-    → record { program = p; limits = limits; schedules = map events_of ways } ≡ old → new ≡ record { program = p; limits = limits; schedules = map events_of longer }
-    → longer ≡ with_way ways number (record { event = event; repeat = 1 }) → number < length old.schedules → {E : Type 0} (result : Result (Unit {0}) E) → OnOk result (IsPushed number event old new)
-pushed_if ways longer number event p limits old new old_is new_is longer_is lt (Ok u) =
-    pushed ways number within event p limits old new (sym old_is) (new_is ∙ ap (λ l. let s : StatesOf = record { program = p; limits = limits; schedules = map events_of l } in s) longer_is)
+pub pushed_if : (ways ways_new : List (List ScheduleEntry)) (number : ℕ) (event : Event) (p : LinkedProgram) (limits : Limits) (old new : StatesOf)
+    → record { program = p; limits = limits; schedules = map events_of ways } ≡ old → new ≡ record { program = p; limits = limits; schedules = map events_of ways_new }
+    → ways_new ≡ with_way ways number (record { event = event; repeat = 1 }) → number < length old.schedules → {E : Type 0} (result : Result (Unit {0}) E) → OnOk result (IsPushed number event old new)
+pushed_if ways ways_new number event p limits old new old_is new_is ways_are lt (Ok u) =
+    pushed ways number within event p limits old new (sym old_is) (new_is ∙ ap (λ l. let s : StatesOf = record { program = p; limits = limits; schedules = map events_of l } in s) ways_are)
   where
     within : number < length ways
     within = subst (λ n. number < n) (sym (ap (λ (s : StatesOf). length s.schedules) old_is) ∙ length-map ways events_of) lt
-pushed_if ways longer number event p limits old new old_is new_is longer_is lt (Err x) = tt
+pushed_if ways ways_new number event p limits old new old_is new_is ways_are lt (Err x) = tt

@@ -84,9 +84,13 @@ module _ (trees : Program) (limits : Limits) (want : Wanted) (s : StatesOf) (out
           is_wanted = wanted;
         }
 
-  pub found : (o : Option TheOutcome) (new : List Outcome) → TellsOutcome trees m o → ListsOr want o true outcomes new → (events : List Event) → IsSchedule s number events → IsFound trees limits want events
+  found : (o : Option TheOutcome) (new : List Outcome) → TellsOutcome trees m o → ListsOr want o true outcomes new → (events : List Event) → IsSchedule s number events → IsFound trees limits want events
   found None new tells lists events is = absurd (true≢false lists.0)
   found (Some o) new tells lists events is = found_at events is o tells lists
+
+  pub found_if : (o : Option TheOutcome) (new : List Outcome) (is_found : Bool) → TellsOutcome trees m o → ListsOr want o is_found outcomes new → is_found ≡ true
+      → (events : List Event) → IsSchedule s number events → IsFound trees limits want events
+  found_if o new is_found tells lists e = found o new tells (subst (λ b. ListsOr want o b outcomes new) e lists)
 
   -- its outcome, if there is one, is listed
   module _ (new : List Outcome) where
@@ -137,7 +141,7 @@ module _ (trees : Program) (limits : Limits) (want : Wanted) (s : StatesOf) (out
 
     -- ---- and the states to which events lead from it are met
 
-    pub visited_too : AreMetStatesKept → (o : Option TheOutcome) → TellsOutcome trees m o → ListsOr want o false outcomes new
+    visited_too : AreMetStatesKept → (o : Option TheOutcome) → TellsOutcome trees m o → ListsOr want o false outcomes new
         → (s_new : StatesOf) → GrowsTo (λ x. AreAllMet x number) s s_new true → HasVisited trees limits want s_new new (suc number)
     visited_too kept o tells lists s_new grown =
         record {
@@ -162,3 +166,8 @@ module _ (trees : Program) (limits : Limits) (want : Wanted) (s : StatesOf) (out
         listed_now k events state before is r quiet =
             let inside : k < length s.schedules = omega (arith, before, lt) in
             now.listed k events state before (earlier s s_new grown.grows k inside events is) r quiet
+
+    pub visited_if : AreMetStatesKept → (o : Option TheOutcome) (is_found : Bool) → TellsOutcome trees m o → ListsOr want o is_found outcomes new → is_found ≡ false
+        → (s_new : StatesOf) (went_on : Bool) → GrowsTo (λ x. AreAllMet x number) s s_new went_on → went_on ≡ true → HasVisited trees limits want s_new new (suc number)
+    visited_if kept o is_found tells lists e s_new went_on grown went =
+        visited_too kept o tells (subst (λ b. ListsOr want o b outcomes new) e lists) s_new (subst (GrowsTo (λ x. AreAllMet x number) s s_new) went grown)
