@@ -4,7 +4,7 @@ use Rattle.std.specs.Prelude.{IfOk}
 use Rattle.std.specs.Option.{MatchOption}
 use Rattle.std.proofs.lemmas.Str.Pattern.{IsSplitOnceResult, split_parts, split_after}
 use Rattle.clap.specs.Words.{Text}
-use Rattle.command_line.specs.CommandLine.{NamesGoal, NamesGoalWith, goal_word}
+use Rattle.command_line.specs.CommandLine.{IsGoal, NamesGoal, NamesGoalWith, goal_word}
 use Rattle.command_line.specs.declared.options.Goal.{Goal}
 use Rattle.command_line.specs.declared.options.Goal.TheVariants as goals
 
@@ -22,12 +22,11 @@ free_of (b ∷ bytes) f (suc i) lt e = free_of bytes f.1 i (omega (arith, lt)) e
 
 output_free : AreOther (codes "output")
 unfolding AreOther
-output_free = (λ e. omega (arith, e), λ e. omega (arith, e), λ e. omega (arith, e), λ e. omega (arith, e), λ e. omega (arith, e), λ e. omega (arith, e), tt)
+output_free = (λ e. omega (arith, e), (λ e. omega (arith, e), (λ e. omega (arith, e), (λ e. omega (arith, e), (λ e. omega (arith, e), (λ e. omega (arith, e), tt))))))
 
 differs_free : AreOther (codes "differs")
 unfolding AreOther
-differs_free =
-    (λ e. omega (arith, e), λ e. omega (arith, e), λ e. omega (arith, e), λ e. omega (arith, e), λ e. omega (arith, e), λ e. omega (arith, e), λ e. omega (arith, e), tt)
+differs_free = (λ e. omega (arith, e), (λ e. omega (arith, e), (λ e. omega (arith, e), (λ e. omega (arith, e), (λ e. omega (arith, e), (λ e. omega (arith, e), (λ e. omega (arith, e), tt)))))))
 
 -- ---- a word that is neither of those without a value
 
@@ -59,3 +58,21 @@ module _ (word : Text) (other : word ≡ codes "deadlock" → ⊥) (another : wo
     pub named : {E : Type 0} (result : Result (Option Goal) E) → IfOk result (NamesGoalWith name.now value.now) → IfOk result (NamesGoal word)
     named (Ok goal) is = named_with goal is
     named (Err e) is = tt
+
+-- ---- where one is asked for
+
+pub none_asked : (value : Option Text) → value ≡ None → IsGoal value None
+none_asked value e = subst (λ v. IsGoal v None) (sym e) tt
+
+module _ (value : Option Text) (word : Text) (is : value ≡ Some word) (found : Option Goal) (names : NamesGoal word found) where
+  pub one_asked : (goal : Goal) → found ≡ Some goal → IsGoal value (Some goal)
+  one_asked goal e =
+      let named_it : NamesGoal word (Some goal) = subst (NamesGoal word) e names in
+      subst (λ v. IsGoal v (Some goal)) (sym is) named_it
+
+  pub none_fits : found ≡ None → (goal : Option Goal) → IsGoal value goal → ⊥
+  none_fits e goal fits = refute goal (subst (λ v. IsGoal v goal) is fits)
+    where
+      refute : (goal : Option Goal) → IsGoal (Some word) goal → ⊥
+      refute None no_goal = no_goal
+      refute (Some goal) is_it = let none : NamesGoal word None = subst (NamesGoal word) e names in none goal is_it

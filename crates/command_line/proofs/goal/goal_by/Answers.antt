@@ -1,3 +1,4 @@
+use Rattle.std.proofs.Common.{rules}
 use Rattle.command_line.proofs.GoalLemmas.{named, none_named}
 use Rattle.command_line.proofs.goal.goal_by.Goals as goal
 
