@@ -1,5 +1,5 @@
 #!/usr/bin/env python3
-"""Measures the program `jvm replay`, process and all.
+"""Measures the programs `jvm replay` and `jvm trace`, process and all.
 
     replay.py [--program PROGRAM] [NAME..]
 
@@ -13,6 +13,8 @@ loop      10,000,000 events of one thread in a loop of local instructions: event
 long      the same with 1,000,000,000 events
 switches  10,000,000 events of two threads, another thread at each: the nanoseconds of a switch beyond those of an
           event, by a run of as many events with one switch, and peak resident memory. `javac` has to be there
+trace     the first 1,000,000 events of Fib, Fields, Locks and Throws of bench/java, traced to a file: seconds, the least
+          of three runs, next to those of the replay alone, and the size of the file. `javac` has to be there
 """
 
 import argparse
@@ -35,6 +37,8 @@ LOOP = "03 3c 840101 1b 57 a7fffb"
 STARTS = 200
 
 SWITCHES = 10_000_000
+
+TRACED = 1_000_000
 
 # So many events of main come first where there are two threads; the other one is started among them.
 FIRST = 20
@@ -134,7 +138,38 @@ def switches(program, folder):
     )
 
 
-MEASURES = {"start": start, "loop": loop, "long": long, "switches": switches}
+def seconds_of(command, folder, output):
+    """The least time of three processes that write to a file."""
+    least = float("inf")
+    for _ in range(3):
+        with open(output, "wb") as file:
+            begin = time.monotonic()
+            ran = subprocess.run(command, cwd=folder, stdout=file)
+            least = min(least, time.monotonic() - begin)
+        if ran.returncode != USED_UP:
+            sys.exit(f"status {ran.returncode}")
+    return least
+
+
+def trace(program, folder):
+    (folder / "schedule").write_text(f"0*{TRACED}")
+    for name in "Fib", "Fields", "Locks", "Throws":
+        source = ROOT / f"bench/java/{name}.java"
+        subprocess.run([ROOT / "tools/java-classes", source, "--into", folder], check=True, stdout=subprocess.DEVNULL)
+        files = [f"{name}.class", *sorted(it.name for it in folder.glob(f"{name}?*.class"))]
+        words = ["--schedule", "schedule", *files]
+        replay = seconds_of([program, "replay", *words], folder, folder / "report")
+        traced = seconds_of([program, "trace", *words], folder, folder / "trace")
+        with open(folder / "trace", "rb") as file:
+            lines = sum(1 for _ in file)
+        report = (folder / "report").read_bytes()
+        if lines != TRACED + report.count(b"\n"):
+            sys.exit(f"{name}: {lines} lines")
+        size = (folder / "trace").stat().st_size
+        print(f"{name}: {TRACED} events traced in {traced:.2f} s, replayed in {replay:.2f} s, a file of {size // 1_000} kB")
+
+
+MEASURES = {"start": start, "loop": loop, "long": long, "switches": switches, "trace": trace}
 
 
 def main():
