@@ -32,26 +32,31 @@ run_more trees frames (first ∷ events) from state next event r e = by (step tr
     by (Some s) q rest = rest s q
 
 pub alike_met : AreWordsTold → AreAlikeStatesMet
-alike_met words_told trees p bounds schedules events schedule event one other has first second alike state next r e =
-    let longer = run_more trees bounds.frames events (opening values trees) state next event r e in
-    let is : first.lead.state ≡ next = same_Some first.lead.state next (sym first.lead.reached ∙ longer) in
+alike_met words_told trees p bounds schedules events more schedule event one other has past first second alike state next r e =
+    let leads = past next (run_more trees bounds.frames events (opening values trees) state next event r e) in
+    let is : first.lead.state ≡ leads.last = same_Some first.lead.state leads.last (sym first.lead.reached ∙ leads.reached) in
     let same : first.at ≡ second.at = words_told trees p bounds _ _ one other first.at second.at first.shown second.shown alike in
     record {
-      schedule = schedule;
-      has = has;
-      met = second.lead.state;
-      leads = second.lead.reached;
-      same = sym second.lead.are.are ∙ (sym same ∙ (first.lead.are.are ∙ ap words_of is));
+      threads = leads.threads;
+      last = leads.last;
+      are_local = leads.are_local;
+      is_met = record {
+        schedule = schedule;
+        has = has;
+        met = second.lead.state;
+        leads = second.lead.reached;
+        same = sym second.lead.are.are ∙ (sym same ∙ (first.lead.are.are ∙ ap words_of is));
+      };
     }
 
 pub new_met : AreNewStatesMet
-new_met trees frames schedules events event has state next r e =
+new_met trees frames schedules events more event past has state next r e =
+    let leads = past next (run_more trees frames events (opening values trees) state next event r e) in
     record {
-      schedule = events ++ event ∷ [];
-      has = has;
-      met = next;
-      leads = run_more trees frames events (opening values trees) state next event r e;
-      same = refl;
+      threads = leads.threads;
+      last = leads.last;
+      are_local = leads.are_local;
+      is_met = record { schedule = (events ++ event ∷ []) ++ more; has = has; met = leads.last; leads = leads.reached; same = refl };
     }
 
 -- ---- events that lead nowhere
@@ -82,8 +87,14 @@ others_left trees p bounds schedules events event shared has past state next r e
 
 pub kept_met : AreMetStatesKept
 kept_met trees frames some all events event listed met state next r e =
-    let m = met state next r e in
-    record { schedule = m.schedule; has = listed m.schedule m.has; met = m.met; leads = m.leads; same = m.same }
+    let f = met state next r e in
+    let m = f.is_met in
+    record {
+      threads = f.threads;
+      last = f.last;
+      are_local = f.are_local;
+      is_met = record { schedule = m.schedule; has = listed m.schedule m.has; met = m.met; leads = m.leads; same = m.same };
+    }
 
 pub whole : AreSearchesWhole
 whole trees frames schedules outcomes s =
@@ -94,7 +105,7 @@ whole trees frames schedules outcomes s =
         are_local = refl;
         is_met = record { schedule = []; has = s.opened; met = opening values trees; leads = refl; same = refl };
       };
-      closed = λ schedule state next event has r e. record { threads = []; last = next; are_local = refl; is_met = s.met schedule event has state next r e };
+      closed = λ schedule state next event has r e. s.met schedule event has state next r e;
       listed = s.listed;
       only = s.only;
     }

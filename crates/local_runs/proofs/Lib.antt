@@ -1,0 +1,2 @@
+mod Locally
+mod Bursts
