@@ -94,6 +94,25 @@ pub fn interface_ladder(alloc: Global, number: u32) -> Result<Vec<Vec<u8>>, Allo
     Ok(set.finish())
 }
 
+/// So many interfaces, each of which stands on all before it; and a class that implements the last.
+pub fn dense_interfaces(alloc: Global, number: u32) -> Result<Vec<Vec<u8>>, AllocError> {
+    let mut set = Set::new(alloc);
+    let mut class = set.main_class()?;
+    let mut body = Body::new(alloc);
+    body.ops(&[RETURN])?;
+    body.add_main(&mut class, 0, 1)?;
+    class.add_interface(&numbered(b'I', number.wrapping_sub(1)))?;
+    set.add(class)?;
+    for place in 0..number {
+        let mut interface = ClassBuilder::new(alloc, INTERFACE, &numbered(b'I', place), OBJECT)?;
+        for lower in 0..place {
+            interface.add_interface(&numbered(b'I', lower))?;
+        }
+        set.add(interface)?;
+    }
+    Ok(set.finish())
+}
+
 /// A name of so many bytes.
 pub fn long_name(alloc: Global, number: u32) -> Result<Vec<u8>, AllocError> {
     let mut name = Vec::new(alloc);

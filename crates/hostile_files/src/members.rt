@@ -37,6 +37,60 @@ pub fn overriding_methods(alloc: Global, number: u32) -> Result<Vec<Vec<u8>>, Al
     Ok(set.finish())
 }
 
+/// A primitive type for each two bits.
+fn primitive(number: u32) -> u8 {
+    match number % 4 {
+        0 => b'B',
+        1 => b'I',
+        2 => b'S',
+        _ => b'Z',
+    }
+}
+
+/// A descriptor of eight parameters, another one for each number below 65,536.
+fn numbered_descriptor(number: u32) -> [u8; 11] {
+    [
+        b'(',
+        primitive(number >> 14),
+        primitive(number >> 12),
+        primitive(number >> 10),
+        primitive(number >> 8),
+        primitive(number >> 6),
+        primitive(number >> 4),
+        primitive(number >> 2),
+        primitive(number),
+        b')',
+        b'V',
+    ]
+}
+
+/// So many methods of one name of as many bytes, which differ in their descriptors.
+fn add_overloads(class: &mut ClassBuilder, name: &[u8], number: u32) -> Result<(), AllocError> {
+    let parts = CodeParts {
+        max_stack: 0,
+        max_locals: 9,
+        bytes: &[RETURN],
+        exceptions: &[],
+    };
+    for place in 0..number {
+        class.add_method(PUBLIC, name, &numbered_descriptor(place), Some(parts))?;
+    }
+    Ok(())
+}
+
+/// A class and a subclass, each with so many methods of one name of as many bytes.
+pub fn overloaded_long_name(alloc: Global, number: u32) -> Result<Vec<Vec<u8>>, AllocError> {
+    let mut set = Set::new(alloc);
+    set.add_idle_main()?;
+    let name = long_name(alloc, number)?;
+    for place in 0..2u32 {
+        let mut class = set.chained(b'C', place, OBJECT)?;
+        add_overloads(&mut class, &name, number)?;
+        set.add(class)?;
+    }
+    Ok(set.finish())
+}
+
 /// A static field of a class, read by an instruction.
 fn read_field(
     body: &mut Body,

@@ -1,22 +1,28 @@
 //! The shapes by their names.
 
-use crate::chains::{catch_chain, interface_ladder, long_class_name, loop_up_a_chain};
+use crate::chains::{
+    catch_chain, dense_interfaces, interface_ladder, long_class_name, loop_up_a_chain,
+};
 use crate::handlers::{alternating_handlers, early_handlers, handlers, raised_handlers};
-use crate::members::{long_descriptor, overriding_methods, read_fields, redeclared_fields};
+use crate::members::{
+    long_descriptor, overloaded_long_name, overriding_methods, read_fields, redeclared_fields,
+};
 use crate::variables::{deep_stack, slow_loop};
 use std::alloc::{AllocError, Global};
 
 /// Their names, in the order of the alphabet.
-pub const SHAPES: [&str; 14] = [
+pub const SHAPES: [&str; 16] = [
     "alternating-handlers",
     "catch-chain",
     "deep-stack",
+    "dense-interfaces",
     "early-handlers",
     "handlers",
     "interface-ladder",
     "long-class-name",
     "long-descriptor",
     "loop-up-a-chain",
+    "overloaded-long-name",
     "overriding-methods",
     "raised-handlers",
     "read-fields",
@@ -35,12 +41,14 @@ pub fn class_files(
         "alternating-handlers" => alternating_handlers(alloc, number)?,
         "catch-chain" => catch_chain(alloc, number)?,
         "deep-stack" => deep_stack(alloc, number)?,
+        "dense-interfaces" => dense_interfaces(alloc, number)?,
         "early-handlers" => early_handlers(alloc, number)?,
         "handlers" => handlers(alloc, number)?,
         "interface-ladder" => interface_ladder(alloc, number)?,
         "long-class-name" => long_class_name(alloc, number)?,
         "long-descriptor" => long_descriptor(alloc, number)?,
         "loop-up-a-chain" => loop_up_a_chain(alloc, number)?,
+        "overloaded-long-name" => overloaded_long_name(alloc, number)?,
         "overriding-methods" => overriding_methods(alloc, number)?,
         "raised-handlers" => raised_handlers(alloc, number)?,
         "read-fields" => read_fields(alloc, number)?,
