@@ -2,7 +2,7 @@ use Rattle.std.proofs.Common.{◌≡◌, ◌∙◌, ◌<◌, length, false, sym,
 use Rattle.model.specs.Names.{name_eq}
 use Rattle.model.specs.Classes.{classes_of}
 use Rattle.hierarchy.proofs.Chains.{subclass_next}
-use Rattle.hierarchy.proofs.set.ClassSet.is_subclass.Goals as goal
+use Rattle.hierarchy.proofs.set.ClassSet.is_subclass_by_steps.Goals as goal
 
 pub loop-step-preserved : goal.loop-step-preserved
 loop-step-preserved c =
