@@ -1,0 +1,36 @@
+//! The contracts.
+#![tactic(auto)]
+
+pub mod instruction_needs__root;
+pub mod method_selection__interfaces;
+pub mod method_selection__kinds;
+pub mod method_selection__rows;
+pub mod method_selection__virtuals;
+pub mod linked_frames__standing;
+pub mod invocations__frames;
+pub mod field_instructions__arrays;
+pub mod field_instructions__fields;
+pub mod field_instructions__statics;
+pub mod local_instructions__event;
+pub mod local_instructions__kinds;
+pub mod returns__places;
+pub mod returns__returning;
+pub mod returns__unwinding;
+pub mod class_initialisation__needing;
+pub mod class_initialisation__statuses;
+pub mod class_initialisation__steps;
+pub mod type_instructions__arrays;
+pub mod type_instructions__casts;
+pub mod type_instructions__objects;
+pub mod type_instructions__stores;
+pub mod monitor_instructions__instructions;
+pub mod thread_methods__called;
+pub mod called_methods__calls;
+pub mod called_methods__direct_calls;
+pub mod called_methods__plain_calls;
+pub mod called_methods__printing;
+pub mod instruction_events__at_once;
+pub mod instruction_events__events;
+pub mod pending_exceptions__pending;
+pub mod exception_handlers__errors;
+pub mod exception_handlers__handlers;

@@ -1,0 +1,4 @@
+//! The contracts.
+#![tactic(auto)]
+
+pub mod workers__work;
