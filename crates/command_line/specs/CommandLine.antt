@@ -1,6 +1,6 @@
 -- The command line (own), in the words of the crate `clap`: which options there are, and which command the words
 -- spell.
-use Rattle.std.specs.Prelude.{◌≡◌, ◌≤◌, ◌⊎◌, ℕ, ◌-◌, ◌^◌, Bool, List, map, true, false, codes, Option, Some, None, string_bytes}
+use Rattle.std.specs.Prelude.{◌≡◌, ◌≤◌, ◌⊎◌, ℕ, ◌-◌, ◌^◌, Bool, List, ◌∷◌, ◌++◌, map, true, false, codes, Option, Some, None, string_bytes}
 use Rattle.std.specs.Option.{option_map, option_map_or}
 use Rattle.std.specs.Str.{bytes_eq}
 use Rattle.std.specs.Str.Parse.{IsNumeral, digits_value}
@@ -18,11 +18,14 @@ use Rattle.command_line.specs.declared.usage.Usage.TheVariants.{Parser, Number, 
 use Rattle.command_line.specs.declared.options.Command.{Command}
 use Rattle.command_line.specs.declared.options.Command.TheVariants as commands
 use Rattle.command_line.specs.declared.options.Disasm.{Disasm}
+use Rattle.command_line.specs.declared.options.Goal.{Goal}
+use Rattle.command_line.specs.declared.options.Goal.TheVariants as goals
 use Rattle.command_line.specs.declared.options.LimitOptions.{LimitOptions}
 use Rattle.command_line.specs.declared.options.Replay.{Replay}
 use Rattle.command_line.specs.declared.options.Run.{Run}
 use Rattle.command_line.specs.declared.options.RunOptions.{RunOptions}
 use Rattle.command_line.specs.declared.options.Schedule.{Schedule}
+use Rattle.command_line.specs.declared.options.Search.{Search}
 use Rattle.command_line.specs.declared.options.ThenRun.{ThenRun}
 use Rattle.command_line.specs.declared.options.Trace.{Trace}
 use Rattle.command_line.specs.declared.options.TraceForm.{TraceForm}
@@ -48,6 +51,10 @@ path_option name = record (new_rule name) {
 
 abbrev pub record_option : Rule
 record_option = path_option (codes "record")
+
+-- `--for OUTCOME`
+abbrev pub goal_option : Rule
+goal_option = path_option (codes "for")
 
 -- `--schedule FILE`, which has to be there
 abbrev pub schedule_option : Rule
@@ -124,6 +131,17 @@ with_form app = with_rule (with_rule app (flag (codes "columns"))) (flag (codes 
 abbrev pub jvm_trace : App
 jvm_trace = with_files (with_limits (with_form (with_window (with_rule (new_app (codes "trace")) schedule_option)))) class_files
 
+-- which outcome is to be found, among how many states, in how much memory, and where its schedule is recorded
+abbrev pub with_search_options : App → App
+with_search_options app = with_rule (with_rule (with_rule (with_rule app
+    goal_option)
+    (number_option (codes "states") 0 4294967295))
+    (number_option (codes "memory") 0 4294967295))
+    record_option
+
+abbrev pub jvm_search : App
+jvm_search = with_files (with_limits (with_search_options (new_app (codes "search")))) class_files
+
 abbrev pub jvm_verify : App
 jvm_verify = with_files (with_rule (new_app (codes "verify")) (flag (codes "library"))) class_files
 
@@ -138,11 +156,12 @@ abbrev pub with_version : Shape → Shape
 with_version shape = record shape { has_version = true; subcommand_required = true }
 
 abbrev pub jvm : App
-jvm = with_subcommand (with_subcommand (with_subcommand (with_subcommand (with_subcommand (with_subcommand
+jvm = with_subcommand (with_subcommand (with_subcommand (with_subcommand (with_subcommand (with_subcommand (with_subcommand
     (record (new_app (codes "jvm")) { top = with_version (new_app (codes "jvm")).top })
     jvm_run.top)
     jvm_replay.top)
     jvm_trace.top)
+    jvm_search.top)
     jvm_verify.top)
     jvm_disasm.top)
     jvm_schedule.top
@@ -221,6 +240,40 @@ pub record AreTraceValues (rows : List Row) (trace : Trace) : Type 0 where
   pub files : all_of (codes "files") rows ≡ Some (map string_bytes trace.files.items)
   pub explain : trace.explain ≡ is_set (first_of (codes "explain") rows)
 
+-- the word of an outcome that is to be found
+abbrev pub goal_word : Goal → Text
+goal_word goals.Deadlock = codes "deadlock"
+goal_word goals.Uncaught = codes "uncaught"
+goal_word (goals.Output numbers) = codes "output" ++ 0x3d ∷ string_bytes numbers
+goal_word (goals.Differs path) = codes "differs" ++ 0x3d ∷ string_bytes path
+
+-- a word names it, or names none
+abbrev pub NamesGoal : Text → Option Goal → Type 0
+NamesGoal word (Some goal) = word ≡ goal_word goal
+NamesGoal word None = (goal : Goal) → word ≡ goal_word goal → ⊥
+
+-- so do the words on both sides of a `=`
+abbrev pub NamesGoalWith : (name value : Text) → Option Goal → Type 0
+NamesGoalWith name value (Some goal) = name ++ 0x3d ∷ value ≡ goal_word goal
+NamesGoalWith name value None = (name ≡ codes "output" → ⊥) × (name ≡ codes "differs" → ⊥)
+
+-- the outcome that is asked for, where one is
+abbrev pub IsGoal : Option Text → Option Goal → Type 0
+IsGoal None None = Unit {0}
+IsGoal (Some word) (Some goal) = word ≡ goal_word goal
+IsGoal None (Some goal) = ⊥
+IsGoal (Some word) None = ⊥
+
+-- the values that the words give to `jvm search`
+pub record AreSearchValues (rows : List Row) (search : Search) : Type 0 where
+  pub goal : IsGoal (first_of (codes "for") rows) search.goal
+  pub states : IsNumber 0 4294967295 (first_of (codes "states") rows) search.states
+  pub memory : IsNumber 0 4294967295 (first_of (codes "memory") rows) search.memory
+  pub recording : first_of (codes "record") rows ≡ option_map string_bytes search.record
+  pub limits : AreLimitNumbers rows search.limits
+  pub files : all_of (codes "files") rows ≡ Some (map string_bytes search.files.items)
+  pub explain : search.explain ≡ is_set (first_of (codes "explain") rows)
+
 -- the values that the words give to `jvm verify`
 pub record AreVerifyValues (rows : List Row) (verify : Verify) : Type 0 where
   pub files : all_of (codes "files") rows ≡ Some (map string_bytes verify.files.items)
@@ -244,6 +297,7 @@ abbrev pub Spells : List Text → Command → Type 0
 Spells words (commands.Run run) = (rows : List Row) × (subcommand_of jvm words ≡ Some (codes "run", rows)) × AreRunValues rows run
 Spells words (commands.Replay replay) = (rows : List Row) × (subcommand_of jvm words ≡ Some (codes "replay", rows)) × AreValues rows replay
 Spells words (commands.Trace trace) = (rows : List Row) × (subcommand_of jvm words ≡ Some (codes "trace", rows)) × AreTraceValues rows trace
+Spells words (commands.Search search) = (rows : List Row) × (subcommand_of jvm words ≡ Some (codes "search", rows)) × AreSearchValues rows search
 Spells words (commands.Verify verify) = (rows : List Row) × (subcommand_of jvm words ≡ Some (codes "verify", rows)) × AreVerifyValues rows verify
 Spells words (commands.Disasm disasm) = (rows : List Row) × (subcommand_of jvm words ≡ Some (codes "disasm", rows)) × AreDisasmValues rows disasm
 Spells words (commands.Schedule schedule) = (rows : List Row) × (subcommand_of jvm words ≡ Some (codes "schedule", rows)) × AreScheduleValues rows schedule

@@ -93,6 +93,31 @@ Statuses:
 Example:
   jvm trace --schedule a.schedule --from 100 --to 120 A.class";
 
+/// What stands below the options of `search`.
+pub(crate) const SEARCH_PAGE: &str = "\
+What it does:
+  Searches all schedules of the class files: every order of their events, and
+  every pick of a thread that is notified. Without --for it lists what can come
+  of them. With --for it ends at the first run that ends so, prints its report,
+  and may record its schedule; where there is none it lists all the others.
+    deadlock        no thread may go on, and one waits
+    uncaught        an exception that nothing caught ended a thread
+    output=1,2      these numbers were printed, and no others
+    differs=FILE    something else was printed than FILE has
+  Where it says `search complete`, no other end is possible. Of runs that never
+  end nothing is said, and nothing where it gives up.
+
+Statuses:
+  0  all that can come of the class files is listed, and it is not what --for asks
+  1  a run was found that --for asks for
+  2  a class file is refused
+  3  memory was missing
+  5  the search gave up: too many states, too much memory, or a limit of a run
+  6  the command is wrong, or a file can't be read, or the output not written
+
+Example:
+  jvm search --for deadlock --record found.schedule A.class";
+
 /// What stands below the options of `verify`.
 pub(crate) const VERIFY_PAGE: &str = "\
 What it does:

@@ -1,6 +1,7 @@
 //! The command line of the program `jvm`: which command its words spell, with which options.
 #![tactic(auto)]
 
+mod goal;
 mod help;
 mod numbers;
 mod options;
@@ -9,8 +10,8 @@ mod parsers;
 mod usage;
 
 pub use options::{
-    Command, Disasm, LimitOptions, Replay, Run, RunOptions, Schedule, ThenRun, Trace, TraceForm,
-    Verify,
+    Command, Disasm, Goal, LimitOptions, Replay, Run, RunOptions, Schedule, Search, ThenRun, Trace,
+    TraceForm, Verify,
 };
 pub use parse::command;
 pub use usage::Usage;

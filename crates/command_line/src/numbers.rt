@@ -69,6 +69,20 @@ pub(crate) const ONLY: NumberOption = NumberOption {
     help: "The thread whose events are told",
 };
 
+pub(crate) const STATES: NumberOption = NumberOption {
+    name: "states",
+    least: 0,
+    most: u32::MAX,
+    help: "How many states there may be [default: 10000000]",
+};
+
+pub(crate) const MEMORY: NumberOption = NumberOption {
+    name: "memory",
+    least: 0,
+    most: u32::MAX,
+    help: "How many bytes the states that are kept may take [default: 1000000000]",
+};
+
 pub(crate) const OBJECTS: NumberOption = NumberOption {
     name: "objects",
     least: 0,
@@ -146,7 +160,7 @@ impl NumberOption {
     }
 }
 
-/// The options of `replay`, `run` and `trace` that take a number.
+/// The options of `replay`, `run`, `search` and `trace` that take a number.
 const OF_ALL: [NumberOption; 5] = [OBJECTS, CELLS, MONITORS, THREADS, FRAMES];
 
 /// Those of `run`.
@@ -158,12 +172,16 @@ const OF_REPLAY: [NumberOption; 1] = [BUDGET];
 /// Those of `trace`.
 const OF_TRACE: [NumberOption; 3] = [FROM, TO, ONLY];
 
+/// Those of `search`.
+const OF_SEARCH: [NumberOption; 2] = [STATES, MEMORY];
+
 /// The option with this name behind two hyphens, of the subcommand that is so called.
 fn number_option(subcommand: &str, word: &str) -> Option<NumberOption> {
     let name = word.strip_prefix("--")?;
     match subcommand {
         "replay" => named(&OF_ALL, name).or(named(&OF_REPLAY, name)),
         "trace" => named(&OF_ALL, name).or(named(&OF_TRACE, name)),
+        "search" => named(&OF_ALL, name).or(named(&OF_SEARCH, name)),
         "run" => named(&OF_ALL, name).or(named(&OF_RUN, name)),
         _ => None,
     }

@@ -10,6 +10,7 @@ pub enum Command {
     Run(Run),
     Replay(Replay),
     Trace(Trace),
+    Search(Search),
     Verify(Verify),
     Disasm(Disasm),
     Schedule(Schedule),
@@ -17,6 +18,12 @@ pub enum Command {
 
 /// The usual budget of a run, in events.
 const USUAL_BUDGET: u32 = 10_000_000;
+
+/// How many states a search may meet, unless another number is asked for.
+const USUAL_STATES: u32 = 10_000_000;
+
+/// How many bytes the states that a search has met may take, unless another number is asked for.
+const USUAL_MEMORY: u32 = 1_000_000_000;
 
 /// `jvm run`: class files are run by workers, and what comes of it is reported.
 #[derive(Debug, Drop, PartialEq, Eq)]
@@ -125,6 +132,53 @@ pub enum TraceForm {
     Columns,
     /// As an object of JSON.
     Json,
+}
+
+/// `jvm search`: all schedules of class files are searched, and what comes of it is reported.
+#[derive(Debug, Drop, PartialEq, Eq)]
+pub struct Search {
+    /// The outcome that is to be found, and `None` where all are asked for.
+    pub goal: Option<Goal>,
+    /// How many states there may be, and `None` for the usual number.
+    pub states: Option<u32>,
+    /// How many bytes the states that are kept may take, and `None` for the usual number.
+    pub memory: Option<u32>,
+    /// The path of the file that the schedule that is found is written to, if any.
+    pub record: Option<String>,
+    pub limits: LimitOptions,
+    /// The paths of the class files. The first holds the class whose `main` is run.
+    pub files: Vec<String>,
+    /// Whether a refusal is explained.
+    pub explain: bool,
+}
+
+/// Which outcome of a run a search is to find.
+#[derive(Debug, Drop, PartialEq, Eq)]
+pub enum Goal {
+    /// No thread may go on, and one hasn't ended.
+    Deadlock,
+    /// An exception that nothing caught ended a thread.
+    Uncaught,
+    /// These numbers were printed. Commas stand between them.
+    Output(String),
+    /// Something else was printed than the file with this path has.
+    Differs(String),
+}
+
+impl Search {
+    /// How many states there may be.
+    pub fn states(&self) -> u32
+        ensures { result ≡ unwrap_or self.now.states 10000000 }
+    {
+        self.states.unwrap_or(USUAL_STATES)
+    }
+
+    /// How many bytes the states that are kept may take.
+    pub fn memory(&self) -> u32
+        ensures { result ≡ unwrap_or self.now.memory 1000000000 }
+    {
+        self.memory.unwrap_or(USUAL_MEMORY)
+    }
 }
 
 /// How a run goes on where a schedule ends.

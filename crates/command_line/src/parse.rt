@@ -4,15 +4,17 @@ ghost use Rattle.std.specs.Prelude.{◌≡◌, ◌⊎◌, false, Some, codes, ma
 ghost use Rattle.std.specs.Option.{option_map};
 ghost use Rattle.clap.specs.Words.{HasMatchesOf, all_of, first_of, found_of, kind_of, rows_of};
 ghost use Rattle.clap.specs.declared.error.kind.ErrorKind.TheVariants.{UnknownArgument as unknown_argument};
-ghost use Rattle.command_line.specs.CommandLine.{AreDisasmValues, AreLimitNumbers, AreRunNumbers, AreRunValues, AreScheduleValues, AreTraceValues, AreValues, AreVerifyValues, Asks, Fails, IsThenRun, IsTraceForm, Refuses, Spells, is_set as is_true, jvm, usage_of};
+ghost use Rattle.command_line.specs.CommandLine.{AreDisasmValues, AreLimitNumbers, AreRunNumbers, AreRunValues, AreScheduleValues, AreSearchValues, AreTraceValues, AreValues, AreVerifyValues, Asks, Fails, IsGoal, IsThenRun, IsTraceForm, Refuses, Spells, is_set as is_true, jvm, usage_of};
 
+use crate::goal::goal_by;
 use crate::numbers::{
-    BUDGET, CELLS, FRAMES, FROM, MONITORS, OBJECTS, ONLY, QUANTUM, SEED, THREADS, TO, WORKERS,
-    negative_number,
+    BUDGET, CELLS, FRAMES, FROM, MEMORY, MONITORS, OBJECTS, ONLY, QUANTUM, SEED, STATES, THREADS,
+    TO, WORKERS, negative_number,
 };
 use crate::options;
 use crate::options::{
-    Disasm, LimitOptions, Replay, Run, RunOptions, Schedule, ThenRun, Trace, TraceForm, Verify,
+    Disasm, Goal, LimitOptions, Replay, Run, RunOptions, Schedule, Search, ThenRun, Trace,
+    TraceForm, Verify,
 };
 use crate::parsers::program;
 use crate::usage::Usage;
@@ -34,6 +36,9 @@ pub fn command(alloc: Global, words: &[String]) -> Result<options::Command, Usag
     }
     if let Some(trace) = matches.subcommand_matches("trace") {
         return Ok(options::Command::Trace(trace_of(alloc, trace)?));
+    }
+    if let Some(search) = matches.subcommand_matches("search") {
+        return Ok(options::Command::Search(search_of(alloc, search)?));
     }
     if let Some(verify) = matches.subcommand_matches("verify") {
         return Ok(options::Command::Verify(verify_of(alloc, verify)?));
@@ -153,6 +158,43 @@ fn trace_of(alloc: Global, matches: &ArgMatches<'_>) -> Result<Trace, Usage>
         files,
         explain: is_set(matches, "explain"),
     })
+}
+
+fn search_of(alloc: Global, matches: &ArgMatches<'_>) -> Result<Search, Usage>
+    ensures values { IfOk result (AreSearchValues (rows_of (found_of matches.now))) }
+    ensures none { IfErr result (λ usage. Refuses usage ((search : _)
+        → AreSearchValues (rows_of (found_of matches.now)) search → ⊥)) }
+{
+    let goal = goal_of(alloc, matches)?;
+    let states = STATES.number(alloc, matches)?;
+    let memory = MEMORY.number(alloc, matches)?;
+    let record = path_of(alloc, matches, "record")?;
+    let limits = limits_of(alloc, matches)?;
+    let files = files_of(alloc, matches)?;
+    Ok(Search {
+        goal,
+        states,
+        memory,
+        record,
+        limits,
+        files,
+        explain: is_set(matches, "explain"),
+    })
+}
+
+/// The outcome that a search is to find, where one is asked for.
+fn goal_of(alloc: Global, matches: &ArgMatches<'_>) -> Result<Option<Goal>, Usage>
+    ensures goal { IfOk result (IsGoal (first_of (codes "for") (rows_of (found_of matches.now)))) }
+    ensures none { IfErr result (λ usage. Refuses usage ((goal : _)
+        → IsGoal (first_of (codes "for") (rows_of (found_of matches.now))) goal → ⊥)) }
+{
+    match matches.get_str("for") {
+        None => Ok(None),
+        Some(word) => match goal_by(alloc, word)? {
+            Some(goal) => Ok(Some(goal)),
+            None => Err(Usage::no_goal(alloc, word)),
+        },
+    }
 }
 
 fn verify_of(alloc: Global, matches: &ArgMatches<'_>) -> Result<Verify, Usage>

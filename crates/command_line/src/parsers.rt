@@ -3,14 +3,15 @@
 ghost use Rattle.std.specs.Prelude.{◌≡◌, false, IfOk, IfErr};
 ghost use Rattle.clap.specs.Words.{app_of, kind_of, new_app, rule_of};
 ghost use Rattle.clap.specs.declared.error.kind.ErrorKind.TheVariants.{OutOfMemory as no_memory};
-ghost use Rattle.command_line.specs.CommandLine.{IsLocal, class_files, flag, jvm, jvm_disasm, jvm_replay, jvm_run, jvm_schedule, jvm_trace, jvm_verify, one_file, path_option, record_option, with_files as over_files, with_limits as limited};
+ghost use Rattle.command_line.specs.CommandLine.{IsLocal, class_files, flag, goal_option, jvm, jvm_disasm, jvm_replay, jvm_run, jvm_schedule, jvm_search, jvm_trace, jvm_verify, one_file, path_option, record_option, with_files as over_files, with_limits as limited};
 
 use crate::help::{
     ABOUT, AFTER, DISASM_PAGE, FILES_HELP, LISTED_HELP, REPLAY_PAGE, RUN_PAGE, SCHEDULE_PAGE,
-    TRACE_PAGE, VERIFIED_HELP, VERIFY_PAGE, VERSION,
+    SEARCH_PAGE, TRACE_PAGE, VERIFIED_HELP, VERIFY_PAGE, VERSION,
 };
 use crate::numbers::{
-    BUDGET, CELLS, FRAMES, FROM, MONITORS, OBJECTS, ONLY, QUANTUM, SEED, THREADS, TO, WORKERS,
+    BUDGET, CELLS, FRAMES, FROM, MEMORY, MONITORS, OBJECTS, ONLY, QUANTUM, SEED, STATES, THREADS,
+    TO, WORKERS,
 };
 use clap::{Arg, ArgAction};
 use std::alloc::{AllocError, Global};
@@ -28,6 +29,7 @@ pub(crate) fn program<'a>(alloc: Global) -> Result<clap::Command<'a>, clap::Erro
         .subcommand(run_parser(alloc)?)?
         .subcommand(replay_parser(alloc)?)?
         .subcommand(trace_parser(alloc)?)?
+        .subcommand(search_parser(alloc)?)?
         .subcommand(verify_parser(alloc)?)?
         .subcommand(disasm_parser(alloc)?)?
         .subcommand(schedule_parser(alloc)?)?;
@@ -116,6 +118,26 @@ fn trace_parser<'a>(alloc: Global) -> Result<clap::Command<'a>, AllocError>
     )
 }
 
+fn search_parser<'a>(alloc: Global) -> Result<clap::Command<'a>, AllocError>
+    ensures { IfOk result (λ search. (app_of search ≡ jvm_search) × IsLocal search) }
+{
+    let search = titled(
+        alloc,
+        "search",
+        "Searches all schedules of class files for what can come of them",
+        SEARCH_PAGE,
+    )
+    .arg(goal_argument(alloc))?
+    .arg(STATES.argument(alloc))?
+    .arg(MEMORY.argument(alloc))?
+    .arg(record_argument(alloc))?;
+    with_files(
+        alloc,
+        with_limits(alloc, search)?,
+        files_argument(alloc, FILES_HELP),
+    )
+}
+
 fn verify_parser<'a>(alloc: Global) -> Result<clap::Command<'a>, AllocError>
     ensures { IfOk result (λ verify. (app_of verify ≡ jvm_verify) × IsLocal verify) }
 {
@@ -170,6 +192,18 @@ fn record_argument<'a>(alloc: Global) -> Arg<'a>
         "record",
         "The file that the schedule of the run is written to",
     )
+}
+
+/// The outcome that a search is to find.
+fn goal_argument<'a>(alloc: Global) -> Arg<'a>
+    ensures rule { rule_of result ≡ goal_option }
+    ensures local { result.global ≡ false }
+{
+    Arg::new(alloc, "for")
+        .long("for")
+        .value_name("OUTCOME")
+        .action(ArgAction::Set)
+        .help("What is searched for: deadlock, uncaught, output=NUMBERS or differs=FILE")
 }
 
 /// The class files, one or more.

@@ -16,7 +16,7 @@ const MORE: &str = "For more information, try '--help'.";
 pub enum Usage {
     /// The words are no command. Its text is for the user.
     Parser(clap::Error),
-    /// A number of an option has a sign; or an option doesn't go with the others, or not without one that is missing.
+    /// A number of an option has a sign, or an outcome is none; or an option doesn't go with the others, or not without one that is missing.
     /// This is the text for the user.
     Number(String),
     /// The words ask for help or for the version, and this is it.
@@ -41,6 +41,15 @@ impl Usage {
     {
         Usage::told(format!(in alloc;
             "error: the argument '--workers <NUMBER>' can only be 1 with '--seed <NUMBER>'\n\n{MORE}\n"
+        ))
+    }
+
+    /// That a search can find no such outcome, in the parser's words for a value that isn't one of a few.
+    pub(crate) fn no_goal(alloc: Global, text: &str) -> Usage
+        ensures { Asks result → ⊥ }
+    {
+        Usage::told(format!(in alloc;
+            "error: invalid value '{text}' for '--for <OUTCOME>'\n  [possible values: deadlock, uncaught, output=NUMBERS, differs=FILE]\n\n{MORE}\n"
         ))
     }
 

@@ -5,5 +5,6 @@ pub mod ListingLemmas
 pub mod OpeningLemmas
 pub mod RecordingLemmas
 pub mod RunLemmas
+pub mod SearchLemmas
 pub mod TraceLemmas
 pub mod VerificationLemmas

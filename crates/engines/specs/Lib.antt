@@ -10,6 +10,7 @@ pub mod Recordings
 pub mod Refusals
 pub mod Replays
 pub mod Runs
+pub mod Searches
 pub mod Statuses
 pub mod Traces
 pub mod Transcriptions

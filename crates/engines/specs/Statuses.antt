@@ -7,6 +7,8 @@ use Rattle.model.specs.declared.end.End.{End}
 use Rattle.model.specs.declared.end.End.TheVariants as ends
 use Rattle.command_line.specs.declared.usage.Usage.{Usage}
 use Rattle.command_line.specs.declared.usage.Usage.TheVariants as usages
+use Rattle.search_reports.specs.declared.answers.Answer.{Answer}
+use Rattle.search_reports.specs.declared.answers.Answer.TheVariants as answers
 use Rattle.engines.specs.declared.complaint.Complaint.{Complaint}
 use Rattle.engines.specs.declared.complaint.Complaint.TheVariants as complaints
 use Rattle.engines.specs.declared.fault.Fault.{Fault}
@@ -44,6 +46,12 @@ status_of threads ends.Schedule = statuses.UsedUp
 status_of threads ends.Budget = statuses.UsedUp
 status_of threads (ends.NotEnabled done) = statuses.Stopped
 status_of threads (ends.Refused done cause) = statuses.Stopped
+
+-- the status of a search
+abbrev pub search_status : Answer → Status
+search_status (answers.Found schedule report) = statuses.Threw
+search_status (answers.Complete outcomes) = statuses.Returned
+search_status answers.GaveUp = statuses.UsedUp
 
 -- the status where there is no report
 abbrev pub fault_status : Fault → Status

@@ -37,6 +37,7 @@ fn asks(command: &Command) -> bool {
         Command::Run(options) => options.explain,
         Command::Replay(options) => options.explain,
         Command::Trace(options) => options.explain,
+        Command::Search(options) => options.explain,
         Command::Verify(options) => options.explain,
         Command::Disasm(options) => options.explain,
         Command::Schedule(options) => options.explain,
@@ -65,6 +66,7 @@ fn schedule_of(command: &Command) -> Option<&str> {
 fn record_of(command: &Command) -> Option<&str> {
     match command {
         Command::Run(options) => options.record.as_deref(),
+        Command::Search(options) => options.record.as_deref(),
         Command::Replay(options) => options.then_run.as_ref()?.record.as_deref(),
         Command::Schedule(options) if options.write => Some(options.file.as_str()),
         _ => None,
@@ -81,6 +83,7 @@ fn files_of<F: Folder>(
         Command::Run(options) => options.files.clone(),
         Command::Replay(options) => options.files.clone(),
         Command::Trace(options) => options.files.clone(),
+        Command::Search(options) => options.files.clone(),
         Command::Verify(options) => given_or_same(alloc, folder, &options.files),
         Command::Disasm(options) => given_or_same(alloc, folder, &options.files),
         Command::Schedule(_) => Ok(Vec::new(alloc)),

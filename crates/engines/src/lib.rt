@@ -1,4 +1,4 @@
-//! What the words of a command line ask for, done over any files and any output: runs, replays, verifications, listings,
+//! What the words of a command line ask for, done over any files and any output: runs, replays, searches, verifications, listings,
 //! and schedules as text.
 #![tactic(auto)]
 
@@ -18,6 +18,7 @@ mod program;
 mod recording;
 mod replaying;
 mod running;
+mod searching;
 mod status;
 mod telling;
 mod tracing;
@@ -37,6 +38,7 @@ pub use names::names_engine;
 pub use program::run;
 pub use replaying::replay_engine;
 pub use running::run_engine;
+pub use searching::search_engine;
 pub use status::Status;
 pub use tracing::trace_engine;
 pub use transcribing::{schedule_engine, write_schedule_engine};

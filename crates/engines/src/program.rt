@@ -11,16 +11,19 @@ use crate::listing::disasm_engine;
 use crate::names::names_engine;
 use crate::replaying::replay_engine;
 use crate::running::run_engine;
+use crate::searching::{printed_lines, search_engine};
 use crate::status::Status;
 use crate::telling::{KeptFile, told_record, told_threads};
 use crate::tracing::trace_engine;
 use crate::transcribing::{schedule_engine, write_schedule_engine};
 use crate::verification::verify_engine;
 use command_line::{
-    Command, Disasm, LimitOptions, Replay, Run, Schedule, ThenRun, Trace, TraceForm, Usage, Verify,
-    command,
+    Command, Disasm, Goal, LimitOptions, Replay, Run, Schedule, Search, ThenRun, Trace, TraceForm,
+    Usage, Verify, command,
 };
 use model::{DeviceFault, Sink, Source};
+use run_outcomes::Wanted;
+use search::states_within;
 use std::alloc::{AllocError, Global};
 use std::sync::Wait;
 use std::thread::Threads;
@@ -92,6 +95,7 @@ fn done<R: Threads + Wait + Sync, G: Gate + Sync, F: Folder, I: Source, W: Sink>
         Command::Run(options) => run_files(rt, alloc, gate, folder, options, output, explanation),
         Command::Replay(options) => replay(alloc, folder, options, output, explanation),
         Command::Trace(options) => trace(alloc, folder, options, output, explanation),
+        Command::Search(options) => search(alloc, folder, options, output),
         Command::Verify(options) => verify(alloc, folder, options, output),
         Command::Disasm(options) => disasm(alloc, folder, options, output),
         Command::Schedule(options) => schedule(alloc, folder, options, input, output),
@@ -243,6 +247,39 @@ fn explained_record<F: Folder>(
 ) -> Result<Vec<u8>, Fault> {
     let mut files = sources(alloc, folder, files)?;
     told_record(alloc, record, files.as_mut_slice(), limits)
+}
+
+/// `search`.
+fn search<F: Folder, W: Sink>(
+    alloc: Global,
+    folder: &F,
+    options: &Search,
+    output: &mut W,
+) -> Result<Status, Fault> {
+    let wanted = wanted_by(alloc, folder, &options.goal)?;
+    let mut files = sources(alloc, folder, &options.files)?;
+    search_engine(
+        alloc,
+        files.as_mut_slice(),
+        &options.limits,
+        &wanted,
+        options.states().min(states_within(options.memory())),
+        output,
+        &mut recorder(alloc, folder, &options.record),
+    )
+}
+
+/// The outcome that a search is to find, where one is asked for.
+fn wanted_by<F: Folder>(alloc: Global, folder: &F, goal: &Option<Goal>) -> Result<Wanted, Fault> {
+    Ok(match goal {
+        None => Wanted::Nothing,
+        Some(Goal::Deadlock) => Wanted::Stuck,
+        Some(Goal::Uncaught) => Wanted::Uncaught,
+        Some(Goal::Output(numbers)) => Wanted::Printed(printed_lines(alloc, numbers.as_bytes())?),
+        Some(Goal::Differs(path)) => {
+            Wanted::PrintedOther(source(alloc, folder, path).read_all(alloc)?)
+        }
+    })
 }
 
 /// `verify`.

@@ -163,7 +163,7 @@ fn recorded_run<R: Threads + Wait + Sync, G: Gate + Sync>(
 }
 
 /// The schedule file of a run of the class files, where one is asked for.
-fn recorded_file(
+pub(crate) fn recorded_file(
     alloc: Global,
     is_recorded: bool,
     files: &[Vec<u8>],

@@ -2,18 +2,19 @@
 
 ghost use Rattle.std.specs.Prelude.{◌≡◌};
 ghost use Rattle.std.specs.List.{list_all};
-ghost use Rattle.engines.specs.Statuses.{has_ended, has_returned, code_of, complaint_status, fault_status, usage_status, status_of};
+ghost use Rattle.engines.specs.Statuses.{has_ended, has_returned, code_of, complaint_status, fault_status, usage_status, search_status, status_of};
 
 use crate::complaint::Complaint;
 use crate::fault::Fault;
 use command_line::Usage;
 use model::{End, EndState, Report};
+use search_reports::Answer;
 
 #[derive(Clone, Copy, Debug, PartialEq, Eq)]
 pub enum Status {
     /// No thread can go on, and all have ended, none with an exception. Of what runs nothing: it is done.
     Returned,
-    /// No thread can go on, and all have ended, some with an exception.
+    /// No thread can go on, and all have ended, some with an exception. Of a search: it found a run whose outcome is wanted.
     Threw,
     /// A class file or the schedule is refused.
     Refused,
@@ -21,7 +22,7 @@ pub enum Status {
     Stopped,
     /// No thread can go on, and some haven't ended.
     Stuck,
-    /// The schedule is used up, or the budget, and some thread can go on.
+    /// The schedule is used up, or the budget, and some thread can go on. Of a search: it gave up.
     UsedUp,
     /// The command line is no command, or a device failed.
     Unusable,
@@ -49,6 +50,17 @@ impl Status {
             Status::Threw
         } else {
             Status::Stuck
+        }
+    }
+
+    /// That of a search.
+    pub fn of_search(answer: &Answer) -> Status
+        ensures { result ≡ search_status answer.now }
+    {
+        match answer {
+            Answer::Found(_, _) => Status::Threw,
+            Answer::Complete(_) => Status::Returned,
+            Answer::GaveUp => Status::UsedUp,
         }
     }
 

@@ -1,0 +1,55 @@
+-- States that have grown in number.
+use Rattle.std.proofs.Common.{◌≡◌, ℕ, ◌<◌, List, [], length, get_or, Bool, true, false, Some, refl, sym, ap, subst, ◌∙◌}
+use Rattle.std.specs.Prelude.{slice_get}
+use Rattle.std.proofs.lemmas.Bool.{false≢true}
+use Rattle.std.proofs.lemmas.Option.{same_Some, slice_get-get_or, slice_get_within}
+use Rattle.model.specs.declared.event.Event.{Event}
+use Rattle.model.specs.declared.limits.Limits.{Limits}
+use Rattle.model.specs.Classes.{Program}
+use Rattle.machine_state.specs.Shown.{IsProgram}
+use Rattle.met_states.specs.Met.{IsNextMet, AreListed, AreNewStatesMet, AreMetStatesKept}
+use Rattle.search.specs.States.{StatesOf, IsSchedule, IsMetFrom, Grows, GrowsTo, IsPushed}
+
+pub stays : (s : StatesOf) → Grows s s
+stays s = record { program = refl; limits_are = refl; kept = λ number events is. is }
+
+pub further : (old mid new : StatesOf) → Grows old mid → Grows mid new → Grows old new
+further old mid new first second =
+    record {
+      program = second.program ∙ first.program;
+      limits_are = second.limits_are ∙ first.limits_are;
+      kept = λ number events is. second.kept number events (first.kept number events is);
+    }
+
+module _ (old new : StatesOf) (grows : Grows old new) (number : ℕ) (lt : number < length old.schedules) where
+  there : IsSchedule old number (get_or old.schedules number [])
+  there = slice_get-get_or old.schedules number [] lt
+
+  pub within : number < length new.schedules
+  within = slice_get_within new.schedules number _ (grows.kept number _ there)
+
+  -- what its schedule is, it was
+  pub earlier : (events : List Event) → IsSchedule new number events → IsSchedule old number events
+  earlier events is = there ∙ ap Some (same_Some (get_or old.schedules number []) events (sym (grows.kept number _ there) ∙ is))
+
+  listed : AreListed old.schedules new.schedules
+  listed schedule h = (h.0, grows.kept h.0 schedule h.1)
+
+  pub still_met : AreMetStatesKept → (event : Event) → IsMetFrom old number event → IsMetFrom new number event
+  still_met kept event met events is files trees accepted program =
+      let before = met events (earlier events is) files trees accepted (subst (IsProgram trees) grows.program program) in
+      subst (λ (l : Limits). IsNextMet trees l.frames new.schedules events event) (sym grows.limits_are)
+      (kept trees old.limits.frames old.schedules new.schedules events event listed before)
+
+-- ---- one more
+
+pub gave_up : (P : StatesOf → Type 0) (old new : StatesOf) → Grows old new → GrowsTo P old new false
+gave_up P old new grows = record { grows = grows; then = λ e. absurd (false≢true e) }
+
+pub went_on : (P : StatesOf → Type 0) (old new : StatesOf) → Grows old new → P new → GrowsTo P old new true
+went_on P old new grows holds = record { grows = grows; then = λ e. holds }
+
+pub new_met : AreNewStatesMet → (number : ℕ) (event : Event) (old new : StatesOf) → IsPushed number event old new → GrowsTo (λ s. IsMetFrom s number event) old new true
+new_met holds number event old new pushed =
+    went_on (λ s. IsMetFrom s number event) old new pushed.grows
+    (λ events is files trees accepted program. holds trees new.limits.frames new.schedules events event (pushed.has events is))

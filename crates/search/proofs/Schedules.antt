@@ -1,0 +1,125 @@
+-- The schedules of the states that were met.
+use Rattle.std.proofs.Common.{◌≡◌, ℕ, zero, suc, ◌+◌, ◌<◌, ◌^◌, List, [], ◌∷◌, ◌++◌, length, map, get_or, replicate, Some, Result, Ok, Err, refl, sym, ap, subst, ◌∙◌, length-append, lit<, arith}
+use Rattle.std.specs.Prelude.{slice_get, slice_index_or, IfOk, OnOk}
+use Rattle.std.specs.Option.{option_map}
+use Rattle.std.proofs.lemmas.List.{append-nil, append_assoc, map_push, length-map}
+use Rattle.std.proofs.lemmas.List.Concat.{flat_map-append}
+use Rattle.std.proofs.lemmas.Option.{same_Some, none-some, slice_get-map, slice_get-get_or, slice_get_within, get_or_from_slice_get}
+use Rattle.model.specs.declared.event.Event.{Event}
+use Rattle.model.specs.declared.event.ScheduleEntry.{ScheduleEntry}
+use Rattle.model.specs.declared.limits.Limits.{Limits}
+use Rattle.model.specs.LimitStands.{bounds_of}
+use Rattle.model.specs.Schedule.{events_of, EntryFits}
+use Rattle.linked_code.specs.declared.program.LinkedProgram.{LinkedProgram}
+use Rattle.interleavings.specs.Ends.{Has}
+use Rattle.machine_state.specs.declared.answers.Answer.TheVariants as answer
+use Rattle.machine_state.specs.declared.state.Shared.{Shared}
+use Rattle.machine.specs.Machines.{MachineOf}
+use Rattle.same_states.specs.Same.{AreAlike}
+use Rattle.schedule_tree.specs.Trees.{way_at, with_way}
+use Rattle.met_states.specs.Met.{AreAlikeStatesMet}
+use Rattle.search.specs.Machines.{IsAt, GoesBy}
+use Rattle.search.specs.States.{StatesOf, IsSchedule, IsInState, IsMetFrom, IsAfter, Grows, IsPushed}
+use Rattle.search.proofs.Shown.{gone_on, run_of}
+
+-- ---- a schedule by its number
+
+pub schedule_of : (ways : List (List ScheduleEntry)) (number : ℕ) (entries : List ScheduleEntry) → slice_get ways number ≡ Some entries
+    → slice_get (map events_of ways) number ≡ Some (events_of entries)
+schedule_of ways number entries e = slice_get-map events_of ways number ∙ ap (option_map events_of) e
+
+pub schedule_if : (ways : List (List ScheduleEntry)) (number : ℕ) → {E : Type 0} (result : Result (List ScheduleEntry) E) → IfOk result (λ s. slice_get ways number ≡ Some s)
+    → IfOk result (λ s. slice_get (map events_of ways) number ≡ Some (events_of s))
+schedule_if ways number (Ok s) e = schedule_of ways number s e
+schedule_if ways number (Err x) e = tt
+
+-- ---- machines
+
+module _ (s : StatesOf) (number : ℕ) where
+  in_state : (events : List Event) (m : MachineOf) → IsSchedule s number events → IsAt s.program s.limits events m → IsInState s number m
+  in_state events m is at others are = subst (λ l. IsAt s.program s.limits l m) (same_Some events others (sym is ∙ are)) at
+
+  pub in_state_if : (p : LinkedProgram) (limits : Limits) (events : List Event) → p ≡ s.program → limits ≡ s.limits → IsSchedule s number events → {E : Type 0} (result : Result MachineOf E)
+      → IfOk result (IsAt p limits events) → IfOk result (IsInState s number)
+  in_state_if p limits events same_program same_limits is (Ok m) at =
+      in_state events m is (subst (λ q. IsAt q s.limits events m) same_program (subst (λ l. IsAt p l events m) same_limits at))
+  in_state_if p limits events same_program same_limits is (Err x) at = tt
+
+  pub after : (event : Event) (old new : MachineOf) → IsInState s number old → GoesBy (Ok answer.Done) event old new → IsAfter s number event new
+  after event old new in_old goes events is = gone_on s.program s.limits events event old new (in_old events is) goes
+
+  pub alike_met : AreAlikeStatesMet → (met : ℕ) (event : Event) (one other : MachineOf) → met < length s.schedules → IsAfter s number event one → IsInState s met other
+      → AreAlike one.shared other.shared → IsMetFrom s number event
+  alike_met holds met event one other lt is_after is_there alike events is files trees accepted program =
+      let schedule = get_or s.schedules met [] in
+      let has : slice_get s.schedules met ≡ Some schedule = slice_get-get_or s.schedules met [] lt in
+      holds trees s.program (bounds_of s.limits) s.schedules events schedule event one.shared other.shared (met, has)
+      (run_of s.program s.limits (events ++ event ∷ []) one (is_after events is) files trees accepted program)
+      (run_of s.program s.limits schedule other (is_there schedule has) files trees accepted program) alike
+
+-- ---- one more
+
+get_front : {X : Type 0} (xs ys : List X) (k : ℕ) (x : X) → slice_get xs k ≡ Some x → slice_get (xs ++ ys) k ≡ Some x
+get_front [] ys k x h = absurd (none-some x h)
+get_front (w ∷ ws) ys zero x h = h
+get_front (w ∷ ws) ys (suc k) x h = get_front ws ys k x h
+
+get_last : {X : Type 0} (xs : List X) (x : X) → slice_get (xs ++ x ∷ []) (length xs) ≡ Some x
+get_last [] x = refl
+get_last (w ∷ ws) x = get_last ws x
+
+pub entry_fits : (event : Event) → event.thread < 2 ^ 16 → event.pick < 2 ^ 16 → EntryFits (record { event = event; repeat = 1 })
+entry_fits event thread pick = record { thread = thread; pick = pick; repeat = (omega arith, lit< tt); alone = λ more. absurd (omega (arith, more)) }
+
+module _ (ways : List (List ScheduleEntry)) (number : ℕ) (lt : number < length ways) (event : Event) where
+  abbrev entry : ScheduleEntry
+  entry = record { event = event; repeat = 1 }
+
+  way : List ScheduleEntry
+  way = get_or ways number []
+
+  longer : events_of (way ++ entry ∷ []) ≡ events_of way ++ event ∷ []
+  longer = flat_map-append (λ (e : ScheduleEntry). replicate e.repeat e.event) way (entry ∷ [])
+
+  way_there : slice_get ways number ≡ Some way
+  unfolding way
+  way_there = slice_get-get_or ways number [] lt
+
+  schedules : map events_of (ways ++ (way ++ entry ∷ []) ∷ []) ≡ map events_of ways ++ (events_of way ++ event ∷ []) ∷ []
+  schedules = map_push events_of ways (way ++ entry ∷ []) ∙ ap (λ l. map events_of ways ++ l ∷ []) longer
+
+  pub pushed : (p : LinkedProgram) (limits : Limits) (old new : StatesOf) → old ≡ record { program = p; limits = limits; schedules = map events_of ways }
+      → new ≡ record { program = p; limits = limits; schedules = map events_of (with_way ways number entry) } → IsPushed number event old new
+  unfolding way
+  pushed p limits old new old_is new_is =
+      subst (λ s. IsPushed number event s new) (sym old_is)
+      (subst (λ s. IsPushed number event (record { program = p; limits = limits; schedules = map events_of ways }) s) (sym new_is) here)
+    where
+      same : map events_of (with_way ways number entry) ≡ map events_of ways ++ (events_of way ++ event ∷ []) ∷ []
+      same = schedules
+
+      kept : (k : ℕ) (events : List Event) → slice_get (map events_of ways) k ≡ Some events → slice_get (map events_of (with_way ways number entry)) k ≡ Some events
+      kept k events e = subst (λ l. slice_get l k ≡ Some events) (sym same) (get_front (map events_of ways) _ k events e)
+
+      has : (events : List Event) → slice_get (map events_of (with_way ways number entry)) number ≡ Some events → Has (map events_of (with_way ways number entry)) (events ++ event ∷ [])
+      has events e =
+          let own : slice_get (map events_of (with_way ways number entry)) number ≡ Some (events_of way) = kept number (events_of way) (schedule_of ways number way way_there) in
+          let is : events_of way ≡ events = same_Some (events_of way) events (sym own ∙ e) in
+          let last : slice_get (map events_of (with_way ways number entry)) (length (map events_of ways)) ≡ Some (events_of way ++ event ∷ []) =
+          subst (λ l. slice_get l (length (map events_of ways)) ≡ Some (events_of way ++ event ∷ [])) (sym same) (get_last (map events_of ways) (events_of way ++ event ∷ []))
+          in (length (map events_of ways), last ∙ ap (λ l. Some (l ++ event ∷ [])) is)
+
+      here : IsPushed number event (record { program = p; limits = limits; schedules = map events_of ways })
+          (record { program = p; limits = limits; schedules = map events_of (with_way ways number entry) })
+      here = record { grows = record { program = refl; limits_are = refl; kept = kept }; has = has }
+
+-- where there was memory for it
+pub pushed_if : (ways ways_new : List (List ScheduleEntry)) (number : ℕ) (event : Event) (p : LinkedProgram) (limits : Limits) (old new : StatesOf)
+    → record { program = p; limits = limits; schedules = map events_of ways } ≡ old → new ≡ record { program = p; limits = limits; schedules = map events_of ways_new }
+    → ways_new ≡ with_way ways number (record { event = event; repeat = 1 }) → number < length old.schedules → {E : Type 0} (result : Result (Unit {0}) E) → OnOk result (IsPushed number event old new)
+pushed_if ways ways_new number event p limits old new old_is new_is ways_are lt (Ok u) =
+    pushed ways number within event p limits old new (sym old_is) (new_is ∙ ap (λ l. let s : StatesOf = record { program = p; limits = limits; schedules = map events_of l } in s) ways_are)
+  where
+    within : number < length ways
+    within = subst (λ n. number < n) (sym (ap (λ (s : StatesOf). length s.schedules) old_is) ∙ length-map ways events_of) lt
+pushed_if ways ways_new number event p limits old new old_is new_is ways_are lt (Err x) = tt

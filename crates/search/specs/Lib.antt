@@ -1,0 +1,4 @@
+pub mod Machines
+pub mod States
+pub mod Verdicts
+pub mod Visits

@@ -1,0 +1,44 @@
+-- Machines that show where a schedule led (own).
+use Rattle.std.specs.Prelude.{◌≡◌, ℕ, List, [], ◌∷◌, ◌++◌, Option, Some, None, Result, IsTrue, IsFalse}
+use Rattle.model.specs.declared.event.Event.{Event}
+use Rattle.model.specs.declared.limits.Limits.{Limits}
+use Rattle.model.specs.Accepted.{IsAccepted}
+use Rattle.model.specs.Classes.{Program}
+use Rattle.model.specs.LimitStands.{bounds_of}
+use Rattle.model.specs.Run.{run, is_quiet}
+use Rattle.model.specs.State.{State}
+use Rattle.interleavings.specs.Ends.{outcome_of}
+use Rattle.linked_code.specs.declared.program.LinkedProgram.{LinkedProgram}
+use Rattle.machine_state.specs.declared.answers.Answer.{Answer}
+use Rattle.machine_state.specs.declared.refusals.Refusal.{Refusal}
+use Rattle.machine_state.specs.Shown.{IsProgram}
+use Rattle.shown_runs.specs.Runs.{GoesOn}
+use Rattle.machine.specs.Machines.{MachineOf}
+use Rattle.schedule_runs.specs.Done.{HasDone}
+use Rattle.run_outcomes.specs.declared.outcomes.Outcome.{Outcome as TheOutcome}
+use Rattle.run_outcomes.specs.Outcomes.{told_by}
+
+-- A machine of this program under these limits: from whatever files the program was linked, these events led to the state that it shows,
+-- and no limit stood at any of them.
+pub record IsAt (p : LinkedProgram) (limits : Limits) (events : List Event) (m : MachineOf) : Type 0 where
+  pub program : m.program ≡ p
+  pub limits_are : m.limits ≡ limits
+  pub done : (files : List (List ℕ)) (trees : Program) → IsAccepted files trees → IsProgram trees p → HasDone m files trees events
+
+-- what becomes of one event more
+abbrev pub GoesBy : Result Answer Refusal → Event → (old new : MachineOf) → Type 0
+GoesBy result event old new =
+    (new ≡ record old { shared = new.shared })
+    × ((files : List (List ℕ)) (trees : Program) (events : List Event) (has : HasDone old files trees events)
+    → GoesOn trees old.program (bounds_of old.limits) events has.run.lead.state event result new.shared)
+
+-- the outcome of a state in which no thread may step; none, where one may
+abbrev pub IsOutcomeOf : Program → (frames : ℕ) → State → Option TheOutcome → Type 0
+IsOutcomeOf trees frames state None = IsFalse (is_quiet trees frames state)
+IsOutcomeOf trees frames state (Some o) = IsTrue (is_quiet trees frames state) × (told_by o ≡ outcome_of trees frames state)
+
+-- of the state to which the events led that the machine has done
+abbrev pub TellsOutcome : Program → MachineOf → Option TheOutcome → Type 0
+TellsOutcome trees m o =
+    (files : List (List ℕ)) (events : List Event) (state : State) → HasDone m files trees events → run trees m.limits.frames events ≡ Some state
+    → IsOutcomeOf trees m.limits.frames state o

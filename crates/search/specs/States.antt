@@ -1,0 +1,66 @@
+-- The states that a search has met, each by a schedule that leads there (own).
+use Rattle.std.specs.Prelude.{◌≡◌, ◌<◌, ℕ, List, [], ◌∷◌, ◌++◌, Some, Bool, IsTrue, slice_get}
+use Rattle.model.specs.declared.event.Event.{Event}
+use Rattle.model.specs.declared.limits.Limits.{Limits}
+use Rattle.model.specs.Accepted.{IsAccepted}
+use Rattle.model.specs.Classes.{Program}
+use Rattle.interleavings.specs.Ends.{Has}
+use Rattle.linked_code.specs.declared.program.LinkedProgram.{LinkedProgram}
+use Rattle.machine_state.specs.Shown.{IsProgram}
+use Rattle.machine.specs.Machines.{MachineOf}
+use Rattle.met_states.specs.Met.{IsNextMet}
+use Rattle.search.specs.Machines.{IsAt}
+
+-- a program, the limits of its runs, and the schedules by their numbers
+pub record StatesOf : Type 0 where
+  pub program : LinkedProgram
+  pub limits : Limits
+  pub schedules : List (List Event)
+
+-- the opening state alone
+abbrev pub one_state : LinkedProgram → Limits → StatesOf
+one_state p limits = record { program = p; limits = limits; schedules = [] ∷ [] }
+
+-- the schedule has this number
+abbrev pub IsSchedule : StatesOf → (number : ℕ) → List Event → Type 0
+IsSchedule s number events = slice_get s.schedules number ≡ Some events
+
+-- the machine is in the state of this number
+abbrev pub IsInState : StatesOf → (number : ℕ) → MachineOf → Type 0
+IsInState s number m = (events : List Event) → IsSchedule s number events → IsAt s.program s.limits events m
+
+-- where the event leads on from the state of this number, it has been met
+abbrev pub IsMetFrom : StatesOf → (number : ℕ) → Event → Type 0
+IsMetFrom s number event =
+    (events : List Event) → IsSchedule s number events → (files : List (List ℕ)) (trees : Program) → IsAccepted files trees → IsProgram trees s.program
+    → IsNextMet trees s.limits.frames s.schedules events event
+
+-- so it has been wherever an event of a thread leads, and any event
+abbrev pub AreMetByThread : StatesOf → (number thread : ℕ) → Type 0
+AreMetByThread s number thread = (pick : ℕ) → IsMetFrom s number (record { thread = thread; pick = pick })
+
+abbrev pub AreMetByThreads : StatesOf → (number threads : ℕ) → Type 0
+AreMetByThreads s number threads = (thread : ℕ) → thread < threads → AreMetByThread s number thread
+
+abbrev pub AreAllMet : StatesOf → (number : ℕ) → Type 0
+AreAllMet s number = (event : Event) → IsMetFrom s number event
+
+-- further schedules may have come, and each keeps its number
+pub record Grows (old new : StatesOf) : Type 0 where
+  pub program : new.program ≡ old.program
+  pub limits_are : new.limits ≡ old.limits
+  pub kept : (number : ℕ) (events : List Event) → IsSchedule old number events → IsSchedule new number events
+
+-- it has grown, and where it didn't give up, this is so
+pub record GrowsTo (P : StatesOf → Type 0) (old new : StatesOf) (went_on : Bool) : Type 0 where
+  pub grows : Grows old new
+  pub then : IsTrue went_on → P new
+
+-- the machine is in the state to which the event leads from the one of this number
+abbrev pub IsAfter : StatesOf → (number : ℕ) → Event → MachineOf → Type 0
+IsAfter s number event m = (events : List Event) → IsSchedule s number events → IsAt s.program s.limits (events ++ event ∷ []) m
+
+-- the schedule that goes on by the event has been added
+pub record IsPushed (number : ℕ) (event : Event) (old new : StatesOf) : Type 0 where
+  pub grows : Grows old new
+  pub has : (events : List Event) → IsSchedule new number events → Has new.schedules (events ++ event ∷ [])

@@ -1,0 +1,30 @@
+-- What a search over all schedules answers (own; JLS 17).
+use Rattle.std.specs.Prelude.{◌≡◌, ℕ, List, IsTrue}
+use Rattle.model.specs.declared.event.Event.{Event}
+use Rattle.model.specs.declared.limits.Limits.{Limits}
+use Rattle.model.specs.Classes.{Program}
+use Rattle.model.specs.LimitStands.{bounds_of, within_limits}
+use Rattle.model.specs.Schedule.{events_of}
+use Rattle.interleavings.specs.Ends.{Outcome, EndsWith, Has, AreAllOutcomes}
+use Rattle.run_outcomes.specs.declared.wanted.Wanted.{Wanted}
+use Rattle.run_outcomes.specs.Outcomes.{IsWanted}
+use Rattle.search.specs.declared.searching.Verdict.{Verdict}
+use Rattle.search.specs.declared.searching.Verdict.TheVariants as verdict
+
+-- These events run from the opening state to one in which no thread may step, no limit stood at any of them, and the outcome is wanted.
+pub record IsFound (trees : Program) (limits : Limits) (want : Wanted) (events : List Event) : Type 0 where
+  pub outcome : Outcome
+  pub ends : EndsWith trees limits.frames events outcome
+  pub within : IsTrue (within_limits trees (bounds_of limits) events)
+  pub is_wanted : IsWanted want outcome
+
+-- These are the outcomes of all runs that come to an end, whatever the limits on objects, cells, monitors and threads, and none is wanted.
+pub record IsComplete (trees : Program) (limits : Limits) (want : Wanted) (outcomes : List Outcome) : Type 0 where
+  pub all : AreAllOutcomes trees limits.frames outcomes
+  pub none : (outcome : Outcome) → Has outcomes outcome → IsWanted want outcome → ⊥
+
+-- of runs that never end nothing is said, and nothing where the search gave up
+abbrev pub Says : Program → Limits → Wanted → Verdict → Type 0
+Says trees limits want (verdict.Found schedule) = IsFound trees limits want (events_of schedule)
+Says trees limits want (verdict.Complete outcomes) = IsComplete trees limits want outcomes
+Says trees limits want verdict.GaveUp = Unit {0}

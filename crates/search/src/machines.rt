@@ -1,0 +1,88 @@
+//! A machine that shows where a schedule led.
+
+ghost use Rattle.std.specs.Prelude.{[], IfOk};
+ghost use Rattle.std.specs.Arc.{arc_value};
+ghost use Rattle.model.specs.Schedule.{events_of};
+ghost use Rattle.machine.specs.Machines.{IsOfAccepted};
+ghost use Rattle.search.specs.Machines.{IsAt, GoesBy, TellsOutcome};
+
+use hierarchy::ClassSet;
+use linked_code::LinkedProgram;
+use machine::{Machine, Stopped};
+use machine_reports::{is_quiet, report_of};
+use machine_state::{Answer, Refusal};
+use model::{Event, Limits};
+use run_outcomes::Outcome;
+use schedule::Schedule;
+use schedule_runs::run_schedule;
+use shown_runs::{runs_are_opened, runs_go_on};
+use std::alloc::{AllocError, Global};
+use std::sync::Arc;
+use word_reports::reports_of_words;
+
+/// A machine before any event. The only error is a want of memory.
+pub(crate) fn opened(
+    alloc: Global,
+    program: Arc<LinkedProgram>,
+    limits: Limits,
+) -> Result<Machine, AllocError>
+    requires { IsOfAccepted (arc_value program) }
+    ensures { IfOk result (IsAt (arc_value program) limits []) }
+{
+    runs_are_opened();
+    Machine::open(alloc, program, limits)
+}
+
+/// A machine that has done a schedule whose events were all done before, so that the only error is a want of memory.
+pub(crate) fn at_schedule(
+    alloc: Global,
+    program: Arc<LinkedProgram>,
+    limits: Limits,
+    schedule: &Schedule,
+) -> Result<Machine, AllocError>
+    requires { IsOfAccepted (arc_value program) }
+    ensures { IfOk result (IsAt (arc_value program) limits (events_of schedule.now)) }
+{
+    let mut machine = opened(alloc, program, limits)?;
+    let (_done, why) = run_schedule(&mut machine, schedule);
+    match why {
+        Stopped::Most => Ok(machine),
+        Stopped::NotEnabled | Stopped::Refused(_) => Err(AllocError),
+    }
+}
+
+/// Does an event, if it is enabled.
+pub(crate) fn go_on(machine: &mut Machine, event: Event) -> Result<Answer, Refusal>
+    ensures { GoesBy result event machine.old machine.new }
+{
+    runs_go_on();
+    machine.step(event)
+}
+
+/// The outcome of the state that a machine is in, if no thread may step there. The classes are those of its files.
+pub(crate) fn outcome_of(
+    alloc: Global,
+    classes: &ClassSet,
+    machine: &Machine,
+) -> Result<Option<Outcome>, AllocError>
+    ensures { IfOk result (TellsOutcome classes.now machine.now) }
+{
+    reports_of_words();
+    let frames = machine.limits().frames as usize;
+    let report = report_of(
+        alloc,
+        classes,
+        machine.program(),
+        machine.shared(),
+        frames,
+        0,
+    )?;
+    if is_quiet(&report.threads) {
+        Ok(Some(Outcome {
+            printed: report.printed,
+            threads: report.threads,
+        }))
+    } else {
+        Ok(None)
+    }
+}

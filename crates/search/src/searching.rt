@@ -1,0 +1,144 @@
+//! The search.
+
+ghost use Rattle.std.specs.Prelude.{◌<◌, [], length, IfOk};
+ghost use Rattle.search.specs.Verdicts.{Says};
+ghost use Rattle.search.specs.Visits.{HasVisited, Visits, ListsOr};
+
+use crate::expanding::expand;
+use crate::machines::outcome_of;
+use crate::states::States;
+use hierarchy::ClassSet;
+use met_states::{met_states_are_kept, searches_are_whole};
+use model::Limits;
+use run_outcomes::{Outcome, Outcomes, Wanted};
+use schedule::Schedule;
+use searches::searches_are_complete;
+use std::alloc::{AllocError, Global};
+use std::sync::Arc;
+use verified_programs::verified_program;
+use verifier::Verified;
+
+/// What a search answers.
+#[derive(Drop)]
+pub enum Verdict {
+    /// A schedule of a run whose outcome is wanted.
+    Found(Schedule),
+    /// The outcomes of all runs that end, none of which is wanted.
+    Complete(Outcomes),
+    /// Nothing: there are more states than were allowed, or an event was refused at a limit.
+    GaveUp,
+}
+
+/// What a search answers, and how many states it met.
+#[derive(Drop)]
+pub struct Searched {
+    pub verdict: Verdict,
+    pub states: u32,
+}
+
+/// What a search comes to at a state.
+#[derive(Drop)]
+pub(crate) enum Visit {
+    /// Its outcome is listed, if no thread may step there, and the states to which events lead from it are met.
+    Visited,
+    /// Its outcome is wanted.
+    Found(Schedule),
+    GaveUp,
+}
+
+/// Lists the outcome of a state, if there is one, unless it is wanted: then the answer is true.
+fn is_found(
+    alloc: Global,
+    wanted: &Wanted,
+    outcomes: &mut Outcomes,
+    outcome: Option<Outcome>,
+) -> Result<bool, AllocError>
+    ensures { IfOk result (λ found. ListsOr wanted.now outcome found outcomes.old outcomes.new) }
+{
+    let Some(outcome) = outcome else {
+        return Ok(false);
+    };
+    if wanted.is(alloc, &outcome)? {
+        return Ok(true);
+    }
+    outcomes.add(outcome)?;
+    Ok(false)
+}
+
+/// Visits the state of a number, all below which have been visited. The classes are those of the files.
+fn visit_state(
+    alloc: Global,
+    classes: &ClassSet,
+    wanted: &Wanted,
+    states: &mut States,
+    outcomes: &mut Outcomes,
+    number: u32,
+    most: u32,
+) -> Result<Visit, AllocError>
+    requires visited { HasVisited classes.now states.old.limits wanted.now states.old outcomes.old number }
+    requires number { number < length states.old.schedules }
+    ensures { IfOk result (λ v. Visits classes.now states.old.limits wanted.now number v states.new outcomes.new) }
+{
+    met_states_are_kept();
+    let machine = states.machine(number)?;
+    let outcome = outcome_of(alloc, classes, &machine)?;
+    if is_found(alloc, wanted, outcomes, outcome)? {
+        return Ok(Visit::Found(states.schedule(number)?));
+    }
+    if expand(states, number, &machine, most)? {
+        Ok(Visit::Visited)
+    } else {
+        Ok(Visit::GaveUp)
+    }
+}
+
+/// Visits states from the opening state on, up to so many.
+fn visit_all(
+    alloc: Global,
+    classes: &ClassSet,
+    wanted: &Wanted,
+    states: &mut States,
+    most: u32,
+) -> Result<Verdict, AllocError>
+    requires { HasVisited classes.now states.old.limits wanted.now states.old [] 0 }
+    ensures { IfOk result (Says classes.now states.old.limits wanted.now) }
+{
+    searches_are_whole();
+    searches_are_complete();
+    let mut outcomes = Outcomes::new(alloc);
+    'states: for number in 0..most {
+        if number >= states.len() {
+            return Ok(Verdict::Complete(outcomes));
+        }
+        match visit_state(alloc, classes, wanted, states, &mut outcomes, number, most)? {
+            Visit::Visited => {}
+            Visit::Found(schedule) => return Ok(Verdict::Found(schedule)),
+            Visit::GaveUp => return Ok(Verdict::GaveUp),
+        }
+    }
+    if states.len() <= most {
+        Ok(Verdict::Complete(outcomes))
+    } else {
+        Ok(Verdict::GaveUp)
+    }
+}
+
+/// Searches all schedules of verified class files (JVMS 2.5, 2.6, 5.5, chapter 6; JLS 17), as far as so many states, for a run whose
+/// outcome is wanted. Of runs that never end nothing is said. The only error is a want of memory.
+pub fn search(
+    alloc: Global,
+    verified: &Verified,
+    limits: Limits,
+    wanted: &Wanted,
+    most: u32,
+) -> Result<Searched, AllocError>
+    ensures { IfOk result (λ s. Says verified.now limits wanted.now s.verdict) }
+{
+    let program = Arc::new(alloc, verified_program(alloc, verified)?)?;
+    let mut states = States::new(alloc, program, limits)?;
+    let verdict = visit_all(alloc, verified.linked().set(), wanted, &mut states, most)?;
+    Ok(Searched {
+        verdict,
+        states: states.len(),
+    })
+}
