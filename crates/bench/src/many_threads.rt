@@ -5,18 +5,18 @@
 use crate::arguments::files;
 use crate::telling::{tell_refusal, tell_time};
 use anyhow::{Context, Result, bail};
+use link_conditions::refusal::Refusal;
 use linker::link;
+use machine::schedule_runs::run_schedule;
 use machine::{Machine, Stopped};
 use model::Limits;
-use refusal::Refusal;
+use program_runs::verified_programs::verified_program;
 use schedule::{Schedule, read_schedule};
-use schedule_runs::run_schedule;
 use std::alloc::Global;
 use std::env::Args;
 use std::fs;
 use std::sync::Arc;
 use std::time::Instant;
-use verified_programs::verified_program;
 use verifier::{Verified, verify};
 
 /// The files linked and verified.

@@ -4,8 +4,8 @@
 
 use crate::arguments::number;
 use anyhow::{Result, ensure};
+use heap::monitor::{Call, MonitorCalls, Monitors};
 use model::MonitorAnswer;
-use monitor::{Call, MonitorCalls, Monitors};
 use std::alloc::{AllocError, Global};
 use std::env::Args;
 

@@ -4,8 +4,8 @@
 use crate::arguments::number;
 use anyhow::{Context, Result, ensure};
 use heap::Heap;
+use heap::monitor::Call;
 use model::{Limits, MonitorAnswer};
-use monitor::Call;
 use std::alloc::Global;
 use std::env::Args;
 

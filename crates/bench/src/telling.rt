@@ -1,7 +1,7 @@
 //! What several of them tell.
 
 use anyhow::Result;
-use refusal::Refusal;
+use link_conditions::refusal::Refusal;
 use std::io;
 use std::time::Instant;
 

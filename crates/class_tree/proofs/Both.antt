@@ -1,7 +1,7 @@
 -- Conditions that are met together.
 use Rattle.std.proofs.Common.{◌≡◌, Bool, true, false, ◌&&◌, Result}
-use Rattle.reading.specs.declared.fault.Malformed.{Malformed}
-use Rattle.reading.specs.declared.fault.Cause.{Cause}
+use Rattle.constant_pool.specs.declared.reading.fault.Malformed.{Malformed}
+use Rattle.constant_pool.specs.declared.reading.fault.Cause.{Cause}
 use Rattle.constant_pool.specs.Checking.{Checks}
 
 -- where the first is met, a check of the second is one of and_from

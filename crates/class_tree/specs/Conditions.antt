@@ -1,9 +1,9 @@
 -- What a check of the conditions on a class file promises.
 use Rattle.std.specs.Prelude.{◌≡◌, Bool, true, false, IsFalse, Result, Ok, Err}
-use Rattle.reading.specs.declared.fault.Cause.{Cause}
-use Rattle.reading.specs.declared.fault.Cause.TheVariants as causes
-use Rattle.reading.specs.declared.fault.Stop.{Stop}
-use Rattle.reading.specs.declared.fault.Stop.TheVariants as stops
+use Rattle.constant_pool.specs.declared.reading.fault.Cause.{Cause}
+use Rattle.constant_pool.specs.declared.reading.fault.Cause.TheVariants as causes
+use Rattle.constant_pool.specs.declared.reading.fault.Stop.{Stop}
+use Rattle.constant_pool.specs.declared.reading.fault.Stop.TheVariants as stops
 use Rattle.model.specs.Tree.{FileTree}
 use Rattle.model.specs.Conditions.{file_indices, file_names, file_descriptors, file_attributes, members_differ}
 

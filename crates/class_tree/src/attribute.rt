@@ -2,7 +2,7 @@
 
 ghost use Rattle.std.specs.Prelude.{◌≡◌, ◌+◌, ◌==◌, ◌&&◌, ◌||◌, ℕ, List, Bool, length, map};
 ghost use Rattle.std.specs.List.{list_all, count_by};
-ghost use Rattle.reading.specs.declared.fault.Cause.TheVariants as causes;
+ghost use Rattle.constant_pool.specs.declared.reading.fault.Cause.TheVariants as causes;
 ghost use Rattle.model.specs.Tree.{Entry, FieldPart, FieldTree, MethodPart, MethodTree};
 ghost use Rattle.model.specs.Spelling.{entry_at, text_of};
 ghost use Rattle.model.specs.Conditions.{has_code, is_code_part, is_constant_part, has_code_by_flags, is_constant_of, constant_fits, field_constants, file_attributes};
@@ -13,8 +13,8 @@ ghost use Rattle.constant_pool.specs.View.{entry_of};
 use crate::check::{Checked, check_each, require};
 use crate::spelled::Spelled;
 use crate::tree::{ClassFile, Field, FieldAttribute, Method, MethodAttribute};
+use constant_pool::reading::{Cause, Malformed};
 use constant_pool::{Constant, Pool, Texts};
-use reading::{Cause, Malformed};
 
 /// Each Code and each ConstantValue stands where it has to.
 pub(crate) struct Attributes;

@@ -3,12 +3,12 @@
 ghost use Rattle.std.specs.Prelude.{◌≡◌, List, Bool, map, is_ok, IfErr};
 ghost use Rattle.std.specs.List.{list_all};
 ghost use Rattle.model.specs.Tree.{Entry};
-ghost use Rattle.reading.specs.declared.fault.Cause as declared_cause;
+ghost use Rattle.constant_pool.specs.declared.reading.fault.Cause as declared_cause;
 ghost use Rattle.constant_pool.specs.Checking.{Checks};
 
 use crate::spelled::Spelled;
 use constant_pool::Texts;
-use reading::{Cause, Malformed};
+use constant_pool::reading::{Cause, Malformed};
 
 /// A part of a class file that has to meet a condition.
 pub(crate) trait Checked<Condition>: Sized {

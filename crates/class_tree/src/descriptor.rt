@@ -2,7 +2,7 @@
 
 ghost use Rattle.std.specs.Prelude.{◌≡◌, ℕ, ◌==◌, ◌&&◌, ◌||◌, List, Bool};
 ghost use Rattle.std.specs.List.{list_all};
-ghost use Rattle.reading.specs.declared.fault.Cause.TheVariants as causes;
+ghost use Rattle.constant_pool.specs.declared.reading.fault.Cause.TheVariants as causes;
 ghost use Rattle.model.specs.Tree.{Entry, FieldTree, MethodTree};
 ghost use Rattle.model.specs.Conditions.{is_field_described, slots_fit, is_method_described, member_descriptors, file_descriptors};
 ghost use Rattle.class_tree.specs.View.{field_of, method_of, file_of};
@@ -12,7 +12,7 @@ use crate::check::{Checked, check_each, require};
 use crate::place::first_field;
 use crate::tree::{ClassFile, Field, Method};
 use constant_pool::Texts;
-use reading::{Cause, Malformed};
+use constant_pool::reading::{Cause, Malformed};
 
 /// Each descriptor is one, of the kind that is asked for.
 pub(crate) struct Descriptors;

@@ -1,7 +1,7 @@
 //! Whether no two fields, and no two methods, have one name and one descriptor (JVMS 4.5, 4.6).
 
 ghost use Rattle.std.specs.Prelude.{◌≡◌, ℕ, List, Bool, map, IfOk};
-ghost use Rattle.reading.specs.declared.fault.Cause.TheVariants as causes;
+ghost use Rattle.constant_pool.specs.declared.reading.fault.Cause.TheVariants as causes;
 ghost use Rattle.model.specs.Tree.{Entry};
 ghost use Rattle.model.specs.Conditions.{name_and_descriptor_at, differ, fields_differ, methods_differ, members_differ};
 ghost use Rattle.class_tree.specs.View.{file_of};
@@ -10,7 +10,7 @@ ghost use Rattle.class_tree.specs.Conditions.{ChecksOrStops};
 use crate::spelled::Spelled;
 use crate::tree::{ClassFile, Field, Method};
 use constant_pool::FirstIndices;
-use reading::{Cause, Malformed, Stop};
+use constant_pool::reading::{Cause, Malformed, Stop};
 use std::alloc::Global;
 use std::collections::HashSet;
 

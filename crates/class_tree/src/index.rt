@@ -2,7 +2,7 @@
 
 ghost use Rattle.std.specs.Prelude.{◌≡◌, ℕ, ◌==◌, ◌&&◌, ◌||◌, List, Bool, map};
 ghost use Rattle.std.specs.List.{list_all};
-ghost use Rattle.reading.specs.declared.fault.Cause.TheVariants as causes;
+ghost use Rattle.constant_pool.specs.declared.reading.fault.Cause.TheVariants as causes;
 ghost use Rattle.model.specs.declared.class_file.ExceptionEntry.{ExceptionEntry};
 ghost use Rattle.model.specs.Tree.{Entry, SkippedTree, CodeTree, FieldPart, FieldTree, MethodPart, MethodTree};
 ghost use Rattle.model.specs.Conditions.{names_utf8, names_class, names_constant, skipped_indices, exception_indices, code_indices, field_part_indices, field_indices, method_part_indices, method_indices, member_indices, file_indices};
@@ -11,9 +11,9 @@ ghost use Rattle.constant_pool.specs.Checking.{Checks};
 
 use crate::check::{Checked, check_each, require};
 use crate::tree::{Attribute, ClassFile, Code, Field, FieldAttribute, Method, MethodAttribute};
+use constant_pool::reading::{Cause, Malformed};
 use constant_pool::{Constant, Pool, Texts};
 use model::ExceptionEntry;
-use reading::{Cause, Malformed};
 
 /// Each index names an entry of the kind that it has to name.
 pub(crate) struct Indices;

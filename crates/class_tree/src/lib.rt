@@ -2,6 +2,7 @@
 #![tactic(auto)]
 
 mod attribute;
+pub mod builtin;
 mod check;
 mod descriptor;
 mod duplicate;
@@ -13,8 +14,8 @@ mod spelled;
 mod tree;
 mod whole;
 
+pub use constant_pool::reading::{Cause, Malformed};
 pub use constant_pool::{Constant, NameAndDescriptor, Pool, Reference};
-pub use reading::{Cause, Malformed};
 pub use spelled::encode;
 pub use tree::{Attribute, ClassFile, Code, Field, FieldAttribute, Method, MethodAttribute};
 pub use whole::check_conditions;

@@ -2,7 +2,7 @@
 
 ghost use Rattle.std.specs.Prelude.{◌≡◌, ℕ, ◌==◌, ◌&&◌, ◌||◌, List, Bool};
 ghost use Rattle.std.specs.List.{list_all};
-ghost use Rattle.reading.specs.declared.fault.Cause.TheVariants as causes;
+ghost use Rattle.constant_pool.specs.declared.reading.fault.Cause.TheVariants as causes;
 ghost use Rattle.model.specs.Tree.{Entry, FieldTree, MethodTree};
 ghost use Rattle.model.specs.Spelling.{entry_at};
 ghost use Rattle.model.specs.Conditions.{names_no_array, is_field_named, is_method_named, member_names, file_names};
@@ -11,8 +11,8 @@ ghost use Rattle.constant_pool.specs.Checking.{Checks};
 
 use crate::check::{Checked, check_each, require};
 use crate::tree::{ClassFile, Field, Method};
+use constant_pool::reading::{Cause, Malformed};
 use constant_pool::{Constant, Texts};
-use reading::{Cause, Malformed};
 
 /// Each name is one.
 pub(crate) struct Names;

@@ -13,7 +13,7 @@ use crate::names::check_names;
 use crate::place::first_field;
 use crate::tree::ClassFile;
 use constant_pool::Texts;
-use reading::Stop;
+use constant_pool::reading::Stop;
 use std::alloc::Global;
 
 /// Checks the conditions on the tree of a file, one after the other, each over the whole file: `Index`, `Name`,

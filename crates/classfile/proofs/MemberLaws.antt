@@ -3,9 +3,9 @@ use Rattle.std.proofs.Common.{◌≡◌, ℕ, ◌^◌, ◌<◌, Bool, true, fals
 use Rattle.std.proofs.lemmas.Bool.{eqb-true}
 use Rattle.std.proofs.lemmas.Bool.Decides.{nat_tests}
 use Rattle.byteorder.specs.Numbers.{length-bytes_high_first}
-use Rattle.reading.specs.declared.fault.Cause.TheVariants as causes
-use Rattle.reading.proofs.Laws.{Laws, fits, last, made, either_laws, then, tested_laws}
-use Rattle.reading.proofs.Fields.{u2_laws, u4_laws, bytes_laws, sized_laws, table_laws, whole_laws, filled_laws}
+use Rattle.constant_pool.specs.declared.reading.fault.Cause.TheVariants as causes
+use Rattle.constant_pool.proofs.reading.Laws.{Laws, fits, last, made, either_laws, then, tested_laws}
+use Rattle.constant_pool.proofs.reading.Fields.{u2_laws, u4_laws, bytes_laws, sized_laws, table_laws, whole_laws, filled_laws}
 use Rattle.model.specs.declared.class_file.ExceptionEntry.{ExceptionEntry}
 use Rattle.model.specs.Tree.{Entry, SkippedTree, CodeTree, FieldPart, ConstantOf, SkippedOfField, MethodPart, CodeOf, SkippedOfMethod, FieldTree, MethodTree}
 use Rattle.model.specs.Spelling.{u2, sized, exception, ExceptionFits, skipped, SkippedFits, code, CodeFits, is_code_length, is_code, is_static, is_constant_value, field_part_name, field_part_body, field_part, IsConstant, IsSkippedOfField, FieldPartFits, field, FieldFits, method_part_name, method_part_body, method_part, IsCode, IsSkippedOfMethod, MethodPartFits, method, MethodFits}

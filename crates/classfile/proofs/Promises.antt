@@ -1,13 +1,13 @@
 -- What decoding promises, from what reading gives.
 use Rattle.std.proofs.Common.{◌≡◌, ℕ, List, Result, Ok, Err, IsTrue, true, false, refl, sym, ap, subst, ◌∙◌, inl, inr}
 use Rattle.std.specs.Prelude.{IfOk, IfErr}
-use Rattle.reading.specs.declared.fault.Malformed.{Malformed}
-use Rattle.reading.specs.declared.fault.Cause.{Cause}
-use Rattle.reading.specs.declared.fault.Cause.TheVariants as causes
-use Rattle.reading.specs.declared.fault.Stop.{Stop}
-use Rattle.reading.specs.declared.fault.Stop.TheVariants as stops
-use Rattle.reading.specs.Reading.{is_field_cause, malformed_of}
-use Rattle.reading.proofs.Laws.{IsBytes, done, failed, ok_is, at_place}
+use Rattle.constant_pool.specs.declared.reading.fault.Malformed.{Malformed}
+use Rattle.constant_pool.specs.declared.reading.fault.Cause.{Cause}
+use Rattle.constant_pool.specs.declared.reading.fault.Cause.TheVariants as causes
+use Rattle.constant_pool.specs.declared.reading.fault.Stop.{Stop}
+use Rattle.constant_pool.specs.declared.reading.fault.Stop.TheVariants as stops
+use Rattle.constant_pool.specs.reading.Reading.{is_field_cause, malformed_of}
+use Rattle.constant_pool.proofs.reading.Laws.{IsBytes, done, failed, ok_is, at_place}
 use Rattle.model.specs.Tree.{FileTree}
 use Rattle.model.specs.Spells.{IsWhole}
 use Rattle.model.specs.Spelling.{Layout}

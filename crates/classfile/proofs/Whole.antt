@@ -4,13 +4,13 @@ use Rattle.std.proofs.lemmas.Bool.{eqb-true, eqb-false, ltb-false, and_parts}
 use Rattle.std.proofs.lemmas.List.{append-nil, nil_from_length, take_at, drop_at}
 use Rattle.byteorder.specs.Endian.{big_number}
 use Rattle.byteorder.specs.Numbers.{length-bytes_high_first}
-use Rattle.reading.specs.declared.fault.Malformed.{Malformed}
-use Rattle.reading.specs.declared.fault.Cause.{Cause}
-use Rattle.reading.specs.declared.fault.Cause.TheVariants as causes
-use Rattle.reading.specs.Input.{Input}
-use Rattle.reading.specs.Reading.{◌>>=◌, Read, number_at, pair_at, tested, after, is_field_cause}
-use Rattle.reading.proofs.Laws.{IsBytes, bind_ok, bind_err, done, failed, ok_is, err_is, guard_ok, guard_passed, at_place, Takes, Takes-then, Laws, fits, last, then}
-use Rattle.reading.proofs.Fields.{u2_laws, u4_laws, pair_laws, table_laws}
+use Rattle.constant_pool.specs.declared.reading.fault.Malformed.{Malformed}
+use Rattle.constant_pool.specs.declared.reading.fault.Cause.{Cause}
+use Rattle.constant_pool.specs.declared.reading.fault.Cause.TheVariants as causes
+use Rattle.constant_pool.specs.reading.Input.{Input}
+use Rattle.constant_pool.specs.reading.Reading.{◌>>=◌, Read, number_at, pair_at, tested, after, is_field_cause}
+use Rattle.constant_pool.proofs.reading.Laws.{IsBytes, bind_ok, bind_err, done, failed, ok_is, err_is, guard_ok, guard_passed, at_place, Takes, Takes-then, Laws, fits, last, then}
+use Rattle.constant_pool.proofs.reading.Fields.{u2_laws, u4_laws, pair_laws, table_laws}
 use Rattle.model.specs.Tree.{FileTree}
 use Rattle.model.specs.Spelling.{u2, magic, version, parts, file, FileFits, Layout}
 use Rattle.classfile.specs.declared.part.Owner.TheVariants as owners

@@ -1,8 +1,8 @@
 -- What decoding promises.
 use Rattle.std.specs.Prelude.{◌≡◌, ◌⊎◌, ℕ, ◌<◌, ◌≤◌, List, length, take, drop, Bool, IsFalse, Result, Ok, Err}
-use Rattle.reading.specs.declared.fault.Cause.{Cause}
-use Rattle.reading.specs.declared.fault.Cause.TheVariants as causes
-use Rattle.reading.specs.declared.fault.Malformed.{Malformed}
+use Rattle.constant_pool.specs.declared.reading.fault.Cause.{Cause}
+use Rattle.constant_pool.specs.declared.reading.fault.Cause.TheVariants as causes
+use Rattle.constant_pool.specs.declared.reading.fault.Malformed.{Malformed}
 use Rattle.class_tree.specs.declared.tree.ClassFile.{ClassFile}
 use Rattle.model.specs.Tree.{FileTree}
 use Rattle.model.specs.Spelling.{magic, version, Layout}

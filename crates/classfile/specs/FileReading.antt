@@ -1,9 +1,9 @@
 -- Reading a class file from left to right, up to the first fault.
 use Rattle.std.specs.Prelude.{ℕ, List, length, Ok, Result, Bool, true, false, ◌==◌, ◌&&◌, if◌then◌else◌, codes}
-use Rattle.reading.specs.declared.fault.Cause.TheVariants as causes
-use Rattle.reading.specs.declared.fault.Malformed.{Malformed}
-use Rattle.reading.specs.Input.{Input}
-use Rattle.reading.specs.Reading.{◌>>=◌, Read, fault, number_at, bytes_at, tested, pair_at, sized_at, table_at, whole_at, filled_at}
+use Rattle.constant_pool.specs.declared.reading.fault.Cause.TheVariants as causes
+use Rattle.constant_pool.specs.declared.reading.fault.Malformed.{Malformed}
+use Rattle.constant_pool.specs.reading.Input.{Input}
+use Rattle.constant_pool.specs.reading.Reading.{◌>>=◌, Read, fault, number_at, bytes_at, tested, pair_at, sized_at, table_at, whole_at, filled_at}
 use Rattle.model.specs.declared.class_file.ExceptionEntry.{ExceptionEntry}
 use Rattle.model.specs.Tree.{Entry, SkippedTree, CodeTree, FieldPart, ConstantOf, SkippedOfField, MethodPart, CodeOf, SkippedOfMethod, FieldTree, MethodTree, FileTree}
 use Rattle.model.specs.Spelling.{is_code_length, is_static, names, is_code}

@@ -4,7 +4,7 @@ ghost use Rattle.std.specs.Prelude.{◌≡◌, IfOk, IfErr};
 ghost use Rattle.model.specs.Tree.{FileTree};
 ghost use Rattle.model.specs.Spelling.{Layout};
 ghost use Rattle.model.specs.Spells.{Spells};
-ghost use Rattle.reading.specs.Reading.{Gives};
+ghost use Rattle.constant_pool.specs.reading.Reading.{Gives};
 ghost use Rattle.class_tree.specs.View.{file_of};
 ghost use Rattle.classfile.specs.FileReading.{parts_at, file_at};
 ghost use Rattle.classfile.specs.Decoding.{Answers, Decodes, IsFaultOf};
@@ -12,7 +12,7 @@ ghost use Rattle.classfile.specs.Decoding.{Answers, Decodes, IsFaultOf};
 use crate::part::{Owner, read_table};
 use class_tree::{ClassFile, check_conditions};
 use constant_pool::Pool;
-use reading::{Cause, Malformed, Reader, Stop};
+use constant_pool::reading::{Cause, Malformed, Reader, Stop};
 use std::alloc::Global;
 
 /// What stands behind the version.
@@ -40,7 +40,7 @@ fn read_parts(alloc: Global, reader: &mut Reader<'_>) -> Result<ClassFile, Stop>
     })
 }
 
-#[tactic(auto, unfolding(crate::specs::FileReading::file_at, reading::specs::Reading::pair_at))]
+#[tactic(auto, unfolding(crate::specs::FileReading::file_at, constant_pool::specs::reading::Reading::pair_at))]
 fn read_file(alloc: Global, reader: &mut Reader<'_>) -> Result<ClassFile, Stop>
     ensures { Gives (λ c. file_of c) result (file_at reader.old) }
 {

@@ -4,10 +4,12 @@
 mod file;
 mod member;
 mod part;
+pub mod profile;
+pub mod source_lines;
 
 pub use class_tree::{
     Attribute, ClassFile, Code, Constant, Field, FieldAttribute, Method, MethodAttribute,
     NameAndDescriptor, Pool, Reference, encode,
 };
+pub use constant_pool::reading::{Cause, Malformed};
 pub use file::decode;
-pub use reading::{Cause, Malformed};

@@ -4,15 +4,15 @@ ghost use Rattle.std.specs.Prelude.{◌≡◌, ◌<◌, ◌+◌, ◌&&◌, ℕ, 
 ghost use Rattle.model.specs.declared.class_file.ExceptionEntry.{ExceptionEntry};
 ghost use Rattle.model.specs.Tree.{Entry, SkippedTree, CodeTree, FieldPart, FieldTree, MethodPart, MethodTree};
 ghost use Rattle.model.specs.Spelling.{names, is_code, is_static};
-ghost use Rattle.reading.specs.Reading.{Gives, sized_at, whole_at, table_at, filled, filled_at, moved};
+ghost use Rattle.constant_pool.specs.reading.Reading.{Gives, sized_at, whole_at, table_at, filled, filled_at, moved};
 ghost use Rattle.class_tree.specs.View.{skipped_of, code_of, field_part_of, method_part_of, field_of, method_of};
 ghost use Rattle.classfile.specs.FileReading.{is_static_field, attribute_at, skipped_at, exception_at, code_bytes_at, code_at, constant_at, field_part_at, field_at, method_part_at, method_at};
 
 use crate::part::{Owner, Part, read_table};
 use class_tree::{Attribute, Code, Field, FieldAttribute, Method, MethodAttribute};
+use constant_pool::reading::{Cause, Reader, Stop};
 use constant_pool::{Constant, Pool};
 use model::ExceptionEntry;
-use reading::{Cause, Reader, Stop};
 use std::alloc::Global;
 
 impl Part for ExceptionEntry {
@@ -39,7 +39,7 @@ impl Part for ExceptionEntry {
 }
 
 /// A length of four bytes, and so many bytes.
-#[tactic(auto, unfolding(reading::specs::Reading::sized_at))]
+#[tactic(auto, unfolding(constant_pool::specs::reading::Reading::sized_at))]
 fn read_sized(alloc: Global, reader: &mut Reader<'_>) -> Result<Vec<u8>, Stop>
     ensures { Gives (λ x. (x.items, reader.new)) result (sized_at reader.old) }
 {
@@ -49,7 +49,7 @@ fn read_sized(alloc: Global, reader: &mut Reader<'_>) -> Result<Vec<u8>, Stop>
 }
 
 /// The bytes of an attribute. Inside of a Code they fit, or their length does not.
-#[tactic(auto, unfolding(reading::specs::Reading::whole_at))]
+#[tactic(auto, unfolding(constant_pool::specs::reading::Reading::whole_at))]
 fn read_attribute(alloc: Global, owner: Owner, reader: &mut Reader<'_>) -> Result<Vec<u8>, Stop>
     ensures { Gives (λ x. (x.items, reader.new)) result (attribute_at owner reader.old) }
 {
@@ -98,7 +98,7 @@ fn read_code_bytes(alloc: Global, reader: &mut Reader<'_>) -> Result<Vec<u8>, St
 }
 
 /// The bytes of a code, whose length is at fault where they do not fit.
-#[tactic(auto, unfolding(reading::specs::Reading::whole_at))]
+#[tactic(auto, unfolding(constant_pool::specs::reading::Reading::whole_at))]
 fn read_whole_code_bytes(alloc: Global, reader: &mut Reader<'_>) -> Result<Vec<u8>, Stop>
     ensures { Gives (λ x. (x.items, reader.new)) result (whole_at code_bytes_at reader.old) }
 {
@@ -110,7 +110,7 @@ fn read_whole_code_bytes(alloc: Global, reader: &mut Reader<'_>) -> Result<Vec<u
 }
 
 /// The exception entries of a code, whose count is at fault where they do not fit.
-#[tactic(auto, unfolding(reading::specs::Reading::whole_at))]
+#[tactic(auto, unfolding(constant_pool::specs::reading::Reading::whole_at))]
 fn read_whole_exceptions(
     alloc: Global,
     pool: &Pool,
@@ -139,7 +139,7 @@ fn read_code(alloc: Global, pool: &Pool, reader: &mut Reader<'_>) -> Result<Code
 }
 
 /// A code that fills its attribute.
-#[tactic(auto, unfolding(reading::specs::Reading::filled_at, reading::specs::Reading::filled))]
+#[tactic(auto, unfolding(constant_pool::specs::reading::Reading::filled_at, constant_pool::specs::reading::Reading::filled))]
 fn read_filled_code(alloc: Global, pool: &Pool, reader: &mut Reader<'_>) -> Result<Code, Stop>
     ensures { Gives (λ x. (code_of x, reader.new)) result (filled_at code_at reader.old) }
 {

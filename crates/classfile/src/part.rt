@@ -3,11 +3,11 @@
 ghost use Rattle.std.specs.Prelude.{◌≡◌, ℕ, List, map};
 ghost use Rattle.model.specs.Tree.{Entry};
 ghost use Rattle.classfile.specs.declared.part.Owner.{Owner};
-ghost use Rattle.reading.specs.Input.{Input};
-ghost use Rattle.reading.specs.Reading.{Gives, Read, number_at, times_at, table_at};
+ghost use Rattle.constant_pool.specs.reading.Input.{Input};
+ghost use Rattle.constant_pool.specs.reading.Reading.{Gives, Read, number_at, times_at, table_at};
 
 use constant_pool::Pool;
-use reading::{Reader, Stop};
+use constant_pool::reading::{Reader, Stop};
 use std::alloc::Global;
 
 /// To what a table belongs.
@@ -68,7 +68,7 @@ fn read_times<T: Part>(
 }
 
 /// A count, and so many parts.
-#[tactic(auto, unfolding(reading::specs::Reading::table_at))]
+#[tactic(auto, unfolding(constant_pool::specs::reading::Reading::table_at))]
 pub(crate) fn read_table<T: Part>(
     alloc: Global,
     pool: &Pool,

@@ -1,11 +1,11 @@
 -- Reading the entries of so many places, as a loop does.
 use Rattle.std.proofs.Common.{◌≡◌, ℕ, zero, suc, ◌≤◌, ◌<◌, Bool, true, false, eqb, not, ◌&&◌, IsTrue, List, [], ◌∷◌, ◌++◌, Ok, Err, refl, sym, ap, subst, ◌∙◌, arith}
 use Rattle.std.proofs.lemmas.Bool.Decides.{nat_tests}
-use Rattle.reading.specs.declared.fault.Stop.{Stop}
-use Rattle.reading.specs.declared.fault.Stop.TheVariants as stops
-use Rattle.reading.specs.Input.{Input}
-use Rattle.reading.specs.Reading.{Read, Fails}
-use Rattle.reading.proofs.Loop.{with_front, regroup, no_more}
+use Rattle.constant_pool.specs.declared.reading.fault.Stop.{Stop}
+use Rattle.constant_pool.specs.declared.reading.fault.Stop.TheVariants as stops
+use Rattle.constant_pool.specs.reading.Input.{Input}
+use Rattle.constant_pool.specs.reading.Reading.{Read, Fails}
+use Rattle.constant_pool.proofs.reading.Loop.{with_front, regroup, no_more}
 use Rattle.model.specs.Tree.{Entry, Unusable}
 use Rattle.model.specs.Spelling.{is_wide}
 use Rattle.constant_pool.specs.PoolReading.{entry_at, entries_at}

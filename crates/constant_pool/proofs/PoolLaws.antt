@@ -4,12 +4,12 @@ use Rattle.std.specs.List.{list_all}
 use Rattle.std.proofs.lemmas.Bool.{eqb-true, ltb-true, lt-ltb}
 use Rattle.std.proofs.lemmas.List.{append-nil, length-append}
 use Rattle.std.proofs.lemmas.List.Concat.{flat_map-cons}
-use Rattle.reading.specs.declared.fault.Malformed.{Malformed}
-use Rattle.reading.specs.Input.{Input}
-use Rattle.reading.specs.declared.fault.Cause.TheVariants as causes
-use Rattle.reading.specs.Reading.{◌>>=◌, Read, number_at, tested, is_field_cause}
-use Rattle.reading.proofs.Laws.{IsBytes, bind_ok, bind_err, done, failed, never_stops, err_is, guard_err, ok_is, at_place, Takes, Takes-then, Takes-nothing, Laws, fits, then, tested_laws}
-use Rattle.reading.proofs.Fields.{u1_laws, u2_laws, u4_laws, u8_laws, pair_laws, bytes_laws}
+use Rattle.constant_pool.specs.declared.reading.fault.Malformed.{Malformed}
+use Rattle.constant_pool.specs.reading.Input.{Input}
+use Rattle.constant_pool.specs.declared.reading.fault.Cause.TheVariants as causes
+use Rattle.constant_pool.specs.reading.Reading.{◌>>=◌, Read, number_at, tested, is_field_cause}
+use Rattle.constant_pool.proofs.reading.Laws.{IsBytes, bind_ok, bind_err, done, failed, never_stops, err_is, guard_err, ok_is, at_place, Takes, Takes-then, Takes-nothing, Laws, fits, then, tested_laws}
+use Rattle.constant_pool.proofs.reading.Fields.{u1_laws, u2_laws, u4_laws, u8_laws, pair_laws, bytes_laws}
 use Rattle.model.specs.Tree.{Entry, Utf8, Integer, Float, Long, Double, Class, String, Field, Method, InterfaceMethod, NameAndType, Unusable}
 use Rattle.model.specs.Spelling.{u1, utf8, is_text_byte, entry, entries, EntryFits, ArePlaced, is_wide, pool, PoolFits}
 use Rattle.constant_pool.specs.PoolReading.{utf8_at, is_wide_tag, body_at, entry_at, entries_at, pool_at}

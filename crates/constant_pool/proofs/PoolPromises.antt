@@ -3,14 +3,14 @@ use Rattle.std.proofs.Common.{◌≡◌, ℕ, zero, suc, ◌+◌, ◌-◌, Bool,
 use Rattle.std.specs.List.{list_all}
 use Rattle.std.proofs.lemmas.List.{drop-drop, drop_at, length-drop, nil_from_length}
 use Rattle.std.proofs.lemmas.Bool.{ltb-true}
-use Rattle.reading.specs.declared.fault.Malformed.{Malformed}
-use Rattle.reading.specs.declared.fault.Cause.{Cause}
-use Rattle.reading.specs.declared.fault.Cause.TheVariants as causes
-use Rattle.reading.specs.declared.fault.Stop.{Stop}
-use Rattle.reading.specs.declared.fault.Stop.TheVariants as stops
-use Rattle.reading.specs.Input.{Input}
-use Rattle.reading.specs.Reading.{◌>>=◌, Read, Fails, number_at, bytes_at, pair_at, tested, after, malformed_of, moved_stop}
-use Rattle.reading.proofs.Laws.{IsBytes, IsBytes-drop, bind_err, done, failed, ok_is, err_is, at_place}
+use Rattle.constant_pool.specs.declared.reading.fault.Malformed.{Malformed}
+use Rattle.constant_pool.specs.declared.reading.fault.Cause.{Cause}
+use Rattle.constant_pool.specs.declared.reading.fault.Cause.TheVariants as causes
+use Rattle.constant_pool.specs.declared.reading.fault.Stop.{Stop}
+use Rattle.constant_pool.specs.declared.reading.fault.Stop.TheVariants as stops
+use Rattle.constant_pool.specs.reading.Input.{Input}
+use Rattle.constant_pool.specs.reading.Reading.{◌>>=◌, Read, Fails, number_at, bytes_at, pair_at, tested, after, malformed_of, moved_stop}
+use Rattle.constant_pool.proofs.reading.Laws.{IsBytes, IsBytes-drop, bind_err, done, failed, ok_is, err_is, at_place}
 use Rattle.model.specs.Tree.{Entry, Utf8, Integer, Float, Long, Double, Class, String, Field, Method, InterfaceMethod, NameAndType, Unusable}
 use Rattle.model.specs.Spelling.{pool, is_text_byte, is_wide}
 use Rattle.constant_pool.specs.PoolReading.{utf8_at, is_wide_tag, body_at, entry_at, entries_at, pool_at}

@@ -1,7 +1,7 @@
 -- What a check of a condition promises, and what a length does.
 use Rattle.std.specs.Prelude.{◌≡◌, ℕ, ◌-◌, ◌^◌, Bool, true, false, min, Result, Ok, Err}
-use Rattle.reading.specs.declared.fault.Cause.{Cause}
-use Rattle.reading.specs.declared.fault.Malformed.{Malformed}
+use Rattle.constant_pool.specs.declared.reading.fault.Cause.{Cause}
+use Rattle.constant_pool.specs.declared.reading.fault.Malformed.{Malformed}
 
 -- a check passes where its condition is met, and else answers a fault of this cause
 abbrev pub Checks : {A : Type 0} → Cause → Result A Malformed → Bool → Type 0

@@ -4,3 +4,5 @@ pub mod Checking
 pub mod Lengths
 pub mod PoolReading
 pub mod PoolLayout
+pub mod descriptors
+pub mod reading

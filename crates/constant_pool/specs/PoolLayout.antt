@@ -1,11 +1,11 @@
 -- A pool within bytes (JVMS 4.1, 4.4).
 use Rattle.std.specs.Prelude.{◌≡◌, ℕ, ◌+◌, List, ◌++◌, length, drop, Bool, true, false, Result, Ok, Err}
-use Rattle.reading.specs.declared.fault.Cause.{Cause}
-use Rattle.reading.specs.declared.fault.Cause.TheVariants as causes
-use Rattle.reading.specs.declared.fault.Malformed.{Malformed}
-use Rattle.reading.specs.declared.fault.Stop.{Stop}
-use Rattle.reading.specs.Input.{Input}
-use Rattle.reading.specs.Reading.{Read, Fails}
+use Rattle.constant_pool.specs.declared.reading.fault.Cause.{Cause}
+use Rattle.constant_pool.specs.declared.reading.fault.Cause.TheVariants as causes
+use Rattle.constant_pool.specs.declared.reading.fault.Malformed.{Malformed}
+use Rattle.constant_pool.specs.declared.reading.fault.Stop.{Stop}
+use Rattle.constant_pool.specs.reading.Input.{Input}
+use Rattle.constant_pool.specs.reading.Reading.{Read, Fails}
 use Rattle.model.specs.Tree.{Entry}
 use Rattle.model.specs.Spelling.{pool, PoolFits}
 

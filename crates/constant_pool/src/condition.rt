@@ -3,12 +3,12 @@
 ghost use Rattle.std.specs.Prelude.{◌≡◌, List, Bool};
 ghost use Rattle.std.specs.List.{list_all};
 ghost use Rattle.model.specs.Tree.{Entry};
-ghost use Rattle.reading.specs.declared.fault.Cause as declared_cause;
+ghost use Rattle.constant_pool.specs.declared.reading.fault.Cause as declared_cause;
 ghost use Rattle.constant_pool.specs.View.{entry_of, entries_of};
 ghost use Rattle.constant_pool.specs.Checking.{Checks};
 
 use crate::constant::Constant;
-use reading::{Cause, Malformed};
+use crate::reading::{Cause, Malformed};
 
 /// What each entry of a pool has to meet.
 pub(crate) trait Condition: Sized {

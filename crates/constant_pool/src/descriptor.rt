@@ -2,7 +2,7 @@
 
 ghost use Rattle.std.specs.Prelude.{◌≡◌, ◌&&◌, ◌||◌, List, Bool};
 ghost use Rattle.std.specs.List.{list_all};
-ghost use Rattle.reading.specs.declared.fault.Cause.TheVariants as causes;
+ghost use Rattle.constant_pool.specs.declared.reading.fault.Cause.TheVariants as causes;
 ghost use Rattle.model.specs.Spelling.{entry_at};
 ghost use Rattle.model.specs.DescriptorScan.{is_field_descriptor, is_method_descriptor};
 ghost use Rattle.model.specs.Conditions.{descriptor_text, entry_descriptors};
@@ -13,8 +13,8 @@ ghost use Rattle.constant_pool.specs.Texts.{kind_of};
 use crate::condition::{Condition, check_entries, require};
 use crate::constant::Constant;
 use crate::kind::{TextKind, kind_of};
+use crate::reading::{Cause, Malformed};
 use crate::texts::Texts;
-use reading::{Cause, Malformed};
 
 /// Each descriptor is one, of the kind that is asked for.
 #[derive(Drop)]

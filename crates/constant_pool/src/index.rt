@@ -2,7 +2,7 @@
 
 ghost use Rattle.std.specs.Prelude.{◌≡◌, ◌&&◌, List};
 ghost use Rattle.std.specs.List.{list_all};
-ghost use Rattle.reading.specs.declared.fault.Cause.TheVariants as causes;
+ghost use Rattle.constant_pool.specs.declared.reading.fault.Cause.TheVariants as causes;
 ghost use Rattle.model.specs.Conditions as conditions;
 ghost use Rattle.constant_pool.specs.View.{entry_of};
 ghost use Rattle.constant_pool.specs.Checking.{Checks};
@@ -10,7 +10,7 @@ ghost use Rattle.constant_pool.specs.Checking.{Checks};
 use crate::condition::{Condition, check_entries, require};
 use crate::constant::Constant;
 use crate::pool::Pool;
-use reading::{Cause, Malformed};
+use crate::reading::{Cause, Malformed};
 
 /// Each index names an entry of the kind that it has to name.
 #[derive(Drop)]

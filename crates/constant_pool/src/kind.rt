@@ -6,8 +6,8 @@ ghost use Rattle.model.specs.DescriptorScan as scan;
 ghost use Rattle.model.specs.Conditions as conditions;
 ghost use Rattle.constant_pool.specs.Texts.{kind_of};
 
+use crate::descriptors::{is_class_name, is_unqualified_name, method_slots, parse_field};
 use crate::name::is_name_of_method;
-use descriptors::{is_class_name, is_unqualified_name, method_slots, parse_field};
 
 /// What a text is: which names (JVMS 4.2) and which descriptors (JVMS 4.3).
 #[derive(Clone, Copy, Debug, PartialEq, Eq)]

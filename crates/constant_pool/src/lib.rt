@@ -4,6 +4,7 @@
 mod condition;
 mod constant;
 mod descriptor;
+pub mod descriptors;
 mod first;
 mod index;
 mod kind;
@@ -11,8 +12,10 @@ mod lookup;
 mod name;
 mod pool;
 mod read;
+pub mod reading;
 mod texts;
 
+pub use crate::reading::{Cause, Malformed};
 pub use constant::Constant;
 pub use first::FirstIndices;
 pub use kind::TextKind;
@@ -20,5 +23,4 @@ pub use lookup::{NameAndDescriptor, Reference};
 pub use name::is_method_name;
 pub use pool::Pool;
 pub use read::read_pool;
-pub use reading::{Cause, Malformed};
 pub use texts::Texts;

@@ -2,7 +2,7 @@
 
 ghost use Rattle.std.specs.Prelude.{◌≡◌, ◌==◌, ◌&&◌, ◌||◌, ℕ, List, Bool};
 ghost use Rattle.std.specs.List.{list_all};
-ghost use Rattle.reading.specs.declared.fault.Cause.TheVariants as causes;
+ghost use Rattle.constant_pool.specs.declared.reading.fault.Cause.TheVariants as causes;
 ghost use Rattle.model.specs.Descriptors as descriptors;
 ghost use Rattle.model.specs.Conditions as conditions;
 ghost use Rattle.constant_pool.specs.View.{entry_of};
@@ -11,10 +11,10 @@ ghost use Rattle.constant_pool.specs.Texts.{kind_of};
 
 use crate::condition::{Condition, check_entries, require};
 use crate::constant::Constant;
+use crate::descriptors::is_unqualified_name;
 use crate::kind::TextKind;
+use crate::reading::{Cause, Malformed};
 use crate::texts::Texts;
-use descriptors::is_unqualified_name;
-use reading::{Cause, Malformed};
 
 /// Each name is one.
 #[derive(Drop)]

@@ -4,15 +4,15 @@ ghost use Rattle.std.specs.Prelude.{◌≡◌, ◌-◌, ◌&&◌, ℕ, not, drop
 ghost use Rattle.std.specs.List.{list_all};
 ghost use Rattle.model.specs.Tree.{Entry};
 ghost use Rattle.model.specs.Spelling.{is_text_byte, is_wide};
-ghost use Rattle.reading.specs.Input.{Input};
-ghost use Rattle.reading.specs.Reading.{Gives, Fails, pair_at};
+ghost use Rattle.constant_pool.specs.reading.Input.{Input};
+ghost use Rattle.constant_pool.specs.reading.Reading.{Gives, Fails, pair_at};
 ghost use Rattle.constant_pool.specs.View.{entry_of, entries_of};
 ghost use Rattle.constant_pool.specs.PoolReading.{is_wide_tag, utf8_at, body_at, entry_at, entries_at, pool_at};
 ghost use Rattle.constant_pool.specs.PoolLayout.{PoolLayout, AnswersPool, Ends, is_pool_cause};
 
 use crate::constant::Constant;
 use crate::pool::Pool;
-use reading::{Cause, Malformed, Reader, Stop};
+use crate::reading::{Cause, Malformed, Reader, Stop};
 use std::alloc::Global;
 
 /// Whether the bytes may stand in a Utf8.
@@ -35,7 +35,7 @@ fn read_utf8(alloc: Global, reader: &mut Reader<'_>) -> Result<Vec<u8>, Stop>
     Ok(Vec::from_slice(alloc, text)?)
 }
 
-#[tactic(auto, unfolding(reading::specs::Reading::pair_at))]
+#[tactic(auto, unfolding(crate::specs::reading::Reading::pair_at))]
 fn read_pair(reader: &mut Reader<'_>) -> Result<(u16, u16), Stop>
     ensures { Gives (λ x. (x, reader.new)) result (pair_at reader.old) }
 {

@@ -1,14 +1,14 @@
 -- Why class files have no listings.
 use Rattle.std.proofs.Common.{◌≡◌, ◌⊎◌, ℕ, suc, ◌<◌, List, [], ◌∷◌, ◌++◌, length, map, Option, inl, inr, refl, ap, subst}
 use Rattle.std.specs.List.{flat_map}
-use Rattle.disasm.proofs.Writing.{flat_map_over}
+use Rattle.listings.proofs.disasm.Writing.{flat_map_over}
 use Rattle.model.specs.declared.device.DeviceFault.{DeviceFault}
 use Rattle.model.specs.declared.device.DeviceFault.TheVariants as devices
 use Rattle.model.specs.Listing.{listing}
 use Rattle.class_tree.specs.declared.tree.ClassFile.{ClassFile}
 use Rattle.classfile.specs.View.{file_of}
-use Rattle.class_listings.specs.Listings.{IsFirstMalformed, listings, no_memory}
-use Rattle.refusal.specs.declared.why.Refusal.{Refusal}
+use Rattle.listings.specs.class_listings.Listings.{IsFirstMalformed, listings, no_memory}
+use Rattle.link_conditions.specs.declared.refusal.why.Refusal.{Refusal}
 use Rattle.engines.specs.Devices.{fault_of}
 use Rattle.engines.specs.Engines.{IsOfFile, ReadsEach}
 use Rattle.engines.specs.Listings.{IsUnlisted, IsUnnamed, ListsFront, NamesFront}

@@ -5,9 +5,9 @@ use Rattle.model.specs.declared.device.DeviceFault.{DeviceFault}
 use Rattle.model.specs.declared.device.DeviceFault.TheVariants as devices
 use Rattle.model.specs.Schedule.{Recording, ScheduleFile}
 use Rattle.schedule.specs.Outcomes.{StandsIn}
-use Rattle.schedule_text.specs.declared.either.EitherFault.{EitherFault}
-use Rattle.schedule_text.specs.declared.either.EitherFault.TheVariants.{File, Text}
-use Rattle.schedule_text.specs.Either.{GivesEvents, IsFaultOf, IsMemory, begins_text}
+use Rattle.schedule.specs.declared.schedule_text.either.EitherFault.{EitherFault}
+use Rattle.schedule.specs.declared.schedule_text.either.EitherFault.TheVariants.{File, Text}
+use Rattle.schedule.specs.schedule_text.Either.{GivesEvents, IsFaultOf, IsMemory, begins_text}
 use Rattle.command_line.specs.declared.options.LimitOptions.{LimitOptions}
 use Rattle.engines.specs.Continuations.{ContinuesPart, IsUncontinued}
 use Rattle.engines.specs.Devices.{either_fault, fault_of}

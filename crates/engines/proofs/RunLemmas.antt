@@ -6,7 +6,7 @@ use Rattle.model.specs.declared.device.DeviceFault.{DeviceFault}
 use Rattle.model.specs.declared.device.DeviceFault.TheVariants as devices
 use Rattle.model.specs.Accepted.{IsAccepted}
 use Rattle.model.specs.Classes.{Program}
-use Rattle.laws.proofs.Unrefused.{unrefused_of}
+use Rattle.run_laws.proofs.laws.Unrefused.{unrefused_of}
 use Rattle.command_line.specs.declared.options.LimitOptions.{LimitOptions}
 use Rattle.command_line.specs.declared.options.RunOptions.{RunOptions}
 use Rattle.engines.specs.Devices.{fault_of}

@@ -6,9 +6,9 @@ use Rattle.model.specs.declared.device.DeviceFault.{DeviceFault}
 use Rattle.model.specs.declared.device.DeviceFault.TheVariants as devices
 use Rattle.model.specs.Schedule.{Recording}
 use Rattle.command_line.specs.declared.options.LimitOptions.{LimitOptions}
-use Rattle.run_outcomes.specs.declared.wanted.Wanted.{Wanted}
-use Rattle.search_reports.specs.declared.answers.Answer.{Answer}
-use Rattle.search_reports.specs.declared.answers.Answer.TheVariants as answers
+use Rattle.search.specs.declared.run_outcomes.wanted.Wanted.{Wanted}
+use Rattle.search.specs.declared.search_reports.answers.Answer.{Answer}
+use Rattle.search.specs.declared.search_reports.answers.Answer.TheVariants as answers
 use Rattle.engines.specs.Devices.{fault_of}
 use Rattle.engines.specs.Engines.{IsOfFile}
 use Rattle.engines.specs.Runs.{recording_of}

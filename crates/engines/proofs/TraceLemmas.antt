@@ -9,10 +9,10 @@ use Rattle.model.specs.declared.limits.Limits.{Limits}
 use Rattle.model.specs.declared.report.Report.{Report}
 use Rattle.model.specs.Classes.{Program}
 use Rattle.model.specs.Devices.{AppendsFront}
-use Rattle.disasm.proofs.Writing.{appends_on, then_fails}
-use Rattle.machine_replay.specs.Replays.{text_of}
-use Rattle.traced_runs.specs.Traces.{IsTrace}
-use Rattle.traced_runs.specs.declared.window.Window.{Window}
+use Rattle.listings.proofs.disasm.Writing.{appends_on, then_fails}
+use Rattle.program_runs.specs.machine_replay.Replays.{text_of}
+use Rattle.program_runs.specs.traced_runs.Traces.{IsTrace}
+use Rattle.program_runs.specs.declared.traced_runs.window.Window.{Window}
 use Rattle.command_line.specs.declared.options.LimitOptions.{LimitOptions}
 use Rattle.engines.specs.Devices.{fault_of}
 use Rattle.engines.specs.Opening.{IsKeptBy, IsOpened}

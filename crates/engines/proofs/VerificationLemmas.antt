@@ -13,13 +13,13 @@ use Rattle.model.specs.Classes.{Program, Body, with_pool, name_of, class_of, cod
 use Rattle.model.specs.Linkable.{AreSpelled, IsLinkable}
 use Rattle.model.specs.Typing.{AreTyped}
 use Rattle.hierarchy.specs.Places.{class_at, name_at}
-use Rattle.method_code.specs.Linked.{IsLinked}
-use Rattle.method_code.specs.View.{member_named, shown_in, shown_at}
-use Rattle.method_code.proofs.Declared.{declared_at}
+use Rattle.types.specs.method_code.Linked.{IsLinked}
+use Rattle.types.specs.method_code.View.{member_named, shown_in, shown_at}
+use Rattle.types.proofs.method_code.Declared.{declared_at}
 use Rattle.linker.specs.Linking.{MayRefuse}
 use Rattle.verifier.specs.Places.{IsUnverified, Refuses}
-use Rattle.refusal.specs.declared.why.Refusal.{Refusal}
-use Rattle.refusal.specs.declared.why.RefusalKind.TheVariants as kinds
+use Rattle.link_conditions.specs.declared.refusal.why.Refusal.{Refusal}
+use Rattle.link_conditions.specs.declared.refusal.why.RefusalKind.TheVariants as kinds
 use Rattle.engines.specs.Devices.{fault_of}
 use Rattle.engines.specs.Engines.{IsOfFile}
 use Rattle.engines.specs.Refusals.{IsRefused}

@@ -2,9 +2,9 @@
 use Rattle.std.specs.Prelude.{ℕ, List, ◌++◌, Option, codes}
 use Rattle.std.specs.Io.KnownBytes.{Appends}
 use Rattle.model.specs.Report.{line}
-use Rattle.refusal.specs.Lines.{refusal_line}
+use Rattle.link_conditions.specs.refusal.Lines.{refusal_line}
 use Rattle.schedule.specs.Names.{fault_name}
-use Rattle.schedule_text.specs.Names.{text_fault_name}
+use Rattle.schedule.specs.schedule_text.Names.{text_fault_name}
 use Rattle.engines.specs.declared.complaint.Complaint.{Complaint}
 use Rattle.engines.specs.declared.complaint.Complaint.TheVariants as complaints
 use Rattle.engines.specs.declared.fault.Fault.{Fault}

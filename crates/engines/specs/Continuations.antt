@@ -6,10 +6,10 @@ use Rattle.model.specs.declared.report.Report.{Report}
 use Rattle.model.specs.declared.end.End.{End}
 use Rattle.model.specs.Classes.{Program}
 use Rattle.model.specs.Schedule.{ScheduleFile, events_of}
-use Rattle.machine_replay.specs.Replays.{text_of}
-use Rattle.continued_runs.specs.Continuing.{GoesOn}
-use Rattle.continued_runs.specs.declared.run.Continued.{Continued}
-use Rattle.continued_runs.specs.declared.run.Continued.TheVariants.{Whole, Part}
+use Rattle.program_runs.specs.machine_replay.Replays.{text_of}
+use Rattle.program_runs.specs.continued_runs.Continuing.{GoesOn}
+use Rattle.program_runs.specs.declared.continued_runs.run.Continued.{Continued}
+use Rattle.program_runs.specs.declared.continued_runs.run.Continued.TheVariants.{Whole, Part}
 use Rattle.command_line.specs.declared.options.LimitOptions.{LimitOptions}
 use Rattle.engines.specs.Engines.{Reads, ReadsEach}
 use Rattle.engines.specs.Opening.{IsKeptBy, IsOpened}

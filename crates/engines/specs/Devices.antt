@@ -1,8 +1,8 @@
 -- The faults of an engine whose device didn't do what it was asked for, or whose schedule is none (own).
 use Rattle.model.specs.declared.device.DeviceFault.{DeviceFault}
 use Rattle.model.specs.declared.device.DeviceFault.TheVariants as devices
-use Rattle.schedule_text.specs.declared.either.EitherFault.{EitherFault}
-use Rattle.schedule_text.specs.declared.either.EitherFault.TheVariants as either
+use Rattle.schedule.specs.declared.schedule_text.either.EitherFault.{EitherFault}
+use Rattle.schedule.specs.declared.schedule_text.either.EitherFault.TheVariants as either
 use Rattle.engines.specs.declared.fault.Fault.{Fault}
 use Rattle.engines.specs.declared.fault.Fault.TheVariants as faults
 

@@ -15,3 +15,4 @@ pub mod Statuses
 pub mod Traces
 pub mod Transcriptions
 pub mod Verifications
+pub mod class_paths

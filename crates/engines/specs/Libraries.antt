@@ -4,7 +4,7 @@ use Rattle.std.specs.Prelude.{◌≡◌, ◌⊎◌, ℕ, ◌-◌, ◌==◌, List
 use Rattle.model.specs.Accepted.{IsAccepted}
 use Rattle.model.specs.Classes.{Program}
 use Rattle.model.specs.Devices.{AppendsFront}
-use Rattle.refusal.specs.declared.why.Refusal.{Refusal}
+use Rattle.link_conditions.specs.declared.refusal.why.Refusal.{Refusal}
 use Rattle.engines.specs.Engines.{ReadsEach}
 use Rattle.engines.specs.LibraryMain.{library_main}
 use Rattle.engines.specs.Refusals.{IsRefused}

@@ -4,8 +4,8 @@ use Rattle.std.specs.Prelude.{◌≡◌, ◌⊎◌, ℕ, List, length, Option}
 use Rattle.model.specs.Classes.{Program}
 use Rattle.model.specs.Devices.{AppendsFront}
 use Rattle.model.specs.Linkable.{AreSpelled}
-use Rattle.class_listings.specs.Listings.{IsFirstMalformed, listings}
-use Rattle.refusal.specs.declared.why.Refusal.{Refusal}
+use Rattle.listings.specs.class_listings.Listings.{IsFirstMalformed, listings}
+use Rattle.link_conditions.specs.declared.refusal.why.Refusal.{Refusal}
 use Rattle.engines.specs.Engines.{ReadsEach}
 use Rattle.engines.specs.Verifications.{IsUnread}
 use Rattle.engines.specs.declared.fault.Fault.{Fault}

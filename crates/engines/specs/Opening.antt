@@ -7,13 +7,13 @@ use Rattle.model.specs.Accepted.{IsAccepted}
 use Rattle.model.specs.Schedule.{Recording}
 use Rattle.schedule.specs.declared.fault.ScheduleFault.{ScheduleFault}
 use Rattle.schedule.specs.declared.fault.ScheduleFault.TheVariants as schedules
-use Rattle.schedule_text.specs.Either.{GivesEvents, StandsInEither}
-use Rattle.schedule_text.specs.declared.either.EitherFault.{EitherFault}
-use Rattle.schedule_text.specs.declared.either.EitherFault.TheVariants.{File, Text}
-use Rattle.schedule_text.specs.declared.fault.TextFault.TheVariants as texts
+use Rattle.schedule.specs.schedule_text.Either.{GivesEvents, StandsInEither}
+use Rattle.schedule.specs.declared.schedule_text.either.EitherFault.{EitherFault}
+use Rattle.schedule.specs.declared.schedule_text.either.EitherFault.TheVariants.{File, Text}
+use Rattle.schedule.specs.declared.schedule_text.fault.TextFault.TheVariants as texts
 use Rattle.command_line.specs.declared.options.LimitOptions.{LimitOptions}
-use Rattle.refusal.specs.declared.why.Refusal.{Refusal}
-use Rattle.refusal.specs.declared.why.RefusalKind.TheVariants as kinds
+use Rattle.link_conditions.specs.declared.refusal.why.Refusal.{Refusal}
+use Rattle.link_conditions.specs.declared.refusal.why.RefusalKind.TheVariants as kinds
 use Rattle.engines.specs.Engines.{Reads, ReadsEach}
 use Rattle.engines.specs.Recordings.{Disagrees, FitsFiles, FitsOptions, HasLimits}
 use Rattle.engines.specs.Refusals.{IsRefused}

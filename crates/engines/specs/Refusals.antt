@@ -5,8 +5,8 @@ use Rattle.model.specs.Classes.{Program}
 use Rattle.model.specs.Linkable.{IsLinkable}
 use Rattle.linker.specs.Linking.{MayRefuse}
 use Rattle.verifier.specs.Places.{Refuses}
-use Rattle.refusal.specs.declared.why.Refusal.{Refusal}
-use Rattle.refusal.specs.declared.why.RefusalKind.TheVariants as kinds
+use Rattle.link_conditions.specs.declared.refusal.why.Refusal.{Refusal}
+use Rattle.link_conditions.specs.declared.refusal.why.RefusalKind.TheVariants as kinds
 
 -- Accepted class files are refused for want of memory alone. Others are refused as linking refuses them, or as verification
 -- refuses what is linked.

@@ -10,8 +10,8 @@ use Rattle.model.specs.Devices.{AppendsFront}
 use Rattle.model.specs.Classes.{Program}
 use Rattle.model.specs.Accepted.{IsAccepted}
 use Rattle.model.specs.Schedule.{Recording, ScheduleFile}
-use Rattle.machine_replay.specs.Replays.{text_of}
-use Rattle.worlds.specs.Records.{IsRecorded}
+use Rattle.program_runs.specs.machine_replay.Replays.{text_of}
+use Rattle.program_runs.specs.worlds.Records.{IsRecorded}
 use Rattle.command_line.specs.Choices.{AreChosen}
 use Rattle.command_line.specs.declared.options.LimitOptions.{LimitOptions}
 use Rattle.command_line.specs.declared.options.RunOptions.{RunOptions}

@@ -7,11 +7,11 @@ use Rattle.model.specs.Classes.{Program}
 use Rattle.model.specs.Schedule.{Recording, ScheduleFile, events_of}
 use Rattle.command_line.specs.Choices.{AreChosen}
 use Rattle.command_line.specs.declared.options.LimitOptions.{LimitOptions}
-use Rattle.run_outcomes.specs.declared.wanted.Wanted.{Wanted}
-use Rattle.search_reports.specs.Answers.{Answers}
-use Rattle.search_reports.specs.Reports.{search_text}
-use Rattle.search_reports.specs.declared.answers.Answer.{Answer}
-use Rattle.search_reports.specs.declared.answers.Answer.TheVariants as answers
+use Rattle.search.specs.declared.run_outcomes.wanted.Wanted.{Wanted}
+use Rattle.search.specs.search_reports.Answers.{Answers}
+use Rattle.search.specs.search_reports.Reports.{search_text}
+use Rattle.search.specs.declared.search_reports.answers.Answer.{Answer}
+use Rattle.search.specs.declared.search_reports.answers.Answer.TheVariants as answers
 use Rattle.engines.specs.Engines.{ReadsEach}
 use Rattle.engines.specs.Refusals.{IsRefused}
 use Rattle.engines.specs.Runs.{Records, StopsWithin, recording_of}

@@ -7,8 +7,8 @@ use Rattle.model.specs.declared.end.End.{End}
 use Rattle.model.specs.declared.end.End.TheVariants as ends
 use Rattle.command_line.specs.declared.usage.Usage.{Usage}
 use Rattle.command_line.specs.declared.usage.Usage.TheVariants as usages
-use Rattle.search_reports.specs.declared.answers.Answer.{Answer}
-use Rattle.search_reports.specs.declared.answers.Answer.TheVariants as answers
+use Rattle.search.specs.declared.search_reports.answers.Answer.{Answer}
+use Rattle.search.specs.declared.search_reports.answers.Answer.TheVariants as answers
 use Rattle.engines.specs.declared.complaint.Complaint.{Complaint}
 use Rattle.engines.specs.declared.complaint.Complaint.TheVariants as complaints
 use Rattle.engines.specs.declared.fault.Fault.{Fault}

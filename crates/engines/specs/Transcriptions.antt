@@ -4,10 +4,10 @@ use Rattle.model.specs.declared.event.ScheduleEntry.{ScheduleEntry}
 use Rattle.model.specs.Devices.{AppendsFront}
 use Rattle.model.specs.Schedule.{Recording, schedule}
 use Rattle.schedule.specs.declared.fault.ScheduleFault.TheVariants as schedules
-use Rattle.schedule_text.specs.Either.{GivesEntries}
-use Rattle.schedule_text.specs.Text.{SpellsSchedule}
-use Rattle.schedule_text.specs.declared.either.EitherFault.TheVariants.{File, Text}
-use Rattle.schedule_text.specs.declared.fault.TextFault.TheVariants as texts
+use Rattle.schedule.specs.schedule_text.Either.{GivesEntries}
+use Rattle.schedule.specs.schedule_text.Text.{SpellsSchedule}
+use Rattle.schedule.specs.declared.schedule_text.either.EitherFault.TheVariants.{File, Text}
+use Rattle.schedule.specs.declared.schedule_text.fault.TextFault.TheVariants as texts
 use Rattle.engines.specs.Engines.{Reads}
 use Rattle.engines.specs.Opening.{IsUnspelled}
 use Rattle.engines.specs.declared.fault.Fault.{Fault}

@@ -5,7 +5,7 @@ use Rattle.model.specs.Accepted.{IsAccepted}
 use Rattle.model.specs.Classes.{Program}
 use Rattle.model.specs.Devices.{AppendsFront}
 use Rattle.model.specs.Report.{number}
-use Rattle.refusal.specs.declared.why.Refusal.{Refusal}
+use Rattle.link_conditions.specs.declared.refusal.why.Refusal.{Refusal}
 use Rattle.engines.specs.Engines.{ReadsEach, no_memory}
 use Rattle.engines.specs.Refusals.{IsRefused}
 use Rattle.engines.specs.declared.fault.Fault.{Fault}

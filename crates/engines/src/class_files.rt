@@ -5,8 +5,8 @@ ghost use Rattle.engines.specs.Engines.{CountsFailure, IsOfFile, Reads, ReadsEac
 ghost use Rattle.engines.specs.Opening.{IsKeptBy, IsOfSchedule};
 
 use crate::fault::Fault;
+use link_conditions::refusal::{Refusal, RefusalKind};
 use model::{DeviceFault, Source};
-use refusal::{Refusal, RefusalKind};
 use std::alloc::Global;
 
 /// The bytes of each class file.

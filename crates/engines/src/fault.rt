@@ -8,7 +8,7 @@ ghost use Rattle.engines.specs.Complaints.{fault_line};
 
 use model::DeviceFault;
 use schedule::ScheduleFault;
-use schedule_text::{EitherFault, TextFault};
+use schedule::schedule_text::{EitherFault, TextFault};
 use std::alloc::{AllocError, AllocFailed};
 use std::io;
 use std::io::{ErrorKind, Write};
@@ -21,7 +21,7 @@ pub enum Fault {
     /// Memory was wanted where nothing is read, linked or verified.
     Memory,
     /// The class files are refused.
-    Refusal(refusal::Refusal),
+    Refusal(link_conditions::refusal::Refusal),
     /// The schedule file is refused.
     Schedule(ScheduleFault),
     /// The text of the schedule is refused.
@@ -43,10 +43,10 @@ impl Fault {
     }
 }
 
-impl From<refusal::Refusal> for Fault {
+impl From<link_conditions::refusal::Refusal> for Fault {
     ghost from_gives = { λ refusal fault. fault ≡ Refusal refusal };
 
-    fn from(refusal: refusal::Refusal) -> Fault {
+    fn from(refusal: link_conditions::refusal::Refusal) -> Fault {
         Fault::Refusal(refusal)
     }
 }

@@ -1,7 +1,7 @@
 //! The files for which the paths of a command line stand.
 
+use crate::class_paths::class_paths;
 use crate::folder::Folder;
-use class_paths::class_paths;
 use std::alloc::Global;
 use std::io;
 

@@ -3,6 +3,7 @@
 #![tactic(auto)]
 
 mod class_files;
+pub mod class_paths;
 mod complaint;
 mod continuing;
 mod device;
@@ -36,6 +37,7 @@ pub use library::verify_library_engine;
 pub use listing::disasm_engine;
 pub use names::names_engine;
 pub use program::run;
+pub use program_runs::workers::{Gate, Open};
 pub use replaying::replay_engine;
 pub use running::run_engine;
 pub use searching::search_engine;
@@ -43,4 +45,3 @@ pub use status::Status;
 pub use tracing::trace_engine;
 pub use transcribing::{schedule_engine, write_schedule_engine};
 pub use verification::verify_engine;
-pub use workers::{Gate, Open};

@@ -11,8 +11,8 @@ use crate::class_files::read_class_files;
 use crate::fault::Fault;
 use crate::status::Status;
 use crate::verification::{accepted, line_of};
+use link_conditions::refusal::{Refusal, RefusalKind};
 use model::{Sink, Source};
-use refusal::{Refusal, RefusalKind};
 use std::alloc::{AllocError, Global};
 
 /// The bytes of the class that stands before the files: a class file with a static main, which returns.

@@ -8,7 +8,7 @@ ghost use Rattle.engines.specs.Listings.{IsUnlisted, Lists};
 use crate::class_files::read_class_files;
 use crate::fault::Fault;
 use crate::status::Status;
-use class_listings::{decode_files, list_files};
+use listings::class_listings::{decode_files, list_files};
 use model::{Sink, Source};
 use std::alloc::Global;
 

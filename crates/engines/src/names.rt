@@ -8,9 +8,9 @@ ghost use Rattle.engines.specs.Listings.{AreClassFiles, IsUnnamed};
 use crate::class_files::read_class_files;
 use crate::fault::Fault;
 use crate::status::Status;
-use class_listings::decode_files;
+use listings::class_listings::decode_files;
+use listings::named_listing::named_listings;
 use model::{Sink, Source};
-use named_listing::named_listings;
 use std::alloc::Global;
 
 /// Writes the listings of the class files with names and line numbers, one behind the other, and answers the status of what

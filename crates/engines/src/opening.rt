@@ -2,7 +2,7 @@
 
 ghost use Rattle.std.specs.Prelude.{◌≡◌, ◌+◌, ◌⊎◌, IfOk, IfErr, map, sum_by, vec_items};
 ghost use Rattle.model.specs.Schedule.{events_of};
-ghost use Rattle.schedule_text.specs.Either.{GivesEntries, GivesEvents};
+ghost use Rattle.schedule.specs.schedule_text.Either.{GivesEntries, GivesEvents};
 ghost use Rattle.engines.specs.Engines.{CountsFailure, Reads, ReadsEach};
 ghost use Rattle.engines.specs.Opening.{IsAfterFiles, IsKeptBy, IsOfSchedule, IsOpened};
 ghost use Rattle.engines.specs.Transcriptions.{IsUnprinted};
@@ -13,8 +13,8 @@ use crate::recording::limits_of;
 use crate::verification::accepted;
 use command_line::LimitOptions;
 use model::{DeviceFault, Limits, Source};
+use schedule::schedule_text::read_either;
 use schedule::{Recording, Schedule, ScheduleFault};
-use schedule_text::read_either;
 use std::alloc::Global;
 use verifier::Verified;
 

@@ -22,13 +22,13 @@ use command_line::{
     Usage, Verify, command,
 };
 use model::{DeviceFault, Sink, Source};
-use run_outcomes::Wanted;
+use program_runs::traced_runs::{Form, Window};
+use program_runs::workers::Gate;
+use search::run_outcomes::Wanted;
 use search::states_within;
 use std::alloc::{AllocError, Global};
 use std::sync::Wait;
 use std::thread::Threads;
-use traced_runs::{Form, Window};
-use workers::Gate;
 
 /// Does what the words say, the program's name first, and answers the status or why there is none.
 ///

@@ -11,9 +11,9 @@ use crate::fault::Fault;
 use crate::opening::{Opened, open};
 use crate::status::Status;
 use command_line::LimitOptions;
-use machine_replay::replay;
 use model::{Sink, Source};
-use report::text;
+use program_runs::machine_replay::replay;
+use schedule::report::text;
 use std::alloc::{AllocError, Global};
 
 /// Runs the class files under the schedule, writes the report and answers its status.

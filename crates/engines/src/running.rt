@@ -6,8 +6,8 @@ ghost use Rattle.std.specs.Io.KnownBytes.{Appends};
 ghost use Rattle.model.specs.Accepted.{IsAccepted};
 ghost use Rattle.model.specs.Devices.{Counts};
 ghost use Rattle.model.specs.Schedule.{ScheduleFile, events_of};
-ghost use Rattle.machine_replay.specs.Replays.{text_of};
-ghost use Rattle.worlds.specs.Records.{IsRecordOf};
+ghost use Rattle.program_runs.specs.machine_replay.Replays.{text_of};
+ghost use Rattle.program_runs.specs.worlds.Records.{IsRecordOf};
 ghost use Rattle.engines.specs.Engines.{CountsFailure};
 ghost use Rattle.engines.specs.Statuses.{status_of};
 ghost use Rattle.engines.specs.Runs.{IsRun, IsUnrun, Records, RecordsFront, Runs, recording_of};
@@ -18,14 +18,14 @@ use crate::status::Status;
 use crate::verification::accepted;
 use command_line::{LimitOptions, RunOptions};
 use model::{DeviceFault, End, Limits, Report, Sink, Source};
-use report::text;
+use program_runs::workers::{Gate, Recorded, run_workers};
+use program_runs::worlds::run_seeded;
+use schedule::report::text;
 use schedule::{Recording, Schedule, write_schedule};
 use std::alloc::{AllocError, Global};
 use std::sync::{Arc, Wait};
 use std::thread::Threads;
 use verifier::Verified;
-use workers::{Gate, Recorded, run_workers};
-use worlds::run_seeded;
 
 /// Runs the class files, by workers or, with a seed, by one; writes the report, and then the schedule file where one is
 /// asked for; and answers the status of the report. The gate is told what the workers do.

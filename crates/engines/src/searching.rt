@@ -16,8 +16,8 @@ use crate::status::Status;
 use crate::verification::accepted;
 use command_line::LimitOptions;
 use model::{DeviceFault, Limits, Sink, Source};
-use run_outcomes::Wanted;
-use search_reports::{Answer, search_report};
+use search::run_outcomes::Wanted;
+use search::search_reports::{Answer, search_report};
 use std::alloc::{AllocError, Global};
 use verifier::Verified;
 

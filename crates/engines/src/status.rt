@@ -8,7 +8,7 @@ use crate::complaint::Complaint;
 use crate::fault::Fault;
 use command_line::Usage;
 use model::{End, EndState, Report};
-use search_reports::Answer;
+use search::search_reports::Answer;
 
 #[derive(Clone, Copy, Debug, PartialEq, Eq)]
 pub enum Status {

@@ -13,9 +13,9 @@ use crate::opening::{Opened, open};
 use crate::status::Status;
 use command_line::LimitOptions;
 use model::{DeviceFault, Sink, Source};
-use report::text;
+use program_runs::traced_runs::{Window, trace};
+use schedule::report::text;
 use std::alloc::Global;
-use traced_runs::{Window, trace};
 
 /// Runs the class files under the schedule, writes a line for each event that is to be told, and then the report. Answers
 /// the status of the report.

@@ -9,8 +9,8 @@ use crate::fault::Fault;
 use crate::opening::read_given;
 use crate::status::Status;
 use model::{DeviceFault, Sink, Source};
+use schedule::schedule_text::{TextFault, parse, print};
 use schedule::write_schedule;
-use schedule_text::{TextFault, parse, print};
 use std::alloc::Global;
 
 /// Writes the text of a schedule, and answers the status of what is done. The schedule is read as text, too, where its

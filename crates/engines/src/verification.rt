@@ -11,9 +11,9 @@ ghost use Rattle.engines.specs.Verifications.{IsUnaccepted, Verifies, verified_l
 use crate::class_files::read_class_files;
 use crate::fault::Fault;
 use crate::status::Status;
+use link_conditions::refusal::Refusal;
 use linker::link;
 use model::{Sink, Source};
-use refusal::Refusal;
 use std::alloc::{AllocError, Global};
 use verifier::{Verified, verify};
 

@@ -7,7 +7,7 @@ use crate::outside::{say_outside, say_place};
 use crate::unresolved::say_unresolved;
 use classfile::{ClassFile, decode};
 use hierarchy::ClassSet;
-use refusal::{Refusal, RefusalKind};
+use link_conditions::refusal::{Refusal, RefusalKind};
 use std::alloc::{AllocError, Global};
 
 /// A class file: its name as it was given, and its bytes.

@@ -2,7 +2,7 @@
 
 use crate::line::Line;
 use classfile::ClassFile;
-use left_out_opcodes::mnemonic;
+use listings::left_out_opcodes::mnemonic;
 use model::Instr;
 use opcodes::decode_at;
 use std::alloc::AllocError;

@@ -4,7 +4,7 @@ use crate::instruction::say_instruction;
 use crate::line::Line;
 use crate::method::{class_name, code_of, method_called};
 use classfile::ClassFile;
-use profile::{Place, first_fault};
+use classfile::profile::{Place, first_fault};
 use std::alloc::{AllocError, Global};
 
 /// Adds the instruction at an offset of a method.

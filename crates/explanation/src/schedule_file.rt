@@ -2,7 +2,7 @@
 
 use crate::line::Line;
 use schedule::ScheduleFault;
-use schedule_text::TextFault;
+use schedule::schedule_text::TextFault;
 use std::alloc::{AllocError, Global};
 
 fn words_of(fault: ScheduleFault) -> &'static str {

@@ -2,7 +2,7 @@
 use Rattle.std.proofs.Common.{◌≡◌, ℕ, ◌+◌, ◌-◌, subst, ◌<◌, ◌≤◌, ◌^◌, List, [], ◌∷◌, ◌++◌, length, refl, sym, ◌∙◌, ap, arith, length-append}
 use Rattle.std.specs.Prelude.{replicate}
 use Rattle.std.proofs.lemmas.List.{length-replicate}
-use Rattle.monitor.specs.Locks.{Locks}
+use Rattle.heap.specs.monitor.Locks.{Locks}
 use Rattle.model.specs.State.{Monitor}
 use Rattle.model.specs.Monitors.{unlocked}
 use Rattle.heap.specs.declared.kind.ObjectKind.{ObjectKind}

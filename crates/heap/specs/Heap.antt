@@ -2,9 +2,9 @@
 use Rattle.std.specs.Prelude.{◌≡◌, ℕ, ◌+◌, ◌-◌, ◌<◌, ◌≤◌, ◌^◌, List, [], ◌∷◌, ◌++◌, Option, Some, None, Result, Ok, Err, false, length, drop, replicate, sum_by, slice_get, slice_index, slice_set}
 use Rattle.model.specs.Monitors.{unlocked}
 use Rattle.model.specs.declared.monitor_answer.MonitorAnswer.{MonitorAnswer}
-use Rattle.monitor.specs.Locks.{Locks, Answers}
-use Rattle.monitor.specs.declared.call.Call.{Call}
-use Rattle.monitor.specs.declared.refusal.Refusal.{Refusal}
+use Rattle.heap.specs.monitor.Locks.{Locks, Answers}
+use Rattle.heap.specs.declared.monitor.call.Call.{Call}
+use Rattle.heap.specs.declared.monitor.refusal.Refusal.{Refusal}
 use Rattle.heap.specs.declared.kind.ObjectKind.{ObjectKind}
 use Rattle.heap.specs.declared.refusal.AllocRefusal.{AllocRefusal}
 use Rattle.heap.specs.declared.refusal.AllocRefusal.TheVariants.{Objects, Cells, Memory}

@@ -2,7 +2,7 @@
 use Rattle.std.specs.Prelude.{◌≡◌, ℕ, ◌+◌, ◌<◌, ◌≤◌, ◌^◌, List, [], ◌∷◌, length, drop, slice_range}
 use Rattle.heap.specs.declared.kind.ObjectKind.{ObjectKind}
 use Rattle.heap.specs.declared.layout.Entry.{Entry}
-use Rattle.monitor.specs.Locks.{Locks}
+use Rattle.heap.specs.monitor.Locks.{Locks}
 use Rattle.heap.specs.Heap.{Object, Heap}
 
 -- where the words of the first object begin; where there is none, at the end

@@ -2,14 +2,14 @@
 
 ghost use Rattle.std.specs.Prelude.{◌≡◌, ◌+◌, ◌<◌, ◌↔◌, [], Ok, IfOk, OnErr, IsTrue, length, slice_get, option_map};
 ghost use Rattle.model.specs.Monitors.{monitor_at};
-ghost use Rattle.monitor.specs.Locks.{IsAllowed, is_fat_at};
+ghost use Rattle.heap.specs.monitor.Locks.{IsAllowed, is_fat_at};
 ghost use Rattle.heap.specs.Heap.{made, cells_made, Allocates, IsOpened, words_at, word_at, put_field, put_element, HandsOn, kind_of};
 
 use crate::kind::{NarrowKind, ObjectKind};
 use crate::layout::{self, Entry};
+use crate::monitor::{Call, MonitorCalls, Monitors, Refusal, Waiter};
 use crate::refusal::AllocRefusal;
 use model::{Limits, MonitorAnswer};
-use monitor::{Call, MonitorCalls, Monitors, Refusal, Waiter};
 use std::alloc::{AllocError, Global};
 use std::marker::Model;
 

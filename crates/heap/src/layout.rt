@@ -5,7 +5,7 @@ ghost use Rattle.heap.specs.Heap.{with_lock, word_at, put_field};
 ghost use Rattle.heap.specs.Layout.{AreLaid, IsPlace, start_at, entry_kind, objects_of};
 
 use crate::kind::ObjectKind;
-use monitor::Monitors;
+use crate::monitor::Monitors;
 use std::alloc::AllocError;
 use std::mem::size_of;
 

@@ -5,8 +5,12 @@
 #![tactic(auto)]
 
 mod heap;
+pub mod java_threads;
 mod kind;
 mod layout;
+pub mod lock_word;
+pub mod monitor;
+pub mod monitor_events;
 mod refusal;
 
 pub use heap::{Heap, MOST_OPENING};

@@ -4,7 +4,7 @@ use Rattle.hierarchy.specs.declared.refusal.SetRefusal as declared_refusal
 use Rattle.hierarchy.specs.declared.refusal.SetRefusal.TheVariants as refusals
 use Rattle.model.specs.Linkable as linkable
 use Rattle.class_tree.specs.declared.tree.ClassFile.{ClassFile}
-use Rattle.classfile.specs.View.{file_of}
+use Rattle.class_tree.specs.View.{file_of}
 use Rattle.model.specs.Tree.{FileTree}
 use Rattle.model.specs.BuiltIn.{built_in_classes}
 use Rattle.model.specs.Names.{Name}

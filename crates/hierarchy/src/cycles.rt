@@ -3,7 +3,7 @@
 ghost use Rattle.std.specs.Prelude.{◌≡◌, ◌-◌, length, option_map, position, true, Some, IfOk, IfSome};
 ghost use Rattle.std.specs.Option.{option_to_list};
 ghost use Rattle.std.specs.List.{list_any};
-ghost use Rattle.classfile.specs.View.{file_of};
+ghost use Rattle.class_tree.specs.View.{file_of};
 ghost use Rattle.model.specs.Names.{name_eq};
 ghost use Rattle.model.specs.Hierarchy.{is_above, in_cycle, direct_supertypes};
 ghost use Rattle.model.specs.Classes.{classes_of, interface_names};
@@ -15,7 +15,7 @@ use crate::name_set::NameSet;
 use crate::ranks::{is_reached, never_rise, rank_of, ranked_order};
 use crate::rows::{row_of, supertype_rows};
 use crate::set::{ClassSet, class_name, superclass_name};
-use classfile::ClassFile;
+use class_tree::ClassFile;
 use std::alloc::{AllocError, Global};
 
 /// How many classes are built in. The first file stands behind them.

@@ -5,9 +5,9 @@ ghost use Rattle.model.specs.Names.{spells};
 ghost use Rattle.model.specs.Pool.{utf8_at};
 ghost use Rattle.model.specs.Classes.{is_method};
 ghost use Rattle.model.specs.Lookup.{is_field};
-ghost use Rattle.classfile.specs.View.{field_of, method_of, file_of};
+ghost use Rattle.class_tree.specs.View.{field_of, method_of, file_of};
 
-use classfile::{ClassFile, Field, Method};
+use class_tree::{ClassFile, Field, Method};
 
 /// Whether a name is there, and is this one.
 fn is_spelled(text: Option<&[u8]>, name: &[u8]) -> bool

@@ -4,7 +4,7 @@ ghost use Rattle.std.specs.Prelude.{◌≡◌, ◌∷◌, ◌-◌, suc, length, 
 ghost use Rattle.std.specs.Option.{option_to_list};
 ghost use Rattle.std.specs.List.{list_any};
 ghost use Rattle.constant_pool.specs.View.{reference_of};
-ghost use Rattle.classfile.specs.View.{file_of};
+ghost use Rattle.class_tree.specs.View.{file_of};
 ghost use Rattle.model.specs.Classes.{classes_of, interfaces_above};
 ghost use Rattle.model.specs.Lookup.{first_found, field_in_class, find_field};
 ghost use Rattle.hierarchy.specs.declared.rows.Above.TheVariants as above;
@@ -17,7 +17,7 @@ use crate::name_set::NameSet;
 use crate::place::MemberPlace;
 use crate::rows::{row_of, supertype_rows};
 use crate::set::ClassSet;
-use classfile::{ClassFile, Reference};
+use class_tree::{ClassFile, Reference};
 use std::alloc::{AllocError, Global};
 
 /// Whether a name is there whose class has a superclass, and that isn't Object.

@@ -19,7 +19,7 @@ use crate::ranked_rows::ordered_interface_rows;
 use crate::ranks::ranked_order;
 use crate::rows::{interface_rows, row_of, supertype_rows};
 use crate::set::ClassSet;
-use classfile::Reference;
+use class_tree::Reference;
 use std::alloc::{AllocError, Global};
 use std::marker::Model;
 

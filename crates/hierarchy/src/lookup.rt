@@ -2,7 +2,7 @@
 
 ghost use Rattle.std.specs.Prelude.{◌≡◌, ◌/◌, ◌%◌, ◌<◌, ◌==◌, option_map, IfSome};
 ghost use Rattle.constant_pool.specs.View.{reference_of};
-ghost use Rattle.classfile.specs.View.{method_of};
+ghost use Rattle.class_tree.specs.View.{method_of};
 ghost use Rattle.model.specs.Classes.{lineage};
 ghost use Rattle.model.specs.Lookup.{method_in_class, first_found, select, any_method, field_in_class};
 ghost use Rattle.hierarchy.specs.Places.{member_in, IsFieldAt, IsMethodAt};
@@ -11,7 +11,7 @@ ghost use Rattle.hierarchy.specs.Wanted.{wants};
 use crate::declared::{field_place, method_place};
 use crate::place::MemberPlace;
 use crate::set::ClassSet;
-use classfile::{Method, Reference};
+use class_tree::{Method, Reference};
 
 /// ACC_PUBLIC, ACC_PRIVATE and ACC_STATIC (JVMS table 4.6-A).
 const PUBLIC: u16 = 0x0001;

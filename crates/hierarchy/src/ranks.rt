@@ -3,13 +3,13 @@
 ghost use Rattle.std.specs.Prelude.{◌≡◌, true, false, option_map, IfOk, OnSome, not};
 ghost use Rattle.std.specs.Option.{option_to_list};
 ghost use Rattle.std.specs.List.{list_any};
-ghost use Rattle.classfile.specs.View.{file_of};
+ghost use Rattle.class_tree.specs.View.{file_of};
 ghost use Rattle.model.specs.Classes.{classes_of, interface_names};
 ghost use Rattle.hierarchy.specs.Ranks.{rank_of, is_late, is_misranked, HasRanks, is_reached, rises, NeverRise};
 
 use crate::order::supertypes_first;
 use crate::set::{ClassSet, class_name, superclass_name};
-use classfile::ClassFile;
+use class_tree::ClassFile;
 use std::alloc::{AllocError, Global};
 
 /// The rank of the class of a name.

@@ -3,14 +3,14 @@
 ghost use Rattle.std.specs.Prelude.{◌≡◌, ◌∷◌, ◌-◌, [], zero, suc, length, option_map, IfOk, OnOk, true};
 ghost use Rattle.std.specs.Option.{option_map_or, option_to_list};
 ghost use Rattle.std.specs.List.{flat_map};
-ghost use Rattle.classfile.specs.View.{file_of};
+ghost use Rattle.class_tree.specs.View.{file_of};
 ghost use Rattle.model.specs.Classes.{classes_of, interface_names};
 ghost use Rattle.hierarchy.specs.declared.rows.Above.TheVariants as above;
 ghost use Rattle.hierarchy.specs.Above.{with_names, row_of, next_row, next_rows, rows_of};
 
 use crate::name_set::NameSet;
 use crate::set::{ClassSet, class_name, superclass_name};
-use classfile::ClassFile;
+use class_tree::ClassFile;
 use std::alloc::{AllocError, Global};
 
 /// What stands directly above a class.

@@ -4,13 +4,13 @@ ghost use Rattle.std.specs.Prelude.{◌≡◌, length, map, false, option_map, I
 ghost use Rattle.model.specs.Classes.{classes_of, class_of, superclass_of, is_subclass, is_interface, name_of, super_name_of};
 ghost use Rattle.model.specs.Linkable.{stands, DuplicateClass, two_of_one_name};
 ghost use Rattle.model.specs.BuiltIn.{built_in_classes as classes_of_the_model};
-ghost use Rattle.classfile.specs.View.{file_of};
+ghost use Rattle.class_tree.specs.View.{file_of};
 ghost use Rattle.hierarchy.specs.Set.{trees_of, files_of, IsRefused};
 ghost use Rattle.hierarchy.specs.Places.{place_of, class_at};
 
 use crate::refusal::SetRefusal;
-use builtin::built_in_classes;
-use classfile::ClassFile;
+use class_tree::ClassFile;
+use class_tree::builtin::built_in_classes;
 use indexmap::IndexSet;
 use std::alloc::Global;
 use std::marker::Model;

@@ -21,11 +21,11 @@ use Rattle.model.specs.Meanings.{if_field}
 use Rattle.types.specs.declared.verification_type.VerificationType.{VerificationType}
 use Rattle.types.specs.declared.verification_type.VerificationType.TheVariants as type
 use Rattle.types.specs.View.{type_in}
-use Rattle.operand_types.specs.declared.wants.Want.{Want}
-use Rattle.operand_types.specs.declared.wants.Want.TheVariants as want
-use Rattle.operand_types.specs.View.{want_in, wants_in}
-use Rattle.described_types.specs.declared.described.MethodTypes.{MethodTypes}
-use Rattle.described_types.specs.Described.{parameters_in, results_in}
+use Rattle.instruction_types.specs.declared.operand_types.wants.Want.{Want}
+use Rattle.instruction_types.specs.declared.operand_types.wants.Want.TheVariants as want
+use Rattle.instruction_types.specs.operand_types.View.{want_in, wants_in}
+use Rattle.types.specs.declared.described_types.described.MethodTypes.{MethodTypes}
+use Rattle.types.specs.described_types.Described.{parameters_in, results_in}
 use Rattle.instruction_types.specs.declared.leads.Leads.{Leads}
 use Rattle.instruction_types.specs.declared.leads.Leads.TheVariants as leads
 use Rattle.instruction_types.specs.declared.meaning.Meaning.{Meaning}
@@ -35,7 +35,7 @@ use Rattle.instruction_types.specs.Leads.{leads_in, initialised_leads}
 use Rattle.instruction_types.specs.Means.{Means}
 use Rattle.instruction_types.specs.Answers.{Answers}
 use Rattle.instruction_types.specs.Wants.{want_for, CallsOn, Constructs, TellsCall, TellsCallOn, leads_of_result}
-use Rattle.operand_types.proofs.Lists.{map-reverse}
+use Rattle.instruction_types.proofs.operand_types.Lists.{map-reverse}
 
 module _ (files : Program) where
   -- ---- what is wanted of a value that is passed on

@@ -14,13 +14,13 @@ use Rattle.model.specs.Typing.{marked, constructs_this, successors}
 use Rattle.types.specs.declared.frame_type.FrameType.{FrameType}
 use Rattle.types.specs.declared.verification_type.VerificationType as Declared
 use Rattle.types.specs.View.{type_in, frame_in}
-use Rattle.operand_types.specs.View.{want_in, reads_in}
+use Rattle.instruction_types.specs.operand_types.View.{want_in, reads_in}
 use Rattle.instruction_types.specs.declared.meaning.Meaning.{Meaning}
 use Rattle.instruction_types.specs.Leads.{leads_in}
 use Rattle.instruction_types.specs.Means.{Means}
 use Rattle.instruction_types.specs.Successors.{found_by, left_by, with_slots, lead_after, followed}
 use Rattle.instruction_types.specs.declared.leads.Leads.{Leads}
-use Rattle.operand_types.proofs.Lists.{map-reverse}
+use Rattle.instruction_types.proofs.operand_types.Lists.{map-reverse}
 
 -- ---- frame types by their parts
 

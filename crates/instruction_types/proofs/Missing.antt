@@ -16,8 +16,8 @@ use Rattle.model.specs.DescriptorScan.{◌>>=◌, dimensions_of, field_type, fie
 use Rattle.model.specs.DescriptorParts.{class_of_element, classes_in, classes_named, method_types, return_types}
 use Rattle.model.specs.DescribedTypes.{DeclaredType, DeclaredInt, DeclaredReference, array_of, declared_with, declared_of, field_declared, returned_type, parameters_declared, results_declared, reference_declared, type_named}
 use Rattle.model.specs.Resolution.{is_missing}
-use Rattle.described_types.specs.Described.{type_missing, declared_missing}
-use Rattle.described_types.proofs.Arrays.{arrays_missing}
+use Rattle.types.specs.described_types.Described.{type_missing, declared_missing}
+use Rattle.types.proofs.described_types.Arrays.{arrays_missing}
 
 and_between : (a b : Bool) → (a && false && b) ≡ false
 and_between true b = refl

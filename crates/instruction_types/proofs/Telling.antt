@@ -15,8 +15,8 @@ use Rattle.model.specs.Opening.{class_reference, string_reference}
 use Rattle.model.specs.Sites.{MeaningOf, Site, wants_of}
 use Rattle.model.specs.Objects.{object_meaning, class_constant, constant_meaning}
 use Rattle.model.specs.Resolution.{is_missing}
-use Rattle.operand_types.specs.declared.wants.Want.{Want}
-use Rattle.operand_types.specs.View.{want_in, wants_in}
+use Rattle.instruction_types.specs.declared.operand_types.wants.Want.{Want}
+use Rattle.instruction_types.specs.operand_types.View.{want_in, wants_in}
 use Rattle.types.specs.declared.reference_type.ReferenceType.{ReferenceType}
 use Rattle.types.specs.declared.verification_type.VerificationType.TheVariants as type
 use Rattle.instruction_types.specs.declared.leads.Leads.{Leads}

@@ -6,3 +6,4 @@ pub mod Wants
 pub mod Fields
 pub mod Returns
 pub mod Successors
+pub mod operand_types

@@ -5,7 +5,7 @@ use Rattle.model.specs.Classes.{Program}
 use Rattle.model.specs.Types.{VerificationType}
 use Rattle.model.specs.Operands.{Slots}
 use Rattle.model.specs.Sites.{MeaningOf, Site}
-use Rattle.operand_types.specs.View.{wants_in}
+use Rattle.instruction_types.specs.operand_types.View.{wants_in}
 use Rattle.instruction_types.specs.Leads.{leads_in}
 use Rattle.instruction_types.specs.declared.meaning.Meaning.{Meaning}
 

@@ -7,7 +7,7 @@ use Rattle.model.specs.TypeOrder as frames
 use Rattle.model.specs.Operands.{Slots}
 use Rattle.types.specs.declared.frame_type.FrameType.{FrameType}
 use Rattle.types.specs.View.{frame_in}
-use Rattle.operand_types.specs.declared.wants.Wants.{Wants}
+use Rattle.instruction_types.specs.declared.operand_types.wants.Wants.{Wants}
 use Rattle.instruction_types.specs.Leads.{leads_in}
 use Rattle.instruction_types.specs.declared.meaning.Meaning.{Meaning}
 

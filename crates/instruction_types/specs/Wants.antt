@@ -12,12 +12,12 @@ use Rattle.model.specs.Sites.{Site, to_next}
 use Rattle.model.specs.Calls.{of_class, call_wants, result_types, constructed_leads}
 use Rattle.types.specs.declared.verification_type.VerificationType.{VerificationType}
 use Rattle.types.specs.declared.verification_type.VerificationType.TheVariants as type
-use Rattle.operand_types.specs.declared.wants.Want.{Want}
-use Rattle.operand_types.specs.declared.wants.Want.TheVariants as want
-use Rattle.operand_types.specs.View.{want_in, wants_in}
+use Rattle.instruction_types.specs.declared.operand_types.wants.Want.{Want}
+use Rattle.instruction_types.specs.declared.operand_types.wants.Want.TheVariants as want
+use Rattle.instruction_types.specs.operand_types.View.{want_in, wants_in}
 use Rattle.model.specs.DescribedTypes.{parameters_declared, results_declared, verification_type}
-use Rattle.described_types.specs.declared.described.MethodTypes.{MethodTypes}
-use Rattle.described_types.specs.Described.{parameters_in, results_in}
+use Rattle.types.specs.declared.described_types.described.MethodTypes.{MethodTypes}
+use Rattle.types.specs.described_types.Described.{parameters_in, results_in}
 use Rattle.instruction_types.specs.declared.leads.Leads.{Leads}
 use Rattle.instruction_types.specs.declared.leads.Leads.TheVariants as leads
 use Rattle.instruction_types.specs.Leads.{leads_in}

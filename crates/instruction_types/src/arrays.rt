@@ -9,9 +9,9 @@ ghost use Rattle.instruction_types.specs.Means.{Means};
 
 use crate::leads::Leads;
 use crate::meaning::{Meaning, NoMeaning, popping};
+use crate::operand_types::Want;
 use crate::want::{ANY_OBJECT, REFERENCES};
 use model::ArrayKind;
-use operand_types::Want;
 use std::alloc::Global;
 use types::{Element, Primitive, ReferenceType, VerificationType};
 

@@ -11,8 +11,8 @@ ghost use Rattle.model.specs.Sites.{Site};
 ghost use Rattle.model.specs.Meanings.{system_out_meaning, field_meaning, owner_want};
 ghost use Rattle.constant_pool.specs.View.{reference_of};
 ghost use Rattle.hierarchy.specs.Places.{member_in};
-ghost use Rattle.operand_types.specs.View.{want_in};
-ghost use Rattle.described_types.specs.Described.{Gives};
+ghost use Rattle.instruction_types.specs.operand_types.View.{want_in};
+ghost use Rattle.types.specs.described_types.Described.{Gives};
 ghost use Rattle.instruction_types.specs.Means.{Means};
 ghost use Rattle.instruction_types.specs.Answers.{Answers};
 ghost use Rattle.instruction_types.specs.Fields.{gets_system_out, accessed};
@@ -20,15 +20,15 @@ ghost use Rattle.instruction_types.specs.Fields.{gets_system_out, accessed};
 use crate::calls::PRINT_STREAM;
 use crate::leads::Leads;
 use crate::meaning::{Meaning, NoMeaning, popping};
+use crate::operand_types::Want;
 use crate::places::{is_field_of_kind, name_at, place_of};
 use crate::want::{class_type, object_at, object_of, want_for};
 use classfile::Reference;
-use described_types::field_type;
 use hierarchy::{ClassSet, Hierarchy, MemberPlace};
 use model::FieldAccess;
-use operand_types::Want;
 use std::alloc::Global;
 use types::VerificationType;
+use types::described_types::field_type;
 
 fn is_system_out(field: Reference<'_>) -> bool
     ensures { result ≡ member_eq (reference_of field.entry) system_out }

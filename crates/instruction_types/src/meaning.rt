@@ -3,10 +3,10 @@
 ghost use Rattle.std.specs.Prelude.{◌≡◌, ◌∷◌, [], map, IfOk, IfErr};
 ghost use Rattle.model.specs.Classes.{Program};
 ghost use Rattle.model.specs.Sites.{wants_of};
-ghost use Rattle.operand_types.specs.View.{want_in, wants_in};
+ghost use Rattle.instruction_types.specs.operand_types.View.{want_in, wants_in};
 
 use crate::leads::Leads;
-use operand_types::{Want, Wants};
+use crate::operand_types::{Want, Wants};
 use smallvec::SmallVec;
 use std::alloc::Global;
 
@@ -28,7 +28,7 @@ pub enum NoMeaning {
 }
 
 /// That of an instruction that pops these, the top first, and leaves so many words above what it pops.
-pub(crate) fn popping(
+pub fn popping(
     alloc: Global,
     pops: &[Want],
     grows: usize,

@@ -16,7 +16,7 @@ use hierarchy::{ClassSet, MemberPlace};
 const STATIC: u16 = 0x0008;
 
 /// The name of the class at a place; no bytes where there is no class.
-pub(crate) fn name_at(set: &ClassSet, place: usize) -> &[u8]
+pub fn name_at(set: &ClassSet, place: usize) -> &[u8]
     ensures { result.now ≡ name_at set.now place }
 {
     match set.class_at(place) {
@@ -26,14 +26,14 @@ pub(crate) fn name_at(set: &ClassSet, place: usize) -> &[u8]
 }
 
 /// Whether the classes at two places have one name.
-pub(crate) fn is_same_class(set: &ClassSet, c: usize, d: usize) -> bool
+pub fn is_same_class(set: &ClassSet, c: usize, d: usize) -> bool
     ensures { result ≡ name_eq (name_at set.now c) (name_at set.now d) }
 {
     name_at(set, c) == name_at(set, d)
 }
 
 /// The place of the class of a name.
-pub(crate) fn place_of(set: &ClassSet, name: &[u8]) -> Option<usize>
+pub fn place_of(set: &ClassSet, name: &[u8]) -> Option<usize>
     ensures { IsPlaceOf set.now name.now result }
 {
     set.place_of(name)
@@ -46,7 +46,7 @@ fn is_static(flags: u16) -> bool
 }
 
 /// Whether the field that is found at a place is static, or not, as is wanted.
-pub(crate) fn is_field_of_kind(
+pub fn is_field_of_kind(
     set: &ClassSet,
     field: Reference<'_>,
     found: MemberPlace,
@@ -66,7 +66,7 @@ pub(crate) fn is_field_of_kind(
 }
 
 /// Whether the method that is found at a place is static, or not, as is wanted.
-pub(crate) fn is_method_of_kind(
+pub fn is_method_of_kind(
     set: &ClassSet,
     method: Reference<'_>,
     found: MemberPlace,

@@ -2,8 +2,8 @@
 
 ghost use Rattle.std.specs.Prelude.{◌≡◌, IsFalse, ℕ};
 ghost use Rattle.model.specs.Linkable.{stands, DuplicateClass};
-ghost use Rattle.method_code.specs.View.{files_of};
-ghost use Rattle.method_code.specs.Site.{site_of};
+ghost use Rattle.types.specs.method_code.View.{files_of};
+ghost use Rattle.types.specs.method_code.Site.{site_of};
 ghost use Rattle.instruction_types.specs.Answers.{AnswersAt};
 
 use crate::arrays::{array_length, load_element, store_element};
@@ -15,9 +15,9 @@ use crate::objects::{
     throw,
 };
 use crate::returns::return_of;
-use method_code::Site;
 use model::{FieldAccess, Instr, Invocation};
 use std::alloc::Global;
+use types::method_code::Site;
 
 /// An instruction on the field that an index names.
 fn field_at(

@@ -7,14 +7,14 @@ ghost use Rattle.model.specs.Types.{AReference};
 ghost use Rattle.model.specs.Calls.{of_class};
 ghost use Rattle.model.specs.Resolution.{is_missing};
 ghost use Rattle.hierarchy.specs.Places.{name_at};
-ghost use Rattle.operand_types.specs.View.{want_in};
-ghost use Rattle.described_types.specs.Described.{Gives};
+ghost use Rattle.instruction_types.specs.operand_types.View.{want_in};
+ghost use Rattle.types.specs.described_types.Described.{Gives};
 ghost use Rattle.instruction_types.specs.Wants.{want_for};
 
+use crate::operand_types::Want;
 use crate::places::place_of;
-use described_types::made_type;
 use hierarchy::ClassSet;
-use operand_types::Want;
+use types::described_types::made_type;
 use types::{Element, ReferenceType, VerificationType};
 
 /// The place of java/lang/Object, in every set.

@@ -11,14 +11,14 @@ use Rattle.hierarchy.specs.Places as places
 use Rattle.hierarchy.specs.Places.{class_at, member_in}
 use Rattle.hierarchy.specs.declared.place.MemberPlace.{MemberPlace}
 use Rattle.hierarchy.proofs.Indices.{file_behind}
-use Rattle.laws.proofs.LinkedMain.{main}
+use Rattle.run_laws.proofs.laws.LinkedMain.{main}
 use Rattle.linker.specs.Linking.{IsLinked}
-use Rattle.field_links.proofs.OwnNames.{unrefused}
+use Rattle.linker.proofs.field_links.OwnNames.{unrefused}
 use Rattle.linked_code.specs.Numbers.{IsMethodAt}
-use Rattle.method_links.specs.Methods.{Names, member_at}
-use Rattle.method_links.proofs.Found.{place_names}
-use Rattle.class_rows.proofs.Counts.{number_fits}
-use Rattle.linked_calls.proofs.Specials.{numbered}
+use Rattle.method_tables.specs.method_links.Methods.{Names, member_at}
+use Rattle.method_tables.proofs.method_links.Found.{place_names}
+use Rattle.linked_program.proofs.class_rows.Counts.{number_fits}
+use Rattle.linked_program.proofs.linked_calls.Specials.{numbered}
 
 -- the class behind the built-in ones is that of the first file
 pub first_file : (files : Program) (o : Option FileTree) → o ≡ class_at files 30 → option_map_or name_of o [] ≡ initial_class files

@@ -1,9 +1,9 @@
 -- Numbers of what files have.
 use Rattle.model.specs.Classes.{Program}
-use Rattle.field_links.specs.Numbers.{AreStringNumbers}
-use Rattle.field_links.specs.Tables.{AreFieldLinks}
-use Rattle.method_links.specs.Numbers.{AreNumbersOf}
-use Rattle.method_links.specs.Calls.{AreCallsOf}
+use Rattle.linker.specs.field_links.Numbers.{AreStringNumbers}
+use Rattle.linker.specs.field_links.Tables.{AreFieldLinks}
+use Rattle.method_tables.specs.method_links.Numbers.{AreNumbersOf}
+use Rattle.method_tables.specs.method_links.Calls.{AreCallsOf}
 use Rattle.linked_program.specs.declared.links.FileLinks.{FileLinks}
 
 -- they are those of the methods, the fields and the string constants of the files

@@ -2,13 +2,13 @@
 
 ghost use Rattle.std.specs.Prelude.{IfOk};
 ghost use Rattle.linker.specs.Linking.{IsLinked};
-ghost use Rattle.linked_calls.specs.Calls.{AreLinkedCalls};
+ghost use Rattle.linked_program.specs.linked_calls.Calls.{AreLinkedCalls};
 ghost use Rattle.linked_program.specs.Links.{AreLinksOf};
 
+use crate::linked_calls::{CallSources, LinkedCalls, linked_calls};
 use crate::links::FileLinks;
 use hierarchy::Hierarchy;
-use linked_calls::{CallSources, LinkedCalls, linked_calls};
-use method_links::{NamedMethods, SelectedMethods};
+use method_tables::method_links::{NamedMethods, SelectedMethods};
 use std::alloc::{AllocError, Global};
 
 /// The calls of linked classes, by the numbers of their methods. What classes select and what entries name is made for

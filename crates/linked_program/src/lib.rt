@@ -2,8 +2,14 @@
 #![tactic(auto)]
 
 mod calls;
+pub mod class_rows;
+pub mod linked_calls;
+pub mod linked_methods;
+pub mod linked_operands;
 mod links;
 mod main_method;
+pub mod method_rows;
 mod program;
+pub mod type_tables;
 
 pub use program::linked_program;

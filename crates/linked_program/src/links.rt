@@ -3,9 +3,9 @@
 ghost use Rattle.std.specs.Prelude.{IfOk};
 ghost use Rattle.linked_program.specs.Links.{AreLinksOf};
 
-use field_links::{FieldLinks, StringNumbers};
 use linker::Linked;
-use method_links::{MethodCalls, MethodNumbers};
+use linker::field_links::{FieldLinks, StringNumbers};
+use method_tables::method_links::{MethodCalls, MethodNumbers};
 use std::alloc::{AllocError, Global};
 
 /// The numbers of methods, fields and string constants, and what calls of each method need.

@@ -6,17 +6,17 @@ use Rattle.std.proofs.lemmas.Option.{slice_get-get_or}
 use Rattle.class_tree.specs.declared.tree.ClassFile.{ClassFile}
 use Rattle.classfile.specs.View.{file_of}
 use Rattle.classfile.specs.Decoding.{IsFaultOf}
-use Rattle.reading.specs.declared.fault.Cause.{Cause}
-use Rattle.reading.specs.declared.fault.Cause.TheVariants as causes
-use Rattle.reading.specs.declared.fault.Malformed.{Malformed}
+use Rattle.constant_pool.specs.declared.reading.fault.Cause.{Cause}
+use Rattle.constant_pool.specs.declared.reading.fault.Cause.TheVariants as causes
+use Rattle.constant_pool.specs.declared.reading.fault.Malformed.{Malformed}
 use Rattle.hierarchy.specs.Set.{trees_of}
 use Rattle.model.specs.Tree.{FileTree}
 use Rattle.model.specs.Spells.{Spells}
 use Rattle.model.specs.Classes.{Program}
 use Rattle.model.specs.Linkable.{AreSpelled}
 use Rattle.linker.specs.Linking.{SpellsNothing, IsMalformed, IsUnreadable}
-use Rattle.refusal.specs.declared.why.RefusalKind.{RefusalKind}
-use Rattle.refusal.specs.declared.why.RefusalKind.TheVariants as kinds
+use Rattle.link_conditions.specs.declared.refusal.why.RefusalKind.{RefusalKind}
+use Rattle.link_conditions.specs.declared.refusal.why.RefusalKind.TheVariants as kinds
 use Rattle.hierarchy.proofs.RowLaws.{get_map}
 
 pub spelled_push : (files : List (List ℕ)) (trees : Program) (bytes : List ℕ) (tree : FileTree) → AreSpelled files trees → Spells bytes tree → AreSpelled (files ++ bytes ∷ []) (trees ++ tree ∷ [])

@@ -11,12 +11,12 @@ use Rattle.model.specs.CodeConditions.{has_malformed_code}
 use Rattle.model.specs.Hierarchy.{in_cycle, has_bad_hierarchy}
 use Rattle.model.specs.Resolution.{is_unresolved}
 use Rattle.model.specs.Linkable.{LinkCondition, TooLarge, DuplicateClass, OutsideProfile, MalformedCode, BadHierarchy, Unresolved, TooManyFields, NoMain, too_many_fields, stands, stands_first, some_stands, earlier, before_walk, before_links, all_conditions, AreSpelled}
-use Rattle.reading.specs.declared.fault.Cause.{Cause}
-use Rattle.refusal.specs.declared.why.RefusalKind.{RefusalKind}
-use Rattle.refusal.specs.declared.why.RefusalKind.TheVariants as kinds
-use Rattle.profile.specs.declared.fault.Flaw.{Flaw}
-use Rattle.profile.specs.declared.fault.Flaw.TheVariants as flaws
-use Rattle.profile.specs.Faults.{has_flaw}
+use Rattle.constant_pool.specs.declared.reading.fault.Cause.{Cause}
+use Rattle.link_conditions.specs.declared.refusal.why.RefusalKind.{RefusalKind}
+use Rattle.link_conditions.specs.declared.refusal.why.RefusalKind.TheVariants as kinds
+use Rattle.classfile.specs.declared.profile.fault.Flaw.{Flaw}
+use Rattle.classfile.specs.declared.profile.fault.Flaw.TheVariants as flaws
+use Rattle.classfile.specs.profile.Faults.{has_flaw}
 use Rattle.linker.specs.Linking.{IsFaultRefusal, size_condition, IsRefusedWith, MayRefuse, IsUnreadable, IsFirst, RefusesTrees, RefusesFor, WalkRefuses}
 use Rattle.linker.proofs.Lists.{alone}
 use Rattle.hierarchy.proofs.Finding.{one_at}

@@ -11,14 +11,14 @@ use Rattle.model.specs.Hierarchy.{has_bad_hierarchy}
 use Rattle.model.specs.Resolution.{is_unresolved}
 use Rattle.model.specs.Linkable.{LinkCondition, TooLarge, DuplicateClass, OutsideProfile, MalformedCode, BadHierarchy, Unresolved, TooManyFields, NoMain, too_many_fields, stands_first, AreSpelled, IsRefusedFor, IsLinkable}
 use Rattle.hierarchy.specs.Set.{IsAgain}
-use Rattle.reading.specs.declared.fault.Cause.{Cause}
-use Rattle.reading.specs.declared.fault.Cause.TheVariants as causes
-use Rattle.reading.specs.declared.fault.Malformed.{Malformed}
+use Rattle.constant_pool.specs.declared.reading.fault.Cause.{Cause}
+use Rattle.constant_pool.specs.declared.reading.fault.Cause.TheVariants as causes
+use Rattle.constant_pool.specs.declared.reading.fault.Malformed.{Malformed}
 use Rattle.classfile.specs.Decoding.{StandsAt}
-use Rattle.profile.specs.declared.fault.Flaw as declared_flaw
-use Rattle.profile.specs.declared.fault.Flaw.TheVariants as flaws
-use Rattle.refusal.specs.declared.why.RefusalKind.{RefusalKind}
-use Rattle.refusal.specs.declared.why.RefusalKind.TheVariants as kinds
+use Rattle.classfile.specs.declared.profile.fault.Flaw as declared_flaw
+use Rattle.classfile.specs.declared.profile.fault.Flaw.TheVariants as flaws
+use Rattle.link_conditions.specs.declared.refusal.why.RefusalKind.{RefusalKind}
+use Rattle.link_conditions.specs.declared.refusal.why.RefusalKind.TheVariants as kinds
 
 -- ---- what is linked
 

@@ -5,7 +5,7 @@ ghost use Rattle.std.specs.List.{slice_index_or};
 ghost use Rattle.constant_pool.specs.View.{entry_of};
 ghost use Rattle.classfile.specs.View.{file_of};
 ghost use Rattle.model.specs.Classes.{Program};
-ghost use Rattle.profile.specs.Faults.{TellsClassAside};
+ghost use Rattle.classfile.specs.profile.Faults.{TellsClassAside};
 ghost use Rattle.linker.specs.Aside.{names_other_class, other_classes, names_method_aside, methods_aside};
 
 use crate::place::class_name;

@@ -10,8 +10,8 @@ ghost use Rattle.hierarchy.specs.Set.{trees_of};
 ghost use Rattle.linker.specs.Linking.{IsMalformed, IsUnreadable};
 
 use classfile::{ClassFile, decode};
-use reading::Cause;
-use refusal::{Refusal, RefusalKind};
+use constant_pool::reading::Cause;
+use link_conditions::refusal::{Refusal, RefusalKind};
 use std::alloc::Global;
 
 /// The class file that bytes are, or why the file with this number is refused.

@@ -8,10 +8,10 @@ ghost use Rattle.classfile.specs.View.{file_of};
 ghost use Rattle.linker.specs.Linking.{RefusesTrees, RefusesFor};
 
 use crate::place::{file_at, file_count, method_text};
-use class_rules::{RulePlace, first_broken_rule};
 use classfile::ClassFile;
 use hierarchy::{ClassSet, Hierarchy, first_in_cycle};
-use refusal::{Refusal, RefusalKind};
+use link_conditions::class_rules::{RulePlace, first_broken_rule};
+use link_conditions::refusal::{Refusal, RefusalKind};
 use std::alloc::{AllocError, Global};
 
 /// A refusal of a broken rule of a file.

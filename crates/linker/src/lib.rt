@@ -2,15 +2,19 @@
 #![tactic(auto)]
 
 mod aside;
+pub mod class_constants;
 mod decoding;
+pub mod field_links;
 mod hierarchy_rules;
 mod linked;
+pub mod linked_types;
 mod linking;
 mod names;
+pub mod operand_rows;
 mod place;
 mod profile_walk;
 mod set;
 
+pub use link_conditions::refusal::{Cause, Refusal, RefusalKind};
 pub use linked::Linked;
 pub use linking::link;
-pub use refusal::{Cause, Refusal, RefusalKind};

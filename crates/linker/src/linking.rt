@@ -5,7 +5,7 @@ ghost use Rattle.model.specs.Classes.{Program};
 ghost use Rattle.model.specs.Linkable.{IsLinkable, some_stands};
 ghost use Rattle.hierarchy.specs.Set.{trees_of};
 ghost use Rattle.linker.specs.Linking.{MayRefuse, RefusesTrees};
-ghost use Rattle.refusal.specs.declared.why.RefusalKind.TheVariants as kinds;
+ghost use Rattle.link_conditions.specs.declared.refusal.why.RefusalKind.TheVariants as kinds;
 
 use crate::decoding::decode_all;
 use crate::hierarchy_rules::hierarchy_of;
@@ -15,7 +15,7 @@ use crate::profile_walk::check_profile;
 use crate::set::{check_fields, check_main, class_set};
 use classfile::ClassFile;
 use hierarchy::Hierarchy;
-use refusal::Refusal;
+use link_conditions::refusal::Refusal;
 use std::alloc::Global;
 
 /// The classes of class files, with what is above each of them.

@@ -10,8 +10,8 @@ ghost use Rattle.linker.specs.Linking.{RefusesTrees, RefusesFor};
 use crate::place::{file_at, file_count, method_text};
 use classfile::ClassFile;
 use hierarchy::Hierarchy;
-use refusal::{Refusal, RefusalKind};
-use resolution::{UnresolvedPlace, first_unresolved};
+use link_conditions::refusal::{Refusal, RefusalKind};
+use link_conditions::resolution::{UnresolvedPlace, first_unresolved};
 use std::alloc::{AllocError, Global};
 
 /// A refusal of a name in a method, at an offset of its code where an instruction names it.

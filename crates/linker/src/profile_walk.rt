@@ -11,10 +11,10 @@ ghost use Rattle.linker.specs.Linking.{RefusesTrees, WalkRefuses, IsFaultRefusal
 use crate::aside::class_aside;
 use crate::place::{file_at, file_count, method_text};
 use classfile::ClassFile;
+use classfile::profile::{Fault, Flaw, Place, Spot, first_fault};
+use constant_pool::reading::Cause;
 use hierarchy::ClassSet;
-use profile::{Fault, Flaw, Place, Spot, first_fault};
-use reading::Cause;
-use refusal::{Refusal, RefusalKind};
+use link_conditions::refusal::{Refusal, RefusalKind};
 use std::alloc::{AllocError, Global};
 
 /// The offset in the code of a method, where the place is an instruction.

@@ -8,8 +8,8 @@ ghost use Rattle.linker.specs.Linking.{RefusesTrees};
 
 use classfile::ClassFile;
 use hierarchy::{ClassSet, SetRefusal};
-use limits_of_linking::{first_with_too_many_fields, has_no_main, is_too_large};
-use refusal::{Refusal, RefusalKind};
+use link_conditions::limits_of_linking::{first_with_too_many_fields, has_no_main, is_too_large};
+use link_conditions::refusal::{Refusal, RefusalKind};
 use std::alloc::Global;
 
 /// The set of the classes of files: TooLarge, DuplicateClass.

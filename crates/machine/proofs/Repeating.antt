@@ -10,7 +10,7 @@ use Rattle.machine_state.specs.declared.refusals.Refusal.{Refusal}
 use Rattle.machine_state.specs.declared.state.Shared.{Shared}
 use Rattle.machine.specs.declared.machine.Stopped.TheVariants as stopped
 use Rattle.machine.specs.Machines.{MachineOf, Shows, Steps, IsRepeated, HasRepeated, Repeats}
-use Rattle.shown_runs.proofs.Same.{shown_still}
+use Rattle.machine_state.proofs.shown_runs.Same.{shown_still}
 use Rattle.machine.proofs.Turning.{with_shared}
 
 -- where so many events led

@@ -12,13 +12,13 @@ use Rattle.model.specs.Outcomes.{Cost}
 use Rattle.model.specs.State.{StateOf}
 use Rattle.model.specs.Step.{NotEnabled, Next, stepped}
 use Rattle.linked_code.specs.declared.program.LinkedProgram.{LinkedProgram}
-use Rattle.thread_stacks.specs.Stacks.{ShownEntry}
+use Rattle.linked_code.specs.thread_stacks.Stacks.{ShownEntry}
 use Rattle.machine_state.specs.declared.answers.Answer.{Answer}
 use Rattle.machine_state.specs.declared.refusals.Refusal.{Refusal}
 use Rattle.machine_state.specs.declared.state.Shared.{Shared}
 use Rattle.machine_state.specs.Shown.{IsProgram}
 use Rattle.machine_state.specs.Events.{limit_of}
-use Rattle.state_events.specs.Whole.{IsShown, IsEventRefused, Turns}
+use Rattle.machine_state.specs.state_events.Whole.{IsShown, IsEventRefused, Turns}
 use Rattle.machine.specs.declared.machine.Stopped.{Stopped}
 use Rattle.machine.specs.declared.machine.Stopped.TheVariants as stopped
 

@@ -2,7 +2,14 @@
 #![tactic(auto)]
 
 mod machine;
+pub mod machine_bursts;
+pub mod machine_reports;
+pub mod object_bursts;
+pub mod object_events;
+pub mod schedule_runs;
 mod stacks;
+pub mod thread_standings;
+pub mod top_frames;
 mod tops;
 mod turns;
 

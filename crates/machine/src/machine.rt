@@ -7,15 +7,15 @@ ghost use Rattle.machine.specs.Machines.{IsMachine, IsOfAccepted, Opens, Steps, 
 use crate::stacks::{give_back, lend};
 use crate::turns::thread_turns;
 use linked_code::LinkedProgram;
-use machine_opening::opening_state;
+use linked_code::thread_stacks::ThreadStack;
+use machine_state::state_events::{events_are_whole, stacks_are_lent};
 use machine_state::{Answer, Refusal, Shared};
+use machine_threads::machine_opening::opening_state;
+use machine_threads::thread_events::thread_event;
 use model::{Event, Limits};
-use state_events::{events_are_whole, stacks_are_lent};
 use std::alloc::{AllocError, Global};
 use std::marker::Model;
 use std::sync::Arc;
-use thread_events::thread_event;
-use thread_stacks::ThreadStack;
 
 /// Why an event was not done once more.
 #[derive(Clone, Copy, Debug, PartialEq, Eq)]

@@ -6,11 +6,11 @@ use Rattle.model.specs.State.{WorldOf}
 use Rattle.model.specs.Outcomes.{Cost}
 use Rattle.model.specs.LimitStands.{Bounds, is_crowded}
 use Rattle.model.specs.Step.{SteppedOf, NotEnabled, Next, PartOf}
-use Rattle.limits_at_words.specs.Limits.{limit_in}
-use Rattle.limits_at_words.specs.FatLocks.{flags_after, IsOneOf}
+use Rattle.machine_state.specs.limits_at_words.Limits.{limit_in}
+use Rattle.machine_state.specs.limits_at_words.FatLocks.{flags_after, IsOneOf}
 use Rattle.linked_code.specs.declared.program.LinkedProgram.{LinkedProgram}
-use Rattle.thread_stacks.specs.Stacks.{ShownEntry}
-use Rattle.shown_stacks.specs.Shown.{ShowsStack}
+use Rattle.linked_code.specs.thread_stacks.Stacks.{ShownEntry}
+use Rattle.machine_state.specs.shown_stacks.Shown.{ShowsStack}
 use Rattle.machine_state.specs.declared.answers.Answer.{Answer}
 use Rattle.machine_state.specs.declared.answers.Answer.TheVariants as answer
 use Rattle.machine_state.specs.declared.refusals.Refusal.{Refusal}

@@ -4,10 +4,10 @@ use Rattle.model.specs.declared.end.RunCause.{RunCause}
 use Rattle.model.specs.declared.end.RunCause.TheVariants as cause
 use Rattle.heap.specs.declared.refusal.AllocRefusal.{AllocRefusal}
 use Rattle.heap.specs.declared.refusal.AllocRefusal.TheVariants as heap
-use Rattle.monitor.specs.declared.refusal.Refusal.{Refusal as MonitorRefusal}
-use Rattle.monitor.specs.declared.refusal.Refusal.TheVariants as monitors
-use Rattle.java_threads.specs.declared.refusal.Refusal.{Refusal as ThreadRefusal}
-use Rattle.java_threads.specs.declared.refusal.Refusal.TheVariants as threads
+use Rattle.heap.specs.declared.monitor.refusal.Refusal.{Refusal as MonitorRefusal}
+use Rattle.heap.specs.declared.monitor.refusal.Refusal.TheVariants as monitors
+use Rattle.heap.specs.declared.java_threads.refusal.Refusal.{Refusal as ThreadRefusal}
+use Rattle.heap.specs.declared.java_threads.refusal.Refusal.TheVariants as threads
 use Rattle.machine_state.specs.declared.refusals.Refusal.{Refusal}
 use Rattle.machine_state.specs.declared.refusals.Refusal.TheVariants as refusal
 

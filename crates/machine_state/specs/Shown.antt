@@ -8,14 +8,14 @@ use Rattle.model.specs.State.{StackOf, WorldOf, StateOf}
 use Rattle.model.specs.LimitStands.{Bounds, opening_count}
 use Rattle.model.specs.ClassInitialisation.{status_of}
 use Rattle.model.specs.Words.{AreWellTypedWords}
-use Rattle.monitor_counts.specs.Counts.{is_inflated, AreMonitorsCounted}
-use Rattle.limits_at_words.specs.FatLocks.{AreFlags}
+use Rattle.run_laws.specs.monitor_counts.Counts.{is_inflated, AreMonitorsCounted}
+use Rattle.machine_state.specs.limits_at_words.FatLocks.{AreFlags}
 use Rattle.linked_code.specs.declared.program.LinkedProgram.{LinkedProgram}
 use Rattle.linked_code.specs.Numbers.{IsClassAt}
 use Rattle.linked_code.specs.Programs.{IsLinkedProgram}
-use Rattle.thread_stacks.specs.Stacks.{ShownEntry}
-use Rattle.shown_objects.specs.Shown.{ShowsObjects, ShowsStatics}
-use Rattle.shown_stacks.specs.Shown.{ShowsStack}
+use Rattle.linked_code.specs.thread_stacks.Stacks.{ShownEntry}
+use Rattle.machine_state.specs.shown_objects.Shown.{ShowsObjects, ShowsStatics}
+use Rattle.machine_state.specs.shown_stacks.Shown.{ShowsStack}
 use Rattle.machine_state.specs.declared.state.ClassStatus.{ClassStatus}
 use Rattle.machine_state.specs.declared.state.ClassStatus.TheVariants as status
 use Rattle.machine_state.specs.declared.state.Shared.{Shared}

@@ -4,9 +4,9 @@ ghost use Rattle.std.specs.Prelude.{◌≡◌};
 ghost use Rattle.machine_state.specs.Refusals.{cause_of};
 
 use heap::AllocRefusal;
-use java_threads::Refusal as ThreadRefusal;
+use heap::java_threads::Refusal as ThreadRefusal;
+use heap::monitor::Refusal as MonitorRefusal;
 use model::RunCause;
-use monitor::Refusal as MonitorRefusal;
 use std::alloc::AllocError;
 
 /// Why an enabled event is refused: a limit, or a want of memory. Nothing has changed then.

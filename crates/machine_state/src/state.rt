@@ -1,8 +1,8 @@
 //! What the threads share.
 
 use heap::Heap;
-use java_threads::Threads;
-use thread_stacks::ThreadStack;
+use heap::java_threads::Threads;
+use linked_code::thread_stacks::ThreadStack;
 
 /// How far the initialisation of a class is (JVMS 5.5).
 #[derive(Clone, Copy, Debug, PartialEq, Eq)]

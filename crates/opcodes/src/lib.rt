@@ -5,6 +5,10 @@ mod boundaries;
 mod bytes;
 mod decoding;
 mod families;
+pub mod linkable_code;
+pub mod linked_bodies;
+pub mod linked_instructions;
+pub mod linked_places;
 mod mnemonics;
 mod switches;
 

@@ -2,10 +2,10 @@
 
 use crate::blocks::Open;
 use crate::random::Random;
-use class_builder::opcode::{
+use made_files::class_builder::opcode::{
     ALOAD, ASTORE, DUP, ILOAD, INVOKEINTERFACE, INVOKESPECIAL, ISTORE, NEW,
 };
-use class_builder::{CodeBuilder, Member, PoolBuilder};
+use made_files::class_builder::{CodeBuilder, Member, PoolBuilder};
 use std::alloc::{AllocError, Global};
 
 /// The local variables 1 to 3 are ints.

@@ -5,10 +5,10 @@ use crate::body::{
     ARRAY, BOX, Body, CAUGHT, COUNTERS, DEPTH, MAX_LOCALS, MAX_STACK, OBJECT, THREAD,
 };
 use crate::random::Random;
-use class_builder::opcode::{
+use made_files::class_builder::opcode::{
     ACONST_NULL, ALOAD, ASTORE, ICONST_0, INVOKESPECIAL, ISTORE, NEWARRAY, PUTSTATIC,
 };
-use class_builder::{ClassBuilder, CodeBuilder, CodeParts};
+use made_files::class_builder::{ClassBuilder, CodeBuilder, CodeParts};
 use std::alloc::{AllocError, Global};
 
 /// The names of the classes, in the order of their files.

@@ -1,7 +1,7 @@
 //! Statements on objects and arrays.
 
 use crate::body::{ARRAY, BOX, Body, OBJECT, THREAD};
-use class_builder::opcode::{
+use made_files::class_builder::opcode::{
     AALOAD, AASTORE, ACONST_NULL, ANEWARRAY, ARRAYLENGTH, ATHROW, BALOAD, BASTORE, CALOAD, CASTORE,
     CHECKCAST, DUP, GETFIELD, GETSTATIC, IALOAD, IASTORE, INSTANCEOF, INVOKEVIRTUAL, LDC_W,
     NEWARRAY, POP, PUTFIELD, PUTSTATIC, SALOAD, SASTORE,

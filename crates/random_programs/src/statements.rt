@@ -1,7 +1,7 @@
 //! Statements on ints.
 
 use crate::body::{BOX, Body, INTS};
-use class_builder::opcode::{
+use made_files::class_builder::opcode::{
     DUP, DUP_X1, DUP_X2, DUP2, DUP2_X1, DUP2_X2, GETSTATIC, GOTO, I2B, I2C, I2S, IADD, IAND, IDIV,
     IINC, ILOAD, IMUL, INEG, INVOKESTATIC, INVOKEVIRTUAL, IOR, IREM, ISHL, ISHR, ISTORE, ISUB,
     IUSHR, IXOR, LOOKUPSWITCH, POP, POP2, PUTSTATIC, SWAP, TABLESWITCH,

@@ -1,7 +1,7 @@
 //! Statements on threads and monitors.
 
 use crate::body::{Body, OBJECT, THREAD};
-use class_builder::opcode::{
+use made_files::class_builder::opcode::{
     ACONST_NULL, DUP, GETSTATIC, INVOKESPECIAL, INVOKESTATIC, INVOKEVIRTUAL, MONITORENTER,
     MONITOREXIT, NEW, PUTSTATIC,
 };

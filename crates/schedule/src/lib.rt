@@ -4,8 +4,12 @@
 mod fault;
 mod read;
 mod reader;
+pub mod recorded_events;
 mod recording;
+pub mod report;
 mod runs;
+pub mod schedule_text;
+pub mod schedule_tree;
 mod spelling;
 mod write;
 

@@ -10,7 +10,7 @@ use Rattle.model.specs.LimitStands.{bounds_of}
 use Rattle.machine_state.specs.declared.answers.Answer.TheVariants as answer
 use Rattle.machine_state.specs.Shown.{IsProgram}
 use Rattle.machine.specs.Machines.{MachineOf}
-use Rattle.met_states.specs.Met.{IsNextMet, AreHigherPicksLeft, AreOtherThreadsLeft, AreMetStatesKept}
+use Rattle.search.specs.met_states.Met.{IsNextMet, AreHigherPicksLeft, AreOtherThreadsLeft, AreMetStatesKept}
 use Rattle.search.specs.Machines.{GoesBy}
 use Rattle.search.specs.States.{StatesOf, IsSchedule, IsInState, IsMetFrom, AreMetByThread, AreMetByThreads, AreAllMet, Grows, GrowsTo}
 use Rattle.search.proofs.Growth.{stays, further, within, earlier, still_met, went_on}

@@ -7,7 +7,7 @@ use Rattle.model.specs.declared.event.Event.{Event}
 use Rattle.model.specs.declared.limits.Limits.{Limits}
 use Rattle.model.specs.Classes.{Program}
 use Rattle.machine_state.specs.Shown.{IsProgram}
-use Rattle.met_states.specs.Met.{IsNextMet, AreListed, AreNewStatesMet, AreMetStatesKept}
+use Rattle.search.specs.met_states.Met.{IsNextMet, AreListed, AreNewStatesMet, AreMetStatesKept}
 use Rattle.search.specs.States.{StatesOf, IsSchedule, IsMetFrom, Grows, GrowsTo, IsPushed}
 
 pub stays : (s : StatesOf) → Grows s s

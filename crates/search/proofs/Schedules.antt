@@ -11,13 +11,13 @@ use Rattle.model.specs.declared.limits.Limits.{Limits}
 use Rattle.model.specs.LimitStands.{bounds_of}
 use Rattle.model.specs.Schedule.{events_of, EntryFits}
 use Rattle.linked_code.specs.declared.program.LinkedProgram.{LinkedProgram}
-use Rattle.interleavings.specs.Ends.{Has}
+use Rattle.run_laws.specs.interleavings.Ends.{Has}
 use Rattle.machine_state.specs.declared.answers.Answer.TheVariants as answer
 use Rattle.machine_state.specs.declared.state.Shared.{Shared}
 use Rattle.machine.specs.Machines.{MachineOf}
-use Rattle.same_states.specs.Same.{AreAlike}
-use Rattle.schedule_tree.specs.Trees.{way_at, with_way}
-use Rattle.met_states.specs.Met.{AreAlikeStatesMet}
+use Rattle.machine_state.specs.same_states.Same.{AreAlike}
+use Rattle.schedule.specs.schedule_tree.Trees.{way_at, with_way}
+use Rattle.search.specs.met_states.Met.{AreAlikeStatesMet}
 use Rattle.search.specs.Machines.{IsAt, GoesBy}
 use Rattle.search.specs.States.{StatesOf, IsSchedule, IsInState, IsMetFrom, IsAfter, Grows, IsPushed}
 use Rattle.search.proofs.Shown.{gone_on, run_of}

@@ -14,21 +14,21 @@ use Rattle.model.specs.Meaning.{thread_ends}
 use Rattle.model.specs.Report.{ThreadEnd, end_state_of}
 use Rattle.model.specs.Run.{run, is_quiet}
 use Rattle.model.specs.State.{State, StateOf}
-use Rattle.word_reports.specs.Reports.{AreReportsOfWords}
-use Rattle.interleavings.specs.Ends.{Outcome, outcome_of}
+use Rattle.run_laws.specs.word_reports.Reports.{AreReportsOfWords}
+use Rattle.run_laws.specs.interleavings.Ends.{Outcome, outcome_of}
 use Rattle.linked_code.specs.declared.program.LinkedProgram.{LinkedProgram}
 use Rattle.machine_state.specs.declared.answers.Answer.{Answer}
 use Rattle.machine_state.specs.declared.answers.Answer.TheVariants as answer
 use Rattle.machine_state.specs.declared.refusals.Refusal.{Refusal}
 use Rattle.machine_state.specs.declared.state.Shared.{Shared}
 use Rattle.machine_state.specs.Shown.{IsProgram}
-use Rattle.shown_runs.specs.Runs.{HasRun, AreRunsOpened, AreRunsGoingOn}
+use Rattle.machine_state.specs.shown_runs.Runs.{HasRun, AreRunsOpened, AreRunsGoingOn}
 use Rattle.machine.specs.declared.machine.Stopped.{Stopped}
 use Rattle.machine.specs.declared.machine.Stopped.TheVariants as stopped
 use Rattle.machine.specs.Machines.{MachineOf, Opens, Steps}
-use Rattle.schedule_runs.specs.Done.{HasDone, EndsBy, GoesThrough}
-use Rattle.machine_reports.specs.Told.{AreQuietAt, Reports}
-use Rattle.run_outcomes.specs.declared.outcomes.Outcome.{Outcome as TheOutcome}
+use Rattle.machine.specs.schedule_runs.Done.{HasDone, EndsBy, GoesThrough}
+use Rattle.machine.specs.machine_reports.Told.{AreQuietAt, Reports}
+use Rattle.search.specs.declared.run_outcomes.outcomes.Outcome.{Outcome as TheOutcome}
 use Rattle.search.specs.Machines.{IsAt, GoesBy, TellsOutcome}
 
 -- ---- before any event

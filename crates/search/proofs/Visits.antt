@@ -10,14 +10,14 @@ use Rattle.model.specs.Classes.{Program}
 use Rattle.model.specs.LimitStands.{bounds_of, within_limits}
 use Rattle.model.specs.Run.{run, is_quiet}
 use Rattle.model.specs.State.{State}
-use Rattle.interleavings.specs.Ends.{Outcome, outcome_of, EndsWith, Has}
+use Rattle.run_laws.specs.interleavings.Ends.{Outcome, outcome_of, EndsWith, Has}
 use Rattle.machine.specs.Machines.{MachineOf}
-use Rattle.schedule_runs.specs.Done.{HasDone}
-use Rattle.verified_programs.specs.Verified.{IsProgramOf}
-use Rattle.met_states.specs.Met.{AreMetStatesKept}
-use Rattle.run_outcomes.specs.declared.outcomes.Outcome.{Outcome as TheOutcome}
-use Rattle.run_outcomes.specs.declared.wanted.Wanted.{Wanted}
-use Rattle.run_outcomes.specs.Outcomes.{told_by, IsWanted, IsAdded}
+use Rattle.machine.specs.schedule_runs.Done.{HasDone}
+use Rattle.program_runs.specs.verified_programs.Verified.{IsProgramOf}
+use Rattle.search.specs.met_states.Met.{AreMetStatesKept}
+use Rattle.search.specs.declared.run_outcomes.outcomes.Outcome.{Outcome as TheOutcome}
+use Rattle.search.specs.declared.run_outcomes.wanted.Wanted.{Wanted}
+use Rattle.search.specs.run_outcomes.Outcomes.{told_by, IsWanted, IsAdded}
 use Rattle.search.specs.Machines.{IsAt, TellsOutcome}
 use Rattle.search.specs.States.{StatesOf, IsSchedule, IsInState, AreAllMet, GrowsTo}
 use Rattle.search.specs.Verdicts.{IsFound}

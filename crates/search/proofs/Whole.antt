@@ -6,14 +6,14 @@ use Rattle.model.specs.declared.event.ScheduleEntry.{ScheduleEntry}
 use Rattle.model.specs.declared.limits.Limits.{Limits}
 use Rattle.model.specs.Classes.{Program}
 use Rattle.model.specs.Schedule.{events_of}
-use Rattle.interleavings.specs.Ends.{Outcome, Has}
-use Rattle.searches.specs.Searches.{AreSearchesComplete}
+use Rattle.run_laws.specs.interleavings.Ends.{Outcome, Has}
+use Rattle.run_laws.specs.searches.Searches.{AreSearchesComplete}
 use Rattle.linked_code.specs.declared.program.LinkedProgram.{LinkedProgram}
 use Rattle.machine.specs.Machines.{IsOfAccepted}
-use Rattle.verified_programs.specs.Verified.{IsProgramOf}
-use Rattle.met_states.specs.Met.{IsNextMet, HasMetAll, AreSearchesWhole}
-use Rattle.run_outcomes.specs.declared.wanted.Wanted.{Wanted}
-use Rattle.run_outcomes.specs.Outcomes.{IsWanted}
+use Rattle.program_runs.specs.verified_programs.Verified.{IsProgramOf}
+use Rattle.search.specs.met_states.Met.{IsNextMet, HasMetAll, AreSearchesWhole}
+use Rattle.search.specs.declared.run_outcomes.wanted.Wanted.{Wanted}
+use Rattle.search.specs.run_outcomes.Outcomes.{IsWanted}
 use Rattle.search.specs.States.{StatesOf, one_state}
 use Rattle.search.specs.Verdicts.{IsFound, IsComplete, Says}
 use Rattle.search.specs.declared.searching.Verdict.{Verdict}

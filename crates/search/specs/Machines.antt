@@ -7,16 +7,16 @@ use Rattle.model.specs.Classes.{Program}
 use Rattle.model.specs.LimitStands.{bounds_of}
 use Rattle.model.specs.Run.{run, is_quiet}
 use Rattle.model.specs.State.{State}
-use Rattle.interleavings.specs.Ends.{outcome_of}
+use Rattle.run_laws.specs.interleavings.Ends.{outcome_of}
 use Rattle.linked_code.specs.declared.program.LinkedProgram.{LinkedProgram}
 use Rattle.machine_state.specs.declared.answers.Answer.{Answer}
 use Rattle.machine_state.specs.declared.refusals.Refusal.{Refusal}
 use Rattle.machine_state.specs.Shown.{IsProgram}
-use Rattle.shown_runs.specs.Runs.{GoesOn}
+use Rattle.machine_state.specs.shown_runs.Runs.{GoesOn}
 use Rattle.machine.specs.Machines.{MachineOf}
-use Rattle.schedule_runs.specs.Done.{HasDone}
-use Rattle.run_outcomes.specs.declared.outcomes.Outcome.{Outcome as TheOutcome}
-use Rattle.run_outcomes.specs.Outcomes.{told_by}
+use Rattle.machine.specs.schedule_runs.Done.{HasDone}
+use Rattle.search.specs.declared.run_outcomes.outcomes.Outcome.{Outcome as TheOutcome}
+use Rattle.search.specs.run_outcomes.Outcomes.{told_by}
 
 -- A machine of this program under these limits: from whatever files the program was linked, these events led to the state that it shows,
 -- and no limit stood at any of them.

@@ -4,11 +4,11 @@ use Rattle.model.specs.declared.event.Event.{Event}
 use Rattle.model.specs.declared.limits.Limits.{Limits}
 use Rattle.model.specs.Accepted.{IsAccepted}
 use Rattle.model.specs.Classes.{Program}
-use Rattle.interleavings.specs.Ends.{Has}
+use Rattle.run_laws.specs.interleavings.Ends.{Has}
 use Rattle.linked_code.specs.declared.program.LinkedProgram.{LinkedProgram}
 use Rattle.machine_state.specs.Shown.{IsProgram}
 use Rattle.machine.specs.Machines.{MachineOf}
-use Rattle.met_states.specs.Met.{IsNextMet}
+use Rattle.search.specs.met_states.Met.{IsNextMet}
 use Rattle.search.specs.Machines.{IsAt}
 
 -- a program, the limits of its runs, and the schedules by their numbers

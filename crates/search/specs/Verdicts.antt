@@ -5,9 +5,9 @@ use Rattle.model.specs.declared.limits.Limits.{Limits}
 use Rattle.model.specs.Classes.{Program}
 use Rattle.model.specs.LimitStands.{bounds_of, within_limits}
 use Rattle.model.specs.Schedule.{events_of}
-use Rattle.interleavings.specs.Ends.{Outcome, EndsWith, Has, AreAllOutcomes}
-use Rattle.run_outcomes.specs.declared.wanted.Wanted.{Wanted}
-use Rattle.run_outcomes.specs.Outcomes.{IsWanted}
+use Rattle.run_laws.specs.interleavings.Ends.{Outcome, EndsWith, Has, AreAllOutcomes}
+use Rattle.search.specs.declared.run_outcomes.wanted.Wanted.{Wanted}
+use Rattle.search.specs.run_outcomes.Outcomes.{IsWanted}
 use Rattle.search.specs.declared.searching.Verdict.{Verdict}
 use Rattle.search.specs.declared.searching.Verdict.TheVariants as verdict
 

@@ -6,11 +6,11 @@ use Rattle.model.specs.Classes.{Program}
 use Rattle.model.specs.Run.{run, is_quiet}
 use Rattle.model.specs.Schedule.{events_of}
 use Rattle.model.specs.State.{State}
-use Rattle.interleavings.specs.Ends.{Outcome, outcome_of, EndsWith, Has}
-use Rattle.verified_programs.specs.Verified.{IsProgramOf}
-use Rattle.run_outcomes.specs.declared.wanted.Wanted.{Wanted}
-use Rattle.run_outcomes.specs.declared.outcomes.Outcome.{Outcome as TheOutcome}
-use Rattle.run_outcomes.specs.Outcomes.{told_by, IsWanted, IsAdded}
+use Rattle.run_laws.specs.interleavings.Ends.{Outcome, outcome_of, EndsWith, Has}
+use Rattle.program_runs.specs.verified_programs.Verified.{IsProgramOf}
+use Rattle.search.specs.declared.run_outcomes.wanted.Wanted.{Wanted}
+use Rattle.search.specs.declared.run_outcomes.outcomes.Outcome.{Outcome as TheOutcome}
+use Rattle.search.specs.run_outcomes.Outcomes.{told_by, IsWanted, IsAdded}
 use Rattle.search.specs.declared.searching.Visit.{Visit}
 use Rattle.search.specs.declared.searching.Visit.TheVariants as visit
 use Rattle.search.specs.States.{StatesOf, IsSchedule, AreAllMet}

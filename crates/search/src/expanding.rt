@@ -4,10 +4,10 @@ ghost use Rattle.std.specs.Prelude.{◌<◌, length, IfOk};
 ghost use Rattle.search.specs.States.{IsInState, AreMetByThread, AreMetByThreads, AreAllMet, GrowsTo};
 
 use crate::machines::go_on;
+use crate::met_states::{higher_picks_are_left, met_states_are_kept, other_threads_are_left};
 use crate::states::States;
 use machine::Machine;
 use machine_state::Answer;
-use met_states::{higher_picks_are_left, met_states_are_kept, other_threads_are_left};
 use model::Event;
 use std::alloc::AllocError;
 

@@ -3,7 +3,11 @@
 
 mod expanding;
 mod machines;
+pub mod met_states;
+pub mod run_outcomes;
+pub mod search_reports;
 mod searching;
+pub mod state_index;
 mod states;
 
 pub use searching::{Searched, Verdict, search};

@@ -6,19 +6,19 @@ ghost use Rattle.model.specs.Schedule.{events_of};
 ghost use Rattle.machine.specs.Machines.{IsOfAccepted};
 ghost use Rattle.search.specs.Machines.{IsAt, GoesBy, TellsOutcome};
 
+use crate::run_outcomes::Outcome;
 use hierarchy::ClassSet;
 use linked_code::LinkedProgram;
+use machine::machine_reports::{is_quiet, report_of};
+use machine::schedule_runs::run_schedule;
 use machine::{Machine, Stopped};
-use machine_reports::{is_quiet, report_of};
+use machine_state::shown_runs::{runs_are_opened, runs_go_on};
 use machine_state::{Answer, Refusal};
 use model::{Event, Limits};
-use run_outcomes::Outcome;
+use run_laws::word_reports::reports_of_words;
 use schedule::Schedule;
-use schedule_runs::run_schedule;
-use shown_runs::{runs_are_opened, runs_go_on};
 use std::alloc::{AllocError, Global};
 use std::sync::Arc;
-use word_reports::reports_of_words;
 
 /// A machine before any event. The only error is a want of memory.
 pub(crate) fn opened(

@@ -6,16 +6,16 @@ ghost use Rattle.search.specs.Visits.{HasVisited, Visits, ListsOr};
 
 use crate::expanding::expand;
 use crate::machines::outcome_of;
+use crate::met_states::{met_states_are_kept, searches_are_whole};
+use crate::run_outcomes::{Outcome, Outcomes, Wanted};
 use crate::states::States;
 use hierarchy::ClassSet;
-use met_states::{met_states_are_kept, searches_are_whole};
 use model::Limits;
-use run_outcomes::{Outcome, Outcomes, Wanted};
+use program_runs::verified_programs::verified_program;
+use run_laws::searches::searches_are_complete;
 use schedule::Schedule;
-use searches::searches_are_complete;
 use std::alloc::{AllocError, Global};
 use std::sync::Arc;
-use verified_programs::verified_program;
 use verifier::Verified;
 
 /// What a search answers.

@@ -1,14 +1,14 @@
 //! For what threads wait (JVMS 2.11.10, 5.5; JLS 17).
 
 use heap::Heap;
-use instruction_needs::class_needed;
-use java_threads::ThreadStatus;
+use heap::java_threads::ThreadStatus;
+use linked_code::thread_stacks::{Frame, ThreadStack, Top};
 use linked_code::{LinkedInstruction, LinkedProgram};
-use linked_frames::instruction_at;
+use machine_state::linked_frames::instruction_at;
+use machine_state::method_selection::method_at;
 use machine_state::{ClassStatus, Shared};
-use method_selection::method_at;
+use machine_threads::instruction_needs::class_needed;
 use model::EndState;
-use thread_stacks::{Frame, ThreadStack, Top};
 
 /// The first of the Class objects, which stand in the order of the classes behind the PrintStream of System.out, the arguments and
 /// the Thread of `main`.

@@ -4,8 +4,8 @@ use crate::awaited::Awaited;
 use crate::cycles::cycles;
 use crate::lines::{ThreadFacts, push_thread};
 use model::EndState;
-use program_names::push_words;
 use std::alloc::{AllocError, Global};
+use trace_text::program_names::push_words;
 
 /// For which thread each one waits.
 fn waits_of(alloc: Global, threads: &[ThreadFacts]) -> Result<Vec<Option<u16>>, AllocError> {

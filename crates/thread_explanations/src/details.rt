@@ -6,15 +6,15 @@ use crate::lines::{Facts, ThreadFacts};
 use crate::stacks::StackPlaces;
 use crate::throws::{Thrown, throws_of};
 use linked_code::LinkedProgram;
-use machine_replay::open_machine;
+use linked_code::thread_stacks::ThreadStack;
+use machine::schedule_runs::run_schedule;
 use machine_state::Shared;
 use model::{EndState, Limits};
-use program_names::ProgramNames;
+use program_runs::machine_replay::open_machine;
 use schedule::Schedule;
-use schedule_runs::run_schedule;
 use std::alloc::{AllocError, Global};
 use std::sync::Arc;
-use thread_stacks::ThreadStack;
+use trace_text::program_names::ProgramNames;
 use verifier::Verified;
 
 /// What is told of the threads of a run, in lines.

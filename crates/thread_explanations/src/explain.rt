@@ -8,10 +8,10 @@ ghost use Rattle.thread_explanations.specs.Explained.{ExplainsRun, indented, tol
 ghost use Rattle.thread_explanations.specs.Details.{lines_at};
 
 use crate::details::{Details, details_of};
-use machine_replay::replay;
 use model::{EndState, Limits};
-use report::push_thread;
+use program_runs::machine_replay::replay;
 use schedule::Schedule;
+use schedule::report::push_thread;
 use std::alloc::{AllocError, Global};
 use verifier::Verified;
 

@@ -4,10 +4,10 @@ use crate::awaited::Awaited;
 use crate::stacks::{FramePlace, StackPlaces};
 use crate::throws::{Cause, Thrown};
 use machine_state::Shared;
-use method_selection::class_of_kind;
+use machine_state::method_selection::class_of_kind;
 use model::EndState;
-use program_names::{ProgramNames, push_number, push_words};
 use std::alloc::{AllocError, Global};
+use trace_text::program_names::{ProgramNames, push_number, push_words};
 
 /// A thread in the state to which a run came.
 #[derive(Drop)]

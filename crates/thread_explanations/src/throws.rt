@@ -3,10 +3,10 @@
 use crate::following::follow;
 use crate::stacks::StackPlaces;
 use crate::watch::{Throw, Watch};
-use java_threads::ThreadStatus;
-use machine_replay::open_machine;
+use heap::java_threads::ThreadStatus;
 use machine_state::Shared;
 use model::Limits;
+use program_runs::machine_replay::open_machine;
 use schedule::Schedule;
 use std::alloc::{AllocError, Global};
 use verifier::Verified;

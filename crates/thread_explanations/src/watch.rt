@@ -1,10 +1,10 @@
 //! A thread that is watched while it does its events.
 
 use crate::stacks::{FramePlace, StackPlaces};
-use java_threads::ThreadStatus;
+use heap::java_threads::ThreadStatus;
+use linked_code::thread_stacks::{ThreadStack, Top};
 use machine_state::Shared;
 use std::alloc::{AllocError, Global};
-use thread_stacks::{ThreadStack, Top};
 
 /// What was seen of the event at which an exception was thrown.
 #[derive(Drop)]

@@ -9,21 +9,21 @@ use Rattle.model.specs.Tree.{FileTree, MethodTree, CodeTree}
 use Rattle.model.specs.Conditions.{names_utf8, text_at}
 use Rattle.model.specs.Classes.{Program, Body, name_of, classes_of, class_of, declared_in, code_in, with_pool, body_in}
 use Rattle.model.specs.Classes as classes
-use Rattle.laws.proofs.Found.{every_all}
-use Rattle.laws.proofs.Lists.{every_at}
-use Rattle.laws.proofs.Unrefused.{names_differ}
+use Rattle.run_laws.proofs.laws.Found.{every_all}
+use Rattle.run_laws.proofs.laws.Lists.{every_at}
+use Rattle.run_laws.proofs.laws.Unrefused.{names_differ}
 use Rattle.hierarchy.specs.Places.{name_at, class_at}
 use Rattle.hierarchy.specs.declared.place.MemberPlace.{MemberPlace}
 use Rattle.hierarchy.proofs.Apart.{class_of_its_name}
 use Rattle.linked_code.specs.Numbers.{IsMethodAt, IsClassAt}
 use Rattle.linked_code.specs.Numbers as linked_code
-use Rattle.method_code.specs.declared.declaration.MethodCode.{MethodCode}
-use Rattle.method_code.specs.Linked.{IsLinked}
-use Rattle.method_code.specs.View.{shown, shown_in, shown_at, body_of}
-use Rattle.method_code.proofs.Firsts.{method_there}
-use Rattle.method_code.proofs.Rights.{method_right, class_right, classes_right}
-use Rattle.method_links.specs.Methods.{member_of, member_at, methods_of}
-use Rattle.method_links.specs.Methods as method_links
+use Rattle.types.specs.declared.method_code.declaration.MethodCode.{MethodCode}
+use Rattle.types.specs.method_code.Linked.{IsLinked}
+use Rattle.types.specs.method_code.View.{shown, shown_in, shown_at, body_of}
+use Rattle.types.proofs.method_code.Firsts.{method_there}
+use Rattle.types.proofs.method_code.Rights.{method_right, class_right, classes_right}
+use Rattle.method_tables.specs.method_links.Methods.{member_of, member_at, methods_of}
+use Rattle.method_tables.specs.method_links.Methods as method_links
 use Rattle.model.specs.State.{Invocation, Initialisation, StackOf}
 use Rattle.traced_events.specs.Places.{Sees}
 use Rattle.traced_events.specs.declared.frames.FrameBefore.{FrameBefore}

@@ -6,9 +6,9 @@ use Rattle.model.specs.Classes as classes
 use Rattle.model.specs.Names.{Member}
 use Rattle.hierarchy.specs.declared.place.MemberPlace.{MemberPlace}
 use Rattle.linked_code.specs.Numbers.{IsMethodAt}
-use Rattle.method_code.specs.declared.declaration.MethodCode.{MethodCode}
-use Rattle.method_code.specs.View.{body_of}
-use Rattle.method_links.specs.Methods.{member_at}
+use Rattle.types.specs.declared.method_code.declaration.MethodCode.{MethodCode}
+use Rattle.types.specs.method_code.View.{body_of}
+use Rattle.method_tables.specs.method_links.Methods.{member_at}
 
 -- the method of a number stands at this place
 abbrev pub IsPlaceOf : Program → ℕ → MemberPlace → Type 0

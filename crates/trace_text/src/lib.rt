@@ -8,6 +8,7 @@ mod numbers;
 mod objects;
 mod parts;
 mod places;
+pub mod program_names;
 mod sorts;
 mod teller;
 mod threads;

@@ -12,11 +12,11 @@ use crate::teller::Teller;
 use crate::words::Words;
 use classfile::Reference;
 use machine_state::Shared;
-use method_code::MethodCode;
 use model::{Event, Instr};
 use opcodes::decode_at;
 use std::alloc::AllocError;
 use traced_events::{Before, told_of};
+use types::method_code::MethodCode;
 
 /// What a line is of: an event that was done, by its number, counted from 0; and the form of the line.
 #[derive(Clone, Copy, Debug, PartialEq, Eq)]

@@ -2,7 +2,7 @@
 
 ghost use Rattle.std.specs.Prelude.{◌≡◌, ◌++◌, OnOk};
 ghost use Rattle.linked_code.specs.Numbers.{IsMethodAt};
-ghost use Rattle.method_code.specs.View.{body_of};
+ghost use Rattle.types.specs.method_code.View.{body_of};
 ghost use Rattle.traced_events.specs.Places.{Sees};
 ghost use Rattle.trace_text.specs.Lines.{class_in, frame_in, instruction_words, meaning_in, nowhere_in, place_in};
 
@@ -10,11 +10,11 @@ use crate::form::Form;
 use crate::json::{push_number_member, push_text_member};
 use crate::numbers::{push_number, push_words};
 use crate::teller::Teller;
-use disasm::push_meaning;
-use method_code::MethodCode;
-use source_lines::{line_at, source_file};
+use classfile::source_lines::{line_at, source_file};
+use listings::disasm::push_meaning;
 use std::alloc::AllocError;
 use traced_events::{Before, FrameBefore};
+use types::method_code::MethodCode;
 
 /// ` Counter.run 12`, of a frame.
 fn push_frame(

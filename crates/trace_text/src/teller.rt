@@ -3,7 +3,7 @@
 ghost use Rattle.std.specs.Prelude.{◌≡◌, ◌++◌, IfOk, OnOk};
 ghost use Rattle.hierarchy.specs.Places.{name_at};
 ghost use Rattle.linked_code.specs.Numbers.{IsMethodAt};
-ghost use Rattle.method_links.specs.Numbers.{AreNumbersOf};
+ghost use Rattle.method_tables.specs.method_links.Numbers.{AreNumbersOf};
 ghost use Rattle.trace_text.specs.Lines.{method_members, method_words};
 ghost use Rattle.trace_text.specs.Methods.{IsPlaceOf, IsBodyOf, name_in};
 
@@ -11,9 +11,9 @@ use crate::json::push_text_member;
 use hierarchy::{ClassSet, MemberPlace};
 use linked_code::LinkedProgram;
 use linker::Linked;
-use method_code::MethodCode;
-use method_links::MethodNumbers;
+use method_tables::method_links::MethodNumbers;
 use std::alloc::{AllocError, Global};
+use types::method_code::MethodCode;
 
 /// Class files that are linked, the program that runs them, and what the numbers in it stand for.
 #[derive(Drop)]

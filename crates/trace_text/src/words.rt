@@ -7,7 +7,7 @@ use crate::teller::Teller;
 use crate::threads::{push_thread_of, push_threads};
 use crate::values::push_value;
 use classfile::Reference;
-use java_threads::WakeCause;
+use heap::java_threads::WakeCause;
 use machine_state::Shared;
 use std::alloc::AllocError;
 use traced_events::{Before, Deed, Entries, Told};

@@ -5,8 +5,8 @@ use Rattle.model.specs.State as model
 use Rattle.model.specs.State.{StackOf}
 use Rattle.linked_code.specs.declared.program.LinkedProgram.{LinkedProgram}
 use Rattle.linked_code.specs.Numbers.{IsClassAt, IsMethodAt}
-use Rattle.thread_stacks.specs.Stacks.{ShownEntry, Invocation, Initialisation}
-use Rattle.shown_stacks.specs.Shown.{offset_at}
+use Rattle.linked_code.specs.thread_stacks.Stacks.{ShownEntry, Invocation, Initialisation}
+use Rattle.machine_state.specs.shown_stacks.Shown.{offset_at}
 use Rattle.machine_state.specs.declared.state.Shared.{Shared}
 use Rattle.traced_events.specs.declared.frames.FrameBefore.{FrameBefore}
 

@@ -1,8 +1,8 @@
 -- The frame on top of a stack, as it is seen.
 use Rattle.std.specs.Prelude.{◌≡◌, List, [], ◌∷◌, Option, Some, None}
 use Rattle.linked_code.specs.declared.program.LinkedProgram.{LinkedProgram}
-use Rattle.thread_stacks.specs.Stacks.{ShownEntry, Invocation, Initialisation}
-use Rattle.shown_stacks.specs.Shown.{offset_at}
+use Rattle.linked_code.specs.thread_stacks.Stacks.{ShownEntry, Invocation, Initialisation}
+use Rattle.machine_state.specs.shown_stacks.Shown.{offset_at}
 use Rattle.traced_events.specs.declared.frames.FrameBefore.{FrameBefore}
 
 abbrev pub IsFrameSeen : LinkedProgram → List ShownEntry → Option FrameBefore → Type 0

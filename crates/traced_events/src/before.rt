@@ -9,11 +9,11 @@ use crate::calls::{called_method, receiver_place};
 use crate::frames::{FrameBefore, frame_on_top};
 use crate::monitors::waiting_on;
 use crate::rules::{Rule, rule_of};
+use linked_code::thread_stacks::{Frame, ThreadStack, Top};
 use linked_code::{BuiltInMethod, LinkedInstruction, LinkedProgram};
-use linked_frames::instruction_at;
 use machine_state::Shared;
+use machine_state::linked_frames::instruction_at;
 use std::alloc::{AllocError, Global};
-use thread_stacks::{Frame, ThreadStack, Top};
 
 /// What is known of a thread before its event. It serves for one event after another.
 #[derive(Drop)]

@@ -4,7 +4,7 @@ use crate::before::Before;
 use crate::deed::Deed;
 use linked_code::{BuiltInMethod, LinkedProgram, MethodBody};
 use machine_state::Shared;
-use method_selection::method_at;
+use machine_state::method_selection::method_at;
 
 /// The built-in method of a number, if it is one.
 pub(crate) fn built_in_called(

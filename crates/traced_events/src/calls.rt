@@ -2,7 +2,7 @@
 
 use heap::{Heap, ObjectKind};
 use linked_code::{LinkedInstruction, LinkedProgram};
-use method_selection::{class_of_kind, select_interface, select_virtual};
+use machine_state::method_selection::{class_of_kind, select_interface, select_virtual};
 
 /// Under how many operands the receiver lies.
 pub(crate) fn receiver_place(instruction: LinkedInstruction) -> usize {

@@ -1,6 +1,6 @@
 //! What an event did.
 
-use java_threads::WakeCause;
+use heap::java_threads::WakeCause;
 
 /// The monitor of an object, and how often its owner has entered it.
 #[derive(Clone, Copy, Debug, PartialEq, Eq)]

@@ -1,13 +1,13 @@
 //! Where a thread stands before its event.
 
 ghost use Rattle.std.specs.Prelude.{◌≡◌, option_map};
-ghost use Rattle.thread_stacks.specs.Stacks.{shown_frame};
-ghost use Rattle.shown_stacks.specs.Shown.{offset_at, starts_of as starts_in};
+ghost use Rattle.linked_code.specs.thread_stacks.Stacks.{shown_frame};
+ghost use Rattle.machine_state.specs.shown_stacks.Shown.{offset_at, starts_of as starts_in};
 ghost use Rattle.traced_events.specs.Seen.{IsFrameSeen};
 
+use linked_code::thread_stacks::{Frame, ThreadStack};
 use linked_code::{LinkedProgram, MethodBody};
-use method_selection::method_at;
-use thread_stacks::{Frame, ThreadStack};
+use machine_state::method_selection::method_at;
 
 /// What stands for the offset of a place at which no instruction begins.
 const NO_OFFSET: u16 = 65535;

@@ -6,11 +6,11 @@ use crate::frames::offset_on_top;
 use crate::instructions::{After, call_deed, entries_after, instruction_deed};
 use crate::monitors::entries_of;
 use crate::rules::Rule;
-use java_threads::ThreadStatus;
+use heap::java_threads::ThreadStatus;
 use linked_code::LinkedProgram;
+use linked_code::thread_stacks::{Phase, Top};
 use machine_state::Shared;
 use model::Event;
-use thread_stacks::{Phase, Top};
 
 /// What an event of a thread did.
 #[derive(Clone, Copy, Debug)]

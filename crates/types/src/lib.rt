@@ -4,11 +4,14 @@
 #![tactic(auto)]
 
 mod class;
+pub mod described_types;
 mod frame_type;
 mod frames;
 mod join;
+pub mod method_code;
 mod order;
 mod reference_type;
+pub mod subclass_table;
 mod superclasses;
 mod verification_type;
 

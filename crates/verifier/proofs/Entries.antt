@@ -6,8 +6,8 @@ use Rattle.std.proofs.lemmas.Option.{slice_get_read}
 use Rattle.std.proofs.lemmas.List.{length-map, append_assoc, take-append-drop, take_all, map-append}
 use Rattle.std.specs.Global.{Vec}
 use Rattle.std.proofs.Math.Seq.{take-suc}
-use Rattle.laws.proofs.Lists.{get_map}
-use Rattle.laws.proofs.WordLists.{map_set, map_copies}
+use Rattle.run_laws.proofs.laws.Lists.{get_map}
+use Rattle.run_laws.proofs.laws.WordLists.{map_set, map_copies}
 use Rattle.model.specs.Names.{Member}
 use Rattle.model.specs.Classes.{Program, Body}
 use Rattle.model.specs.InstructionStarts.{starts}
@@ -20,14 +20,14 @@ use Rattle.types.specs.View.{frame_in}
 use Rattle.types.specs.declared.frame_type.FrameType.{FrameType}
 use Rattle.verifier.specs.Packed.{Parts, parts_of, parts_in}
 use Rattle.types.specs.declared.verification_type.VerificationType.{VerificationType}
-use Rattle.typing_search.specs.Tables.{waits, found_at, waiting_at, taken_off}
-use Rattle.flow.specs.Leads.{frame_at, lead_in}
+use Rattle.run_laws.specs.typing_search.Tables.{waits, found_at, waiting_at, taken_off}
+use Rattle.verifier.specs.flow.Leads.{frame_at, lead_in}
 use Rattle.verifier.specs.Found.{Tables, tables_in, led_to, leads_in, AreOver, IsEmpty}
 use Rattle.verifier.specs.Verified.{OnUnverified}
 use Rattle.verifier.specs.declared.fault.MethodFault.{MethodFault}
 use Rattle.verifier.specs.declared.fault.MethodFault.TheVariants.{Unverified, OutOfMemory}
-use Rattle.flow.specs.declared.handler.Handler.{Handler}
-use Rattle.flow.specs.declared.lead.Lead.{Lead}
+use Rattle.verifier.specs.declared.flow.handler.Handler.{Handler}
+use Rattle.verifier.specs.declared.flow.lead.Lead.{Lead}
 use Rattle.verifier.specs.declared.found.Origin.{Origin}
 use Rattle.verifier.specs.declared.found.Found.{Found}
 use Rattle.opcodes.proofs.Marked.{mark_within}

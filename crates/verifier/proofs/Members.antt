@@ -10,11 +10,11 @@ use Rattle.model.specs.Spelling.{entry_at}
 use Rattle.model.specs.Conditions.{text_at}
 use Rattle.model.specs.Classes.{Program, Body, with_pool, name_of, classes_of, is_named, class_of, is_method, declared_in, code_in, body_in, body_of}
 use Rattle.model.specs.Typing.{HasTyping, AreTyped}
-use Rattle.laws.proofs.Classes.{names_same}
+use Rattle.run_laws.proofs.laws.Classes.{names_same}
 use Rattle.hierarchy.specs.Places.{class_at}
-use Rattle.method_code.specs.View.{member_named, shown_in, shown_at}
+use Rattle.types.specs.method_code.View.{member_named, shown_in, shown_at}
 use Rattle.verifier.specs.Places.{IsTypedAt, AreTypedIn}
-use Rattle.laws.proofs.Homes.{spelled}
+use Rattle.run_laws.proofs.laws.Homes.{spelled}
 
 -- where what is found stands
 pub record FoundAt {A : Type 0} (p : A → Bool) (xs : List A) (x : A) : Type 0 where

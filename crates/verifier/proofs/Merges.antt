@@ -11,13 +11,13 @@ use Rattle.model.specs.Classes.{Program, Body}
 use Rattle.model.specs.TypeOrder.{FrameType, is_frame_below}
 use Rattle.model.specs.TypeJoin.{frame_join}
 use Rattle.model.specs.Typing.{IsSized}
-use Rattle.typing_search.specs.Orders.{IsOrdered}
-use Rattle.typing_search.specs.Search.{Clashes}
-use Rattle.typing_search.specs.Tables.{entry_of, typing_of, waits, found_at, waiting_at}
-use Rattle.typing_search.specs.Weights.{IsLowFrame}
-use Rattle.typing_search.proofs.Searching.{merged_nothing, merged_then, clash_then}
-use Rattle.typing_search.proofs.Merging.{get_set_here, get_set_other, merged_same, merged_first, merged_joined}
-use Rattle.typing_search.proofs.Weights.{raised_lighter, first_lighter, work_merged}
+use Rattle.run_laws.specs.typing_search.Orders.{IsOrdered}
+use Rattle.run_laws.specs.typing_search.Search.{Clashes}
+use Rattle.run_laws.specs.typing_search.Tables.{entry_of, typing_of, waits, found_at, waiting_at}
+use Rattle.run_laws.specs.typing_search.Weights.{IsLowFrame}
+use Rattle.run_laws.proofs.typing_search.Searching.{merged_nothing, merged_then, clash_then}
+use Rattle.run_laws.proofs.typing_search.Merging.{get_set_here, get_set_other, merged_same, merged_first, merged_joined}
+use Rattle.run_laws.proofs.typing_search.Weights.{raised_lighter, first_lighter, work_merged}
 use Rattle.verifier.specs.Found.{Tables, AreOver, AreLow, HasMerged}
 use Rattle.verifier.proofs.Entries.{tables_same}
 

@@ -4,7 +4,7 @@ use Rattle.std.specs.Prelude.{Result, Ok, Err, slice_get, slice_set, slice_index
 use Rattle.std.specs.List.{AllByRecursion, filter, list_all}
 use Rattle.std.proofs.lemmas.Bool.{and_parts}
 use Rattle.std.proofs.lemmas.Option.{same_Some}
-use Rattle.laws.proofs.Lists.{Pairwise, every_append, every_map}
+use Rattle.run_laws.proofs.laws.Lists.{Pairwise, every_append, every_map}
 use Rattle.model.specs.declared.class_file.ExceptionEntry.{ExceptionEntry}
 use Rattle.model.specs.declared.value.Value.{Value}
 use Rattle.model.specs.Names.{Member}
@@ -20,19 +20,19 @@ use Rattle.model.specs.Typing.{Typing, Reaches, successors, caught_type, handler
 use Rattle.types.specs.View.{type_in}
 use Rattle.types.specs.declared.verification_type.VerificationType.{VerificationType}
 use Rattle.types.specs.declared.verification_type.VerificationType.TheVariants as type
-use Rattle.typing_search.specs.Orders.{IsOrdered}
-use Rattle.typing_search.specs.Search.{AreReached, Raised}
-use Rattle.typing_search.specs.Tables.{entry_of, typing_of, waits}
-use Rattle.typing_search.proofs.Merging.{waits_other}
-use Rattle.typing_search.proofs.Orders.{below_parts, from_parts}
-use Rattle.typing_search.proofs.Searching.{reached_parts, reaches_up}
-use Rattle.laws.specs.Steps.{Rooted}
-use Rattle.method_code.specs.declared.declaration.MethodCode.{MethodCode}
-use Rattle.method_code.specs.View.{files_of, member_of, body_of}
-use Rattle.flow.specs.declared.handler.Handler.{Handler}
-use Rattle.flow.specs.declared.lead.Lead.{Lead}
-use Rattle.flow.specs.Handlers.{AreHandlers}
-use Rattle.flow.specs.Leads.{lead_on, lead_to, handler_leads, LeadOn}
+use Rattle.run_laws.specs.typing_search.Orders.{IsOrdered}
+use Rattle.run_laws.specs.typing_search.Search.{AreReached, Raised}
+use Rattle.run_laws.specs.typing_search.Tables.{entry_of, typing_of, waits}
+use Rattle.run_laws.proofs.typing_search.Merging.{waits_other}
+use Rattle.run_laws.proofs.typing_search.Orders.{below_parts, from_parts}
+use Rattle.run_laws.proofs.typing_search.Searching.{reached_parts, reaches_up}
+use Rattle.run_laws.specs.laws.Steps.{Rooted}
+use Rattle.types.specs.declared.method_code.declaration.MethodCode.{MethodCode}
+use Rattle.types.specs.method_code.View.{files_of, member_of, body_of}
+use Rattle.verifier.specs.declared.flow.handler.Handler.{Handler}
+use Rattle.verifier.specs.declared.flow.lead.Lead.{Lead}
+use Rattle.verifier.specs.flow.Handlers.{AreHandlers}
+use Rattle.verifier.specs.flow.Leads.{lead_on, lead_to, handler_leads, LeadOn}
 use Rattle.verifier.specs.Packed.{Parts, parts_in, unpacked}
 use Rattle.verifier.specs.Found.{Tables, tables_in, led_to, leads_in, AreOver, HasMerged, IsSearch, waiting_again}
 use Rattle.verifier.specs.Near.{changed, fits, IsNear, IsReachedBy, IsReachedFrom, AreKnown, IsAbove, IsSameOrigin}

@@ -7,12 +7,12 @@ use Rattle.model.specs.Names.{Member}
 use Rattle.model.specs.Classes.{Program, Body}
 use Rattle.model.specs.TypeOrder.{FrameType}
 use Rattle.model.specs.Typing.{HasTyping, entry_type, flow}
-use Rattle.typing_search.specs.Orders.{IsOrdered}
-use Rattle.typing_search.specs.Search.{Clashes, HasNoTyping, IsTakenOff}
-use Rattle.typing_search.specs.Tables.{typing_of, waits, waiting_at, taken_off}
-use Rattle.typing_search.proofs.Searching.{search_begins, beginning_refused, search_ends, search_turn, refused_rule, refused_merge}
-use Rattle.typing_search.proofs.Merging.{waits_other, blank}
-use Rattle.typing_search.proofs.Weights.{work_taken_off}
+use Rattle.run_laws.specs.typing_search.Orders.{IsOrdered}
+use Rattle.run_laws.specs.typing_search.Search.{Clashes, HasNoTyping, IsTakenOff}
+use Rattle.run_laws.specs.typing_search.Tables.{typing_of, waits, waiting_at, taken_off}
+use Rattle.run_laws.proofs.typing_search.Searching.{search_begins, beginning_refused, search_ends, search_turn, refused_rule, refused_merge}
+use Rattle.run_laws.proofs.typing_search.Merging.{waits_other, blank}
+use Rattle.run_laws.proofs.typing_search.Weights.{work_taken_off}
 use Rattle.verifier.proofs.Entries.{tables_same, marked_again}
 use Rattle.verifier.specs.Found.{Tables, AreOver, work_left, HasMerged, IsSearch, waiting_again, HasTurned}
 

@@ -4,16 +4,16 @@ use Rattle.std.specs.List.{AllByRecursion}
 use Rattle.model.specs.Names.{Member}
 use Rattle.model.specs.Classes.{Program, Body}
 use Rattle.model.specs.TypeOrder as frames
-use Rattle.typing_search.specs.Search.{Search, Merged, Clashes}
-use Rattle.typing_search.specs.Tables.{typing_of, waits, waiting_at}
-use Rattle.typing_search.specs.Weights.{IsLowFrame, work, places}
-use Rattle.typing_search.specs.Decided.{IsBounded}
+use Rattle.run_laws.specs.typing_search.Search.{Search, Merged, Clashes}
+use Rattle.run_laws.specs.typing_search.Tables.{typing_of, waits, waiting_at}
+use Rattle.run_laws.specs.typing_search.Weights.{IsLowFrame, work, places}
+use Rattle.run_laws.specs.typing_search.Decided.{IsBounded}
 use Rattle.verifier.specs.declared.found.Found.{Found}
 use Rattle.verifier.specs.declared.found.Origin.{Origin}
-use Rattle.flow.specs.declared.handler.Handler.{Handler}
-use Rattle.flow.specs.declared.lead.Lead.{Lead}
-use Rattle.method_code.specs.declared.declaration.MethodCode.{MethodCode}
-use Rattle.method_code.specs.View.{files_of, member_of, body_of}
+use Rattle.verifier.specs.declared.flow.handler.Handler.{Handler}
+use Rattle.verifier.specs.declared.flow.lead.Lead.{Lead}
+use Rattle.types.specs.declared.method_code.declaration.MethodCode.{MethodCode}
+use Rattle.types.specs.method_code.View.{files_of, member_of, body_of}
 use Rattle.verifier.specs.Packed.{Parts, parts_in}
 
 pub record Tables : Type 0 where

@@ -5,3 +5,4 @@ pub mod Found
 pub mod Near
 pub mod Verified
 pub mod Places
+pub mod flow

@@ -8,9 +8,9 @@ use Rattle.model.specs.Typing.{Typing, Reaches}
 use Rattle.types.specs.View.{type_in}
 use Rattle.types.specs.declared.verification_type.VerificationType.{VerificationType}
 use Rattle.types.specs.declared.verification_type.VerificationType.TheVariants as type
-use Rattle.typing_search.specs.Tables.{typing_of, waits}
-use Rattle.flow.specs.declared.handler.Handler.{Handler}
-use Rattle.flow.specs.declared.lead.Lead.{Lead}
+use Rattle.run_laws.specs.typing_search.Tables.{typing_of, waits}
+use Rattle.verifier.specs.declared.flow.handler.Handler.{Handler}
+use Rattle.verifier.specs.declared.flow.lead.Lead.{Lead}
 use Rattle.verifier.specs.declared.found.Found.{Found}
 use Rattle.verifier.specs.declared.found.Origin.{Origin}
 use Rattle.verifier.specs.declared.near.Change.{Change}

@@ -5,10 +5,10 @@ use Rattle.model.specs.Names.{Member}
 use Rattle.model.specs.BuiltIn.{built_in_classes}
 use Rattle.model.specs.Classes.{Program, Body}
 use Rattle.model.specs.Typing.{HasTyping}
-use Rattle.method_code.specs.View.{shown_at}
-use Rattle.refusal.specs.declared.why.Refusal.{Refusal}
-use Rattle.refusal.specs.declared.why.RefusalKind.TheVariants as kinds
-use Rattle.typing_search.specs.Search.{HasNoTyping}
+use Rattle.types.specs.method_code.View.{shown_at}
+use Rattle.link_conditions.specs.declared.refusal.why.Refusal.{Refusal}
+use Rattle.link_conditions.specs.declared.refusal.why.RefusalKind.TheVariants as kinds
+use Rattle.run_laws.specs.typing_search.Search.{HasNoTyping}
 
 -- ---- methods that pass verification
 

@@ -1,6 +1,6 @@
 -- The offsets that wait in a search.
 use Rattle.std.specs.Prelude.{◌≡◌, ℕ, ◌<◌, List, Bool, false}
-use Rattle.typing_search.specs.Tables.{waits}
+use Rattle.run_laws.specs.typing_search.Tables.{waits}
 
 -- no offset below this one waits
 abbrev pub NoneWaitsBelow : List Bool → ℕ → Type 0

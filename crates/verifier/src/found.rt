@@ -2,23 +2,23 @@
 
 ghost use Rattle.std.specs.Prelude.{◌≡◌, ◌<◌, [], ◌∷◌, length, false, slice_index_or, slice_set, Some, OnOk, IfOk, IfErr, IfSome, IsSomeAnd, IsTrue};
 ghost use Rattle.model.specs.InstructionStarts.{starts as starts_of};
-ghost use Rattle.typing_search.specs.Tables.{waiting_at};
-ghost use Rattle.method_code.specs.Linked.{IsLinked};
-ghost use Rattle.method_code.specs.View.{files_of, body_of};
+ghost use Rattle.run_laws.specs.typing_search.Tables.{waiting_at};
+ghost use Rattle.types.specs.method_code.Linked.{IsLinked};
+ghost use Rattle.types.specs.method_code.View.{files_of, body_of};
 ghost use Rattle.verifier.specs.Packed.{parts_in};
 ghost use Rattle.verifier.specs.Found.{tables_in, leads_in, AreOver, IsEmpty, MergesInto, ClashesWith};
 ghost use Rattle.verifier.specs.Near.{IsAbove, AreKnown, IsSameOrigin};
 ghost use Rattle.verifier.specs.Verified.{OnUnverified};
 
 use crate::fault::MethodFault;
+use crate::flow::{Handler, Lead};
 use crate::frames::is_sized;
 use crate::near::{Near, are_below};
 use crate::packed::PackedFrame;
 use crate::raised::{Raised, merge_frames};
 use crate::waiting::Waiting;
-use flow::{Handler, Lead};
-use method_code::MethodCode;
 use std::alloc::{AllocError, Global};
+use types::method_code::MethodCode;
 
 /// The frame types that were found at the offsets of a method's code, and the offsets that wait.
 #[derive(Drop)]

@@ -2,11 +2,11 @@
 
 ghost use Rattle.std.specs.Prelude.{IsTrue, IsFalse};
 ghost use Rattle.model.specs.Typing.{IsSized};
-ghost use Rattle.method_code.specs.View.{files_of, body_of};
+ghost use Rattle.types.specs.method_code.View.{files_of, body_of};
 ghost use Rattle.verifier.specs.Packed.{parts_in};
 
 use crate::packed::PackedFrame;
-use method_code::MethodCode;
+use types::method_code::MethodCode;
 
 /// Whether a frame type has as many local variables as the method says, and no more on the stack (JVMS 4.7.3).
 pub(crate) fn is_sized(method: &MethodCode<'_>, frame: &PackedFrame) -> bool

@@ -3,6 +3,8 @@
 #![tactic(auto)]
 
 mod fault;
+pub mod flow;
+pub mod flow_effects;
 mod found;
 mod frames;
 mod method;

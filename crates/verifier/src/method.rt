@@ -3,22 +3,22 @@
 ghost use Rattle.std.specs.Prelude.{◌≡◌, ◌<◌, length, OnOk, IfOk, IfErr, IfSome};
 ghost use Rattle.model.specs.InstructionStarts.{starts as starts_of};
 ghost use Rattle.model.specs.Typing.{HasTyping};
-ghost use Rattle.typing_search.specs.Search.{HasNoTyping};
-ghost use Rattle.method_code.specs.Linked.{IsLinked};
-ghost use Rattle.method_code.specs.View.{files_of, member_of, body_of};
-ghost use Rattle.flow.specs.Handlers.{AreHandlers};
+ghost use Rattle.run_laws.specs.typing_search.Search.{HasNoTyping};
+ghost use Rattle.types.specs.method_code.Linked.{IsLinked};
+ghost use Rattle.types.specs.method_code.View.{files_of, member_of, body_of};
+ghost use Rattle.verifier.specs.flow.Handlers.{AreHandlers};
 ghost use Rattle.verifier.specs.Found.{tables_in, waiting_again, IsSearch, HasTurned};
 ghost use Rattle.verifier.specs.Near.{IsNear};
 ghost use Rattle.verifier.specs.Verified.{OnUnverified};
 
 use crate::fault::MethodFault;
+use crate::flow::{Handler, Lead, entry_frame, flow_at, handlers};
 use crate::found::{Edge, Found, Origin};
 use crate::near::{Near, near_found};
 use crate::packed::PackedFrame;
-use flow::{Handler, Lead, entry_frame, flow_at, handlers};
-use method_code::MethodCode;
 use opcodes::starts;
 use std::alloc::{AllocError, Global};
+use types::method_code::MethodCode;
 
 /// A search that has found the frame type where the method begins.
 fn begin(alloc: Global, method: &MethodCode<'_>, starts: &[bool]) -> Result<Found, MethodFault>

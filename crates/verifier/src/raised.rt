@@ -1,13 +1,13 @@
 //! One frame type merged into another (JVMS 4.10.2.2).
 
 ghost use Rattle.std.specs.Prelude.{IfOk};
-ghost use Rattle.method_code.specs.Linked.{IsLinked};
-ghost use Rattle.method_code.specs.View.{files_of};
+ghost use Rattle.types.specs.method_code.Linked.{IsLinked};
+ghost use Rattle.types.specs.method_code.View.{files_of};
 ghost use Rattle.verifier.specs.Raised.{Raises};
 
 use crate::packed::PackedFrame;
-use method_code::MethodCode;
 use std::alloc::{AllocError, Global};
+use types::method_code::MethodCode;
 use types::{frame_join, is_frame_below};
 
 /// What becomes of a frame type as another is merged into it.

@@ -2,19 +2,19 @@
 
 ghost use Rattle.std.specs.Prelude.{◌≡◌, ◌⊎◌, ◌++◌, OnOk, IfOk, IfErr};
 ghost use Rattle.model.specs.Typing.{AreTyped};
-ghost use Rattle.method_code.specs.Linked.{IsLinked};
-ghost use Rattle.method_code.specs.View.{member_of};
-ghost use Rattle.refusal.specs.declared.why.RefusalKind.TheVariants as kinds;
+ghost use Rattle.types.specs.method_code.Linked.{IsLinked};
+ghost use Rattle.types.specs.method_code.View.{member_of};
+ghost use Rattle.link_conditions.specs.declared.refusal.why.RefusalKind.TheVariants as kinds;
 ghost use Rattle.verifier.specs.Places.{file_number, IsTypedAt, AreTypedIn, IsRefusalOf, Refuses};
 
 use crate::fault::MethodFault;
 use crate::method::verify_method;
 use hierarchy::Hierarchy;
+use link_conditions::refusal::{Refusal, RefusalKind};
 use linker::Linked;
-use method_code::MethodCode;
-use refusal::{Refusal, RefusalKind};
 use std::alloc::{AllocError, Global};
 use std::marker::Model;
+use types::method_code::MethodCode;
 
 /// How many classes are built in. The first file stands behind them.
 const BUILT_IN: usize = 30;

@@ -1,7 +1,7 @@
 //! The offsets that wait for their instruction to be looked at.
 
 ghost use Rattle.std.specs.Prelude.{◌≡◌, ◌<◌, ℕ, length, false, true, replicate, IfOk, IfSome, IfNone};
-ghost use Rattle.typing_search.specs.Tables.{waits, waiting_at, taken_off};
+ghost use Rattle.run_laws.specs.typing_search.Tables.{waits, waiting_at, taken_off};
 ghost use Rattle.verifier.specs.Waiting.{NoneWaitsBelow};
 
 use std::alloc::{AllocError, Global};

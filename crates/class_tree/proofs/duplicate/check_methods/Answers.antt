@@ -1,6 +1,6 @@
 use Rattle.std.proofs.Common.{◌≡◌, List, map, sym, subst}
 use Rattle.std.proofs.lemmas.Simd.{map-map}
-use Rattle.reading.specs.declared.fault.Cause.TheVariants as causes
+use Rattle.constant_pool.specs.declared.reading.fault.Cause.TheVariants as causes
 use Rattle.model.specs.Pool.{NameAndDescriptor}
 use Rattle.model.specs.Conditions.{name_and_descriptor_at, differ}
 use Rattle.class_tree.specs.View.{method_of}

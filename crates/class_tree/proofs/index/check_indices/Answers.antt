@@ -2,7 +2,7 @@ use Rattle.std.proofs.Common.{◌≡◌, true, subst, List}
 use Rattle.std.specs.List.{list_all}
 use Rattle.std.proofs.lemmas.List.{map-id}
 use Rattle.model.specs.Tree.{Entry}
-use Rattle.reading.specs.declared.fault.Cause.TheVariants as causes
+use Rattle.constant_pool.specs.declared.reading.fault.Cause.TheVariants as causes
 use Rattle.model.specs.Conditions.{entry_indices, names_class}
 use Rattle.class_tree.proofs.Both.{met_first}
 use Rattle.class_tree.proofs.index.check_indices.Goals as goal

@@ -2,7 +2,7 @@ use Rattle.std.proofs.Common.{◌≡◌, true, subst, List}
 use Rattle.std.specs.List.{list_all}
 use Rattle.std.proofs.lemmas.List.{map-id}
 use Rattle.model.specs.Tree.{Entry}
-use Rattle.reading.specs.declared.fault.Cause.TheVariants as causes
+use Rattle.constant_pool.specs.declared.reading.fault.Cause.TheVariants as causes
 use Rattle.model.specs.Conditions.{entry_names, names_no_array}
 use Rattle.class_tree.proofs.Both.{met_first}
 use Rattle.class_tree.proofs.names.check_names.Goals as goal

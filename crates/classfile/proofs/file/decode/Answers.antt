@@ -1,5 +1,5 @@
 use Rattle.std.proofs.Common.{◌≡◌, ◌∙◌, ap, subst, sym}
-use Rattle.reading.specs.declared.fault.Malformed.{Malformed}
+use Rattle.constant_pool.specs.declared.reading.fault.Malformed.{Malformed}
 use Rattle.model.specs.Tree.{FileTree}
 use Rattle.model.specs.Spells.{IsWhole}
 use Rattle.class_tree.specs.View.{file_of}

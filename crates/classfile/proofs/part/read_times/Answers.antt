@@ -1,8 +1,8 @@
 use Rattle.std.proofs.Common.{◌≡◌, ◌++◌, ◌∷◌, [], map}
 use Rattle.std.proofs.lemmas.Result.{err_from_is_err_and}
 use Rattle.std.proofs.lemmas.List.{map_push}
-use Rattle.reading.specs.Reading.{times_at}
-use Rattle.reading.proofs.Loop.{times_goes_on, times_ends, times_are_done}
+use Rattle.constant_pool.specs.reading.Reading.{times_at}
+use Rattle.constant_pool.proofs.reading.Loop.{times_goes_on, times_ends, times_are_done}
 use Rattle.classfile.proofs.part.read_times.Goals as goal
 
 pub returns-in_err-read : goal.returns-in_err-read

@@ -1,6 +1,6 @@
 use Rattle.std.proofs.Common.{◌≡◌, ◌-◌, map}
-use Rattle.reading.specs.Reading.{times_at}
-use Rattle.reading.proofs.Loop.{with_front}
+use Rattle.constant_pool.specs.reading.Reading.{times_at}
+use Rattle.constant_pool.proofs.reading.Loop.{with_front}
 use Rattle.classfile.proofs.part.read_times.Given as goal
 
 abbrev pub invariant-parts : goal.invariant-parts

@@ -1,5 +1,5 @@
 use Rattle.std.proofs.Common.{◌≡◌, Ok, drop}
-use Rattle.reading.proofs.Laws.{at_place}
+use Rattle.constant_pool.proofs.reading.Laws.{at_place}
 use Rattle.constant_pool.specs.PoolReading.{pool_at}
 use Rattle.constant_pool.proofs.read.pool_from.Goals as goal
 

@@ -1,7 +1,7 @@
 use Rattle.std.proofs.Common.{◌≡◌}
 use Rattle.constant_pool.specs.View.{entries_of}
 use Rattle.constant_pool.specs.PoolReading.{entries_at}
-use Rattle.reading.proofs.Loop.{with_front}
+use Rattle.constant_pool.proofs.reading.Loop.{with_front}
 use Rattle.constant_pool.proofs.read.read_constants.Given as goal
 
 abbrev pub invariant-places : goal.invariant-places

@@ -1,5 +1,5 @@
 use Rattle.std.proofs.Common.{◌∙◌, ap, subst, sym, arith, IsTrue}
-use Rattle.reading.specs.declared.fault.Malformed.{Malformed}
+use Rattle.constant_pool.specs.declared.reading.fault.Malformed.{Malformed}
 use Rattle.constant_pool.specs.PoolLayout.{is_pool_cause}
 use Rattle.constant_pool.proofs.PoolPromises.{found_of, only_found, only_memory, cause_of}
 use Rattle.constant_pool.proofs.read.read_pool.Goals as goal

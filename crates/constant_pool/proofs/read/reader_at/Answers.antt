@@ -1,7 +1,7 @@
 use Rattle.std.proofs.Common.{drop, sym, subst}
-use Rattle.reading.specs.declared.fault.Stop.{Stop}
-use Rattle.reading.specs.Reading.{Fails}
-use Rattle.reading.proofs.Laws.{at_place}
+use Rattle.constant_pool.specs.declared.reading.fault.Stop.{Stop}
+use Rattle.constant_pool.specs.reading.Reading.{Fails}
+use Rattle.constant_pool.proofs.reading.Laws.{at_place}
 use Rattle.constant_pool.specs.PoolReading.{pool_at}
 use Rattle.constant_pool.proofs.PoolPromises.{missing}
 use Rattle.constant_pool.proofs.read.reader_at.Goals as goal

@@ -3,8 +3,8 @@ use Rattle.std.specs.Arc.{arc_value}
 use Rattle.std.proofs.lemmas.List.{length-map}
 use Rattle.model.specs.Classes.{Program}
 use Rattle.model.specs.Schedule.{events_of}
-use Rattle.continued_runs.specs.Continuing.{GoesOn}
-use Rattle.continued_runs.specs.declared.run.Continued.TheVariants.{Whole, Part}
+use Rattle.program_runs.specs.continued_runs.Continuing.{GoesOn}
+use Rattle.program_runs.specs.declared.continued_runs.run.Continued.TheVariants.{Whole, Part}
 use Rattle.engines.proofs.RunLemmas.{by_three, few_files}
 use Rattle.engines.proofs.continuing.ran_on.Goals as goal
 

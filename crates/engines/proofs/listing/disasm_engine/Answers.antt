@@ -5,7 +5,7 @@ use Rattle.std.specs.Io.KnownBytes.{Appends}
 use Rattle.model.specs.Devices.{AppendsFront}
 use Rattle.model.specs.Linkable.{AreSpelled}
 use Rattle.classfile.specs.View.{file_of}
-use Rattle.class_listings.specs.Listings.{IsFirstMalformed, listings, no_memory}
+use Rattle.listings.specs.class_listings.Listings.{IsFirstMalformed, listings, no_memory}
 use Rattle.engines.proofs.ListingLemmas.{unread_is_unlisted, undecoded_is_unlisted, front_is_unlisted, listed_trees}
 use Rattle.engines.proofs.listing.disasm_engine.Goals as goal
 

@@ -3,7 +3,7 @@ use Rattle.std.proofs.lemmas.List.{length-map}
 use Rattle.std.proofs.lemmas.Result.{err_from_is_err_and}
 use Rattle.model.specs.Linkable.{AreSpelled}
 use Rattle.classfile.specs.View.{file_of}
-use Rattle.class_listings.specs.Listings.{IsFirstMalformed, no_memory}
+use Rattle.listings.specs.class_listings.Listings.{IsFirstMalformed, no_memory}
 use Rattle.engines.proofs.ListingLemmas.{unread_is_unnamed, undecoded_is_unnamed, front_is_unnamed}
 use Rattle.engines.proofs.VerificationLemmas.{none_written}
 use Rattle.engines.proofs.names.names_engine.Goals as goal

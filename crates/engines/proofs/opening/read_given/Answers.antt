@@ -2,7 +2,7 @@ use Rattle.std.proofs.Common.{List, Option, ℕ, subst}
 use Rattle.std.proofs.lemmas.Result.{err_from_is_err_and}
 use Rattle.model.specs.declared.event.Event.{Event}
 use Rattle.model.specs.Schedule.{Recording}
-use Rattle.schedule_text.specs.Either.{GivesEvents, IsFaultOf, IsMemory}
+use Rattle.schedule.specs.schedule_text.Either.{GivesEvents, IsFaultOf, IsMemory}
 use Rattle.engines.proofs.OpeningLemmas.{either_is_kept, either_is_unprinted}
 use Rattle.engines.proofs.opening.read_given.Goals as goal
 

@@ -1,7 +1,7 @@
 use Rattle.std.proofs.Common.{subst}
 use Rattle.std.specs.Prelude.{IfOk, unwrap_or}
 use Rattle.std.specs.Arc.{arc_value}
-use Rattle.worlds.specs.Records.{IsRecordOf}
+use Rattle.program_runs.specs.worlds.Records.{IsRecordOf}
 use Rattle.engines.proofs.running.recorded_run.Goals as goal
 
 pub returns-in-Some : goal.returns-in-Some

@@ -1,6 +1,6 @@
 use Rattle.std.proofs.Common.{◌≡◌, ◌∙◌, ◌≤◌, true, false, length, sym, ap, arith}
 use Rattle.std.specs.List.{list_any}
-use Rattle.classfile.specs.View.{file_of}
+use Rattle.class_tree.specs.View.{file_of}
 use Rattle.model.specs.Classes.{classes_of}
 use Rattle.model.specs.Hierarchy.{is_above, in_cycle}
 use Rattle.hierarchy.proofs.Finding.{position_first, position_absent}

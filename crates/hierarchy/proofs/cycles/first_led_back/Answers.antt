@@ -1,5 +1,5 @@
 use Rattle.std.proofs.Common.{◌≡◌, ◌∙◌, true, length, sym, ap}
-use Rattle.classfile.specs.View.{file_of}
+use Rattle.class_tree.specs.View.{file_of}
 use Rattle.model.specs.Classes.{classes_of}
 use Rattle.model.specs.Hierarchy.{is_above, in_cycle}
 use Rattle.hierarchy.specs.Ranks.{is_reached}

@@ -1,7 +1,7 @@
 use Rattle.std.proofs.Common.{◌≡◌, ◌∙◌, ◌||◌, Some, sym, ap}
 use Rattle.std.specs.Option.{option_to_list}
 use Rattle.std.specs.List.{list_any}
-use Rattle.classfile.specs.View.{file_of}
+use Rattle.class_tree.specs.View.{file_of}
 use Rattle.model.specs.Classes.{class_of, super_name_of, interface_names}
 use Rattle.hierarchy.specs.Above.{leads_to}
 use Rattle.hierarchy.proofs.Walks.{above_itself_by, none_above_itself}

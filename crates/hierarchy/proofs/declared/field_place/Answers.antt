@@ -2,7 +2,7 @@ use Rattle.std.proofs.Common.{◌∙◌, List, sym, ap}
 use Rattle.std.specs.Prelude.{position}
 use Rattle.model.specs.Lookup.{is_field}
 use Rattle.class_tree.specs.declared.tree.Field.{Field}
-use Rattle.classfile.specs.View.{field_of}
+use Rattle.class_tree.specs.View.{field_of}
 use Rattle.hierarchy.proofs.Finding.{position-map}
 use Rattle.hierarchy.proofs.declared.field_place.Goals as goal
 

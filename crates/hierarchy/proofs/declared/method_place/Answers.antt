@@ -2,7 +2,7 @@ use Rattle.std.proofs.Common.{◌∙◌, List, sym, ap}
 use Rattle.std.specs.Prelude.{position}
 use Rattle.model.specs.Classes.{is_method}
 use Rattle.class_tree.specs.declared.tree.Method.{Method}
-use Rattle.classfile.specs.View.{method_of}
+use Rattle.class_tree.specs.View.{method_of}
 use Rattle.hierarchy.proofs.Finding.{position-map}
 use Rattle.hierarchy.proofs.declared.method_place.Goals as goal
 

@@ -1,6 +1,6 @@
 use Rattle.std.proofs.Common.{◌∙◌, sym, ap, Some}
 use Rattle.std.proofs.lemmas.Option.{slice_get-get_or}
-use Rattle.classfile.specs.View.{file_of}
+use Rattle.class_tree.specs.View.{file_of}
 use Rattle.model.specs.Tree.{FileTree}
 use Rattle.model.specs.Classes.{classes_of, name_of}
 use Rattle.hierarchy.specs.declared.rows.Above.TheVariants as above

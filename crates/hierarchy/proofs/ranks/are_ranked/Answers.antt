@@ -1,6 +1,6 @@
 use Rattle.std.proofs.Common.{◌∙◌, sym, ap}
 use Rattle.std.specs.Prelude.{not}
-use Rattle.classfile.specs.View.{file_of}
+use Rattle.class_tree.specs.View.{file_of}
 use Rattle.model.specs.Classes.{classes_of}
 use Rattle.hierarchy.specs.Ranks.{is_misranked}
 use Rattle.hierarchy.proofs.Indices.{none_more, none_all}

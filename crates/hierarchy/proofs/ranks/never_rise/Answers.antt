@@ -1,5 +1,5 @@
 use Rattle.std.proofs.Common.{sym}
-use Rattle.classfile.specs.View.{file_of}
+use Rattle.class_tree.specs.View.{file_of}
 use Rattle.model.specs.Classes.{classes_of}
 use Rattle.hierarchy.specs.Ranks.{rises}
 use Rattle.hierarchy.proofs.Indices.{none_more, none_all}

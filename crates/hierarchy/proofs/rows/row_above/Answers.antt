@@ -1,7 +1,7 @@
 use Rattle.std.proofs.Common.{◌≡◌, ◌∙◌, ◌∷◌, [], ◌++◌, List, Option, sym, ap}
 use Rattle.std.specs.Option.{option_to_list, option_and_then, option_map_or}
 use Rattle.std.specs.List.{flat_map}
-use Rattle.classfile.specs.View.{file_of}
+use Rattle.class_tree.specs.View.{file_of}
 use Rattle.model.specs.Names.{Name}
 use Rattle.model.specs.Tree.{FileTree}
 use Rattle.model.specs.Classes.{interface_names, super_name_of}

@@ -1,5 +1,5 @@
 use Rattle.std.proofs.Common.{◌∙◌, sym, ap}
-use Rattle.classfile.specs.View.{file_of}
+use Rattle.class_tree.specs.View.{file_of}
 use Rattle.model.specs.Tree.{FileTree}
 use Rattle.model.specs.Classes.{classes_of, name_of}
 use Rattle.hierarchy.specs.Above.{next_row, next_rows}

@@ -4,7 +4,7 @@ use Rattle.std.proofs.lemmas.Bool.{not-false, not-true}
 use Rattle.model.specs.Names.{Name, name_eq}
 use Rattle.model.specs.Classes.{name_of, is_named}
 use Rattle.class_tree.specs.declared.tree.ClassFile.{ClassFile}
-use Rattle.classfile.specs.View.{file_of}
+use Rattle.class_tree.specs.View.{file_of}
 use Rattle.hierarchy.specs.Set.{trees_of}
 use Rattle.hierarchy.proofs.SetLaws.{among_by_name}
 use Rattle.hierarchy.proofs.Adding.{names_more, differ_more, again_at}

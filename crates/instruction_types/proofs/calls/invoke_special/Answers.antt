@@ -10,7 +10,7 @@ use Rattle.model.specs.Sites.{MeaningOf}
 use Rattle.model.specs.Calls.{is_instance_one, of_class, call_wants, if_method, special_call, constructor_call}
 use Rattle.constant_pool.specs.View.{reference_of}
 use Rattle.hierarchy.specs.Places.{name_at, member_in}
-use Rattle.operand_types.specs.View.{want_in}
+use Rattle.instruction_types.specs.operand_types.View.{want_in}
 use Rattle.instruction_types.specs.Answers.{Answers}
 use Rattle.instruction_types.specs.Wants.{CallsOn, TellsCall}
 use Rattle.instruction_types.proofs.Calling.{answers_call, picked_method}

@@ -6,8 +6,8 @@ use Rattle.model.specs.DescribedTypes.{type_named}
 use Rattle.model.specs.Resolution.{is_missing}
 use Rattle.model.specs.Operands.{values}
 use Rattle.model.specs.Objects.{check_cast_meaning}
-use Rattle.method_code.specs.View.{files_of}
-use Rattle.method_code.specs.Site.{site_of}
+use Rattle.types.specs.method_code.View.{files_of}
+use Rattle.types.specs.method_code.Site.{site_of}
 use Rattle.instruction_types.specs.Answers.{Answers, is_no_type}
 use Rattle.instruction_types.proofs.Sites.{for_cast}
 use Rattle.instruction_types.proofs.table.check_cast_at.Goals as goal

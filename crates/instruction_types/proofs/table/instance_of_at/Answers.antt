@@ -2,8 +2,8 @@ use Rattle.std.proofs.Common.{Some, Bool, refl}
 use Rattle.model.specs.DescribedTypes.{type_named}
 use Rattle.model.specs.Operands.{values}
 use Rattle.model.specs.Objects.{instance_of_meaning}
-use Rattle.method_code.specs.View.{files_of}
-use Rattle.method_code.specs.Site.{site_of}
+use Rattle.types.specs.method_code.View.{files_of}
+use Rattle.types.specs.method_code.Site.{site_of}
 use Rattle.instruction_types.proofs.Telling.{answers_told, narrowed_type}
 use Rattle.instruction_types.proofs.Sites.{for_test}
 use Rattle.instruction_types.proofs.table.instance_of_at.Goals as goal

@@ -1,8 +1,8 @@
 use Rattle.std.proofs.Common.{◌∙◌, ap, false, refl}
 use Rattle.model.specs.declared.instr.Instr.TheVariants as instr
 use Rattle.constant_pool.specs.View.{reference_of}
-use Rattle.method_code.specs.View.{files_of}
-use Rattle.method_code.specs.Site.{site_of}
+use Rattle.types.specs.method_code.View.{files_of}
+use Rattle.types.specs.method_code.Site.{site_of}
 use Rattle.instruction_types.proofs.Sites.{for_virtual, for_special, for_static}
 use Rattle.instruction_types.proofs.table.invoke_at.Goals as goal
 

@@ -1,7 +1,7 @@
 use Rattle.std.proofs.Common.{false}
 use Rattle.constant_pool.specs.View.{reference_of}
-use Rattle.method_code.specs.View.{files_of}
-use Rattle.method_code.specs.Site.{site_of}
+use Rattle.types.specs.method_code.View.{files_of}
+use Rattle.types.specs.method_code.Site.{site_of}
 use Rattle.instruction_types.proofs.Sites.{for_interface}
 use Rattle.instruction_types.proofs.table.invoke_interface_at.Goals as goal
 

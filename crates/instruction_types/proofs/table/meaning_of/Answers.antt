@@ -11,8 +11,8 @@ use Rattle.model.specs.Calls.{return_of}
 use Rattle.model.specs.Objects.{constant_at}
 use Rattle.model.specs.ThrowMeaning.{throw_meaning}
 use Rattle.model.specs.MonitorMeanings.{monitor_enter_meaning, monitor_exit_meaning}
-use Rattle.method_code.specs.View.{files_of}
-use Rattle.method_code.specs.Site.{site_of}
+use Rattle.types.specs.method_code.View.{files_of}
+use Rattle.types.specs.method_code.Site.{site_of}
 use Rattle.instruction_types.specs.Answers.{Answers}
 use Rattle.instruction_types.proofs.Telling.{answers_told, narrowed}
 use Rattle.instruction_types.proofs.Sites.{answers_for, for_return, refused_for}

@@ -2,8 +2,8 @@ use Rattle.std.proofs.Common.{subst, Bool}
 use Rattle.model.specs.Classes.{Program}
 use Rattle.model.specs.Operands.{values}
 use Rattle.model.specs.Objects.{new_named}
-use Rattle.method_code.specs.View.{files_of}
-use Rattle.method_code.specs.Site.{site_of}
+use Rattle.types.specs.method_code.View.{files_of}
+use Rattle.types.specs.method_code.Site.{site_of}
 use Rattle.instruction_types.specs.Answers.{Answers}
 use Rattle.instruction_types.proofs.Sites.{for_new}
 use Rattle.instruction_types.proofs.table.new_at.Goals as goal

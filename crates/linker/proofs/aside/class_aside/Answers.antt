@@ -2,7 +2,7 @@ use Rattle.std.proofs.Common.{◌≡◌, ◌∙◌, ◌∷◌, refl, ap, Vec, Gl
 use Rattle.std.specs.Prelude.{slice_index_or}
 use Rattle.classfile.specs.View.{file_of}
 use Rattle.model.specs.Tree.{Unusable}
-use Rattle.profile.specs.Faults.{TellsClassAside}
+use Rattle.classfile.specs.profile.Faults.{TellsClassAside}
 use Rattle.linker.specs.Aside.{names_method_aside, methods_aside}
 use Rattle.linker.proofs.Lists.{row_is}
 use Rattle.linker.proofs.aside.class_aside.Goals as goal

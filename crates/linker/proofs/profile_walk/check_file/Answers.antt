@@ -1,7 +1,7 @@
 use Rattle.std.proofs.Common.{◌∙◌, ap, subst, Option}
 use Rattle.classfile.specs.View.{file_of}
-use Rattle.profile.specs.declared.fault.Fault.{Fault}
-use Rattle.profile.specs.Faults.{row_of, Finds}
+use Rattle.classfile.specs.declared.profile.fault.Fault.{Fault}
+use Rattle.classfile.specs.profile.Faults.{row_of, Finds}
 use Rattle.linker.proofs.Stages.{fault_refused}
 use Rattle.linker.proofs.profile_walk.check_file.Goals as goal
 

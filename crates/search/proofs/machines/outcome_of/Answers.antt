@@ -1,5 +1,5 @@
 use Rattle.std.proofs.Common.{◌∙◌, subst}
-use Rattle.machine_reports.specs.Told.{AreQuietAt}
+use Rattle.machine.specs.machine_reports.Told.{AreQuietAt}
 use Rattle.search.proofs.Shown.{reports_at, tells_quiet, tells_none}
 use Rattle.search.proofs.machines.outcome_of.Goals as goal
 

@@ -1,9 +1,9 @@
 use Rattle.std.proofs.Common.{◌≡◌, ◌∙◌, [], ◌∷◌, length, ap, subst, arith}
 use Rattle.model.specs.Tree.{CodeTree}
-use Rattle.typing_search.specs.Search.{Clashes}
-use Rattle.typing_search.specs.Tables.{typing_of}
-use Rattle.typing_search.proofs.Linking.{ordered_from}
-use Rattle.method_code.specs.View.{files_of, member_of, body_of}
+use Rattle.run_laws.specs.typing_search.Search.{Clashes}
+use Rattle.run_laws.specs.typing_search.Tables.{typing_of}
+use Rattle.run_laws.proofs.typing_search.Linking.{ordered_from}
+use Rattle.types.specs.method_code.View.{files_of, member_of, body_of}
 use Rattle.verifier.specs.Packed.{parts_in}
 use Rattle.verifier.specs.Found.{tables_in, HasMerged}
 use Rattle.verifier.proofs.Entries.{none_found, on_unverified}

@@ -1,13 +1,13 @@
 use Rattle.std.proofs.Common.{◌∙◌, ap, sym, subst}
 use Rattle.std.specs.Prelude.{map, option_map, IfSome}
 use Rattle.std.specs.Global.{Vec}
-use Rattle.typing_search.specs.Tables.{entry_of}
-use Rattle.typing_search.proofs.Linking.{ordered_from}
-use Rattle.method_code.specs.View.{files_of, member_of, body_of}
-use Rattle.flow.specs.Leads.{lead_in, LeadOn}
+use Rattle.run_laws.specs.typing_search.Tables.{entry_of}
+use Rattle.run_laws.proofs.typing_search.Linking.{ordered_from}
+use Rattle.types.specs.method_code.View.{files_of, member_of, body_of}
+use Rattle.verifier.specs.flow.Leads.{lead_in, LeadOn}
 use Rattle.verifier.specs.Packed.{parts_in}
 use Rattle.verifier.specs.Found.{tables_in, leads_in}
-use Rattle.flow.specs.declared.lead.Lead.{Lead}
+use Rattle.verifier.specs.declared.flow.lead.Lead.{Lead}
 use Rattle.verifier.specs.declared.found.Origin.{Origin}
 use Rattle.verifier.proofs.Entries.{read_at, flows_to, flows_not, on_unverified}
 use Rattle.verifier.proofs.Turns.{turns, passes, breaks, clashes}

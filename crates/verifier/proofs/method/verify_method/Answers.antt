@@ -1,6 +1,6 @@
-use Rattle.typing_search.proofs.Bounds.{bounded}
-use Rattle.typing_search.proofs.Linking.{ordered_from}
-use Rattle.method_code.specs.View.{files_of, member_of, body_of}
+use Rattle.run_laws.proofs.typing_search.Bounds.{bounded}
+use Rattle.run_laws.proofs.typing_search.Linking.{ordered_from}
+use Rattle.types.specs.method_code.View.{files_of, member_of, body_of}
 use Rattle.verifier.specs.Found.{tables_in}
 use Rattle.verifier.proofs.Entries.{waiting_within}
 use Rattle.verifier.proofs.Turns.{again, less, ends}

@@ -1,5 +1,5 @@
-use Rattle.typing_search.proofs.Bounds.{bounded}
-use Rattle.method_code.specs.View.{files_of, member_of, body_of}
+use Rattle.run_laws.proofs.typing_search.Bounds.{bounded}
+use Rattle.types.specs.method_code.View.{files_of, member_of, body_of}
 use Rattle.verifier.specs.Found.{tables_in, IsSearch, work_left}
 use Rattle.verifier.proofs.method.verify_method.Given as goal
 

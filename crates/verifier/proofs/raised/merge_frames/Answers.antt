@@ -2,8 +2,8 @@ use Rattle.std.proofs.Common.{◌∙◌, None, sym, ap}
 use Rattle.std.specs.Prelude.{Some}
 use Rattle.std.proofs.lemmas.Bool.{false≢true}
 use Rattle.model.specs.TypeOrder.{is_frame_below}
-use Rattle.typing_search.proofs.Orders.{frame_self}
-use Rattle.method_code.specs.View.{files_of}
+use Rattle.run_laws.proofs.typing_search.Orders.{frame_self}
+use Rattle.types.specs.method_code.View.{files_of}
 use Rattle.verifier.specs.Packed.{parts_in}
 use Rattle.verifier.proofs.Linked.{has_superclasses}
 use Rattle.verifier.proofs.Entries.{below_in, join_in}

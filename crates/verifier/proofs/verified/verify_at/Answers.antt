@@ -1,6 +1,6 @@
 use Rattle.std.proofs.Common.{inl, inr, sym, subst, ⊎_elim}
-use Rattle.typing_search.specs.Search.{HasNoTyping}
-use Rattle.method_code.specs.View.{member_of, body_of}
+use Rattle.run_laws.specs.typing_search.Search.{HasNoTyping}
+use Rattle.types.specs.method_code.View.{member_of, body_of}
 use Rattle.verifier.specs.Verified.{OnUnverified}
 use Rattle.verifier.specs.Places.{IsRefusalOf}
 use Rattle.verifier.proofs.verified.verify_at.Goals as goal

@@ -1,7 +1,7 @@
 use Rattle.std.proofs.Common.{◌≡◌, ◌∙◌, [], Option, Some, sym, ap}
 use Rattle.std.specs.Option.{option_map_or}
 use Rattle.constant_pool.specs.View.{reference_of}
-use Rattle.classfile.specs.View.{file_of}
+use Rattle.class_tree.specs.View.{file_of}
 use Rattle.model.specs.Names.{Name}
 use Rattle.model.specs.Tree.{FileTree}
 use Rattle.model.specs.Classes.{name_of}

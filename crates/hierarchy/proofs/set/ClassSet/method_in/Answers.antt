@@ -5,7 +5,7 @@ use Rattle.std.proofs.lemmas.Option.{slice_get-map, slice_get-get_or}
 use borrow.Author.Tests.{ltb-true}
 use Rattle.constant_pool.specs.View.{reference_of}
 use Rattle.class_tree.specs.declared.tree.Method.{Method}
-use Rattle.classfile.specs.View.{method_of, file_of}
+use Rattle.class_tree.specs.View.{method_of, file_of}
 use Rattle.model.specs.Names.{Name}
 use Rattle.model.specs.Tree.{FileTree}
 use Rattle.model.specs.Classes.{name_of}

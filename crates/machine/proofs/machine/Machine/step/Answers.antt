@@ -1,6 +1,6 @@
 use Rattle.std.proofs.Common.{Ok, refl, subst, sym}
 use Rattle.machine_state.specs.declared.answers.Answer.TheVariants as answer
-use Rattle.java_threads.specs.Table.{IsWithin}
+use Rattle.heap.specs.java_threads.Table.{IsWithin}
 use Rattle.machine.proofs.Turning.{is_lent, is_not_lent, steps_at, numbered, none_is, able, turned, still_machine}
 use Rattle.machine.proofs.machine.Machine.step.Goals as goal
 

@@ -1,5 +1,5 @@
 use Rattle.std.proofs.Common.{subst}
-use Rattle.same_states.specs.Same.{AreAlike}
+use Rattle.machine_state.specs.same_states.Same.{AreAlike}
 use Rattle.search.proofs.Schedules.{alike_met}
 use Rattle.search.proofs.states.States.leads_to.Goals as goal
 

@@ -1,5 +1,5 @@
 use Rattle.std.proofs.Common.{ap, ◌∙◌}
-use Rattle.method_code.specs.View.{shown_at}
+use Rattle.types.specs.method_code.View.{shown_at}
 use Rattle.trace_text.proofs.MethodPlaces.{body_found}
 use Rattle.trace_text.proofs.teller.Teller.method.Goals as goal
 

@@ -1,9 +1,9 @@
 use Rattle.std.proofs.Common.{◌≡◌, ◌∙◌, get_or, true, false, subst, refl, sym, ap, arith}
 use Rattle.std.specs.Prelude.{Some, slice_set}
-use Rattle.typing_search.specs.Tables.{entry_of}
-use Rattle.typing_search.proofs.Linking.{ordered_from}
-use Rattle.typing_search.proofs.Merging.{clash_apart, clash_oversized}
-use Rattle.method_code.specs.View.{files_of, member_of, body_of}
+use Rattle.run_laws.specs.typing_search.Tables.{entry_of}
+use Rattle.run_laws.proofs.typing_search.Linking.{ordered_from}
+use Rattle.run_laws.proofs.typing_search.Merging.{clash_apart, clash_oversized}
+use Rattle.types.specs.method_code.View.{files_of, member_of, body_of}
 use Rattle.verifier.specs.Packed.{parts_in}
 use Rattle.verifier.specs.Raised.{Raises}
 use Rattle.verifier.specs.Found.{tables_in}

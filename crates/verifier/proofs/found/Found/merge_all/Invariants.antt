@@ -1,5 +1,5 @@
 use Rattle.std.proofs.Common.{take}
-use Rattle.method_code.specs.View.{files_of}
+use Rattle.types.specs.method_code.View.{files_of}
 use Rattle.verifier.specs.Found.{leads_in, MergesInto}
 use Rattle.verifier.specs.Near.{IsSameOrigin}
 use Rattle.verifier.proofs.found.Found.merge_all.Given as goal

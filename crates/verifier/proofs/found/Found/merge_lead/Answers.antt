@@ -1,6 +1,6 @@
 use Rattle.std.proofs.Common.{◌∷◌, [], subst, sym}
-use Rattle.typing_search.proofs.Linking.{ordered_from}
-use Rattle.method_code.specs.View.{files_of, body_of}
+use Rattle.run_laws.proofs.typing_search.Linking.{ordered_from}
+use Rattle.types.specs.method_code.View.{files_of, body_of}
 use Rattle.verifier.specs.Found.{led_to, ClashesWith}
 use Rattle.verifier.specs.Verified.{OnUnverified}
 use Rattle.verifier.proofs.Entries.{lead_caught}

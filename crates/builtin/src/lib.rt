@@ -1,8 +1,0 @@
-//! The built-in classes, as class files.
-#![tactic(auto)]
-
-mod classes;
-mod outline;
-mod tables;
-
-pub use classes::built_in_classes;

@@ -1,8 +1,0 @@
-//! The listings of several class files: all are decoded, and then each is listed.
-#![tactic(auto)]
-
-mod decoding;
-mod listing;
-
-pub use decoding::decode_files;
-pub use listing::list_files;

@@ -1,0 +1,8 @@
+//! Where code comes from, as class files tell it: the name of a source file, and the numbers of its lines (JVMS 4.7.10, 4.7.12).
+
+mod bytes;
+mod lines;
+mod source;
+
+pub use lines::line_at;
+pub use source::source_file;

@@ -1,8 +1,0 @@
-//! A run that goes on where a schedule ends: its events are done, and then the threads go on in turn.
-#![tactic(auto)]
-
-mod following;
-mod rotation;
-mod run;
-
-pub use run::{Continued, run_on};

@@ -1,8 +1,0 @@
-use Rattle.std.proofs.Common.{take, map}
-use Rattle.model.specs.Classes.{classes_of}
-use Rattle.field_links.specs.Tables.{IsRow}
-use Rattle.field_links.proofs.RowLaws.{Pairs}
-use Rattle.field_links.proofs.row.link_rows.Given as goal
-
-abbrev pub invariant-loop-place : goal.invariant-loop-place
-invariant-loop-place l = Pairs (IsRow l.hierarchy) (take l.place (classes_of l.hierarchy)) (map (λ row. row.items) l.rows.items)

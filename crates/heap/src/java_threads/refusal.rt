@@ -1,0 +1,23 @@
+//! Why a thread was not added.
+
+use std::alloc::AllocError;
+
+/// Why a thread was not added to the table. Nothing has changed then.
+#[derive(Clone, Copy, Debug, PartialEq, Eq)]
+pub enum Refusal {
+    /// As many threads have been started as may be.
+    Threads,
+    /// There was no memory.
+    Memory,
+}
+
+impl From<AllocError> for Refusal {
+    ghost use Rattle.std.specs.Prelude.{◌≡◌};
+    ghost use Rattle.heap.specs.declared.java_threads.refusal.Refusal.{Refusal};
+
+    ghost from_gives = { λ _ refusal. refusal ≡ Refusal.Memory };
+
+    fn from(_: AllocError) -> Refusal {
+        Refusal::Memory
+    }
+}

@@ -1,0 +1,25 @@
+//! Why a call was not done.
+
+use std::alloc::AllocError;
+
+/// Why a call of `Monitors` was not done. Nothing has changed then.
+#[derive(Clone, Copy, Debug, PartialEq, Eq)]
+pub enum Refusal {
+    /// The lock would become fat, and as many are as may be.
+    Monitors,
+    /// The owner has entered 4,294,967,295 times.
+    LockCount,
+    /// There was no memory.
+    Memory,
+}
+
+impl From<AllocError> for Refusal {
+    ghost use Rattle.std.specs.Prelude.{◌≡◌};
+    ghost use Rattle.heap.specs.declared.monitor.refusal.Refusal.{Refusal};
+
+    ghost from_gives = { λ _ refusal. refusal ≡ Refusal.Memory };
+
+    fn from(_: AllocError) -> Refusal {
+        Refusal::Memory
+    }
+}

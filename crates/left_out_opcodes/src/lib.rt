@@ -1,8 +1,0 @@
-//! The instructions of the JVMS that this machine leaves out (6.5): their mnemonics, and how long they are.
-#![tactic(auto)]
-
-mod instruction;
-mod mnemonics;
-
-pub use instruction::{LeftOut, Operands, left_out_at};
-pub use mnemonics::mnemonic;

@@ -1,0 +1,135 @@
+//! Methods that redeclare one of a superclass (JVMS 5.4.5).
+
+ghost use Rattle.std.specs.Prelude.{◌≡◌, option_map, position, slice_get, IsFalse};
+ghost use Rattle.std.specs.List.{list_any};
+ghost use Rattle.model.specs.Lookup as lookup;
+ghost use Rattle.model.specs.Classes.{lineage};
+ghost use Rattle.model.specs.AccessFlags.{is_package_private};
+ghost use Rattle.model.specs.Hierarchy.{redeclares_in};
+ghost use Rattle.model.specs.Linkable.{stands, DuplicateClass};
+ghost use Rattle.constant_pool.specs.View.{reference_of};
+ghost use Rattle.classfile.specs.View.{method_of, file_of};
+ghost use Rattle.link_conditions.specs.class_rules.Rules.{is_bad_redeclaration, method_breaks_rule};
+
+use crate::class_rules::name::{
+    class_name, has, is_same_package, is_special_name, superclass_name,
+};
+use classfile::{ClassFile, Method, Reference};
+use hierarchy::ClassSet;
+
+/// ACC_PUBLIC, ACC_PRIVATE, ACC_PROTECTED, ACC_STATIC and ACC_FINAL (JVMS table 4.6-A).
+const PUBLIC: u16 = 0x0001;
+
+const PRIVATE: u16 = 0x0002;
+
+const PROTECTED: u16 = 0x0004;
+
+const STATIC: u16 = 0x0008;
+
+const FINAL: u16 = 0x0010;
+
+/// The method at a place of a class file.
+fn method_at(file: &ClassFile, place: usize) -> Option<&Method>
+    ensures { option_map (λ m. method_of m.now) result ≡ slice_get (file_of file.now).methods place }
+{
+    file.methods.get(place)
+}
+
+/// The method of this name and descriptor that the class of a reference itself declares.
+fn declared_method<'a>(set: &'a ClassSet, method: Reference<'_>) -> Option<&'a Method>
+    requires { IsFalse (stands set.now DuplicateClass) }
+    ensures { option_map (λ m. method_of m.now) result ≡ lookup.method_of set.now (reference_of method.entry) }
+{
+    let Some(place) = set.declared_method(method) else {
+        return None;
+    };
+    let Some(class) = set.class_at(place.class) else {
+        return None;
+    };
+    method_at(class, place.member)
+}
+
+/// Whether only its package may name a method (JVMS 5.4.4).
+fn is_package_private(method: &Method) -> bool
+    ensures { result ≡ is_package_private method.now.flags }
+{
+    !has(method.flags, PUBLIC) && !has(method.flags, PRIVATE) && !has(method.flags, PROTECTED)
+}
+
+/// Whether a method of a class must not redeclare this one of a superclass.
+fn is_bad_redeclaration(superclass: &[u8], method: &Method, class: &[u8], again: &Method) -> bool
+    ensures { result ≡ is_bad_redeclaration superclass.now (method_of method.now) class.now (method_of again.now) }
+{
+    if has(method.flags, STATIC) {
+        return !has(again.flags, STATIC);
+    }
+    has(method.flags, FINAL)
+        || has(again.flags, STATIC)
+        || is_package_private(method) && !is_same_package(superclass, class)
+        || has(again.flags, PRIVATE)
+}
+
+/// Whether a method of a class redeclares one of a superclass as it must not. A private one is not redeclared.
+fn redeclares_in(set: &ClassSet, file: &ClassFile, again: &Method, superclass: &[u8]) -> bool
+    requires { IsFalse (stands set.now DuplicateClass) }
+    ensures { result ≡ redeclares_in is_bad_redeclaration set.now (file_of file.now) (method_of again.now) superclass.now }
+{
+    let above = Reference {
+        class: superclass,
+        name: file.pool.text(again.name),
+        descriptor: file.pool.text(again.descriptor),
+    };
+    let Some(method) = declared_method(set, above) else {
+        return false;
+    };
+    !has(method.flags, PRIVATE) && is_bad_redeclaration(superclass, method, class_name(file), again)
+}
+
+/// Whether a method of a class redeclares one of a superclass, or of one above that, as it must not.
+fn redeclares_above(set: &ClassSet, file: &ClassFile, again: &Method, superclass: &[u8]) -> bool
+    requires { IsFalse (stands set.now DuplicateClass) }
+    ensures { result ≡ list_any (redeclares_in is_bad_redeclaration set.now (file_of file.now) (method_of again.now)) (lineage set.now superclass.now) }
+{
+    let mut class = superclass;
+    for _step in 0..set.count() {
+        if redeclares_in(set, file, again, class) {
+            return true;
+        }
+        let Some(next) = set.superclass_of(class) else {
+            return false;
+        };
+        class = next;
+    }
+    false
+}
+
+/// Whether a method of a class redeclares one of a superclass as it must not; constructors and initialisers aside.
+fn method_breaks_rule(set: &ClassSet, file: &ClassFile, method: &Method) -> bool
+    requires { IsFalse (stands set.now DuplicateClass) }
+    ensures { result ≡ method_breaks_rule set.now (file_of file.now) (method_of method.now) }
+{
+    if is_special_name(file.pool.text(method.name)) {
+        return false;
+    }
+    match superclass_name(file) {
+        Some(superclass) => redeclares_above(set, file, method, superclass),
+        None => false,
+    }
+}
+
+fn first_among(set: &ClassSet, file: &ClassFile, methods: &[Method]) -> Option<usize>
+    requires { IsFalse (stands set.now DuplicateClass) }
+    ensures { result ≡ position (λ m. method_breaks_rule set.now (file_of file.now) (method_of m)) methods.now }
+{
+    methods
+        .iter()
+        .position(|method| method_breaks_rule(set, file, method))
+}
+
+/// The first method that redeclares one of a superclass as it must not.
+pub(crate) fn first_method(set: &ClassSet, file: &ClassFile) -> Option<usize>
+    requires { IsFalse (stands set.now DuplicateClass) }
+    ensures { result ≡ position (method_breaks_rule set.now (file_of file.now)) (file_of file.now).methods }
+{
+    first_among(set, file, &file.methods)
+}

@@ -1,0 +1,2 @@
+pub mod class_listings
+pub mod disasm

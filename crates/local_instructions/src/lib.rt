@@ -1,8 +1,0 @@
-//! Does the instructions that touch their frame alone, one at a time.
-#![tactic(auto)]
-
-mod event;
-mod kinds;
-
-pub use event::local_instruction;
-pub use kinds::is_local;

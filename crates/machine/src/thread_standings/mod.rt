@@ -1,0 +1,12 @@
+//! How a thread stands, and whether it has an event that is enabled, found with no event done (JVMS 2.6, 2.10, 5.2, 5.5; JLS 17).
+
+mod begins;
+mod callees;
+mod classes;
+mod monitors;
+mod running;
+mod runs;
+mod threads;
+
+pub use machine_threads::waiting_instructions::Standing;
+pub use threads::{may_step, standing_of};

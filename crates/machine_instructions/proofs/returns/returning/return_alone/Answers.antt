@@ -1,0 +1,10 @@
+use Rattle.std.proofs.Common.{drop, ap, ◌∙◌}
+use Rattle.std.specs.Prelude.{option_to_list}
+use Rattle.linked_code.specs.thread_stacks.Stacks.{returned}
+use Rattle.machine_instructions.proofs.returns.Returned.{returns_alone}
+use Rattle.machine_instructions.proofs.returns.returning.return_alone.Goals as goal
+
+pub returns-in-Ok-clause-done : goal.returns-in-Ok-clause-done
+returns-in-Ok-clause-done c = λ yes.
+    returns_alone c.args.program.now c.args.value c.args.stack.now c.in_default.ensures c.next_place_under-next.result c.next_place_under-next.ensures c.return_to.new.self
+    (c.in-Ok.ensures.ok ∙ ap (λ result. returned c.next_place_under-next.result (option_to_list result) (drop 1 c.args.stack.now)) c.result_of-returns.ensures)

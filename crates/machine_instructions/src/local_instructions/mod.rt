@@ -1,0 +1,7 @@
+//! Does the instructions that touch their frame alone, one at a time.
+
+mod event;
+mod kinds;
+
+pub use event::local_instruction;
+pub use kinds::is_local;

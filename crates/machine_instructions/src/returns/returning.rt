@@ -1,0 +1,69 @@
+//! Returns to the invoker.
+
+ghost use Rattle.std.specs.Prelude.{◌≡◌, ℕ, Ok, true, false};
+ghost use Rattle.machine_state.specs.declared.answers.Effect.TheVariants as effect;
+ghost use Rattle.machine_state.specs.declared.state.Shared.{Shared};
+ghost use Rattle.machine_instructions.specs.returns.Returned.{result_in, returning};
+ghost use Rattle.machine_state.specs.linked_frames.Frames.{DoesOwn};
+
+use crate::returns::leaving::{entered_by_top, leave, may_leave};
+use crate::returns::places::next_place_under;
+use linked_code::LinkedProgram;
+use linked_code::thread_stacks::ThreadStack;
+use machine_state::{Effect, MachineException, Refusal, Shared};
+
+/// What the frame on top returns: the word on top of its operands, or nothing.
+#[inline]
+fn result_of(stack: &ThreadStack, value: bool) -> Option<u32>
+    ensures { result ≡ result_in value stack.now }
+{
+    match stack.frame() {
+        Some(frame) if value => Some(frame.operand(0)),
+        _ => None,
+    }
+}
+
+/// The frame on top returns, with the value on top of its operands or with none (JVMS 2.6.4): it goes, its invoker goes on with
+/// the result, and the monitor that the invocation entered is left once. Where another thread or none owns that monitor, an
+/// IllegalMonitorStateException is raised, and nothing has changed.
+///
+/// # Errors
+///
+/// Where there is no memory for the result. Nothing has changed then.
+pub fn return_from(
+    shared: &mut Shared,
+    stack: &mut ThreadStack,
+    program: &LinkedProgram,
+    thread: u16,
+    value: bool,
+) -> Result<Effect, Refusal>
+    ensures { DoesOwn program.now (returning value) thread result shared.old shared.new stack.old stack.new }
+{
+    let entered = entered_by_top(stack);
+    if !may_leave(&shared.heap, thread, entered) {
+        return Ok(Effect::Raises(MachineException::IllegalMonitorState));
+    }
+    let next = next_place_under(program, stack);
+    let returns = result_of(stack, value);
+    stack.return_to(next, returns)?;
+    leave(shared, thread, entered);
+    Ok(Effect::Done)
+}
+
+/// As `return_from`, of an invocation that entered no monitor: nothing is shared by it. Answers whether the frame has returned;
+/// where it hasn't, for a monitor that it would leave or for want of memory, nothing has changed.
+#[inline]
+pub fn return_alone(stack: &mut ThreadStack, program: &LinkedProgram, value: bool) -> bool
+    ensures done { result ≡ true → (t : ℕ) (shared : Shared) → DoesOwn program.now (returning value) t (Ok effect.Done) shared shared stack.old stack.new }
+    ensures still { result ≡ false → stack.new ≡ stack.old }
+{
+    if let Some(_entered) = entered_by_top(stack) {
+        return false;
+    }
+    let next = next_place_under(program, stack);
+    let returns = result_of(stack, value);
+    match stack.return_to(next, returns) {
+        Ok(()) => true,
+        Err(_) => false,
+    }
+}

@@ -1,0 +1,13 @@
+//! Sets of class files that are hard to link or to verify, by the name of their shape: what is in them of each kind there is
+//! as often as a number says.
+
+mod body;
+mod chains;
+mod handlers;
+mod members;
+mod names;
+mod set;
+mod shapes;
+mod variables;
+
+pub use shapes::{SHAPES, class_files};

@@ -1,0 +1,58 @@
+//! The shapes by their names.
+
+use crate::hostile_files::chains::{
+    catch_chain, interface_ladder, long_class_name, loop_up_a_chain,
+};
+use crate::hostile_files::handlers::{
+    alternating_handlers, early_handlers, handlers, raised_handlers,
+};
+use crate::hostile_files::members::{
+    long_descriptor, overriding_methods, read_fields, redeclared_fields,
+};
+use crate::hostile_files::variables::{deep_stack, slow_loop};
+use std::alloc::{AllocError, Global};
+
+/// Their names, in the order of the alphabet.
+pub const SHAPES: [&str; 14] = [
+    "alternating-handlers",
+    "catch-chain",
+    "deep-stack",
+    "early-handlers",
+    "handlers",
+    "interface-ladder",
+    "long-class-name",
+    "long-descriptor",
+    "loop-up-a-chain",
+    "overriding-methods",
+    "raised-handlers",
+    "read-fields",
+    "redeclared-fields",
+    "slow-loop",
+];
+
+/// The class files of a shape, that with `main` first, in which there is so much of each kind; `None` where no shape has this
+/// name. The number is 1 at least. Where it is too large, they are no class files.
+pub fn class_files(
+    alloc: Global,
+    shape: &str,
+    number: u32,
+) -> Result<Option<Vec<Vec<u8>>>, AllocError> {
+    let files = match shape {
+        "alternating-handlers" => alternating_handlers(alloc, number)?,
+        "catch-chain" => catch_chain(alloc, number)?,
+        "deep-stack" => deep_stack(alloc, number)?,
+        "early-handlers" => early_handlers(alloc, number)?,
+        "handlers" => handlers(alloc, number)?,
+        "interface-ladder" => interface_ladder(alloc, number)?,
+        "long-class-name" => long_class_name(alloc, number)?,
+        "long-descriptor" => long_descriptor(alloc, number)?,
+        "loop-up-a-chain" => loop_up_a_chain(alloc, number)?,
+        "overriding-methods" => overriding_methods(alloc, number)?,
+        "raised-handlers" => raised_handlers(alloc, number)?,
+        "read-fields" => read_fields(alloc, number)?,
+        "redeclared-fields" => redeclared_fields(alloc, number)?,
+        "slow-loop" => slow_loop(alloc, number)?,
+        _ => return Ok(None),
+    };
+    Ok(Some(files))
+}

@@ -1,0 +1,68 @@
+use Rattle.std.proofs.Common.{◌≡◌, ◌+◌, ◌<◌, ◌≤◌, replicate, ap, arith, refl, subst, ◌∙◌}
+use Rattle.std.proofs.lemmas.Result.{err_from_is_err_and}
+use Rattle.machine.specs.declared.machine.Stopped.TheVariants as stopped
+use Rattle.machine.proofs.schedule_runs.Repeated.{entry_gone}
+use Rattle.program_runs.specs.traced_runs.Telling.{HasTold}
+use Rattle.program_runs.proofs.traced_runs.Passing.{again_on, again_short, again_until, all_told, none_of_entry, none_yet}
+use Rattle.program_runs.proofs.traced_runs.events.entry.Goals as goal
+
+pub returns-then-leaves_out-clause-told : goal.returns-then-leaves_out-clause-told
+returns-then-leaves_out-clause-told g c =
+    let r = c.repeat.result in
+    let entry = c.args.entry in
+    none_of_entry c.args.telling.teller.now.linked.now c.args.telling.window entry.event entry.repeat c.args.first r.0 r.1 c.args.machine.now c.repeat.new.self c.repeat.ensures.0
+    (entry_gone r entry.event entry.repeat c.args.machine.now c.repeat.new.self c.repeat.ensures) (c.leaves_out.ensures c.if-leaves_out.true) (g.W.Sink.contents c.args.output.now)
+    c.args.lines.now.text.items
+
+pub events-init : goal.events-init
+events-init g c = record {
+  so_far = none_yet c.args.telling.teller.now.linked.now c.args.telling.window c.args.machine.now c.args.first (g.W.Sink.contents c.args.output.now) c.args.lines.now.text.items;
+  failures = refl;
+}
+
+pub returns-in_err-why-clause-part : goal.returns-in_err-why-clause-part
+returns-in_err-why-clause-part g c =
+    let p = err_from_is_err_and c.from_residual.result c.from_residual.ensures.1 in
+    let entry = c.args.entry in
+    let contents = g.W.Sink.contents in
+    let k = c.events.done in
+    rw p.1
+    (again_short c.args.telling.teller.now.linked.now c.args.telling.window c.args.machine.now c.args.first entry.event k c.events.machine (contents c.args.output.now) (contents c.events.output)
+    c.args.lines.now.text.items c.events.lines.text.items c.events.invariant.so_far (c.args.first + c.from.result) (ap (λ j. c.args.first + j) c.from.ensures) entry.repeat c.events-test.true
+    (contents c.event.new.output) c.in_err-why.ensures.part)
+
+pub returns-in_default-clause-told : goal.returns-in_default-clause-told
+returns-in_default-clause-told g c =
+    let entry = c.args.entry in
+    let contents = g.W.Sink.contents in
+    let k = c.events.done in
+    again_until c.args.telling.teller.now.linked.now c.args.telling.window c.args.machine.now c.args.first entry.event k c.events.machine (contents c.args.output.now) (contents c.events.output)
+    c.args.lines.now.text.items c.events.lines.text.items c.events.invariant.so_far (c.args.first + c.from.result) (ap (λ j. c.args.first + j) c.from.ensures) entry.repeat c.events-test.true
+    c.in_ok-why.why c.in_default.not-Most c.event.new.machine (contents c.event.new.output) c.event.new.lines.text.items c.in_ok-why.ensures.told
+
+pub events-preserved : goal.events-preserved
+events-preserved g c =
+    let entry = c.args.entry in
+    let contents = g.W.Sink.contents in
+    let k = c.events.done in
+    record {
+      so_far =
+          again_on c.args.telling.teller.now.linked.now c.args.telling.window c.args.machine.now c.args.first entry.event k c.events.machine (contents c.args.output.now) (contents c.events.output)
+          c.args.lines.now.text.items c.events.lines.text.items c.events.invariant.so_far (c.args.first + c.from.result) (ap (λ j. c.args.first + j) c.from.ensures) c.in_ok-why.why c.in-Most.is
+          c.event.new.machine (contents c.event.new.output) c.event.new.lines.text.items c.in_ok-why.ensures.told;
+      failures = c.in_ok-why.ensures.counted ∙ c.events.invariant.failures;
+    }
+
+pub returns-clause-told : goal.returns-clause-told
+returns-clause-told g c =
+    let trees = c.args.telling.teller.now.linked.now in
+    let window = c.args.telling.window in
+    let entry = c.args.entry in
+    let contents = g.W.Sink.contents in
+    let all : c.events.done ≡ entry.repeat = omega (arith, c.events-test.false, c.events.auto.done-end) in
+    let has_told =
+    all_told trees window c.args.machine.now c.args.first (replicate c.events.done entry.event) c.events.done c.events.machine (contents c.args.output.now) (contents c.events.output)
+    c.args.lines.now.text.items c.events.lines.text.items c.events.invariant.so_far
+    in
+    subst (λ k. HasTold trees window c.args.machine.now c.args.first (replicate k entry.event) k stopped.Most c.events.machine (contents c.args.output.now) (contents c.events.output) c.args.lines.now.text.items
+    c.events.lines.text.items) all has_told

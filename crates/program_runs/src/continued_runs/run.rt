@@ -1,0 +1,47 @@
+//! A schedule, and a run behind it.
+
+ghost use Rattle.std.specs.Prelude.{IfOk};
+ghost use Rattle.std.specs.Arc.{arc_value};
+ghost use Rattle.model.specs.Schedule.{events_of};
+ghost use Rattle.program_runs.specs.continued_runs.Continuing.{GoesOn};
+
+use crate::continued_runs::following::follow;
+use crate::continued_runs::rotation::take_turns;
+use crate::machine_replay::replay;
+use crate::worlds::{Recorded, World};
+use machine::Stopped;
+use model::{End, Limits, Report};
+use schedule::Schedule;
+use std::alloc::{AllocError, Global};
+use std::sync::Arc;
+use verifier::Verified;
+
+/// What came of a schedule that a run was to follow and to go on from.
+#[derive(Drop)]
+pub enum Continued {
+    /// The events of the schedule were done, as far as the budget allows, and then the threads went on in turn.
+    Whole(Recorded),
+    /// One of them is not enabled, or is refused: what a replay of the schedule says.
+    Part(Report, End),
+}
+
+/// Does the events of a schedule over verified class files, and then goes on until there is an end (JVMS 2.5, 2.6, 5.5, chapter 6; JLS
+/// 17): each further event is that of the next thread in turn which has an enabled one, from thread 0 on, and picks the first waiter. All
+/// together are at most as many as the budget. The only error is a want of memory.
+pub fn run_on(
+    alloc: Global,
+    verified: Arc<Verified>,
+    schedule: &Schedule,
+    limits: Limits,
+    budget: u32,
+) -> Result<Continued, AllocError>
+    ensures { IfOk result (GoesOn (arc_value verified) (events_of schedule.now) limits budget) }
+{
+    let mut world = World::open(alloc, Arc::try_clone(&verified)?, limits, budget)?;
+    if let Stopped::Most = follow(&mut world, schedule)? {
+        take_turns(&mut world);
+        return Ok(Continued::Whole(world.into_recorded(alloc)?));
+    }
+    let (report, end) = replay(alloc, &verified, schedule, limits)?;
+    Ok(Continued::Part(report, end))
+}

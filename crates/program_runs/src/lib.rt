@@ -1,0 +1,9 @@
+//! Runs of a program: by a schedule, by workers, told event by event.
+#![tactic(auto)]
+
+pub mod continued_runs;
+pub mod machine_replay;
+pub mod traced_runs;
+pub mod verified_programs;
+pub mod workers;
+pub mod worlds;

@@ -1,0 +1,10 @@
+//! A run under a schedule, told event by event.
+
+mod events;
+mod lines;
+mod run;
+mod window;
+
+pub use run::trace;
+pub use trace_text::Form;
+pub use window::Window;

@@ -1,0 +1,13 @@
+//! A world: verified class files, a machine that runs them, and the events that it has done so far, which are their schedule.
+
+mod commits;
+mod records;
+mod seeded;
+mod sharing;
+mod turns;
+mod world;
+
+pub use commits::{Commit, ThreadBurst};
+pub use records::Recorded;
+pub use seeded::run_seeded;
+pub use world::World;

@@ -1,0 +1,37 @@
+//! Whose turn it is.
+
+ghost use Rattle.program_runs.specs.worlds.Turns.{IsFirst, IsFound, MayStep};
+
+use machine::Machine;
+use machine::thread_standings::may_step;
+
+/// Whether a thread of a machine has an event that is enabled.
+fn may(machine: &Machine, thread: u16) -> bool
+    ensures { MayStep machine.now thread result }
+{
+    let frames = machine.limits().frames as usize;
+    may_step(machine.shared(), machine.program(), thread, frames)
+}
+
+/// The first thread from a number up to another that has an event which is enabled.
+fn first_between(machine: &Machine, from: u16, to: u16) -> Option<u16>
+    ensures { IsFirst machine.now from to result }
+{
+    'threads: for thread in from..to {
+        if may(machine, thread) {
+            return Some(thread);
+        }
+    }
+    None
+}
+
+/// The first thread that has an event which is enabled, in rotation: from a number up, and then from 0.
+pub(crate) fn first_enabled(machine: &Machine, from: u16) -> Option<u16>
+    ensures { IsFound machine.now from result }
+{
+    let count = machine.shared().threads.len() as u16;
+    match first_between(machine, from, count) {
+        Some(thread) => Some(thread),
+        None => first_between(machine, 0, from.min(count)),
+    }
+}

@@ -1,6 +1,0 @@
-use Rattle.returns.proofs.Exits.{left}
-use Rattle.returns.proofs.leaving.leave.Goals as goal
-
--- src/leaving.rt:35:1
-pub returns-in-Some : goal.returns-in-Some
-returns-in-Some c = left c.args.shared.now c.exit.new.heap c.args.thread c.in-Some.object c.args.entered c.in-Some.is c.exit.ensures.after

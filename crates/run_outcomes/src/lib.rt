@@ -1,9 +1,0 @@
-//! What runs that have ended leave to be seen: which of it is wanted, and a list of it.
-#![tactic(auto)]
-
-mod order;
-mod outcomes;
-mod wanted;
-
-pub use outcomes::{Outcome, Outcomes};
-pub use wanted::Wanted;

@@ -1,5 +1,0 @@
-use Rattle.schedule_text.proofs.WordLaws.{gap_ends}
-use Rattle.schedule_text.proofs.words.gap.Goals as goal
-
-pub returns-clause-same : goal.returns-clause-same
-returns-clause-same c = gap_ends c.args.bytes.now c.gap.comment c.gap.at c.gap-test.false c.gap.auto.at-end c.gap.invariant

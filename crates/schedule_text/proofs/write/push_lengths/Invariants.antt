@@ -1,6 +1,0 @@
-use Rattle.std.proofs.Common.{map, take, decimal}
-use Rattle.schedule_text.specs.Printing.{AddsWords}
-use Rattle.schedule_text.proofs.write.push_lengths.Given as goal
-
-abbrev pub invariant-lengths : goal.invariant-lengths
-invariant-lengths l = AddsWords l.fn.text.items l.text.items (map decimal (take l.place l.lengths))

@@ -1,0 +1,8 @@
+//! What runs that have ended leave to be seen: which of it is wanted, and a list of it.
+
+mod order;
+mod outcomes;
+mod wanted;
+
+pub use outcomes::{Outcome, Outcomes};
+pub use wanted::Wanted;

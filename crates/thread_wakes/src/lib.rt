@@ -1,8 +1,0 @@
-//! The end of threads, and their return from wait sets (JLS 17.2.1; JVMS 2.10).
-#![tactic(auto)]
-
-mod ends;
-mod relocking;
-
-pub use ends::settle;
-pub use relocking::relock_event;

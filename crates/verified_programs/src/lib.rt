@@ -1,6 +1,0 @@
-//! The linked program of verified class files: here the verifier and the machine meet.
-#![tactic(auto)]
-
-mod program;
-
-pub use program::verified_program;

@@ -1,0 +1,49 @@
+//! Where an instruction leads.
+
+ghost use Rattle.std.specs.Prelude.{◌≡◌, ◌++◌, map, OnOk, IfOk};
+ghost use Rattle.verifier.specs.flow.Leads.{lead_on, handler_leads};
+
+use crate::flow::handler::Handler;
+use std::alloc::{AllocError, Global};
+
+/// An offset to which an instruction leads, in bytes from the code's start. The frame type there is the one after the
+/// instruction; at a handler it is the one before it, with what is caught alone on the operand stack.
+#[derive(Clone, Copy, Debug)]
+pub struct Lead {
+    pub offset: usize,
+    /// The handler, where the lead is to one.
+    pub handler: Option<Handler>,
+}
+
+/// To each of these offsets, with the frame type after the instruction.
+pub(crate) fn leads_on(alloc: Global, targets: &[usize]) -> Result<Vec<Lead>, AllocError>
+    ensures { IfOk result (λ v. v.items ≡ map lead_on targets.now) }
+{
+    let mut leads = Vec::with_capacity(alloc, targets.len())?;
+    'targets: for target in targets {
+        leads.push(Lead {
+            offset: *target,
+            handler: None,
+        })?;
+    }
+    Ok(leads)
+}
+
+/// Adds those to the handlers whose range an offset lies in, in their order.
+pub(crate) fn add_handlers(
+    leads: &mut Vec<Lead>,
+    handlers: &[Handler],
+    offset: usize,
+) -> Result<(), AllocError>
+    ensures { OnOk result (leads.new.items ≡ leads.old.items ++ handler_leads offset handlers.now) }
+{
+    'handlers: for handler in handlers {
+        if handler.covers(offset) {
+            leads.push(Lead {
+                offset: handler.entry.handler as usize,
+                handler: Some(*handler),
+            })?;
+        }
+    }
+    Ok(())
+}

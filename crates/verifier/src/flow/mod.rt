@@ -1,0 +1,14 @@
+//! Where the instructions of a method lead from a frame type (JVMS 4.10.1).
+
+mod entry;
+mod flow;
+mod handler;
+mod lead;
+mod local;
+mod stand;
+mod successors;
+
+pub use entry::entry_frame;
+pub use flow::flow_at;
+pub use handler::{Handler, handlers};
+pub use lead::Lead;
