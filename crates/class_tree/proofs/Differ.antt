@@ -26,7 +26,8 @@ bytes_eq_sym (x ∷ a) (y ∷ b) = rw (eqb_sym x y, bytes_eq_sym a b) refl
 pub is_same_sym : (a b : NameAndDescriptor) → is_same a b ≡ is_same b a
 is_same_sym a b = rw (bytes_eq_sym a.name b.name, bytes_eq_sym a.descriptor b.descriptor) refl
 
-pub differ_push : (xs : List NameAndDescriptor) (y : NameAndDescriptor) → differ xs ≡ true → list_any (is_same y) xs ≡ false → differ (xs ++ y ∷ []) ≡ true
+pub differ_push : (xs : List NameAndDescriptor) (y : NameAndDescriptor) → differ xs ≡ true → list_any (is_same y) xs ≡ false
+    → differ (xs ++ y ∷ []) ≡ true
 differ_push [] y h new = refl
 differ_push (x ∷ xs) y h new =
     let here = and_parts (not (list_any (is_same x) xs)) (differ xs) h in
@@ -40,7 +41,8 @@ not_first : (any differs : Bool) → any ≡ true → (not any && differs) ≡ f
 not_first true differs h = refl
 not_first false differs h = absurd cc
 
-pub same_again : (xs : List NameAndDescriptor) (y : NameAndDescriptor) (ys : List NameAndDescriptor) → list_any (is_same y) xs ≡ true → differ (xs ++ y ∷ ys) ≡ false
+pub same_again : (xs : List NameAndDescriptor) (y : NameAndDescriptor) (ys : List NameAndDescriptor) → list_any (is_same y) xs ≡ true
+    → differ (xs ++ y ∷ ys) ≡ false
 same_again [] y ys h = absurd cc
 same_again (x ∷ xs) y ys h =
     ⊎_elim
@@ -57,11 +59,13 @@ cond_or false c = sym (or-false c)
 
 -- ---- over the members of a list, as a loop goes
 
-pub more_differ : {X : Type 0} (f : X → NameAndDescriptor) (xs : List X) (i : ℕ) (d : X) → i < length xs → differ (map f (take i xs)) ≡ true → list_any (is_same (f (get_or xs i d))) (map f (take i xs)) ≡ false
+pub more_differ : {X : Type 0} (f : X → NameAndDescriptor) (xs : List X) (i : ℕ) (d : X) → i < length xs
+    → differ (map f (take i xs)) ≡ true → list_any (is_same (f (get_or xs i d))) (map f (take i xs)) ≡ false
     → differ (map f (take (i + 1) xs)) ≡ true
 more_differ f xs i d lt h new = rw (map_more f xs i d lt) (differ_push (map f (take i xs)) (f (get_or xs i d)) h new)
 
-pub found_again : {X : Type 0} (f : X → NameAndDescriptor) (xs : List X) (i : ℕ) (d : X) → i < length xs → list_any (is_same (f (get_or xs i d))) (map f (take i xs)) ≡ true → differ (map f xs) ≡ false
+pub found_again : {X : Type 0} (f : X → NameAndDescriptor) (xs : List X) (i : ℕ) (d : X) → i < length xs
+    → list_any (is_same (f (get_or xs i d))) (map f (take i xs)) ≡ true → differ (map f xs) ≡ false
 found_again f xs i d lt h =
     let behind = drop (i + 1) xs in
     let whole : map f xs ≡ map f (take i xs) ++ f (get_or xs i d) ∷ map f behind =
@@ -79,25 +83,31 @@ key_at pool name descriptor = record { name = first_index pool name; descriptor 
 abbrev pub key_of : ℕ → ℕ → Firsts
 key_of name descriptor = record { name = name; descriptor = descriptor }
 
-pub key_is : (pool : List Entry) (a b m n d e : ℕ) → a ≡ first_index pool m → m ≡ d → b ≡ first_index pool n → n ≡ e → key_of a b ≡ key_at pool d e
+pub key_is : (pool : List Entry) (a b m n d e : ℕ) → a ≡ first_index pool m → m ≡ d → b ≡ first_index pool n → n ≡ e
+    → key_of a b ≡ key_at pool d e
 key_is pool a b m n d e h1 h2 h3 h4 = rw (h1, h2, h3, h4) refl
 
 is_key_sym : (a b : Firsts) → is_key a b ≡ is_key b a
 is_key_sym a b = rw (eqb_sym a.name b.name, eqb_sym a.descriptor b.descriptor) refl
 
-any_alike : {X Y : Type 0} (P : X → Bool) (Q : Y → Bool) (f : X → Y) → ((x : X) → P x ≡ Q (f x)) → (xs : List X) → list_any P xs ≡ list_any Q (map f xs)
+any_alike : {X Y : Type 0} (P : X → Bool) (Q : Y → Bool) (f : X → Y) → ((x : X) → P x ≡ Q (f x)) → (xs : List X)
+    → list_any P xs ≡ list_any Q (map f xs)
 any_alike P Q f h [] = refl
 any_alike P Q f h (x ∷ xs) = rw (h x, any_alike P Q f h xs) refl
 
 -- members that have the key of one are the same as it
 pub any_same : {X : Type 0} (pool : List Entry) (name descriptor : X → ℕ) (x : X) (xs : List X)
-    → list_any (λ m. is_key (key_at pool (name x) (descriptor x)) (key_at pool (name m) (descriptor m))) xs ≡ list_any (is_same (name_and_descriptor_at pool (name x) (descriptor x))) (map (λ m. name_and_descriptor_at pool (name m) (descriptor m)) xs)
+    → list_any (λ m. is_key (key_at pool (name x) (descriptor x)) (key_at pool (name m) (descriptor m))) xs
+    ≡ list_any (is_same (name_and_descriptor_at pool (name x) (descriptor x)))
+    (map (λ m. name_and_descriptor_at pool (name m) (descriptor m)) xs)
 any_same pool name descriptor x xs =
     any_alike _ _ (λ m. name_and_descriptor_at pool (name m) (descriptor m)) (λ m. rw (same_first pool (name x) (name m), same_first pool (descriptor x) (descriptor m)) refl) xs
 
 -- the keys after one more member
-pub more_keys : {X : Type 0} (key : X → Firsts) (q new : Firsts) (before after : Bool) (xs : List X) (i : ℕ) (d : X) → i < length xs → new ≡ key (get_or xs i d)
-    → before ≡ list_any (λ m. is_key q (key m)) (take i xs) → after ≡ cond (is_key new q) true before → after ≡ list_any (λ m. is_key q (key m)) (take (i + 1) xs)
+pub more_keys : {X : Type 0} (key : X → Firsts) (q new : Firsts) (before after : Bool) (xs : List X) (i : ℕ) (d : X) → i < length xs
+    → new ≡ key (get_or xs i d)
+    → before ≡ list_any (λ m. is_key q (key m)) (take i xs) → after ≡ cond (is_key new q) true before
+    → after ≡ list_any (λ m. is_key q (key m)) (take (i + 1) xs)
 more_keys key q new before after xs i d lt is so_far put =
     let same : is_key new q ≡ is_key q (key (get_or xs i d)) = is_key_sym new q ∙ ap (is_key q) is in
     put ∙ cond_or (is_key new q) before ∙ rw (so_far, same) (sym (list_any_more (λ m. is_key q (key m)) xs i d lt))

@@ -30,10 +30,13 @@ in_method p b c r m = simp append_assoc
 behind_methods : (b f c r t : List ℕ) → b ++ ((f ++ (c ++ r)) ++ t) ≡ (b ++ f) ++ (c ++ (r ++ t))
 behind_methods b f c r t = simp append_assoc
 
-up_to_methods : (a b p f t s i nf fs nm ms r : List ℕ) → a ++ (b ++ (p ++ (f ++ (t ++ (s ++ (i ++ ((nf ++ fs) ++ ((nm ++ ms) ++ r)))))))) ≡ ((a ++ (b ++ (p ++ (f ++ (t ++ (s ++ (i ++ nf))))))) ++ (fs ++ nm)) ++ (ms ++ r)
+up_to_methods : (a b p f t s i nf fs nm ms r : List ℕ)
+    → a ++ (b ++ (p ++ (f ++ (t ++ (s ++ (i ++ ((nf ++ fs) ++ ((nm ++ ms) ++ r))))))))
+    ≡ ((a ++ (b ++ (p ++ (f ++ (t ++ (s ++ (i ++ nf))))))) ++ (fs ++ nm)) ++ (ms ++ r)
 up_to_methods a b p f t s i nf fs nm ms r = simp append_assoc
 
-methods_split : (methods : List MethodTree) (index : ℕ) (m : MethodTree) (x : CodeTree) → slice_get methods index ≡ Some m → code_in m.parts ≡ Some x → Split (flat_map method methods) (methods_front methods index) x
+methods_split : (methods : List MethodTree) (index : ℕ) (m : MethodTree) (x : CodeTree) → slice_get methods index ≡ Some m
+    → code_in m.parts ≡ Some x → Split (flat_map method methods) (methods_front methods index) x
 unfolding Split
 methods_split [] index m x there h = absurd cc
 methods_split (n ∷ methods) zero m x there h =
@@ -48,14 +51,17 @@ file_methods : (c : FileTree) → file c ≡ before_methods c ++ (flat_map metho
 file_methods c =
     up_to_methods magic version (pool c.pool) (u2 c.flags) (u2 c.this_class) (u2 c.super_class) (table u2 c.interfaces) (u2 (length c.fields)) (flat_map field c.fields) (u2 (length c.methods)) (flat_map method c.methods) (table skipped c.attributes)
 
-file_split : (c : FileTree) (index : ℕ) (m : MethodTree) (x : CodeTree) → slice_get c.methods index ≡ Some m → code_in m.parts ≡ Some x → Split (file c) (front_of_code c index) x
+file_split : (c : FileTree) (index : ℕ) (m : MethodTree) (x : CodeTree) → slice_get c.methods index ≡ Some m → code_in m.parts ≡ Some x
+    → Split (file c) (front_of_code c index) x
 unfolding Split
 file_split c index m x there h =
     let r = methods_split c.methods index m x there h in
     (r.0 ++ table skipped c.attributes, file_methods c ∙ ap (λ (l : List ℕ). before_methods c ++ (l ++ table skipped c.attributes)) r.1 ∙ behind_methods (before_methods c) (methods_front c.methods index) (code x) r.0 (table skipped c.attributes))
 
 -- at the offset that is answered of a file in memory the Code stands
-pub code_stands : (bytes : List ℕ) (c : FileTree) (index : ℕ) (m : MethodTree) (x : CodeTree) (at : ℕ) → at ≡ saturated (length (front_of_code c index)) → Layout bytes c → length bytes < 2 ^ 64 → slice_get c.methods index ≡ Some m → code_in m.parts ≡ Some x
+pub code_stands : (bytes : List ℕ) (c : FileTree) (index : ℕ) (m : MethodTree) (x : CodeTree) (at : ℕ)
+    → at ≡ saturated (length (front_of_code c index)) → Layout bytes c → length bytes < 2 ^ 64 → slice_get c.methods index ≡ Some m
+    → code_in m.parts ≡ Some x
     → BeginsWith (code x) (drop at bytes)
 unfolding Split
 code_stands bytes c index m x at is l small there h =

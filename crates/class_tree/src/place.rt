@@ -74,7 +74,8 @@ impl ClassFile {
     pub fn code_offset(&self, method: usize) -> usize
         ensures place { result ≡ saturated (length (front_of_code (file_of self.now) method)) }
         // Where the tree is that of bytes in memory, what the Code holds stands there.
-        ensures stands { (bytes : List ℕ) (m : MethodTree) (c : CodeTree) → Layout bytes (file_of self.now) → length bytes < 2 ^ 64 → slice_get (file_of self.now).methods method ≡ Some m → code_in m.parts ≡ Some c → BeginsWith (code c) (drop result bytes) }
+        ensures stands { (bytes : List ℕ) (m : MethodTree) (c : CodeTree) → Layout bytes (file_of self.now) → length bytes < 2 ^ 64
+            → slice_get (file_of self.now).methods method ≡ Some m → code_in m.parts ≡ Some c → BeginsWith (code c) (drop result bytes) }
     {
         first_method(self).saturating_add(length_before(&self.methods, method))
     }

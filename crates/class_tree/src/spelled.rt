@@ -259,7 +259,9 @@ impl Spelled for Method {
 
 /// The members and the attributes of the class.
 fn put_members(alloc: Global, file: &ClassFile, out: &mut Vec<u8>) -> Result<(), AllocError>
-    ensures { OnOk result (out.new.items ≡ out.old.items ++ (table spelling.field (file_of file.now).fields ++ (table spelling.method (file_of file.now).methods ++ table spelling.skipped (file_of file.now).attributes))) }
+    ensures { OnOk result (out.new.items ≡ out.old.items
+        ++ (table spelling.field (file_of file.now).fields
+        ++ (table spelling.method (file_of file.now).methods ++ table spelling.skipped (file_of file.now).attributes))) }
 {
     put_table(alloc, &file.fields, out)?;
     put_table(alloc, &file.methods, out)?;

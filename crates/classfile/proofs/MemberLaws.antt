@@ -76,7 +76,8 @@ MadeSkipped name p = (text : List ℕ) × ((length text < 2 ^ 32) × (SkippedOfM
 IsPart : Bool → MethodPart → Type 0
 IsPart b p = (length (method_part_body p) < 2 ^ 32) × MatchBool b (IsCode p) (IsSkippedOfMethod p)
 
-part_there : (b : Bool) (name : ℕ) (p : MethodPart) → MatchBool b (MadeCode name p) (MadeSkipped name p) → IsPart b p × (method_part_name p ≡ name)
+part_there : (b : Bool) (name : ℕ) (p : MethodPart) → MatchBool b (MadeCode name p) (MadeSkipped name p)
+    → IsPart b p × (method_part_name p ≡ name)
 unfolding MadeCode MadeSkipped IsPart
 part_there true name p h = subst (λ (q : MethodPart). IsPart true q × (method_part_name q ≡ name)) h.1.1 ((h.1.0.0, h.1.0.1), refl)
 part_there false name p h = subst (λ (q : MethodPart). IsPart false q × (method_part_name q ≡ name)) h.1.1 ((h.1.0, tt), refl)
@@ -133,12 +134,14 @@ MadeOther name p = (text : List ℕ) × ((length text < 2 ^ 32) × (SkippedOfFie
 IsFieldPart : Bool → FieldPart → Type 0
 IsFieldPart b p = (length (field_part_body p) < 2 ^ 32) × MatchBool b (IsConstant p) (IsSkippedOfField p)
 
-field_part_there : (b : Bool) (name : ℕ) (p : FieldPart) → MatchBool b (MadeConstant name p) (MadeOther name p) → IsFieldPart b p × (field_part_name p ≡ name)
+field_part_there : (b : Bool) (name : ℕ) (p : FieldPart) → MatchBool b (MadeConstant name p) (MadeOther name p)
+    → IsFieldPart b p × (field_part_name p ≡ name)
 unfolding MadeConstant MadeOther IsFieldPart
 field_part_there true name p h = subst (λ (q : FieldPart). IsFieldPart true q × (field_part_name q ≡ name)) h.1.1 ((lit< tt, h.1.0), refl)
 field_part_there false name p h = subst (λ (q : FieldPart). IsFieldPart false q × (field_part_name q ≡ name)) h.1.1 ((h.1.0, tt), refl)
 
-field_part_back : (b : Bool) (p : FieldPart) → IsFieldPart b p → MatchBool b (MadeConstant (field_part_name p) p) (MadeOther (field_part_name p) p)
+field_part_back : (b : Bool) (p : FieldPart) → IsFieldPart b p
+    → MatchBool b (MadeConstant (field_part_name p) p) (MadeOther (field_part_name p) p)
 unfolding MadeConstant MadeOther IsFieldPart
 field_part_back true (ConstantOf name index) h = (index, (h.1, refl))
 field_part_back true (SkippedOfField a) h = absurd h.1

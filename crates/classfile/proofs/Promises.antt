@@ -18,18 +18,21 @@ use Rattle.class_tree.specs.Conditions.{Stands, StandsOrStops}
 use Rattle.classfile.specs.Decoding.{Answers, Decodes, StopsAt, StandsAt, IsFaultOf}
 use Rattle.classfile.proofs.Whole.{Fault, OfField, OfMagic, OfVersion, OfEnd, file_takes, file_again, fault_of}
 
-pub found_of : (bytes : List ℕ) (r : Result ClassFile Malformed) → IsBytes bytes → Decodes r (file_at (at_place 0 bytes)) → IfOk r (λ c. Layout bytes (file_of c))
+pub found_of : (bytes : List ℕ) (r : Result ClassFile Malformed) → IsBytes bytes → Decodes r (file_at (at_place 0 bytes))
+    → IfOk r (λ c. Layout bytes (file_of c))
 found_of bytes (Ok c) small h = file_takes bytes (file_of c) small h
 found_of bytes (Err e) small h = tt
 
-pub only_of : (bytes : List ℕ) (r : Result ClassFile Malformed) → Decodes r (file_at (at_place 0 bytes)) → (c : FileTree) → Layout bytes c → Answers r c
+pub only_of : (bytes : List ℕ) (r : Result ClassFile Malformed) → Decodes r (file_at (at_place 0 bytes)) → (c : FileTree) → Layout bytes c
+    → Answers r c
 only_of bytes (Ok x) h c l = let e : done (file_of x) ≡ done c = sym h ∙ file_again bytes c l in ok_is (file_of x) c e
 only_of bytes (Err e) h c l = elim h [ inl k ↦ ap (λ (f : Malformed). f.cause) k | inr k ↦ (let clash : failed e ≡ done c = sym k ∙ file_again bytes c l in absurd cc) ]
 
 -- ---- refusals
 
 -- a fault of a field is the one with which reading ends
-field_stands : (bytes : List ℕ) (cause : Cause) (offset : ℕ) → StopsAt bytes cause offset → IsTrue (is_field_cause cause) → StandsAt bytes cause offset
+field_stands : (bytes : List ℕ) (cause : Cause) (offset : ℕ) → StopsAt bytes cause offset → IsTrue (is_field_cause cause)
+    → StandsAt bytes cause offset
 field_stands bytes causes.Truncated offset e h = e
 field_stands bytes causes.Tag offset e h = e
 field_stands bytes causes.Utf8 offset e h = e
@@ -50,7 +53,8 @@ fault_stands bytes f e (OfMagic is stands) = subst (λ cause. StandsAt bytes cau
 fault_stands bytes f e (OfVersion is stands) = subst (λ cause. StandsAt bytes cause f.offset) (sym is) stands
 fault_stands bytes f e (OfEnd is stands) = subst (λ cause. StandsAt bytes cause f.offset) (sym is) stands
 
-pub refused_of : (bytes : List ℕ) (r : Result ClassFile Malformed) → IsBytes bytes → Decodes r (file_at (at_place 0 bytes)) → IfErr r (IsFaultOf bytes)
+pub refused_of : (bytes : List ℕ) (r : Result ClassFile Malformed) → IsBytes bytes → Decodes r (file_at (at_place 0 bytes))
+    → IfErr r (IsFaultOf bytes)
 refused_of bytes (Ok x) small h = tt
 refused_of bytes (Err f) small h = elim h [ inl k ↦ inl k | inr k ↦ inr (fault_stands bytes f k (fault_of bytes f small k)) ]
 
@@ -70,7 +74,8 @@ cause_stands bytes c causes.Trailing offset l h = absurd h
 cause_stands bytes c causes.OutOfMemory offset l h = absurd h
 cause_stands bytes c causes.Code offset l h = absurd h
 
-pub condition_stands : (bytes : List ℕ) (c : FileTree) (stop : Stop) → Layout bytes c → StandsOrStops stop c → IsFaultOf bytes (malformed_of stop)
+pub condition_stands : (bytes : List ℕ) (c : FileTree) (stop : Stop) → Layout bytes c → StandsOrStops stop c
+    → IsFaultOf bytes (malformed_of stop)
 condition_stands bytes c stops.Memory l h = inl refl
 condition_stands bytes c (stops.Fault f) l h = inr (cause_stands bytes c f.cause f.offset l h)
 

@@ -42,7 +42,8 @@ parts_laws =
 
 -- ---- a value that was tested to be one
 
-tested_is : {A : Type 0} {read : Input → Read A} {text : A → List ℕ} {Fits : A → Type 0} (laws : Laws read text Fits) (v : A) (test : A → Bool) (cause : Cause) (i : Input) (x : A × Input)
+tested_is : {A : Type 0} {read : Input → Read A} {text : A → List ℕ} {Fits : A → Type 0} (laws : Laws read text Fits) (v : A)
+    (test : A → Bool) (cause : Cause) (i : Input) (x : A × Input)
     → ((y : A) → test y ≡ true → y ≡ v) → IsBytes i.rest → tested test cause read i ≡ Ok x → Takes i (text v) x.1
 tested_is {A = A} {read = read} {text = text} laws v test cause i x only small e =
     let s = bind_ok (read i) (λ y. cond (test y.0) (done y) (failed (record { cause = cause; offset = i.at }))) x e in
@@ -50,11 +51,13 @@ tested_is {A = A} {read = read} {text = text} laws v test cause i x only small e
     let g = guard_passed (test s.0.0) (record { cause = cause; offset = i.at }) s.0 x s.2 in
     subst (λ (y : A × Input). Takes i (text v) y.1) g.1 (subst (λ (k : A). Takes i (text k) s.0.1) (only s.0.0 g.0) t.0)
 
-tested_again : {A : Type 0} {read : Input → Read A} {text : A → List ℕ} {Fits : A → Type 0} (laws : Laws read text Fits) (v : A) (test : A → Bool) (cause : Cause) (at : ℕ) (rest : List ℕ)
+tested_again : {A : Type 0} {read : Input → Read A} {text : A → List ℕ} {Fits : A → Type 0} (laws : Laws read text Fits) (v : A)
+    (test : A → Bool) (cause : Cause) (at : ℕ) (rest : List ℕ)
     → Fits v → test v ≡ true → tested test cause read (at_place at (text v ++ rest)) ≡ Ok (v, at_place (at + length (text v)) rest)
 tested_again laws v test cause at rest f is = rw (laws.again at v rest f, is) refl
 
-unpassed : {A : Type 0} (b : Bool) (cause : Cause) (i : Input) (x : A × Input) (f : Malformed) → cond b (done x) (failed (record { cause = cause; offset = i.at })) ≡ Err f → (b ≡ false) × ((f.cause ≡ cause) × (f.offset ≡ i.at))
+unpassed : {A : Type 0} (b : Bool) (cause : Cause) (i : Input) (x : A × Input) (f : Malformed)
+    → cond b (done x) (failed (record { cause = cause; offset = i.at })) ≡ Err f → (b ≡ false) × ((f.cause ≡ cause) × (f.offset ≡ i.at))
 unpassed true cause i x f e = absurd cc
 unpassed {A = A} false cause i x f e =
     let is = err_is {B = A × Input} (record { cause = cause; offset = i.at }) f e in
@@ -64,7 +67,8 @@ unpassed {A = A} false cause i x f e =
 Refused : {A : Type 0} → (Input → Read A) → (A → Bool) → Cause → Input → Malformed → Type 0
 Refused {A = A} read test cause i f = (x : A × Input) × ((read i ≡ Ok x) × ((test x.0 ≡ false) × ((f.cause ≡ cause) × (f.offset ≡ i.at))))
 
-tested_err : {A : Type 0} {read : Input → Read A} {text : A → List ℕ} {Fits : A → Type 0} (laws : Laws read text Fits) (test : A → Bool) (cause : Cause) (i : Input) (f : Malformed)
+tested_err : {A : Type 0} {read : Input → Read A} {text : A → List ℕ} {Fits : A → Type 0} (laws : Laws read text Fits) (test : A → Bool)
+    (cause : Cause) (i : Input) (f : Malformed)
     → IsBytes i.rest → tested test cause read i ≡ Err f → IsTrue (is_field_cause f.cause) ⊎ Refused read test cause i f
 unfolding Refused
 tested_err {read = read} laws test cause i f small e =
@@ -153,7 +157,9 @@ file_again bytes c l =
 HasTrailing : Input → Malformed → Type 0
 HasTrailing i f = (f.cause ≡ causes.Trailing) × ((c : FileTree) × (j : Input) × (parts_at i ≡ Ok (c, j)) × (f.offset ≡ j.at) × (0 < length j.rest))
 
-unended : (b : Bool) (x : FileTree × Input) (f : Malformed) → cond b (done x.0) (failed (record { cause = causes.Trailing; offset = x.1.at })) ≡ Err f → (f.cause ≡ causes.Trailing) × (f.offset ≡ x.1.at) × (b ≡ false)
+unended : (b : Bool) (x : FileTree × Input) (f : Malformed)
+    → cond b (done x.0) (failed (record { cause = causes.Trailing; offset = x.1.at })) ≡ Err f
+    → (f.cause ≡ causes.Trailing) × (f.offset ≡ x.1.at) × (b ≡ false)
 unended true x f e = absurd cc
 unended false x f e = let is = err_is {B = FileTree} (record { cause = causes.Trailing; offset = x.1.at }) f e in (ap (λ (m : Malformed). m.cause) (sym is), ap (λ (m : Malformed). m.offset) (sym is), refl)
 
@@ -185,7 +191,8 @@ not_magic bytes f h begins =
     let no : eqb 0xcafebabe 0xcafebabe ≡ false = subst (λ (n : ℕ). eqb n 0xcafebabe ≡ false) (sym same) h.1.1.0 in
     absurd cc
 
-not_version : (bytes : List ℕ) (i : Input) (f : Malformed) → Takes (at_place 0 bytes) magic i → Refused pair_at is_version causes.Version i f → BeginsWith version (drop 4 bytes) → ⊥
+not_version : (bytes : List ℕ) (i : Input) (f : Malformed) → Takes (at_place 0 bytes) magic i
+    → Refused pair_at is_version causes.Version i f → BeginsWith version (drop 4 bytes) → ⊥
 unfolding Refused
 not_version bytes i f t h begins =
     let behind : drop 4 bytes ≡ i.rest = ap (λ (l : List ℕ). drop 4 l) t.parts ∙ drop_at magic i.rest 4 refl in
@@ -207,13 +214,15 @@ pair_length i x small e =
     let t = pair_laws.takes i x.0 x.1 small e in
     omega (arith, ap length t.0.parts, length-append (u2 x.0.0 ++ u2 x.0.1) x.1.rest, length-append (u2 x.0.0) (u2 x.0.1), length-bytes_high_first 2 x.0.0, length-bytes_high_first 2 x.0.1)
 
-fault_of_version : (bytes : List ℕ) (i : Input) (f : Malformed) → Takes (at_place 0 bytes) magic i → Refused pair_at is_version causes.Version i f → Fault bytes f
+fault_of_version : (bytes : List ℕ) (i : Input) (f : Malformed) → Takes (at_place 0 bytes) magic i
+    → Refused pair_at is_version causes.Version i f → Fault bytes f
 unfolding Refused
 fault_of_version bytes i f t h =
     let long : 8 ≤ length bytes = omega (arith, ap length t.parts, length-append magic i.rest, pair_length i h.0 t.rest_fits h.1.0) in
     OfVersion h.1.1.1.0 (h.1.1.1.1 ∙ t.at, long, (i.rest, t.parts), not_version bytes i f t h)
 
-fault_of_end : (bytes : List ℕ) (i j : Input) (f : Malformed) → Takes (at_place 0 bytes) magic i → Takes i version j → HasTrailing j f → Fault bytes f
+fault_of_end : (bytes : List ℕ) (i j : Input) (f : Malformed) → Takes (at_place 0 bytes) magic i → Takes i version j → HasTrailing j f
+    → Fault bytes f
 unfolding HasTrailing
 fault_of_end bytes i j f t u k =
     let w = parts_laws.takes j k.1.0 k.1.1 u.rest_fits k.1.2 in

@@ -33,25 +33,30 @@ refuses (Number text) reason mistake known = known
 refuses (Asked error) reason mistake known = elim (mistake tt) [ ]
 
 -- and by that the words spell no command
-pub fails : (words : List Text) (usage : Usage) (reason : Type 0) → Refuses usage reason → (reason → SpellsNothing words) → Fails words usage
+pub fails : (words : List Text) (usage : Usage) (reason : Type 0) → Refuses usage reason → (reason → SpellsNothing words)
+    → Fails words usage
 fails words OutOfMemory reason known on = tt
 fails words (Parser error) reason known on = on known
 fails words (Number text) reason known on = on known
 fails words (Asked error) reason known on = elim known [ ]
 
 -- the first value of an option
-pub first_is : (matches : ArgMatches) (id : Text) (text : Option Text) → text ≡ first_value (found_of matches) id → first_of id (rows_of (found_of matches)) ≡ text
+pub first_is : (matches : ArgMatches) (id : Text) (text : Option Text) → text ≡ first_value (found_of matches) id
+    → first_of id (rows_of (found_of matches)) ≡ text
 first_is matches id text found = sym (found ∙ first_value-rows (found_of matches) id)
 
-pub is_number : (text : Text) (least most number : ℕ) → IsNumeral 10 text → least ≤ digits_value 10 text → digits_value 10 text ≤ most → number ≡ digits_value 10 text → IsNumber least most (Some text) (Some number)
+pub is_number : (text : Text) (least most number : ℕ) → IsNumeral 10 text → least ≤ digits_value 10 text → digits_value 10 text ≤ most
+    → number ≡ digits_value 10 text → IsNumber least most (Some text) (Some number)
 is_number text least most number digits low high value = (digits, sym value, rw (value) low, rw (value) high)
 
-pub no_number : (text : Text) (least most : ℕ) → (IsNumeral 10 text × (least ≤ digits_value 10 text) × (digits_value 10 text ≤ most) → ⊥) → (number : Option ℕ) → IsNumber least most (Some text) number → ⊥
+pub no_number : (text : Text) (least most : ℕ) → (IsNumeral 10 text × (least ≤ digits_value 10 text) × (digits_value 10 text ≤ most) → ⊥)
+    → (number : Option ℕ) → IsNumber least most (Some text) number → ⊥
 no_number text least most none None is = is
 no_number text least most none (Some number) is = none (is.0, rw (is.1) is.2, rw (is.1) is.3)
 
 -- all the values of an argument
-pub all_is : (matches : ArgMatches) (id : Text) (texts : Option (List Text)) → texts ≡ option_map raw_values (matched_of (found_of matches) id) → all_of id (rows_of (found_of matches)) ≡ texts
+pub all_is : (matches : ArgMatches) (id : Text) (texts : Option (List Text))
+    → texts ≡ option_map raw_values (matched_of (found_of matches) id) → all_of id (rows_of (found_of matches)) ≡ texts
 all_is matches id texts found = sym (found ∙ raw_values-rows (found_of matches) id)
 
 -- what isn't there is no value
@@ -63,16 +68,19 @@ unfolding clap_on_literals
 is_free_jvm = refl
 
 -- what isn't a want of memory is among the kinds
-among : (kinds : Kinds) (error : Error) (kind : ErrorKind) → kind_of error ≡ kind → (kind ≡ errors.OutOfMemory → ⊥) → HasKind kinds error → IsAmong (kind_of error) kinds
+among : (kinds : Kinds) (error : Error) (kind : ErrorKind) → kind_of error ≡ kind → (kind ≡ errors.OutOfMemory → ⊥) → HasKind kinds error
+    → IsAmong (kind_of error) kinds
 among kinds error kind is other (inl memory) = elim (other (sym is ∙ memory)) [ ]
 among kinds error kind is other (inr found) = found
 
 -- an error of the parser that says of itself that there was no memory
-pub memory_fails : (words : List Text) (error : Error) (usage : Usage) → usage ≡ usage_of error → kind_of error ≡ errors.OutOfMemory → Fails words usage
+pub memory_fails : (words : List Text) (error : Error) (usage : Usage) → usage ≡ usage_of error → kind_of error ≡ errors.OutOfMemory
+    → Fails words usage
 memory_fails words error usage same memory = rw (same, memory) tt
 
 -- the parser refused the words, or answers what they ask for
-usage_fails : (words : List Text) (error : Error) (kind : ErrorKind) → kind_of error ≡ kind → (takes jvm words ≡ true → kind_of error ≡ errors.OutOfMemory) → HasKind (fault_of jvm words) error → Fails words (usage_by kind error)
+usage_fails : (words : List Text) (error : Error) (kind : ErrorKind) → kind_of error ≡ kind
+    → (takes jvm words ≡ true → kind_of error ≡ errors.OutOfMemory) → HasKind (fault_of jvm words) error → Fails words (usage_by kind error)
 usage_fails words error errors.OutOfMemory is passes has = tt
 usage_fails words error errors.DisplayHelp is passes has =
     (inl (λ taken. let bad : errors.OutOfMemory ≡ errors.DisplayHelp = sym (passes taken) ∙ is in cc), (inl is, among (fault_of jvm words) error errors.DisplayHelp is (λ bad. cc) has))
@@ -94,11 +102,13 @@ usage_fails words error errors.Io is passes has = inl (λ taken. let bad : error
 usage_fails words error errors.Format is passes has = inl (λ taken. let bad : errors.OutOfMemory ≡ errors.Format = sym (passes taken) ∙ is in cc)
 
 -- a number with a sign, which the parser takes for an unknown argument
-sign_fails : (words : List Text) (error : Error) (usage : Usage) → (takes jvm words ≡ true → kind_of error ≡ errors.OutOfMemory) → kind_of error ≡ errors.UnknownArgument → (Asks usage → ⊥) → Fails words usage
+sign_fails : (words : List Text) (error : Error) (usage : Usage) → (takes jvm words ≡ true → kind_of error ≡ errors.OutOfMemory)
+    → kind_of error ≡ errors.UnknownArgument → (Asks usage → ⊥) → Fails words usage
 sign_fails words error usage passes unknown mistake =
     fails words usage (SpellsNothing words) (refuses usage (SpellsNothing words) mistake (inl (λ taken. let bad : errors.OutOfMemory ≡ errors.UnknownArgument = sym (passes taken) ∙ unknown in cc))) (λ nothing. nothing)
 
-pub parser_fails : (words : List Text) (error : Error) (usage : Usage) → (takes jvm words ≡ true → kind_of error ≡ errors.OutOfMemory) → (is_simple_and_free jvm ≡ true → HasKind (fault_of jvm words) error)
+pub parser_fails : (words : List Text) (error : Error) (usage : Usage) → (takes jvm words ≡ true → kind_of error ≡ errors.OutOfMemory)
+    → (is_simple_and_free jvm ≡ true → HasKind (fault_of jvm words) error)
     → ((usage ≡ usage_of error) ⊎ ((kind_of error ≡ errors.UnknownArgument) × (Asks usage → ⊥))) → Fails words usage
 parser_fails words error usage passes kinds (inl same) = rw (same) (usage_fails words error (kind_of error) refl passes (kinds is_free_jvm))
 parser_fails words error usage passes kinds (inr sign) = sign_fails words error usage passes sign.0 sign.1
@@ -111,20 +121,28 @@ is_simple_jvm = refl
 pub named_rows : (matches : ArgMatches) → option_map (λ p. p.0) (subcommand_rows_of matches) ≡ subcommand_name_of matches
 named_rows matches = go (out-ArgMatches matches).subcommand
   where
-    go : (met : Option (Box SubCommand Global)) → option_map (λ p. p.0) (subcommand_rows met) ≡ option_map (λ b. (out-SubCommand (box_value b)).name.now) met
+    go : (met : Option (Box SubCommand Global))
+        → option_map (λ p. p.0) (subcommand_rows met) ≡ option_map (λ b. (out-SubCommand (box_value b)).name.now) met
     go None = refl
     go (Some met) = refl
 
-both_of : {A B : Type 0} (pair : Option (A × B)) (a : A) (b : B) → option_map (λ p. p.0) pair ≡ Some a → option_map (λ p. p.1) pair ≡ Some b → pair ≡ Some (a, b)
+both_of : {A B : Type 0} (pair : Option (A × B)) (a : A) (b : B) → option_map (λ p. p.0) pair ≡ Some a
+    → option_map (λ p. p.1) pair ≡ Some b → pair ≡ Some (a, b)
 both_of None a b first second = let bad : None ≡ Some a = first in cc
 both_of (Some (x, y)) a b first second = cc
 
 -- the rows of the subcommand with this name
-pub rows_met : (matches : ArgMatches) (words : List Text) (name : Text) (rows : List Row) → HasMatchesOf jvm words matches → subcommand_name_of matches ≡ Some name → option_map (λ p. p.1) (subcommand_rows_of matches) ≡ Some rows → subcommand_of jvm words ≡ Some (name, rows)
+pub rows_met : (matches : ArgMatches) (words : List Text) (name : Text) (rows : List Row) → HasMatchesOf jvm words matches
+    → subcommand_name_of matches ≡ Some name → option_map (λ p. p.1) (subcommand_rows_of matches) ≡ Some rows
+    → subcommand_of jvm words ≡ Some (name, rows)
 rows_met matches words name rows has met rows_are = sym (has is_simple_jvm).1 ∙ both_of (subcommand_rows_of matches) name rows (named_rows matches ∙ met) rows_are
 
 -- where no subcommand is met, the words spell no command
-pub spells_none : (matches : ArgMatches) (words : List Text) → HasMatchesOf jvm words matches → (subcommand_name_of matches ≡ Some (codes "run") → ⊥) → (subcommand_name_of matches ≡ Some (codes "replay") → ⊥) → (subcommand_name_of matches ≡ Some (codes "trace") → ⊥) → (subcommand_name_of matches ≡ Some (codes "search") → ⊥) → (subcommand_name_of matches ≡ Some (codes "verify") → ⊥) → (subcommand_name_of matches ≡ Some (codes "disasm") → ⊥) → (subcommand_name_of matches ≡ Some (codes "schedule") → ⊥) → (command : Command) → Spells words command → ⊥
+pub spells_none : (matches : ArgMatches) (words : List Text) → HasMatchesOf jvm words matches
+    → (subcommand_name_of matches ≡ Some (codes "run") → ⊥) → (subcommand_name_of matches ≡ Some (codes "replay") → ⊥)
+    → (subcommand_name_of matches ≡ Some (codes "trace") → ⊥) → (subcommand_name_of matches ≡ Some (codes "search") → ⊥)
+    → (subcommand_name_of matches ≡ Some (codes "verify") → ⊥) → (subcommand_name_of matches ≡ Some (codes "disasm") → ⊥)
+    → (subcommand_name_of matches ≡ Some (codes "schedule") → ⊥) → (command : Command) → Spells words command → ⊥
 spells_none matches words has no_run no_replay no_trace no_search no_verify no_disasm no_schedule (commands.Run run) spelled =
     no_run (sym (named_rows matches) ∙ ap (option_map (λ p. p.0)) ((has is_simple_jvm).1 ∙ spelled.1))
 spells_none matches words has no_run no_replay no_trace no_search no_verify no_disasm no_schedule (commands.Replay replay) spelled =
@@ -151,7 +169,8 @@ rows_in : Option (Text × List Row) → List Row
 rows_in met = unwrap_or (option_map (λ p. p.1) met) []
 
 -- where the rows are those of no command, the words spell none
-pub spells_other_run : (words : List Text) (rows : List Row) → subcommand_of jvm words ≡ Some (codes "run", rows) → ((run : Run) → AreRunValues rows run → ⊥) → (command : Command) → Spells words command → ⊥
+pub spells_other_run : (words : List Text) (rows : List Row) → subcommand_of jvm words ≡ Some (codes "run", rows)
+    → ((run : Run) → AreRunValues rows run → ⊥) → (command : Command) → Spells words command → ⊥
 unfolding first_byte second_byte rows_in
 spells_other_run words rows met none (commands.Run run) spelled =
     let same : Some (codes "run", rows) ≡ Some (codes "run", spelled.0) = sym met ∙ spelled.1 in
@@ -182,7 +201,8 @@ spells_other_run words rows met none (commands.Schedule schedule) spelled =
     let bad : true ≡ false = ap (λ met. eqb (first_byte met) 114) same in
     cc
 
-pub spells_other_replay : (words : List Text) (rows : List Row) → subcommand_of jvm words ≡ Some (codes "replay", rows) → ((replay : Replay) → AreValues rows replay → ⊥) → (command : Command) → Spells words command → ⊥
+pub spells_other_replay : (words : List Text) (rows : List Row) → subcommand_of jvm words ≡ Some (codes "replay", rows)
+    → ((replay : Replay) → AreValues rows replay → ⊥) → (command : Command) → Spells words command → ⊥
 unfolding first_byte second_byte rows_in
 spells_other_replay words rows met none (commands.Run run) spelled =
     let same : Some (codes "replay", rows) ≡ Some (codes "run", spelled.0) = sym met ∙ spelled.1 in
@@ -213,7 +233,8 @@ spells_other_replay words rows met none (commands.Schedule schedule) spelled =
     let bad : true ≡ false = ap (λ met. eqb (first_byte met) 114) same in
     cc
 
-pub spells_other_trace : (words : List Text) (rows : List Row) → subcommand_of jvm words ≡ Some (codes "trace", rows) → ((trace : Trace) → AreTraceValues rows trace → ⊥) → (command : Command) → Spells words command → ⊥
+pub spells_other_trace : (words : List Text) (rows : List Row) → subcommand_of jvm words ≡ Some (codes "trace", rows)
+    → ((trace : Trace) → AreTraceValues rows trace → ⊥) → (command : Command) → Spells words command → ⊥
 unfolding first_byte second_byte rows_in
 spells_other_trace words rows met none (commands.Run run) spelled =
     let same : Some (codes "trace", rows) ≡ Some (codes "run", spelled.0) = sym met ∙ spelled.1 in
@@ -244,7 +265,8 @@ spells_other_trace words rows met none (commands.Schedule schedule) spelled =
     let bad : true ≡ false = ap (λ met. eqb (first_byte met) 116) same in
     cc
 
-pub spells_other_search : (words : List Text) (rows : List Row) → subcommand_of jvm words ≡ Some (codes "search", rows) → ((search : Search) → AreSearchValues rows search → ⊥) → (command : Command) → Spells words command → ⊥
+pub spells_other_search : (words : List Text) (rows : List Row) → subcommand_of jvm words ≡ Some (codes "search", rows)
+    → ((search : Search) → AreSearchValues rows search → ⊥) → (command : Command) → Spells words command → ⊥
 unfolding first_byte second_byte rows_in
 spells_other_search words rows met none (commands.Run run) spelled =
     let same : Some (codes "search", rows) ≡ Some (codes "run", spelled.0) = sym met ∙ spelled.1 in
@@ -275,7 +297,8 @@ spells_other_search words rows met none (commands.Schedule schedule) spelled =
     let bad : true ≡ false = ap (λ met. eqb (second_byte met) 101) same in
     cc
 
-pub spells_other_verify : (words : List Text) (rows : List Row) → subcommand_of jvm words ≡ Some (codes "verify", rows) → ((verify : Verify) → AreVerifyValues rows verify → ⊥) → (command : Command) → Spells words command → ⊥
+pub spells_other_verify : (words : List Text) (rows : List Row) → subcommand_of jvm words ≡ Some (codes "verify", rows)
+    → ((verify : Verify) → AreVerifyValues rows verify → ⊥) → (command : Command) → Spells words command → ⊥
 unfolding first_byte second_byte rows_in
 spells_other_verify words rows met none (commands.Run run) spelled =
     let same : Some (codes "verify", rows) ≡ Some (codes "run", spelled.0) = sym met ∙ spelled.1 in
@@ -306,7 +329,8 @@ spells_other_verify words rows met none (commands.Schedule schedule) spelled =
     let bad : true ≡ false = ap (λ met. eqb (first_byte met) 118) same in
     cc
 
-pub spells_other_disasm : (words : List Text) (rows : List Row) → subcommand_of jvm words ≡ Some (codes "disasm", rows) → ((disasm : Disasm) → AreDisasmValues rows disasm → ⊥) → (command : Command) → Spells words command → ⊥
+pub spells_other_disasm : (words : List Text) (rows : List Row) → subcommand_of jvm words ≡ Some (codes "disasm", rows)
+    → ((disasm : Disasm) → AreDisasmValues rows disasm → ⊥) → (command : Command) → Spells words command → ⊥
 unfolding first_byte second_byte rows_in
 spells_other_disasm words rows met none (commands.Run run) spelled =
     let same : Some (codes "disasm", rows) ≡ Some (codes "run", spelled.0) = sym met ∙ spelled.1 in
@@ -337,7 +361,8 @@ spells_other_disasm words rows met none (commands.Schedule schedule) spelled =
     let bad : true ≡ false = ap (λ met. eqb (first_byte met) 100) same in
     cc
 
-pub spells_other_schedule : (words : List Text) (rows : List Row) → subcommand_of jvm words ≡ Some (codes "schedule", rows) → ((schedule : Schedule) → AreScheduleValues rows schedule → ⊥) → (command : Command) → Spells words command → ⊥
+pub spells_other_schedule : (words : List Text) (rows : List Row) → subcommand_of jvm words ≡ Some (codes "schedule", rows)
+    → ((schedule : Schedule) → AreScheduleValues rows schedule → ⊥) → (command : Command) → Spells words command → ⊥
 unfolding first_byte second_byte rows_in
 spells_other_schedule words rows met none (commands.Run run) spelled =
     let same : Some (codes "schedule", rows) ≡ Some (codes "run", spelled.0) = sym met ∙ spelled.1 in
@@ -375,6 +400,7 @@ refuses_more (Number text) reason other on known = on known
 refuses_more (Asked error) reason other on known = elim known [ ]
 
 -- where the option is no number there is no command
-pub no_budget : (rows : List Row) → ((number : Option ℕ) → IsNumber 0 4294967295 (first_of (codes "budget") rows) number → ⊥) → (then_run : Option ThenRun) → IsThenRun rows then_run → ⊥
+pub no_budget : (rows : List Row) → ((number : Option ℕ) → IsNumber 0 4294967295 (first_of (codes "budget") rows) number → ⊥)
+    → (then_run : Option ThenRun) → IsThenRun rows then_run → ⊥
 no_budget rows none None are = none None (subst (λ text. IsNumber 0 4294967295 text None) (sym are.1) tt)
 no_budget rows none (Some then_run) are = none then_run.budget are.1.budget

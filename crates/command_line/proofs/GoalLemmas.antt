@@ -55,7 +55,8 @@ module _ (word : Text) (other : word ≡ codes "deadlock" → ⊥) (another : wo
     named_with (Some goal) is = parts ∙ is
     named_with None neither_is = neither neither_is.0 neither_is.1
 
-    pub named : {E : Type 0} (result : Result (Option Goal) E) → IfOk result (NamesGoalWith name.now value.now) → IfOk result (NamesGoal word)
+    pub named : {E : Type 0} (result : Result (Option Goal) E) → IfOk result (NamesGoalWith name.now value.now)
+        → IfOk result (NamesGoal word)
     named (Ok goal) is = named_with goal is
     named (Err e) is = tt
 

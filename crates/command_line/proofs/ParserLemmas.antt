@@ -13,6 +13,7 @@ abbrev pub IsParser : Command → App → Type 0
 IsParser parser app = (app_of parser ≡ app) × IsLocal parser
 
 -- one argument more
-pub with_argument : (old : Command) (argument : Arg) (new : Command) (app : App) (rule : Rule) → IsParser old app → rule_of argument ≡ rule → argument.global ≡ false → AddsArg old argument new → IsParser new (with_rule app rule)
+pub with_argument : (old : Command) (argument : Arg) (new : Command) (app : App) (rule : Rule) → IsParser old app → rule_of argument ≡ rule
+    → argument.global ≡ false → AddsArg old argument new → IsParser new (with_rule app rule)
 with_argument old argument new app rule parser rule_is local added =
     (added.shape local ∙ ap₂ with_rule parser.0 rule_is, added.globals ∙ ap₂ (λ a b. a || b) parser.1 local)

@@ -219,7 +219,8 @@ pub(crate) fn negative_number(words: &[String]) -> Option<(NumberOption, &str)> 
 
 /// The number that decimal digits spell, where it lies between these two. Digits alone do, and no sign.
 fn decimal(text: &str, least: u32, most: u32) -> Option<u32>
-    ensures { SomeIff result (IsNumeral 10 text.now × (least ≤ digits_value 10 text.now) × (digits_value 10 text.now ≤ most)) (digits_value 10 text.now) }
+    ensures { SomeIff result (IsNumeral 10 text.now × (least ≤ digits_value 10 text.now)
+        × (digits_value 10 text.now ≤ most)) (digits_value 10 text.now) }
 {
     if text.starts_with('+') {
         return None;

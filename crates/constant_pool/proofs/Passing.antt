@@ -42,5 +42,6 @@ module _ {V A : Type 0} (p : A → Bool) (f : V → A) where
   none_left vs i all h = any_map vs ∙ ap (list_any (λ w. p (f w))) (sym (take_all i vs all)) ∙ h
 
 -- an element that is read, seen as another value
-pub read_at : {V A : Type 0} (f : V → A) (vs : List V) (k : ℕ) (v : V) → k < length vs → v ≡ get_or vs k v → slice_get (map f vs) k ≡ Some (f v)
+pub read_at : {V A : Type 0} (f : V → A) (vs : List V) (k : ℕ) (v : V) → k < length vs → v ≡ get_or vs k v
+    → slice_get (map f vs) k ≡ Some (f v)
 read_at f vs k v below is = rw (slice_get-map f vs k, slice_get_read vs (length vs) k v refl below is) refl

@@ -24,7 +24,8 @@ unfolding entries_at
 step front zero i after e h narrow = rw h (sym (no_more (front ++ e ∷ []) after))
 step front (suc n) i after e h narrow = rw (first_of_two n i (Ok (e, after)) h, narrow) (regroup front (e ∷ []) (entries_at (suc n) after))
 
-pub goes_on : (front : List Entry) (left less : ℕ) (i after : Input) (e : Entry) (total : Read (List Entry)) → left ≡ suc less → entry_at (eqb left 1) i ≡ Ok (e, after) → is_wide e ≡ false
+pub goes_on : (front : List Entry) (left less : ℕ) (i after : Input) (e : Entry) (total : Read (List Entry)) → left ≡ suc less
+    → entry_at (eqb left 1) i ≡ Ok (e, after) → is_wide e ≡ false
     → with_front front (entries_at left i) ≡ total → with_front (front ++ e ∷ []) (entries_at less after) ≡ total
 goes_on front left less i after e total is h narrow so_far =
     let h2 : entry_at (eqb (suc less) 1) i ≡ Ok (e, after) = ap (λ (n : ℕ). entry_at (eqb n 1) i) (sym is) ∙ h in
@@ -36,7 +37,8 @@ step_wide : (front : List Entry) (less : ℕ) (i after : Input) (e : Entry) → 
 unfolding entries_at
 step_wide front n i after e h wide = rw (h, wide) (regroup front (e ∷ Unusable ∷ []) (entries_at n after))
 
-pub goes_on_wide : (front : List Entry) (left less : ℕ) (i after : Input) (e : Entry) (total : Read (List Entry)) → left ≡ suc (suc less) → entry_at (eqb left 1) i ≡ Ok (e, after) → is_wide e ≡ true
+pub goes_on_wide : (front : List Entry) (left less : ℕ) (i after : Input) (e : Entry) (total : Read (List Entry)) → left ≡ suc (suc less)
+    → entry_at (eqb left 1) i ≡ Ok (e, after) → is_wide e ≡ true
     → with_front front (entries_at left i) ≡ total → with_front (front ++ e ∷ Unusable ∷ []) (entries_at less after) ≡ total
 goes_on_wide front left less i after e total is h wide so_far =
     let h2 : entry_at false i ≡ Ok (e, after) = first_of_two less i (Ok (e, after)) (ap (λ (n : ℕ). entry_at (eqb n 1) i) (sym is) ∙ h) in
@@ -48,13 +50,15 @@ two_are_left zero e lt h wide = absurd (omega arith)
 two_are_left (suc zero) e lt h wide = let k : not true ≡ true = subst (λ (b : Bool). IsTrue (not b)) wide h in absurd cc
 two_are_left (suc (suc n)) e lt h wide = omega arith
 
-pub ends : (e : Stop) (front : List Entry) (left : ℕ) (i : Input) (total : Read (List Entry)) → 0 < left → Fails e (entry_at (eqb left 1) i) → with_front front (entries_at left i) ≡ total → Fails e total
+pub ends : (e : Stop) (front : List Entry) (left : ℕ) (i : Input) (total : Read (List Entry)) → 0 < left
+    → Fails e (entry_at (eqb left 1) i) → with_front front (entries_at left i) ≡ total → Fails e total
 unfolding entries_at
 ends stops.Memory front left i total lt h so_far = tt
 ends (stops.Fault f) front zero i total lt h so_far = absurd (omega arith)
 ends (stops.Fault f) front (suc zero) i total lt h so_far = sym so_far ∙ rw h refl
 ends (stops.Fault f) front (suc (suc n)) i total lt h so_far = sym so_far ∙ rw (first_of_two n i (Err f) h) refl
 
-pub is_done : (front : List Entry) (left : ℕ) (i : Input) (total : Read (List Entry)) → left ≡ 0 → with_front front (entries_at left i) ≡ total → total ≡ Ok (front, i)
+pub is_done : (front : List Entry) (left : ℕ) (i : Input) (total : Read (List Entry)) → left ≡ 0
+    → with_front front (entries_at left i) ≡ total → total ≡ Ok (front, i)
 unfolding entries_at
 is_done front left i total none so_far = sym so_far ∙ ap (λ (n : ℕ). with_front front (entries_at n i)) none ∙ no_more front i

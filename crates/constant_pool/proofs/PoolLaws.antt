@@ -20,7 +20,8 @@ utf8_laws =
     fits (then _ length u2_laws (λ n _. tested_laws (list_all is_text_byte) causes.Utf8 refl (bytes_laws n)) (λ n text _ r. r.0)) (λ text h. (h.0, h.1.1)) (λ text h. (h.0, (refl, h.1)))
 
 -- which way a choice went
-pub chosen : {A : Type 0} {b : Bool} {t u x : Result A Malformed} {G : Type 0} → (b ≡ true → t ≡ x → G) → (b ≡ false → u ≡ x → G) → cond b t u ≡ x → G
+pub chosen : {A : Type 0} {b : Bool} {t u x : Result A Malformed} {G : Type 0} → (b ≡ true → t ≡ x → G) → (b ≡ false → u ≡ x → G)
+    → cond b t u ≡ x → G
 chosen {b = true} on off e = on refl e
 chosen {b = false} on off e = off refl e
 
@@ -28,8 +29,11 @@ chosen {b = false} on off e = off refl e
 TakesBody : Input → ℕ → Input → Entry → Input → Type 0
 TakesBody start tag i e j = Takes start (u1 tag) i → (Takes start (entry e) j × EntryFits e) × (is_wide e ≡ is_wide_tag tag)
 
-leaf : {A : Type 0} {read : Input → Read A} {text : A → List ℕ} {Fits : A → Type 0} (make : A → Entry) (laws : Laws read text Fits) (n : ℕ) (start : Input) (tag : ℕ) (i : Input) (e : Entry) (j : Input)
-    → ((a : A) → entry (make a) ≡ u1 n ++ text a) → ((a : A) → is_wide (make a) ≡ is_wide_tag n) → ((a : A) → Fits a → EntryFits (make a)) → IsBytes i.rest → eqb tag n ≡ true → ◌>>=◌ {B = Entry × Input} (read i) (λ x. Ok (make x.0, x.1)) ≡ Ok (e, j) → TakesBody start tag i e j
+leaf : {A : Type 0} {read : Input → Read A} {text : A → List ℕ} {Fits : A → Type 0} (make : A → Entry) (laws : Laws read text Fits) (n : ℕ)
+    (start : Input) (tag : ℕ) (i : Input) (e : Entry) (j : Input)
+    → ((a : A) → entry (make a) ≡ u1 n ++ text a) → ((a : A) → is_wide (make a) ≡ is_wide_tag n) → ((a : A) → Fits a → EntryFits (make a))
+    → IsBytes i.rest → eqb tag n ≡ true → ◌>>=◌ {B = Entry × Input} (read i) (λ x. Ok (make x.0, x.1)) ≡ Ok (e, j)
+    → TakesBody start tag i e j
 unfolding TakesBody
 leaf {A = A} {read = read} {text = text} make laws n start tag i e j spelled wide fit small is eq first =
     let s = bind_ok (read i) (λ x. Ok (make x.0, x.1)) (e, j) eq in
@@ -40,7 +44,8 @@ leaf {A = A} {read = read} {text = text} make laws n start tag i e j spelled wid
     let kind : is_wide (make s.0.0) ≡ is_wide_tag tag = wide s.0.0 ∙ ap (λ (k : ℕ). is_wide_tag k) (sym tag_is) in
     subst (λ (p : Entry × Input). (Takes start (entry p.0) p.1 × EntryFits p.0) × (is_wide p.0 ≡ is_wide_tag tag)) (ok_is (make s.0.0, s.0.1) (e, j) s.2) ((subst (λ (l : List ℕ). Takes start l s.0.1) (sym (spelled s.0.0)) both, fit s.0.0 t.1), kind)
 
-body_takes : (start : Input) (tag : ℕ) (i : Input) (e : Entry) (j : Input) → IsBytes i.rest → body_at start tag i ≡ Ok (e, j) → TakesBody start tag i e j
+body_takes : (start : Input) (tag : ℕ) (i : Input) (e : Entry) (j : Input) → IsBytes i.rest → body_at start tag i ≡ Ok (e, j)
+    → TakesBody start tag i e j
 unfolding body_at
 body_takes start tag i e j small =
     chosen (leaf Utf8 utf8_laws 1 start tag i e j (λ a. refl) (λ a. refl) (λ a f. f) small) (λ _.
@@ -59,7 +64,8 @@ body_takes start tag i e j small =
 HasRoom : Bool → Entry → Type 0
 HasRoom last e = EntryFits e × IsTrue (not (last && is_wide e))
 
-entry_takes : (last : Bool) (i : Input) (e : Entry) (j : Input) → IsBytes i.rest → entry_at last i ≡ Ok (e, j) → Takes i (entry e) j × HasRoom last e
+entry_takes : (last : Bool) (i : Input) (e : Entry) (j : Input) → IsBytes i.rest → entry_at last i ≡ Ok (e, j)
+    → Takes i (entry e) j × HasRoom last e
 unfolding entry_at TakesBody HasRoom
 entry_takes last i e j small eq =
     let s = bind_ok (tested (λ n. not (last && is_wide_tag n)) causes.Tag (number_at 1) i) (λ tag. body_at i tag.0 tag.1) (e, j) eq in
@@ -67,14 +73,18 @@ entry_takes last i e j small eq =
     let b = body_takes i s.0.0 s.0.1 e j t.0.rest_fits s.2 t.0 in
     (b.0.0, (b.0.1, subst (λ (wide : Bool). IsTrue (not (last && wide))) (sym b.1) t.1.1))
 
-again_leaf : {A : Type 0} {read : Input → Read A} {text : A → List ℕ} {Fits : A → Type 0} (make : A → Entry) (laws : Laws read text Fits) (last : Bool) (tag : ℕ) (at : ℕ) (a : A) (rest : List ℕ)
-    → tag < 256 → IsTrue (not (last && is_wide_tag tag)) → Fits a → ((start i : Input) → body_at start tag i ≡ ◌>>=◌ {B = Entry × Input} (read i) (λ x. Ok (make x.0, x.1))) → entry_at last (at_place at ((u1 tag ++ text a) ++ rest)) ≡ Ok (make a, at_place (at + length (u1 tag ++ text a)) rest)
+again_leaf : {A : Type 0} {read : Input → Read A} {text : A → List ℕ} {Fits : A → Type 0} (make : A → Entry) (laws : Laws read text Fits)
+    (last : Bool) (tag : ℕ) (at : ℕ) (a : A) (rest : List ℕ)
+    → tag < 256 → IsTrue (not (last && is_wide_tag tag)) → Fits a
+    → ((start i : Input) → body_at start tag i ≡ ◌>>=◌ {B = Entry × Input} (read i) (λ x. Ok (make x.0, x.1)))
+    → entry_at last (at_place at ((u1 tag ++ text a) ++ rest)) ≡ Ok (make a, at_place (at + length (u1 tag ++ text a)) rest)
 unfolding entry_at
 again_leaf {text = text} make laws last tag at a rest small room f is =
     let place : at + 1 + length (text a) ≡ at + length (u1 tag ++ text a) = omega (arith, length-append (u1 tag) (text a)) in
     rw (append_assoc (u1 tag) (text a) rest, u1_laws.again at tag (text a ++ rest) small, room, is (at_place at (u1 tag ++ (text a ++ rest))) (at_place (at + 1) (text a ++ rest)), laws.again (at + 1) a rest f, place) refl
 
-entry_again : (last : Bool) (at : ℕ) (e : Entry) (rest : List ℕ) → HasRoom last e → entry_at last (at_place at (entry e ++ rest)) ≡ Ok (e, at_place (at + length (entry e)) rest)
+entry_again : (last : Bool) (at : ℕ) (e : Entry) (rest : List ℕ) → HasRoom last e
+    → entry_at last (at_place at (entry e ++ rest)) ≡ Ok (e, at_place (at + length (entry e)) rest)
 unfolding body_at HasRoom
 entry_again last at (Utf8 text) rest f = again_leaf Utf8 utf8_laws last 1 at text rest (lit< tt) f.1 f.0 (λ _ _. refl)
 entry_again last at (Integer n) rest f = again_leaf Integer u4_laws last 3 at n rest (lit< tt) f.1 f.0 (λ _ _. refl)
@@ -89,10 +99,13 @@ entry_again last at (InterfaceMethod c n) rest f = again_leaf (λ p. InterfaceMe
 entry_again last at (NameAndType c n) rest f = again_leaf (λ p. NameAndType p.0 p.1) pair_laws last 12 at (c, n) rest (lit< tt) f.1 f.0 (λ _ _. refl)
 entry_again last at Unusable rest f = absurd f.0
 
-leaf_stops : {A : Type 0} {read : Input → Read A} {text : A → List ℕ} {Fits : A → Type 0} (make : A → Entry) (laws : Laws read text Fits) (i : Input) (f : Malformed) → IsBytes i.rest → ◌>>=◌ {B = Entry × Input} (read i) (λ x. Ok (make x.0, x.1)) ≡ Err f → IsTrue (is_field_cause f.cause)
+leaf_stops : {A : Type 0} {read : Input → Read A} {text : A → List ℕ} {Fits : A → Type 0} (make : A → Entry) (laws : Laws read text Fits)
+    (i : Input) (f : Malformed) → IsBytes i.rest → ◌>>=◌ {B = Entry × Input} (read i) (λ x. Ok (make x.0, x.1)) ≡ Err f
+    → IsTrue (is_field_cause f.cause)
 leaf_stops {read = read} make laws i f small e = elim (bind_err (read i) (λ x. done (make x.0, x.1)) f e) [ inl h ↦ laws.stops i f small h | inr h ↦ never_stops (make h.0.0, h.0.1) f h.2 ]
 
-body_stops : (start : Input) (tag : ℕ) (i : Input) (f : Malformed) → IsBytes i.rest → body_at start tag i ≡ Err f → IsTrue (is_field_cause f.cause)
+body_stops : (start : Input) (tag : ℕ) (i : Input) (f : Malformed) → IsBytes i.rest → body_at start tag i ≡ Err f
+    → IsTrue (is_field_cause f.cause)
 unfolding body_at
 body_stops start tag i f small =
     chosen {b = eqb tag 1} (λ _. leaf_stops Utf8 utf8_laws i f small) (λ _.
@@ -132,13 +145,15 @@ placed_narrow e (other ∷ others) f narrow placed = (f, rw narrow placed)
 TakesPlaces : ℕ → Input → List Entry × Input → Type 0
 TakesPlaces n i x = Takes i (entries x.0) x.1 × ((length x.0 ≡ n) × ArePlaced x.0)
 
-taken_wide : (n : ℕ) (i after j : Input) (e : Entry) (others : List Entry) → Takes i (entry e) after → EntryFits e → is_wide e ≡ true → TakesPlaces n after (others, j) → TakesPlaces (suc (suc n)) i (e ∷ Unusable ∷ others, j)
+taken_wide : (n : ℕ) (i after j : Input) (e : Entry) (others : List Entry) → Takes i (entry e) after → EntryFits e → is_wide e ≡ true
+    → TakesPlaces n after (others, j) → TakesPlaces (suc (suc n)) i (e ∷ Unusable ∷ others, j)
 unfolding TakesPlaces
 taken_wide n i after j e others t fit wide u =
     let same : entries (e ∷ Unusable ∷ others) ≡ entry e ++ entries others = flat_map-cons entry e (Unusable ∷ others) ∙ ap (λ (l : List ℕ). entry e ++ l) (flat_map-cons entry Unusable others) in
     (rw same (Takes-then i (entry e) after (entries others) j t u.0), (ap (λ k. suc (suc k)) u.1.0, (fit, rw wide (refl, u.1.1))))
 
-taken_narrow : (n : ℕ) (i after j : Input) (e : Entry) (others : List Entry) → Takes i (entry e) after → EntryFits e → is_wide e ≡ false → TakesPlaces n after (others, j) → TakesPlaces (suc n) i (e ∷ others, j)
+taken_narrow : (n : ℕ) (i after j : Input) (e : Entry) (others : List Entry) → Takes i (entry e) after → EntryFits e → is_wide e ≡ false
+    → TakesPlaces n after (others, j) → TakesPlaces (suc n) i (e ∷ others, j)
 unfolding TakesPlaces
 taken_narrow n i after j e others t fit narrow u =
     (rw flat_map-cons (Takes-then i (entry e) after (entries others) j t u.0), (ap suc u.1.0, placed_narrow e others fit narrow u.1.1))
@@ -176,8 +191,11 @@ IsAgain at x rest = ArePlaced x → entries_at (length x) (at_place at (entries 
 behind : (at : ℕ) (e : Entry) (x : List Entry) → at + length (entry e) + length (entries x) ≡ at + length (entries (e ∷ x))
 behind at e x = rw flat_map-cons (omega (arith, length-append (entry e) (entries x)))
 
-again_more : (wide : Bool) (at : ℕ) (e f : Entry) (x : List Entry) (rest : List ℕ) → is_wide e ≡ wide → EntryFits e → MatchBool wide ((f ≡ Unusable) × ArePlaced x) (ArePlaced (f ∷ x)) → IsAgain (at + length (entry e)) x rest → IsAgain (at + length (entry e)) (f ∷ x) rest
-    → entries_at (suc (suc (length x))) (at_place at (entry e ++ (entries (f ∷ x) ++ rest))) ≡ Ok (e ∷ f ∷ x, at_place (at + length (entry e) + length (entries (f ∷ x))) rest)
+again_more : (wide : Bool) (at : ℕ) (e f : Entry) (x : List Entry) (rest : List ℕ) → is_wide e ≡ wide → EntryFits e
+    → MatchBool wide ((f ≡ Unusable) × ArePlaced x) (ArePlaced (f ∷ x)) → IsAgain (at + length (entry e)) x rest
+    → IsAgain (at + length (entry e)) (f ∷ x) rest
+    → entries_at (suc (suc (length x))) (at_place at (entry e ++ (entries (f ∷ x) ++ rest)))
+    ≡ Ok (e ∷ f ∷ x, at_place (at + length (entry e) + length (entries (f ∷ x))) rest)
 unfolding entries_at IsAgain HasRoom
 again_more true at e f x rest wide fit placed two one =
     let same : entries (f ∷ x) ≡ entries x = ap (λ (g : Entry). entries (g ∷ x)) placed.0 ∙ flat_map-cons entry Unusable x in
@@ -196,7 +214,8 @@ entries_again at (e ∷ f ∷ x) rest placed =
     ap (λ (l : List ℕ). entries_at (suc (suc (length x))) (at_place at l)) same ∙ again_more (is_wide e) at e f x rest refl placed.0 placed.1 (entries_again (at + length (entry e)) x rest) (entries_again (at + length (entry e)) (f ∷ x) rest)
     ∙ ap (λ (n : ℕ). Ok (e ∷ f ∷ x, at_place n rest)) (behind at e (f ∷ x))
 
-others_stop : (front : List Entry) (read : Read (List Entry)) (f : Malformed) → (read ≡ Err f → IsTrue (is_field_cause f.cause)) → ◌>>=◌ {B = List Entry × Input} read (λ others. Ok (front ++ others.0, others.1)) ≡ Err f → IsTrue (is_field_cause f.cause)
+others_stop : (front : List Entry) (read : Read (List Entry)) (f : Malformed) → (read ≡ Err f → IsTrue (is_field_cause f.cause))
+    → ◌>>=◌ {B = List Entry × Input} read (λ others. Ok (front ++ others.0, others.1)) ≡ Err f → IsTrue (is_field_cause f.cause)
 others_stop front (Ok x) f stop e = never_stops (front ++ x.0, x.1) f e
 others_stop front (Err d) f stop e = stop (ap failed (err_is {B = List Entry × Input} d f e))
 

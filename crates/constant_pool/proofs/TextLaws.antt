@@ -29,12 +29,14 @@ get_or-map f (x ∷ xs) (suc i) d = get_or-map f xs i d
 pub text_in_place : (pool : List Entry) (index : ℕ) → get_or (texts pool) index [] ≡ text_at pool index
 text_in_place pool index = get_or-map text_of (Unusable ∷ pool) index Unusable
 
-pub of_text : {Y : Type 0} (f : List ℕ → Y) (pool : List Entry) (index : ℕ) → get_or (map f (texts pool)) index (f []) ≡ f (text_at pool index)
+pub of_text : {Y : Type 0} (f : List ℕ → Y) (pool : List Entry) (index : ℕ)
+    → get_or (map f (texts pool)) index (f []) ≡ f (text_at pool index)
 of_text f pool index = get_or-map f (texts pool) index [] ∙ ap f (text_in_place pool index)
 
 -- one entry more
 pub more_texts : {Y : Type 0} (f : List ℕ → Y) (constants : List Constant) (i : ℕ) (d : Constant) → i < length constants
-    → map f (texts (map entry_of (take (i + 1) constants))) ≡ map f (texts (map entry_of (take i constants))) ++ f (text_of (entry_of (get_or constants i d))) ∷ []
+    → map f (texts (map entry_of (take (i + 1) constants)))
+    ≡ map f (texts (map entry_of (take i constants))) ++ f (text_of (entry_of (get_or constants i d))) ∷ []
 more_texts f constants i d lt =
     let front = map entry_of (take i constants) in
     let next = entry_of (get_or constants i d) in
@@ -43,7 +45,8 @@ more_texts f constants i d lt =
     ∙ ap (λ (l : List _). f [] ∷ l) (map-append f (map text_of front) (text_of next ∷ []))
 
 -- the text of the next entry
-pub next_text : (constants : List Constant) (i : ℕ) (d : Constant) → i < length constants → get_or (texts (map entry_of constants)) (suc i) [] ≡ text_of (entry_of (get_or constants i d))
+pub next_text : (constants : List Constant) (i : ℕ) (d : Constant) → i < length constants
+    → get_or (texts (map entry_of constants)) (suc i) [] ≡ text_of (entry_of (get_or constants i d))
 next_text [] i d lt = absurd (omega arith)
 next_text (c ∷ constants) zero d lt = refl
 next_text (c ∷ constants) (suc i) d lt = next_text constants i d (omega arith)
@@ -69,7 +72,8 @@ no_later (t ∷ all) (suc i) lt =
     let less : i < length all = omega arith in
     later (bytes_eq t (get_or all i [])) (first_place all (get_or all i [])) i (no_later all i less)
 
-there : (is_first : Bool) (t : List ℕ) (all : List (List ℕ)) (text : List ℕ) (place : ℕ) → (is_first ≡ true → t ≡ text) → (place < length all → get_or all place [] ≡ text)
+there : (is_first : Bool) (t : List ℕ) (all : List (List ℕ)) (text : List ℕ) (place : ℕ) → (is_first ≡ true → t ≡ text)
+    → (place < length all → get_or all place [] ≡ text)
     → cond is_first 0 (suc place) < suc (length all) → get_or (t ∷ all) (cond is_first 0 (suc place)) [] ≡ text
 there true t all text place first further lt = first refl
 there false t all text place first further lt = further (omega arith)
@@ -80,7 +84,8 @@ stands_there [] text lt = absurd (omega arith)
 stands_there (t ∷ all) text lt = there (bytes_eq t text) t all text (first_place all text) (λ same. (bytes_eq-Decides t text).0 same) (λ less. stands_there all text less) lt
 
 -- the place `here` has this text, and it is the first one of no other
-only_this : (all : List (List ℕ)) (here : ℕ) (text other : List ℕ) → here < length all → get_or all here [] ≡ text → first_place all other ≡ here → text ≡ other
+only_this : (all : List (List ℕ)) (here : ℕ) (text other : List ℕ) → here < length all → get_or all here [] ≡ text
+    → first_place all other ≡ here → text ≡ other
 only_this all here text other lt at is =
     let less : first_place all other < length all = omega arith in
     sym at ∙ ap (λ (i : ℕ). get_or all i []) (sym is) ∙ stands_there all other less
@@ -89,7 +94,8 @@ only_this all here text other lt at is =
 abbrev Known : ℕ → ℕ → Option ℕ
 Known place bound = cond (ltb place bound) (Some place) None
 
-known_by : (b : Bool) (place bound found : ℕ) → (b ≡ true → place < bound) → Some found ≡ cond b (Some place) None → (found ≡ place) × (place < bound)
+known_by : (b : Bool) (place bound found : ℕ) → (b ≡ true → place < bound) → Some found ≡ cond b (Some place) None
+    → (found ≡ place) × (place < bound)
 known_by true place bound found lt e = (cc, lt refl)
 known_by false place bound found lt e = absurd cc
 
@@ -109,14 +115,16 @@ same_test place here ne = grind (arith, nat_tests)
 known_goes_on : (place here : ℕ) → (place ≡ here → ⊥) → Known place here ≡ Known place (here + 1)
 known_goes_on place here ne = ap (λ (b : Bool). cond b (Some place) None) (same_test place here ne)
 
-pub is_known : (all : List (List ℕ)) (here : ℕ) (seen : BTreeMap (Bor (List ℕ)) ℕ) (text : List ℕ) (place : ℕ) → here < length all → get_or all here [] ≡ text → HasPlaces all here seen
+pub is_known : (all : List (List ℕ)) (here : ℕ) (seen : BTreeMap (Bor (List ℕ)) ℕ) (text : List ℕ) (place : ℕ) → here < length all
+    → get_or all here [] ≡ text → HasPlaces all here seen
     → Some place ≡ get_by (λ k. slice_cmp nat_cmp text k.now) seen → (place ≡ first_place all text) × HasPlaces all (here + 1) seen
 is_known all here seen text place lt at has found =
     let is = known_is (first_place all text) here place (found ∙ has text) in
     (is.0, λ other. has other ∙ known_goes_on (first_place all other) here (λ same. (let one : text ≡ other = only_this all here text other lt at same in let clash : first_place all text ≡ here = ap (first_place all) one ∙ same in absurd (omega (arith, is.1, clash)))))
 
 -- after the text of the place `here` was put there
-put_by : (same : Bool) (all : List (List ℕ)) (here : ℕ) (text other : List ℕ) → (same ≡ true → text ≡ other) → (text ≡ other → same ≡ true) → here < length all → get_or all here [] ≡ text → here ≡ first_place all text
+put_by : (same : Bool) (all : List (List ℕ)) (here : ℕ) (text other : List ℕ) → (same ≡ true → text ≡ other) → (text ≡ other → same ≡ true)
+    → here < length all → get_or all here [] ≡ text → here ≡ first_place all text
     → cond same (Some here) (Known (first_place all other) here) ≡ Known (first_place all other) (here + 1)
 put_by true all here text other one is_one lt at is =
     let place : here ≡ first_place all other = is ∙ ap (first_place all) (one refl) in
@@ -125,8 +133,10 @@ put_by true all here text other one is_one lt at is =
 put_by false all here text other one is_one lt at is =
     known_goes_on (first_place all other) here (λ same. (let clash : false ≡ true = is_one (only_this all here text other lt at same) in absurd cc))
 
-pub is_new : (all : List (List ℕ)) (here : ℕ) (seen after : BTreeMap (Bor (List ℕ)) ℕ) (text : List ℕ) → here < length all → get_or all here [] ≡ text → HasPlaces all here seen
-    → None ≡ get_by (λ k. slice_cmp nat_cmp text k.now) seen → UpdatesBy (λ x y. slice_cmp nat_cmp x.now y.now) (λ k. slice_cmp nat_cmp text k.now) seen after (Some here)
+pub is_new : (all : List (List ℕ)) (here : ℕ) (seen after : BTreeMap (Bor (List ℕ)) ℕ) (text : List ℕ) → here < length all
+    → get_or all here [] ≡ text → HasPlaces all here seen
+    → None ≡ get_by (λ k. slice_cmp nat_cmp text k.now) seen
+    → UpdatesBy (λ x y. slice_cmp nat_cmp x.now y.now) (λ k. slice_cmp nat_cmp text k.now) seen after (Some here)
     → (here ≡ first_place all text) × HasPlaces all (here + 1) after
 is_new all here seen after text lt at has none updates =
     let above : here ≤ first_place all text = unknown_is (first_place all text) here (none ∙ has text) in
@@ -145,7 +155,8 @@ no_places all seen empty = λ text. ap (λ (es : List (Bor (List ℕ) × ℕ)). 
 
 -- ---- two indices have one first place exactly where they have one text
 
-inside_by : (b : Bool) (pool : List Entry) (index : ℕ) → ltb index (length (texts pool)) ≡ b → first_place (texts pool) (get_or (texts pool) index []) < length (texts pool)
+inside_by : (b : Bool) (pool : List Entry) (index : ℕ) → ltb index (length (texts pool)) ≡ b
+    → first_place (texts pool) (get_or (texts pool) index []) < length (texts pool)
 inside_by true pool index h =
     let lt : index < length (texts pool) = ltb-true index (length (texts pool)) h in
     let le : first_place (texts pool) (get_or (texts pool) index []) ≤ index = no_later (texts pool) index lt in

@@ -38,7 +38,8 @@ fn place_of<'a>(
     text: &'a [u8],
     here: usize,
 ) -> Result<usize, AllocError>
-    ensures { (all : List (List ℕ)) → here < length all → slice_index_or all here [] ≡ text.now → HasPlaces all here seen.old → IfOk result (λ place. (place ≡ first_place all text.now) × HasPlaces all (here + 1) seen.new) }
+    ensures { (all : List (List ℕ)) → here < length all → slice_index_or all here [] ≡ text.now → HasPlaces all here seen.old
+        → IfOk result (λ place. (place ≡ first_place all text.now) × HasPlaces all (here + 1) seen.new) }
 {
     match seen.get(text).copied() {
         Some(place) => Ok(place),
@@ -51,7 +52,8 @@ fn place_of<'a>(
 
 /// For each index, from 0 on, the first that has the same text.
 fn firsts_of(alloc: Global, constants: &[Constant]) -> Result<Vec<usize>, AllocError>
-    ensures { IfOk result (λ firsts. firsts.items ≡ map (first_place (texts (entries_of constants.now))) (texts (entries_of constants.now))) }
+    ensures { IfOk result (λ firsts. firsts.items
+        ≡ map (first_place (texts (entries_of constants.now))) (texts (entries_of constants.now))) }
 {
     let mut seen = BTreeMap::new(alloc);
     let mut firsts = Vec::with_capacity(alloc, constants.len() + 1)?;

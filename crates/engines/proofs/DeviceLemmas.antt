@@ -18,7 +18,8 @@ appends_keeps (Some held) (Some more) None xs first second = absurd second
 appends_keeps (Some held) (Some more) (Some all) xs first second = second ∙ first
 
 -- a front of the bytes, and then n more of them
-pub front_on : (old mid new : Option (List ℕ)) (bytes front rest : List ℕ) (n : ℕ) → bytes ≡ front ++ rest → Appends old mid front → Appends mid new (take n rest) → (bytes ≡ (front ++ take n rest) ++ drop n rest) × Appends old new (front ++ take n rest)
+pub front_on : (old mid new : Option (List ℕ)) (bytes front rest : List ℕ) (n : ℕ) → bytes ≡ front ++ rest → Appends old mid front
+    → Appends mid new (take n rest) → (bytes ≡ (front ++ take n rest) ++ drop n rest) × Appends old new (front ++ take n rest)
 front_on old mid new bytes front rest n cut first second = (
   cut ∙ ap (λ l. front ++ l) (sym (take-append-drop n rest)) ∙ sym (append_assoc front (take n rest) (drop n rest)),
   appends_on old mid new front (take n rest) first second,

@@ -9,7 +9,8 @@ use Rattle.engines.specs.declared.fault.Fault.{Fault}
 use Rattle.engines.specs.declared.fault.Fault.TheVariants as faults
 
 -- a class file isn't read, and nothing is written
-pub unread_is_no_library : (fault : Fault) (lefts : List (Option (List ℕ))) (held : Option (List ℕ)) (file : ℕ) → file < length lefts → IsOfFile file fault → IsUnacceptedLibrary lefts held held fault
+pub unread_is_no_library : (fault : Fault) (lefts : List (Option (List ℕ))) (held : Option (List ℕ)) (file : ℕ) → file < length lefts
+    → IsOfFile file fault → IsUnacceptedLibrary lefts held held fault
 unread_is_no_library faults.Device lefts held file within of_file = inl refl
 unread_is_no_library faults.Memory lefts held file within of_file = absurd of_file
 unread_is_no_library (faults.Schedule fault) lefts held file within of_file = absurd of_file
@@ -17,6 +18,7 @@ unread_is_no_library (faults.Text fault) lefts held file within of_file = absurd
 unread_is_no_library (faults.Refusal refusal) lefts held file within of_file = (refl, inl (file, within, of_file))
 
 -- the writing stops
-pub front_is_no_library : (fault : DeviceFault) (lefts : List (Option (List ℕ))) (old new : Option (List ℕ)) → VerifiesLibraryFront lefts old new → IsUnacceptedLibrary lefts old new (fault_of fault)
+pub front_is_no_library : (fault : DeviceFault) (lefts : List (Option (List ℕ))) (old new : Option (List ℕ))
+    → VerifiesLibraryFront lefts old new → IsUnacceptedLibrary lefts old new (fault_of fault)
 front_is_no_library devices.Device lefts old new front = inr front
 front_is_no_library devices.Memory lefts old new front = front

@@ -16,7 +16,8 @@ use Rattle.engines.specs.declared.fault.Fault.{Fault}
 use Rattle.engines.specs.declared.fault.Fault.TheVariants as faults
 
 -- a class file isn't read, and nothing is written
-pub unread_is_unlisted : (fault : Fault) (lefts : List (Option (List ℕ))) (held : Option (List ℕ)) (file : ℕ) → file < length lefts → IsOfFile file fault → IsUnlisted lefts held held fault
+pub unread_is_unlisted : (fault : Fault) (lefts : List (Option (List ℕ))) (held : Option (List ℕ)) (file : ℕ) → file < length lefts
+    → IsOfFile file fault → IsUnlisted lefts held held fault
 unread_is_unlisted faults.Device lefts held file within of_file = inl refl
 unread_is_unlisted faults.Memory lefts held file within of_file = absurd of_file
 unread_is_unlisted (faults.Schedule fault) lefts held file within of_file = absurd of_file
@@ -31,13 +32,16 @@ read_count [] (bytes ∷ files) each = absurd each
 read_count (left ∷ lefts) [] each = absurd each
 
 -- a class file isn't decoded, and nothing is written
-pub undecoded_is_unlisted : (lefts : List (Option (List ℕ))) (files : List (List ℕ)) (held : Option (List ℕ)) (refusal : Refusal) → ReadsEach lefts files
-    → ((number : ℕ) × (number < length files) × (refusal ≡ no_memory number)) ⊎ IsFirstMalformed files refusal → IsUnlisted lefts held held (faults.Refusal refusal)
+pub undecoded_is_unlisted : (lefts : List (Option (List ℕ))) (files : List (List ℕ)) (held : Option (List ℕ)) (refusal : Refusal)
+    → ReadsEach lefts files
+    → ((number : ℕ) × (number < length files) × (refusal ≡ no_memory number)) ⊎ IsFirstMalformed files refusal
+    → IsUnlisted lefts held held (faults.Refusal refusal)
 undecoded_is_unlisted lefts files held refusal each (inl memory) = (refl, inl (memory.0, subst (λ count. memory.0 < count) (read_count lefts files each) memory.1, memory.2))
 undecoded_is_unlisted lefts files held refusal each (inr first) = (refl, inr (files, each, first))
 
 -- the writing stops
-pub front_is_unlisted : (fault : DeviceFault) (lefts : List (Option (List ℕ))) (old new : Option (List ℕ)) → ListsFront lefts old new → IsUnlisted lefts old new (fault_of fault)
+pub front_is_unlisted : (fault : DeviceFault) (lefts : List (Option (List ℕ))) (old new : Option (List ℕ)) → ListsFront lefts old new
+    → IsUnlisted lefts old new (fault_of fault)
 front_is_unlisted devices.Device lefts old new front = inr front
 front_is_unlisted devices.Memory lefts old new front = front
 
@@ -47,17 +51,21 @@ listed_trees files = flat_map_over listing file_of files
 
 -- ---- with names
 
-pub unread_is_unnamed : (fault : Fault) (lefts : List (Option (List ℕ))) (held : Option (List ℕ)) (file : ℕ) → file < length lefts → IsOfFile file fault → IsUnnamed lefts held held fault
+pub unread_is_unnamed : (fault : Fault) (lefts : List (Option (List ℕ))) (held : Option (List ℕ)) (file : ℕ) → file < length lefts
+    → IsOfFile file fault → IsUnnamed lefts held held fault
 unread_is_unnamed faults.Device lefts held file within of_file = inl refl
 unread_is_unnamed faults.Memory lefts held file within of_file = absurd of_file
 unread_is_unnamed (faults.Schedule fault) lefts held file within of_file = absurd of_file
 unread_is_unnamed (faults.Text fault) lefts held file within of_file = absurd of_file
 unread_is_unnamed (faults.Refusal refusal) lefts held file within of_file = (refl, inl (file, within, of_file))
 
-pub undecoded_is_unnamed : (lefts : List (Option (List ℕ))) (files : List (List ℕ)) (held : Option (List ℕ)) (refusal : Refusal) → ReadsEach lefts files
-    → ((number : ℕ) × (number < length files) × (refusal ≡ no_memory number)) ⊎ IsFirstMalformed files refusal → IsUnnamed lefts held held (faults.Refusal refusal)
+pub undecoded_is_unnamed : (lefts : List (Option (List ℕ))) (files : List (List ℕ)) (held : Option (List ℕ)) (refusal : Refusal)
+    → ReadsEach lefts files
+    → ((number : ℕ) × (number < length files) × (refusal ≡ no_memory number)) ⊎ IsFirstMalformed files refusal
+    → IsUnnamed lefts held held (faults.Refusal refusal)
 undecoded_is_unnamed lefts files held refusal each refused = undecoded_is_unlisted lefts files held refusal each refused
 
-pub front_is_unnamed : (fault : DeviceFault) (lefts : List (Option (List ℕ))) (old new : Option (List ℕ)) → NamesFront lefts old new → IsUnnamed lefts old new (fault_of fault)
+pub front_is_unnamed : (fault : DeviceFault) (lefts : List (Option (List ℕ))) (old new : Option (List ℕ)) → NamesFront lefts old new
+    → IsUnnamed lefts old new (fault_of fault)
 front_is_unnamed devices.Device lefts old new front = inr front
 front_is_unnamed devices.Memory lefts old new front = front

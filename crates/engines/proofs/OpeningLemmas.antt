@@ -19,14 +19,16 @@ use Rattle.engines.specs.declared.fault.Fault.{Fault}
 use Rattle.engines.specs.declared.fault.Fault.TheVariants as faults
 
 -- nothing is written where nothing is run
-pub kept_is_faulty : (fault : Fault) (left : Option (List ℕ)) (lefts : List (Option (List ℕ))) (options : LimitOptions) (held : Option (List ℕ)) → IsKeptBy left lefts options fault → IsFaulty left lefts options held held fault
+pub kept_is_faulty : (fault : Fault) (left : Option (List ℕ)) (lefts : List (Option (List ℕ))) (options : LimitOptions)
+    (held : Option (List ℕ)) → IsKeptBy left lefts options fault → IsFaulty left lefts options held held fault
 kept_is_faulty faults.Device left lefts options held kept = inl refl
 kept_is_faulty faults.Memory left lefts options held kept = inl refl
 kept_is_faulty (faults.Schedule fault) left lefts options held kept = (refl, kept)
 kept_is_faulty (faults.Text fault) left lefts options held kept = (refl, kept)
 kept_is_faulty (faults.Refusal refusal) left lefts options held kept = (refl, kept)
 
-pub kept_is_uncontinued : (fault : Fault) (left : Option (List ℕ)) (lefts : List (Option (List ℕ))) (options : LimitOptions) (budget : ℕ) (held : Option (List ℕ)) (made : Option (Option (List ℕ)))
+pub kept_is_uncontinued : (fault : Fault) (left : Option (List ℕ)) (lefts : List (Option (List ℕ))) (options : LimitOptions) (budget : ℕ)
+    (held : Option (List ℕ)) (made : Option (Option (List ℕ)))
     → IsKeptBy left lefts options fault → IsUncontinued left lefts options budget held held made made fault
 kept_is_uncontinued faults.Device left lefts options budget held made kept = inl (refl, refl)
 kept_is_uncontinued faults.Memory left lefts options budget held made kept = inl (refl, refl)
@@ -35,16 +37,19 @@ kept_is_uncontinued (faults.Text fault) left lefts options budget held made kept
 kept_is_uncontinued (faults.Refusal refusal) left lefts options budget held made kept = (refl, refl, kept)
 
 -- where a device fails, or there is no memory for what it does, a part may be written
-pub part_is_faulty : (fault : DeviceFault) (left : Option (List ℕ)) (lefts : List (Option (List ℕ))) (options : LimitOptions) (old new : Option (List ℕ)) → WritesPart left lefts options old new → IsFaulty left lefts options old new (fault_of fault)
+pub part_is_faulty : (fault : DeviceFault) (left : Option (List ℕ)) (lefts : List (Option (List ℕ))) (options : LimitOptions)
+    (old new : Option (List ℕ)) → WritesPart left lefts options old new → IsFaulty left lefts options old new (fault_of fault)
 part_is_faulty devices.Device left lefts options old new part = part
 part_is_faulty devices.Memory left lefts options old new part = part
 
-pub part_is_uncontinued : (fault : DeviceFault) (left : Option (List ℕ)) (lefts : List (Option (List ℕ))) (options : LimitOptions) (budget : ℕ) (old new : Option (List ℕ)) (kept made : Option (Option (List ℕ)))
+pub part_is_uncontinued : (fault : DeviceFault) (left : Option (List ℕ)) (lefts : List (Option (List ℕ))) (options : LimitOptions)
+    (budget : ℕ) (old new : Option (List ℕ)) (kept made : Option (Option (List ℕ)))
     → ContinuesPart left lefts options budget old new kept made → IsUncontinued left lefts options budget old new kept made (fault_of fault)
 part_is_uncontinued devices.Device left lefts options budget old new kept made part = part
 part_is_uncontinued devices.Memory left lefts options budget old new kept made part = part
 
-pub part_is_untranscribed : (fault : DeviceFault) (left old new : Option (List ℕ)) → TranscribesPart left old new → IsUntranscribed left old new (fault_of fault)
+pub part_is_untranscribed : (fault : DeviceFault) (left old new : Option (List ℕ)) → TranscribesPart left old new
+    → IsUntranscribed left old new (fault_of fault)
 part_is_untranscribed devices.Device left old new part = part
 part_is_untranscribed devices.Memory left old new part = part
 
@@ -56,11 +61,13 @@ of_no_schedule devices.Memory of_schedule = of_schedule
 -- ---- a schedule that is none
 
 -- a schedule file does not begin as a text does
-file_is_no_text : (bytes : List ℕ) (recorded : Option Recording) (events : List Event) → begins_text bytes ≡ true → ScheduleFile bytes recorded events → ⊥
+file_is_no_text : (bytes : List ℕ) (recorded : Option Recording) (events : List Event) → begins_text bytes ≡ true
+    → ScheduleFile bytes recorded events → ⊥
 file_is_no_text bytes recorded events text file = let bad : false ≡ true = sym (ap begins_text file.spelled) ∙ text in cc
 
 -- memory apart, its bytes give none
-unspelled : (fault : EitherFault) (left : Option (List ℕ)) (bytes : List ℕ) → Reads left bytes → ((recorded : Option Recording) (events : List Event) → GivesEvents bytes recorded events → IsMemory fault) → IsFaultOf bytes fault
+unspelled : (fault : EitherFault) (left : Option (List ℕ)) (bytes : List ℕ) → Reads left bytes
+    → ((recorded : Option Recording) (events : List Event) → GivesEvents bytes recorded events → IsMemory fault) → IsFaultOf bytes fault
     → IsMemory fault ⊎ IsUnspelled left fault
 unspelled fault left bytes read only (inl memory) = inl memory
 unspelled (File fault) left bytes read only (inr stands) = inr (bytes, read, (λ recorded events given. subst (StandsIn bytes) (only recorded events given) stands.1), stands)
@@ -71,16 +78,20 @@ unspelled (Text fault) left bytes read only (inr stands) = inr (bytes, read, non
     none recorded events (inr (entries, text, same)) = stands.1 recorded entries text.1
 
 -- what is answered then
-kept_by : (fault : EitherFault) (left : Option (List ℕ)) (lefts : List (Option (List ℕ))) (options : LimitOptions) → IsMemory fault ⊎ IsUnspelled left fault → IsKeptBy left lefts options (either_fault fault)
+kept_by : (fault : EitherFault) (left : Option (List ℕ)) (lefts : List (Option (List ℕ))) (options : LimitOptions)
+    → IsMemory fault ⊎ IsUnspelled left fault → IsKeptBy left lefts options (either_fault fault)
 kept_by (File fault) left lefts options (inl memory) = inl memory
 kept_by (File fault) left lefts options (inr none) = inr (inl none)
 kept_by (Text fault) left lefts options why = why
 
-unprinted_by : (fault : EitherFault) (left held : Option (List ℕ)) → IsMemory fault ⊎ IsUnspelled left fault → IsUnprinted left held held (either_fault fault)
+unprinted_by : (fault : EitherFault) (left held : Option (List ℕ)) → IsMemory fault ⊎ IsUnspelled left fault
+    → IsUnprinted left held held (either_fault fault)
 unprinted_by (File fault) left held why = (refl, why)
 unprinted_by (Text fault) left held why = (refl, why)
 
-module _ (fault : EitherFault) (left : Option (List ℕ)) (bytes : List ℕ) (read : Reads left bytes) (only : (recorded : Option Recording) (events : List Event) → GivesEvents bytes recorded events → IsMemory fault) (stands : IsFaultOf bytes fault) where
+module _ (fault : EitherFault) (left : Option (List ℕ)) (bytes : List ℕ) (read : Reads left bytes)
+    (only : (recorded : Option Recording) (events : List Event) → GivesEvents bytes recorded events → IsMemory fault)
+    (stands : IsFaultOf bytes fault) where
   pub either_is_kept : (lefts : List (Option (List ℕ))) (options : LimitOptions) → IsKeptBy left lefts options (either_fault fault)
   either_is_kept lefts options = kept_by fault left lefts options (unspelled fault left bytes read only stands)
 

@@ -24,7 +24,8 @@ few_files files trees accepted =
     omega (arith, few, spelled_count files trees accepted.linkable.spelled)
 
 -- a class file isn't read, and nothing is written
-pub unread_is_unrun : (fault : Fault) (lefts : List (Option (List ℕ))) (asked : LimitOptions) (options : RunOptions) (held : Option (List ℕ)) (kept : Option (Option (List ℕ))) (file : ℕ)
+pub unread_is_unrun : (fault : Fault) (lefts : List (Option (List ℕ))) (asked : LimitOptions) (options : RunOptions)
+    (held : Option (List ℕ)) (kept : Option (Option (List ℕ))) (file : ℕ)
     → file < length lefts → IsOfFile file fault → IsUnrun lefts asked options held held kept kept fault
 unread_is_unrun faults.Device lefts asked options held kept file within of_file = inl (refl, refl)
 unread_is_unrun faults.Memory lefts asked options held kept file within of_file = absurd of_file
@@ -33,12 +34,14 @@ unread_is_unrun (faults.Text fault) lefts asked options held kept file within of
 unread_is_unrun (faults.Refusal refusal) lefts asked options held kept file within of_file = (refl, refl, inl (file, within, of_file))
 
 -- the writing stops
-pub part_is_unrun : (fault : DeviceFault) (lefts : List (Option (List ℕ))) (asked : LimitOptions) (options : RunOptions) (old new : Option (List ℕ)) (kept made : Option (Option (List ℕ)))
+pub part_is_unrun : (fault : DeviceFault) (lefts : List (Option (List ℕ))) (asked : LimitOptions) (options : RunOptions)
+    (old new : Option (List ℕ)) (kept made : Option (Option (List ℕ)))
     → RunsPart lefts asked options old new kept made → IsUnrun lefts asked options old new kept made (fault_of fault)
 part_is_unrun devices.Device lefts asked options old new kept made part = part
 part_is_unrun devices.Memory lefts asked options old new kept made part = part
 
 -- what is so of an answer by three clauses
-pub by_three : {A E : Type 0} (result : Result A E) (p q r all : A → Type 0) → ((value : A) → p value → q value → r value → all value) → IfOk result p → IfOk result q → IfOk result r → IfOk result all
+pub by_three : {A E : Type 0} (result : Result A E) (p q r all : A → Type 0) → ((value : A) → p value → q value → r value → all value)
+    → IfOk result p → IfOk result q → IfOk result r → IfOk result all
 by_three (Ok value) p q r all on first second third = on value first second third
 by_three (Err fault) p q r all on first second third = tt

@@ -19,7 +19,8 @@ use Rattle.engines.specs.declared.status.Status.{Status}
 
 module _ (lefts : List (Option (List ℕ))) (asked : LimitOptions) (want : Wanted) (recorded : Bool) where
   -- a class file isn't read, and nothing is written
-  pub unread_is_unsearched : (fault : Fault) (held : Option (List ℕ)) (kept : Option (Option (List ℕ))) (file : ℕ) → file < length lefts → IsOfFile file fault
+  pub unread_is_unsearched : (fault : Fault) (held : Option (List ℕ)) (kept : Option (Option (List ℕ))) (file : ℕ) → file < length lefts
+      → IsOfFile file fault
       → IsUnsearched lefts asked want recorded held held kept kept fault
   unread_is_unsearched faults.Device held kept file within of_file = inl (refl, refl)
   unread_is_unsearched faults.Memory held kept file within of_file = absurd of_file
@@ -34,7 +35,8 @@ module _ (lefts : List (Option (List ℕ))) (asked : LimitOptions) (want : Wante
   part_is_unsearched devices.Memory old new kept made part = part
 
 -- where there is a file it is asked for
-pub asked_for : (recording : Recording) (recorded : Bool) (answer : Answer) (file : Option (List ℕ)) → IsFileOf recording recorded answer file → IsTrue (is_some file) → IsTrue recorded
+pub asked_for : (recording : Recording) (recorded : Bool) (answer : Answer) (file : Option (List ℕ))
+    → IsFileOf recording recorded answer file → IsTrue (is_some file) → IsTrue recorded
 asked_for recording recorded (answers.Found schedule report) file is there = sym is.0 ∙ there
 asked_for recording recorded (answers.Complete outcomes) file is there = absurd (none_there file is there)
   where
@@ -45,7 +47,8 @@ asked_for recording recorded answers.GaveUp file is there = absurd (none_there f
     none_there : (file : Option (List ℕ)) → file ≡ None → IsTrue (is_some file) → ⊥
     none_there file e t = let bad : IsTrue (is_some {A = List ℕ} None) = subst (λ f. IsTrue (is_some f)) e t in cc
 
-pub file_is_asked_for : (files : List (List ℕ)) (asked : LimitOptions) (want : Wanted) (recorded : Bool) (text : List ℕ) (file : Option (List ℕ)) (status : Status)
+pub file_is_asked_for : (files : List (List ℕ)) (asked : LimitOptions) (want : Wanted) (recorded : Bool) (text : List ℕ)
+    (file : Option (List ℕ)) (status : Status)
     → IsSearched files asked want recorded text file status → IsTrue (is_some file) → IsTrue recorded
 file_is_asked_for files asked want recorded text file status searched there = asked_for (recording_of searched.limits files) recorded searched.answer file searched.spelled there
 

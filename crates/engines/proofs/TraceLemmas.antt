@@ -23,7 +23,8 @@ use Rattle.engines.specs.declared.fault.Fault.TheVariants as faults
 use Rattle.engines.specs.declared.status.Status.{Status}
 
 -- nothing is written where nothing is run
-pub kept_is_untraced : (fault : Fault) (left : Option (List ℕ)) (lefts : List (Option (List ℕ))) (options : LimitOptions) (window : Window) (held : Option (List ℕ)) → IsKeptBy left lefts options fault
+pub kept_is_untraced : (fault : Fault) (left : Option (List ℕ)) (lefts : List (Option (List ℕ))) (options : LimitOptions) (window : Window)
+    (held : Option (List ℕ)) → IsKeptBy left lefts options fault
     → IsUntraced left lefts options window held held fault
 kept_is_untraced faults.Device left lefts options window held kept = inl refl
 kept_is_untraced faults.Memory left lefts options window held kept = inl refl
@@ -32,14 +33,16 @@ kept_is_untraced (faults.Text fault) left lefts options window held kept = (refl
 kept_is_untraced (faults.Refusal refusal) left lefts options window held kept = (refl, kept)
 
 -- where a device fails, or memory is wanted, a part may be written
-pub part_is_untraced : (fault : DeviceFault) (left : Option (List ℕ)) (lefts : List (Option (List ℕ))) (options : LimitOptions) (window : Window) (old new : Option (List ℕ)) → TracesPart left lefts options window old new
+pub part_is_untraced : (fault : DeviceFault) (left : Option (List ℕ)) (lefts : List (Option (List ℕ))) (options : LimitOptions)
+    (window : Window) (old new : Option (List ℕ)) → TracesPart left lefts options window old new
     → IsUntraced left lefts options window old new (fault_of fault)
 part_is_untraced devices.Device left lefts options window old new part = part
 part_is_untraced devices.Memory left lefts options window old new part = part
 
 -- ---- the lines, and then the report
 
-module _ (schedule : List ℕ) (files : List (List ℕ)) (options : LimitOptions) (window : Window) (trees : Program) (events : List Event) (limits : Limits) (report : Report) (end : End) (old mid : Option (List ℕ))
+module _ (schedule : List ℕ) (files : List (List ℕ)) (options : LimitOptions) (window : Window) (trees : Program) (events : List Event)
+    (limits : Limits) (report : Report) (end : End) (old mid : Option (List ℕ))
     (traced : (lines : List ℕ) × IsTrace trees events limits window report end lines × Appends old mid lines) (opened : IsOpened schedule files options trees events limits) where
   is_traced : IsTraced schedule files options window (traced.0 ++ text_of report end) (status_of report.threads.items end)
   is_traced = record { trees = trees; events = events; limits = limits; opened = opened; lines = traced.0; report = report; end = end; traced = traced.1; told = refl; ended = refl }

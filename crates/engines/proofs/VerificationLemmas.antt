@@ -43,7 +43,8 @@ shown_code file m code = (member_named (name_of file) file.pool m.name m.descrip
 
 -- the body of a method that stands at a place is the one that the model finds
 module _ (files : Program) (linked : IsLinked files) (class k : ℕ) (member : Member) (body : Body) where
-  by_code : (file : FileTree) → class_at files class ≡ Some file → (m : MethodTree) → slice_get file.methods k ≡ Some m → (o : Option CodeTree) → code_in m.parts ≡ o
+  by_code : (file : FileTree) → class_at files class ≡ Some file → (m : MethodTree) → slice_get file.methods k ≡ Some m
+      → (o : Option CodeTree) → code_in m.parts ≡ o
       → option_map (shown_code file m) o ≡ Some (member, body) → body_of files member ≡ Some body
   by_code file c m s None q e = absurd cc
   by_code file c m s (Some code) q e =
@@ -59,11 +60,14 @@ module _ (files : Program) (linked : IsLinked files) (class k : ℕ) (member : M
       let same : shown ≡ given = same_Some shown given e in
       ap (body_of files) (sym (ap (λ (p : Member × Body). p.0) same)) ∙ found ∙ ap (λ (p : Member × Body). Some p.1) same
 
-  by_method : (file : FileTree) → class_at files class ≡ Some file → (o : Option MethodTree) → slice_get file.methods k ≡ o → option_and_then (shown_in file) o ≡ Some (member, body) → body_of files member ≡ Some body
+  by_method : (file : FileTree) → class_at files class ≡ Some file → (o : Option MethodTree) → slice_get file.methods k ≡ o
+      → option_and_then (shown_in file) o ≡ Some (member, body) → body_of files member ≡ Some body
   by_method file c None s e = absurd cc
   by_method file c (Some m) s e = by_code file c m s (code_in m.parts) refl e
 
-  by_class : (o : Option FileTree) → class_at files class ≡ o → option_and_then (λ (file : FileTree). option_and_then (shown_in file) (slice_get file.methods k)) o ≡ Some (member, body) → body_of files member ≡ Some body
+  by_class : (o : Option FileTree) → class_at files class ≡ o
+      → option_and_then (λ (file : FileTree). option_and_then (shown_in file) (slice_get file.methods k)) o ≡ Some (member, body)
+      → body_of files member ≡ Some body
   by_class None c e = absurd cc
   by_class (Some file) c e = by_method file c (slice_get file.methods k) refl e
 
@@ -78,13 +82,16 @@ untyped files refusal linked of_method typed =
 
 -- ---- refusals
 
-pub linking_refuses : (files : List (List ℕ)) (refusal : Refusal) → ((trees : Program) → IsLinkable files trees → refusal.kind ≡ kinds.OutOfMemory) → MayRefuse files refusal.kind refusal.file refusal.offset refusal.cause → IsRefused files refusal
+pub linking_refuses : (files : List (List ℕ)) (refusal : Refusal)
+    → ((trees : Program) → IsLinkable files trees → refusal.kind ≡ kinds.OutOfMemory)
+    → MayRefuse files refusal.kind refusal.file refusal.offset refusal.cause → IsRefused files refusal
 linking_refuses files refusal only may = record {
   memory = λ trees accepted. only trees accepted.linkable;
   stands = inl may;
 }
 
-pub verification_refuses : (files : List (List ℕ)) (linked : Program) (refusal : Refusal) → IsLinkable files linked → ((trees : Program) → IsLinkable files trees → linked ≡ trees) → Refuses linked refusal → IsRefused files refusal
+pub verification_refuses : (files : List (List ℕ)) (linked : Program) (refusal : Refusal) → IsLinkable files linked
+    → ((trees : Program) → IsLinkable files trees → linked ≡ trees) → Refuses linked refusal → IsRefused files refusal
 verification_refuses files linked refusal linkable sole refused = record {
   memory = λ trees accepted. ⊎_elim (λ kind. kind)
       (λ (of_method : IsUnverified linked refusal). absurd (untyped linked refusal (files, linkable) of_method (subst AreTyped (sym (sole trees accepted.linkable)) accepted.typed)))
@@ -95,7 +102,8 @@ verification_refuses files linked refusal linkable sole refused = record {
 -- ---- faults
 
 -- a class file isn't read, and nothing is written
-pub unread_is_unaccepted : (fault : Fault) (lefts : List (Option (List ℕ))) (held : Option (List ℕ)) (file : ℕ) → file < length lefts → IsOfFile file fault → IsUnaccepted lefts held held fault
+pub unread_is_unaccepted : (fault : Fault) (lefts : List (Option (List ℕ))) (held : Option (List ℕ)) (file : ℕ) → file < length lefts
+    → IsOfFile file fault → IsUnaccepted lefts held held fault
 unread_is_unaccepted faults.Device lefts held file within of_file = inl refl
 unread_is_unaccepted faults.Memory lefts held file within of_file = absurd of_file
 unread_is_unaccepted (faults.Schedule fault) lefts held file within of_file = absurd of_file
@@ -108,6 +116,7 @@ none_written None text = ([], text, refl, tt)
 none_written (Some bytes) text = ([], text, refl, sym (append-nil bytes))
 
 -- the writing stops
-pub front_is_unaccepted : (fault : DeviceFault) (lefts : List (Option (List ℕ))) (old new : Option (List ℕ)) → VerifiesFront lefts old new → IsUnaccepted lefts old new (fault_of fault)
+pub front_is_unaccepted : (fault : DeviceFault) (lefts : List (Option (List ℕ))) (old new : Option (List ℕ)) → VerifiesFront lefts old new
+    → IsUnaccepted lefts old new (fault_of fault)
 front_is_unaccepted devices.Device lefts old new front = inr front
 front_is_unaccepted devices.Memory lefts old new front = front

@@ -27,7 +27,8 @@ ComesTo (Part told stop) schedule report end whole = (report ≡ told) × (end �
 -- The schedule and the class files are such as they have to be. The program of the class files has gone on behind the events, within the
 -- limits and the budget; this is the text of the report, and its status. The bytes of a file spell the whole schedule, the limits,
 -- and the lengths of the class files.
-pub record IsContinued (schedule : List ℕ) (files : List (List ℕ)) (options : LimitOptions) (budget : ℕ) (text : List ℕ) (file : Option (List ℕ)) (status : Status) : Type 0 where
+pub record IsContinued (schedule : List ℕ) (files : List (List ℕ)) (options : LimitOptions) (budget : ℕ) (text : List ℕ)
+    (file : Option (List ℕ)) (status : Status) : Type 0 where
   pub trees : Program
   pub events : List Event
   pub limits : Limits
@@ -48,12 +49,15 @@ Continues left lefts options budget text file status =
     (schedule : List ℕ) × (files : List (List ℕ)) × Reads left schedule × ReadsEach lefts files × IsContinued schedule files options budget text file status
 
 -- nothing is written, or a part of what the run says
-abbrev pub ContinuesPart : Option (List ℕ) → List (Option (List ℕ)) → LimitOptions → (budget : ℕ) → (old new : Option (List ℕ)) → (kept made : Option (Option (List ℕ))) → Type 0
+abbrev pub ContinuesPart : Option (List ℕ) → List (Option (List ℕ)) → LimitOptions → (budget : ℕ) → (old new : Option (List ℕ))
+    → (kept made : Option (Option (List ℕ))) → Type 0
 ContinuesPart left lefts options budget old new kept made = ((new ≡ old) × (made ≡ kept))
-    ⊎ ((text : List ℕ) × (file : Option (List ℕ)) × (status : Status) × Continues left lefts options budget text file status × StopsWithin text file old new kept made)
+    ⊎ ((text : List ℕ) × (file : Option (List ℕ)) × (status : Status) × Continues left lefts options budget text file status
+    × StopsWithin text file old new kept made)
 
 -- When a fault is answered, and what is written then.
-abbrev pub IsUncontinued : Option (List ℕ) → List (Option (List ℕ)) → LimitOptions → (budget : ℕ) → (old new : Option (List ℕ)) → (kept made : Option (Option (List ℕ))) → Fault → Type 0
+abbrev pub IsUncontinued : Option (List ℕ) → List (Option (List ℕ)) → LimitOptions → (budget : ℕ) → (old new : Option (List ℕ))
+    → (kept made : Option (Option (List ℕ))) → Fault → Type 0
 IsUncontinued left lefts options budget old new kept made faults.Device = ContinuesPart left lefts options budget old new kept made
 IsUncontinued left lefts options budget old new kept made faults.Memory = ContinuesPart left lefts options budget old new kept made
 IsUncontinued left lefts options budget old new kept made fault = (new ≡ old) × (made ≡ kept) × IsKeptBy left lefts options fault

@@ -24,7 +24,8 @@ use Rattle.engines.specs.declared.fault.Fault.TheVariants as faults
 
 -- The bytes give a schedule, and the class files and the options fit with what it was recorded with, if the bytes say so. The class
 -- files are accepted, and are this program. It is to run under these events, and within these limits.
-pub record IsOpened (schedule : List ℕ) (files : List (List ℕ)) (options : LimitOptions) (trees : Program) (events : List Event) (limits : Limits) : Type 0 where
+pub record IsOpened (schedule : List ℕ) (files : List (List ℕ)) (options : LimitOptions) (trees : Program) (events : List Event)
+    (limits : Limits) : Type 0 where
   pub recorded : Option Recording
   pub given : GivesEvents schedule recorded events
   pub fits_files : FitsFiles recorded files

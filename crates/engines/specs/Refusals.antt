@@ -12,4 +12,5 @@ use Rattle.link_conditions.specs.declared.refusal.why.RefusalKind.TheVariants as
 -- refuses what is linked.
 pub record IsRefused (files : List (List ℕ)) (refusal : Refusal) : Type 0 where
   pub memory : (trees : Program) → IsAccepted files trees → refusal.kind ≡ kinds.OutOfMemory
-  pub stands : MayRefuse files refusal.kind refusal.file refusal.offset refusal.cause ⊎ ((trees : Program) × IsLinkable files trees × Refuses trees refusal)
+  pub stands : MayRefuse files refusal.kind refusal.file refusal.offset refusal.cause
+      ⊎ ((trees : Program) × IsLinkable files trees × Refuses trees refusal)

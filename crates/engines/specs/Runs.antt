@@ -31,7 +31,8 @@ recording_of limits files = record { limits = limits; lengths = map length files
 
 -- The class files are accepted. Workers, or one, have run their program within the limits and the budget, and this is the text of
 -- their report, and its status. The bytes of a file spell the events that were done, the limits, and the lengths of the class files.
-pub record IsRun (files : List (List ℕ)) (asked : LimitOptions) (options : RunOptions) (text : List ℕ) (file : Option (List ℕ)) (status : Status) : Type 0 where
+pub record IsRun (files : List (List ℕ)) (asked : LimitOptions) (options : RunOptions) (text : List ℕ) (file : Option (List ℕ))
+    (status : Status) : Type 0 where
   pub trees : Program
   pub accepted : IsAccepted files trees
   pub limits : Limits
@@ -73,12 +74,15 @@ abbrev pub StopsWithin : List ℕ → Option (List ℕ) → (old new : Option (L
 StopsWithin text file old new kept made = (AppendsFront old new text × (made ≡ kept)) ⊎ (Appends old new text × RecordsFront kept made file)
 
 -- nothing is written, or a part of what a run says
-abbrev pub RunsPart : List (Option (List ℕ)) → LimitOptions → RunOptions → (old new : Option (List ℕ)) → (kept made : Option (Option (List ℕ))) → Type 0
+abbrev pub RunsPart : List (Option (List ℕ)) → LimitOptions → RunOptions → (old new : Option (List ℕ))
+    → (kept made : Option (Option (List ℕ))) → Type 0
 RunsPart lefts asked options old new kept made = ((new ≡ old) × (made ≡ kept))
-    ⊎ ((text : List ℕ) × (file : Option (List ℕ)) × (status : Status) × Runs lefts asked options text file status × StopsWithin text file old new kept made)
+    ⊎ ((text : List ℕ) × (file : Option (List ℕ)) × (status : Status) × Runs lefts asked options text file status
+    × StopsWithin text file old new kept made)
 
 -- When a fault is answered, and what is written then.
-abbrev pub IsUnrun : List (Option (List ℕ)) → LimitOptions → RunOptions → (old new : Option (List ℕ)) → (kept made : Option (Option (List ℕ))) → Fault → Type 0
+abbrev pub IsUnrun : List (Option (List ℕ)) → LimitOptions → RunOptions → (old new : Option (List ℕ))
+    → (kept made : Option (Option (List ℕ))) → Fault → Type 0
 IsUnrun lefts asked options old new kept made faults.Device = RunsPart lefts asked options old new kept made
 IsUnrun lefts asked options old new kept made faults.Memory = RunsPart lefts asked options old new kept made
 -- memory for the reading aside, the class files are refused

@@ -32,7 +32,8 @@ IsFileOf recording asked answers.GaveUp file = file ≡ None
 
 -- The class files are accepted. A search over all schedules of their program, within the limits, has this answer; and this is its
 -- text, the file of the schedule, and the status.
-pub record IsSearched (files : List (List ℕ)) (asked : LimitOptions) (want : Wanted) (recorded : Bool) (text : List ℕ) (file : Option (List ℕ)) (status : Status) : Type 0 where
+pub record IsSearched (files : List (List ℕ)) (asked : LimitOptions) (want : Wanted) (recorded : Bool) (text : List ℕ)
+    (file : Option (List ℕ)) (status : Status) : Type 0 where
   pub trees : Program
   pub accepted : IsAccepted files trees
   pub limits : Limits
@@ -56,12 +57,15 @@ RecordsFound kept made (Some bytes) = Records kept made (Some bytes)
 -- ---- what is written where there is a fault
 
 -- nothing is written, or a part of what a search says
-abbrev pub SearchesPart : List (Option (List ℕ)) → LimitOptions → Wanted → (recorded : Bool) → (old new : Option (List ℕ)) → (kept made : Option (Option (List ℕ))) → Type 0
+abbrev pub SearchesPart : List (Option (List ℕ)) → LimitOptions → Wanted → (recorded : Bool) → (old new : Option (List ℕ))
+    → (kept made : Option (Option (List ℕ))) → Type 0
 SearchesPart lefts asked want recorded old new kept made = ((new ≡ old) × (made ≡ kept))
-    ⊎ ((text : List ℕ) × (file : Option (List ℕ)) × (status : Status) × Searches lefts asked want recorded text file status × StopsWithin text file old new kept made)
+    ⊎ ((text : List ℕ) × (file : Option (List ℕ)) × (status : Status) × Searches lefts asked want recorded text file status
+    × StopsWithin text file old new kept made)
 
 -- When a fault is answered, and what is written then.
-abbrev pub IsUnsearched : List (Option (List ℕ)) → LimitOptions → Wanted → (recorded : Bool) → (old new : Option (List ℕ)) → (kept made : Option (Option (List ℕ))) → Fault → Type 0
+abbrev pub IsUnsearched : List (Option (List ℕ)) → LimitOptions → Wanted → (recorded : Bool) → (old new : Option (List ℕ))
+    → (kept made : Option (Option (List ℕ))) → Fault → Type 0
 IsUnsearched lefts asked want recorded old new kept made faults.Device = SearchesPart lefts asked want recorded old new kept made
 IsUnsearched lefts asked want recorded old new kept made faults.Memory = SearchesPart lefts asked want recorded old new kept made
 -- memory for the reading aside, the class files are refused

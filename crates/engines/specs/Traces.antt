@@ -19,7 +19,8 @@ use Rattle.engines.specs.declared.status.Status.{Status}
 
 -- The schedule and the class files are such as they have to be. The program of the class files has these lines and this report under
 -- the events within the limits; and this is their text, the lines first, and the status.
-pub record IsTraced (schedule : List ℕ) (files : List (List ℕ)) (options : LimitOptions) (window : Window) (text : List ℕ) (status : Status) : Type 0 where
+pub record IsTraced (schedule : List ℕ) (files : List (List ℕ)) (options : LimitOptions) (window : Window) (text : List ℕ)
+    (status : Status) : Type 0 where
   pub trees : Program
   pub events : List Event
   pub limits : Limits
@@ -38,7 +39,8 @@ Traces left lefts options window text status = (schedule : List ℕ) × (files :
 -- ---- before an error
 
 -- the run stops, and a front of the lines of the events that were done is written
-pub record IsUnended (schedule : List ℕ) (files : List (List ℕ)) (options : LimitOptions) (window : Window) (old new : Option (List ℕ)) : Type 0 where
+pub record IsUnended (schedule : List ℕ) (files : List (List ℕ)) (options : LimitOptions) (window : Window)
+    (old new : Option (List ℕ)) : Type 0 where
   pub trees : Program
   pub events : List Event
   pub limits : Limits
@@ -53,7 +55,8 @@ TracesFront schedule files options window old new = IsUnended schedule files opt
 -- nothing is written, or such a front
 abbrev pub TracesPart : Option (List ℕ) → List (Option (List ℕ)) → LimitOptions → Window → (old new : Option (List ℕ)) → Type 0
 TracesPart left lefts options window old new = (new ≡ old)
-    ⊎ ((schedule : List ℕ) × (files : List (List ℕ)) × Reads left schedule × ReadsEach lefts files × TracesFront schedule files options window old new)
+    ⊎ ((schedule : List ℕ) × (files : List (List ℕ)) × Reads left schedule × ReadsEach lefts files
+    × TracesFront schedule files options window old new)
 
 -- When a fault is answered, and what is written then.
 abbrev pub IsUntraced : Option (List ℕ) → List (Option (List ℕ)) → LimitOptions → Window → (old new : Option (List ℕ)) → Fault → Type 0

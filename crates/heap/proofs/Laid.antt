@@ -22,7 +22,8 @@ range_short cells from to = omega (arith, length-take (to - from) (drop from cel
 pub range_empty : (cells : List ℕ) (at : ℕ) → slice_range cells at at ≡ []
 range_empty cells at = ap (λ (n : ℕ). take n (drop at cells)) (sub_self at)
 
-pub range-append : (cells new : List ℕ) (from to : ℕ) → from ≤ to → to ≤ length cells → slice_range (cells ++ new) from to ≡ slice_range cells from to
+pub range-append : (cells new : List ℕ) (from to : ℕ) → from ≤ to → to ≤ length cells
+    → slice_range (cells ++ new) from to ≡ slice_range cells from to
 range-append cells new from to up h =
     let start : from ≤ length cells = omega arith in
     let room : to - from ≤ length (drop from cells) = omega (arith, length-drop from cells) in
@@ -42,11 +43,13 @@ range_past cells from to k h = get_or_past (slice_range cells from to) k 0 (omeg
 pub range-set_before : (cells : List ℕ) (i w from to : ℕ) → i < from → slice_range (set cells i w) from to ≡ slice_range cells from to
 range-set_before cells i w from to h = ap (λ (xs : List ℕ). take (to - from) xs) (drop-set-lt from cells i w h)
 
-pub range-set_after : (cells : List ℕ) (d w from to : ℕ) → to ≤ from + d → slice_range (set cells (from + d) w) from to ≡ slice_range cells from to
+pub range-set_after : (cells : List ℕ) (d w from to : ℕ) → to ≤ from + d
+    → slice_range (set cells (from + d) w) from to ≡ slice_range cells from to
 range-set_after cells d w from to h =
     ap (λ (xs : List ℕ). take (to - from) xs) (drop-set-add from cells d w) ∙ take-set-le (to - from) (drop from cells) d w (omega arith)
 
-pub range-set_in : (cells : List ℕ) (k w from to : ℕ) → from + k < to → slice_range (set cells (from + k) w) from to ≡ set (slice_range cells from to) k w
+pub range-set_in : (cells : List ℕ) (k w from to : ℕ) → from + k < to
+    → slice_range (set cells (from + k) w) from to ≡ set (slice_range cells from to) k w
 range-set_in cells k w from to h =
     ap (λ (xs : List ℕ). take (to - from) xs) (drop-set-add from cells k w) ∙ take-set-lt (to - from) (drop from cells) k w (omega arith)
 
@@ -98,12 +101,14 @@ drop-objects_of zero es cells = refl
 drop-objects_of (suc k) [] cells = refl
 drop-objects_of (suc k) (e ∷ es) cells = drop-objects_of k es cells
 
-pub kind-objects_of : (es : List Entry) (cells : List ℕ) (r : ℕ) → option_map kind_of (slice_get (objects_of es cells) r) ≡ option_map entry_kind (slice_get es r)
+pub kind-objects_of : (es : List Entry) (cells : List ℕ) (r : ℕ)
+    → option_map kind_of (slice_get (objects_of es cells) r) ≡ option_map entry_kind (slice_get es r)
 kind-objects_of [] cells r = refl
 kind-objects_of (e ∷ es) cells zero = refl
 kind-objects_of (e ∷ es) cells (suc r) = kind-objects_of es cells r
 
-pub cells-objects_of : (es : List Entry) (cells : List ℕ) → AreLaid es (length cells) → cell_count (objects_of es cells) + first_start es (length cells) ≡ length cells
+pub cells-objects_of : (es : List Entry) (cells : List ℕ) → AreLaid es (length cells)
+    → cell_count (objects_of es cells) + first_start es (length cells) ≡ length cells
 cells-objects_of [] cells h = omega arith
 cells-objects_of (e ∷ es) cells h =
     let next : first_start es (length cells) ≤ length cells = first_le_end es (length cells) h.2 in
@@ -115,7 +120,8 @@ cells-objects_of (e ∷ es) cells h =
       sum_by-cons (λ (object : Object). length object.words) (object_of e (first_start es (length cells)) cells) (objects_of es cells),
     )
 
-pub cells_from : (es : List Entry) (cells : List ℕ) (r : ℕ) → AreLaid es (length cells) → cell_count (drop r (objects_of es cells)) + start_at es (length cells) r ≡ length cells
+pub cells_from : (es : List Entry) (cells : List ℕ) (r : ℕ) → AreLaid es (length cells)
+    → cell_count (drop r (objects_of es cells)) + start_at es (length cells) r ≡ length cells
 cells_from es cells r h = rw (drop-objects_of r es cells) (cells-objects_of (drop r es) cells (laid-drop r es (length cells) h))
 
 -- ---- one more object
@@ -127,7 +133,8 @@ pub first_start-push : (es : List Entry) (kind : ObjectKind) (n m : ℕ) → fir
 first_start-push [] kind n m = refl
 first_start-push (e ∷ es) kind n m = refl
 
-pub start_at-push : (es : List Entry) (kind : ObjectKind) (n m k : ℕ) → k ≤ length es → start_at (es ++ entry kind n ∷ []) m k ≡ start_at es n k
+pub start_at-push : (es : List Entry) (kind : ObjectKind) (n m k : ℕ) → k ≤ length es
+    → start_at (es ++ entry kind n ∷ []) m k ≡ start_at es n k
 start_at-push es kind n m zero h = first_start-push es kind n m
 start_at-push [] kind n m (suc k) h = absurd (omega (arith, h))
 start_at-push (e ∷ es) kind n m (suc k) h = start_at-push es kind n m k (omega (arith, h))
@@ -149,13 +156,15 @@ objects_of-push (e ∷ es) kind cells new h =
 
 -- ---- words read
 
-pub words_at_suc : (es : List Entry) (cells : List ℕ) (r : ℕ) → words_at (objects_of es cells) r ≡ slice_range cells (start_at es (length cells) r) (start_at es (length cells) (suc r))
+pub words_at_suc : (es : List Entry) (cells : List ℕ) (r : ℕ)
+    → words_at (objects_of es cells) r ≡ slice_range cells (start_at es (length cells) r) (start_at es (length cells) (suc r))
 words_at_suc [] cells zero = sym (range_empty cells (length cells))
 words_at_suc [] cells (suc r) = sym (range_empty cells (length cells))
 words_at_suc (e ∷ es) cells zero = refl
 words_at_suc (e ∷ es) cells (suc r) = words_at_suc es cells r
 
-pub words_at_range : (es : List Entry) (cells : List ℕ) (r : ℕ) → words_at (objects_of es cells) r ≡ slice_range cells (start_at es (length cells) r) (start_at es (length cells) (r + 1))
+pub words_at_range : (es : List Entry) (cells : List ℕ) (r : ℕ)
+    → words_at (objects_of es cells) r ≡ slice_range cells (start_at es (length cells) r) (start_at es (length cells) (r + 1))
 words_at_range es cells r = rw (add-one r) (words_at_suc es cells r)
 
 pub length-words_at : (es : List Entry) (cells : List ℕ) (r : ℕ) → AreLaid es (length cells)
@@ -166,7 +175,8 @@ length-words_at es cells r h =
     ∙ length-range cells (start_at es (length cells) r) (start_at es (length cells) (r + 1)) (start_le_end es (length cells) (r + 1) h) in
     omega (arith, is, start_le_next es (length cells) r h)
 
-pub word_there : (es : List Entry) (cells : List ℕ) (r k p : ℕ) → p ≡ start_at es (length cells) r + k → p < start_at es (length cells) (r + 1)
+pub word_there : (es : List Entry) (cells : List ℕ) (r k p : ℕ) → p ≡ start_at es (length cells) r + k
+    → p < start_at es (length cells) (r + 1)
     → word_at (objects_of es cells) r k ≡ get_or cells p 0
 word_there es cells r k p is h =
     ap (λ (ws : List ℕ). get_or ws k 0) (words_at_range es cells r)
@@ -180,17 +190,20 @@ word_not_there es cells r k h =
 
 -- ---- words written
 
-pub changed_suc : (o : Object) (os : List Object) (r : ℕ) (f : Object → Object) (x : Option Object) → changed (o ∷ os) (suc r) f x ≡ o ∷ changed os r f x
+pub changed_suc : (o : Object) (os : List Object) (r : ℕ) (f : Object → Object) (x : Option Object)
+    → changed (o ∷ os) (suc r) f x ≡ o ∷ changed os r f x
 changed_suc o os r f None = refl
 changed_suc o os r f (Some x) = refl
 
-pub objects_of-set_before : (es : List Entry) (cells : List ℕ) (i w : ℕ) → AreLaid es (length cells) → i < first_start es (length cells) → objects_of es (set cells i w) ≡ objects_of es cells
+pub objects_of-set_before : (es : List Entry) (cells : List ℕ) (i w : ℕ) → AreLaid es (length cells) → i < first_start es (length cells)
+    → objects_of es (set cells i w) ≡ objects_of es cells
 objects_of-set_before [] cells i w h lt = refl
 objects_of-set_before (e ∷ es) cells i w h lt =
     let later : i < first_start es (length cells) = omega (arith, lt, h.0) in
     rw (length-set cells i w, range-set_before cells i w e.start (first_start es (length cells)) lt, objects_of-set_before es cells i w h.2 later) refl
 
-pub set_at_suc : (es : List Entry) (cells : List ℕ) (r k p w : ℕ) → AreLaid es (length cells) → p ≡ start_at es (length cells) r + k → p < start_at es (length cells) (suc r)
+pub set_at_suc : (es : List Entry) (cells : List ℕ) (r k p w : ℕ) → AreLaid es (length cells) → p ≡ start_at es (length cells) r + k
+    → p < start_at es (length cells) (suc r)
     → objects_of es (set cells p w) ≡ put_field (objects_of es cells) r k w
 set_at_suc [] cells zero k p w h is lt = absurd (omega (arith, is, lt))
 set_at_suc [] cells (suc r) k p w h is lt = absurd (omega (arith, is, lt))
@@ -205,7 +218,8 @@ set_at_suc (e ∷ es) cells (suc r) k p w h is lt =
     ∙ range-set_after cells (p - e.start) w e.start (first_start es (length cells)) (omega (arith, at, past)) in
     rw (length-set cells p w, head, set_at_suc es cells r k p w h.2 is lt) (sym (changed_suc _ _ _ _ _))
 
-pub field_there : (es : List Entry) (cells : List ℕ) (r k p w : ℕ) → AreLaid es (length cells) → p ≡ start_at es (length cells) r + k → p < start_at es (length cells) (r + 1)
+pub field_there : (es : List Entry) (cells : List ℕ) (r k p w : ℕ) → AreLaid es (length cells) → p ≡ start_at es (length cells) r + k
+    → p < start_at es (length cells) (r + 1)
     → objects_of es (set cells p w) ≡ put_field (objects_of es cells) r k w
 field_there es cells r k p w h is lt = set_at_suc es cells r k p w h is (rw (add-one r) at lt)
 
@@ -214,7 +228,8 @@ field_past [] r k w h = refl
 field_past (o ∷ os) zero k w h = rw (set_past o.words k w h) refl
 field_past (o ∷ os) (suc r) k w h = changed_suc o os r (with_word k w) (slice_get os r) ∙ ap (λ (t : List Object). o ∷ t) (field_past os r k w h)
 
-pub field_not_there : (es : List Entry) (cells : List ℕ) (r k w : ℕ) → AreLaid es (length cells) → start_at es (length cells) (r + 1) ≤ start_at es (length cells) r + k
+pub field_not_there : (es : List Entry) (cells : List ℕ) (r k w : ℕ) → AreLaid es (length cells)
+    → start_at es (length cells) (r + 1) ≤ start_at es (length cells) r + k
     → put_field (objects_of es cells) r k w ≡ objects_of es cells
 field_not_there es cells r k w h past = field_past (objects_of es cells) r k w (omega (arith, length-words_at es cells r h, past))
 
@@ -225,10 +240,12 @@ element_by os r k w kind (Some a) h =
     let e : a.kind ≡ kind = cc in
     ap (λ (q : ObjectKind). slice_set os r (with_word k (stored q w) a)) e
 
-pub element_field : (os : List Object) (r k w : ℕ) (kind : ObjectKind) → option_map kind_of (slice_get os r) ≡ Some kind → put_element os r k w ≡ put_field os r k (stored kind w)
+pub element_field : (os : List Object) (r k w : ℕ) (kind : ObjectKind) → option_map kind_of (slice_get os r) ≡ Some kind
+    → put_element os r k w ≡ put_field os r k (stored kind w)
 element_field os r k w kind h = element_by os r k w kind (slice_get os r) h
 
-pub unchanged_by : (os : List Object) (r : ℕ) (f : Object → Object) (o : Option Object) → option_map kind_of o ≡ None → changed os r f o ≡ os
+pub unchanged_by : (os : List Object) (r : ℕ) (f : Object → Object) (o : Option Object) → option_map kind_of o ≡ None
+    → changed os r f o ≡ os
 unchanged_by os r f None h = refl
 unchanged_by os r f (Some a) h = absurd (cc)
 

@@ -19,7 +19,8 @@ pub length_pushed : {A : Type 0} (xs : List A) (x : A) → length (xs ++ x ∷ [
 length_pushed xs x = length-append xs (x ∷ [])
 
 pub sound_pushed : (es : List Entry) (kind : ObjectKind) (n count monitors opening limit cell_limit : ℕ)
-    → IsSound es n monitors opening limit cell_limit → count < 2 ^ 32 → length es < opening + limit → n + count ≤ start_at es n opening + cell_limit
+    → IsSound es n monitors opening limit cell_limit → count < 2 ^ 32 → length es < opening + limit
+    → n + count ≤ start_at es n opening + cell_limit
     → IsSound (es ++ entry kind n ∷ []) (n + count) (monitors + 1) opening limit cell_limit
 sound_pushed es kind n count monitors opening limit cell_limit s small room cells = record {
   laid = laid-push es kind n count s.laid small;
@@ -62,23 +63,27 @@ objects_left es cells locks opening limit cell_limit s =
 
 pub cells_left : (es : List Entry) (cells : List ℕ) (locks : Locks) (opening limit cell_limit : ℕ)
     → IsSound es (length cells) (length locks.monitors) opening limit cell_limit
-    → (cell_limit - (length cells - start_at es (length cells) opening)) + cells_made (heap_of es cells locks opening limit cell_limit) ≡ cell_limit
+    → (cell_limit - (length cells - start_at es (length cells) opening)) + cells_made (heap_of es cells locks opening limit cell_limit)
+    ≡ cell_limit
 cells_left es cells locks opening limit cell_limit s =
     omega (arith, s.cells_fit, cells_from es cells opening s.laid, start_le_end es (length cells) opening s.laid)
 
 -- ---- one more object is shown
 
-pub with_fresh : (es : List Entry) (cells : List ℕ) (locks : Locks) (opening limit cell_limit : ℕ) (kind : ObjectKind) (count : ℕ) → AreLaid es (length cells)
+pub with_fresh : (es : List Entry) (cells : List ℕ) (locks : Locks) (opening limit cell_limit : ℕ) (kind : ObjectKind) (count : ℕ)
+    → AreLaid es (length cells)
     → heap_of (es ++ entry kind (length cells) ∷ []) (cells ++ replicate count 0) (with_lock locks) opening limit cell_limit
     ≡ with_object (heap_of es cells locks opening limit cell_limit) (fresh kind count)
 with_fresh es cells locks opening limit cell_limit kind count laid =
     ap (λ (os : List Object). record { objects = os; locks = with_lock locks; opening = opening; object_limit = limit; cell_limit = cell_limit })
     (objects_of-push es kind cells (replicate count 0) laid)
 
-pub allocated : (es : List Entry) (cells : List ℕ) (locks : Locks) (opening limit cell_limit : ℕ) (kind : ObjectKind) (count reference : ℕ) (old : Heap)
+pub allocated : (es : List Entry) (cells : List ℕ) (locks : Locks) (opening limit cell_limit : ℕ) (kind : ObjectKind) (count reference : ℕ)
+    (old : Heap)
     → heap_of es cells locks opening limit cell_limit ≡ old → IsSound es (length cells) (length locks.monitors) opening limit cell_limit
     → reference ≡ length old.objects → made old < old.object_limit → cells_made old + count ≤ old.cell_limit
-    → IsAllocated reference kind count old (heap_of (es ++ entry kind (length cells) ∷ []) (cells ++ replicate count 0) (with_lock locks) opening limit cell_limit)
+    → IsAllocated reference kind count old (heap_of (es ++ entry kind (length cells) ∷ []) (cells
+    ++ replicate count 0) (with_lock locks) opening limit cell_limit)
 allocated es cells locks opening limit cell_limit kind count reference old v s r few room =
     let left : made (heap_of es cells locks opening limit cell_limit) < limit = subst (λ (h : Heap). made h < h.object_limit) (sym v) few in
     let is : reference ≡ length (objects_of es cells) = subst (λ (h : Heap). reference ≡ length h.objects) (sym v) r in
@@ -90,10 +95,12 @@ allocated es cells locks opening limit cell_limit kind count reference old v s r
       after = with_fresh es cells locks opening limit cell_limit kind count s.laid;
     })
 
-pub allocated_sound : (es : List Entry) (cells : List ℕ) (locks : Locks) (opening limit cell_limit : ℕ) (kind : ObjectKind) (count : ℕ) (old : Heap)
+pub allocated_sound : (es : List Entry) (cells : List ℕ) (locks : Locks) (opening limit cell_limit : ℕ) (kind : ObjectKind) (count : ℕ)
+    (old : Heap)
     → heap_of es cells locks opening limit cell_limit ≡ old → IsSound es (length cells) (length locks.monitors) opening limit cell_limit
     → count < 2 ^ 32 → made old < old.object_limit → cells_made old + count ≤ old.cell_limit
-    → IsSound (es ++ entry kind (length cells) ∷ []) (length (cells ++ replicate count 0)) (length ((with_lock locks).monitors)) opening limit cell_limit
+    → IsSound (es ++ entry kind (length cells)
+    ∷ []) (length (cells ++ replicate count 0)) (length ((with_lock locks).monitors)) opening limit cell_limit
 allocated_sound es cells locks opening limit cell_limit kind count old v s small few room =
     let left : made (heap_of es cells locks opening limit cell_limit) < limit = subst (λ (h : Heap). made h < h.object_limit) (sym v) few in
     let cells_left : cells_made (heap_of es cells locks opening limit cell_limit) + count ≤ cell_limit = subst (λ (h : Heap). cells_made h + count ≤ h.cell_limit) (sym v) room in
@@ -103,10 +110,12 @@ allocated_sound es cells locks opening limit cell_limit kind count old v s small
     (omega (arith, cells_left, cells_from es cells opening s.laid))
     )
 
-pub opened : (es : List Entry) (cells : List ℕ) (locks : Locks) (opening limit cell_limit : ℕ) (kind : ObjectKind) (count reference : ℕ) (old : Heap)
+pub opened : (es : List Entry) (cells : List ℕ) (locks : Locks) (opening limit cell_limit : ℕ) (kind : ObjectKind) (count reference : ℕ)
+    (old : Heap)
     → heap_of es cells locks opening limit cell_limit ≡ old → IsSound es (length cells) (length locks.monitors) opening limit cell_limit
     → reference ≡ length old.objects → length old.objects < 294967295
-    → IsOpened reference kind count old (heap_of (es ++ entry kind (length cells) ∷ []) (cells ++ replicate count 0) (with_lock locks) (reference + 1) limit cell_limit)
+    → IsOpened reference kind count old (heap_of (es ++ entry kind (length cells) ∷ []) (cells
+    ++ replicate count 0) (with_lock locks) (reference + 1) limit cell_limit)
 opened es cells locks opening limit cell_limit kind count reference old v s r few =
     let left : length (objects_of es cells) < 294967295 = subst (λ (h : Heap). length h.objects < 294967295) (sym v) few in
     let is : reference ≡ length (objects_of es cells) = subst (λ (h : Heap). reference ≡ length h.objects) (sym v) r in
@@ -119,10 +128,12 @@ opened es cells locks opening limit cell_limit kind count reference old v s r fe
           ∙ ap (λ (n : ℕ). record (with_object (heap_of es cells locks opening limit cell_limit) (fresh kind count)) { opening = n + 1 }) is;
     })
 
-pub opened_sound : (es : List Entry) (cells : List ℕ) (locks : Locks) (opening limit cell_limit : ℕ) (kind : ObjectKind) (count reference : ℕ) (old : Heap)
+pub opened_sound : (es : List Entry) (cells : List ℕ) (locks : Locks) (opening limit cell_limit : ℕ) (kind : ObjectKind)
+    (count reference : ℕ) (old : Heap)
     → heap_of es cells locks opening limit cell_limit ≡ old → IsSound es (length cells) (length locks.monitors) opening limit cell_limit
     → count < 2 ^ 32 → reference ≡ length old.objects → length old.objects < 294967295
-    → IsSound (es ++ entry kind (length cells) ∷ []) (length (cells ++ replicate count 0)) (length ((with_lock locks).monitors)) (reference + 1) limit cell_limit
+    → IsSound (es ++ entry kind (length cells)
+    ∷ []) (length (cells ++ replicate count 0)) (length ((with_lock locks).monitors)) (reference + 1) limit cell_limit
 opened_sound es cells locks opening limit cell_limit kind count reference old v s small r few =
     let left : length (objects_of es cells) < 294967295 = subst (λ (h : Heap). length h.objects < 294967295) (sym v) few in
     let is : reference ≡ length es = subst (λ (h : Heap). reference ≡ length h.objects) (sym v) r ∙ length-objects_of es cells in

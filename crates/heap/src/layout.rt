@@ -53,7 +53,8 @@ pub fn word_count(table: &[Entry], cells: &[u32], object: u32) -> u32
 fn place(table: &[Entry], cells: &[u32], object: u32, number: u32) -> Option<usize>
     requires { AreLaid table.now (length cells.now) }
     ensures there { IfSome result (λ place. IsPlace place table.now (length cells.now) object number) }
-    ensures not_there { IfNone result (start_at table.now (length cells.now) (object + 1) ≤ start_at table.now (length cells.now) object + number) }
+    ensures not_there { IfNone result (start_at table.now (length cells.now) (object + 1)
+        ≤ start_at table.now (length cells.now) object + number) }
 {
     let first = start(table, cells, object as usize);
     if number < word_count(table, cells, object) {

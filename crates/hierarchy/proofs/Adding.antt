@@ -14,19 +14,24 @@ use Rattle.hierarchy.specs.Set.{trees_of, files_of, IsAgain}
 use Rattle.hierarchy.proofs.Names.{differ_push, no_duplicate}
 use Rattle.hierarchy.proofs.SetLaws.{files_of_whole, is_file, is_again, again_stands}
 
-pub names_more : {K : Type 0} (items : K → Name) (keys : List K) (key : K) (classes : List ClassFile) (i : ℕ) (d : ClassFile) → i < length classes → map items keys ≡ map name_of (trees_of (take i classes))
+pub names_more : {K : Type 0} (items : K → Name) (keys : List K) (key : K) (classes : List ClassFile) (i : ℕ) (d : ClassFile)
+    → i < length classes → map items keys ≡ map name_of (trees_of (take i classes))
     → items key ≡ name_of (file_of (get_or classes i d)) → map items (keys ++ key ∷ []) ≡ map name_of (trees_of (take (i + 1) classes))
 names_more items keys key classes i d lt h e =
     map-append items keys (key ∷ []) ∙ ap (λ (l : List Name). l ++ items key ∷ []) h ∙ ap (λ (n : Name). map name_of (trees_of (take i classes)) ++ n ∷ []) e
     ∙ sym (map-append name_of (trees_of (take i classes)) (file_of (get_or classes i d) ∷ [])) ∙ ap (λ (l : List FileTree). map name_of l) (sym (map_more file_of classes i d lt))
 
-pub differ_more : (classes : List ClassFile) (i : ℕ) (d : ClassFile) → i < length classes → two_of_one_name (trees_of (take i classes)) ≡ false → list_any (is_named (name_of (file_of (get_or classes i d)))) (trees_of (take i classes)) ≡ false
+pub differ_more : (classes : List ClassFile) (i : ℕ) (d : ClassFile) → i < length classes
+    → two_of_one_name (trees_of (take i classes)) ≡ false
+    → list_any (is_named (name_of (file_of (get_or classes i d)))) (trees_of (take i classes)) ≡ false
     → two_of_one_name (trees_of (take (i + 1) classes)) ≡ false
 differ_more classes i d lt h new = ap two_of_one_name (map_more file_of classes i d lt) ∙ differ_push (trees_of (take i classes)) (file_of (get_or classes i d)) h new
 
 -- a name that stands before: the class is a file's
-pub again_at : (classes : List ClassFile) (i n : ℕ) (d : ClassFile) → i < length classes → n ≡ length built_in_classes → classes_of (files_of (trees_of classes)) ≡ trees_of classes
-    → list_any (is_named (name_of (file_of (get_or classes i d)))) (trees_of (take i classes)) ≡ true → (n ≤ i) × (stands (files_of (trees_of classes)) DuplicateClass ≡ true) × IsAgain (files_of (trees_of classes)) (i - n)
+pub again_at : (classes : List ClassFile) (i n : ℕ) (d : ClassFile) → i < length classes → n ≡ length built_in_classes
+    → classes_of (files_of (trees_of classes)) ≡ trees_of classes
+    → list_any (is_named (name_of (file_of (get_or classes i d)))) (trees_of (take i classes)) ≡ true
+    → (n ≤ i) × (stands (files_of (trees_of classes)) DuplicateClass ≡ true) × IsAgain (files_of (trees_of classes)) (i - n)
 again_at classes i n d lt count whole h =
     let trees = trees_of classes in
     let files = files_of trees in
@@ -44,14 +49,17 @@ again_at classes i n d lt count whole h =
 
 -- ---- a set of built-in classes and files
 
-pub new_trees : (classes files all : List ClassFile) → all ≡ classes ++ files → trees_of classes ≡ built_in_classes → trees_of all ≡ classes_of (trees_of files)
+pub new_trees : (classes files all : List ClassFile) → all ≡ classes ++ files → trees_of classes ≡ built_in_classes
+    → trees_of all ≡ classes_of (trees_of files)
 new_trees classes files all e h = ap trees_of e ∙ map-append file_of classes files ∙ ap (λ (l : List FileTree). l ++ trees_of files) h
 
 pub its_files : (all : List ClassFile) (files : Program) → trees_of all ≡ classes_of files → files_of (trees_of all) ≡ files
 its_files all files e = ap files_of e ∙ files_of_whole files
 
-pub is_whole : (all : List ClassFile) (files : Program) → trees_of all ≡ classes_of files → classes_of (files_of (trees_of all)) ≡ trees_of all
+pub is_whole : (all : List ClassFile) (files : Program) → trees_of all ≡ classes_of files
+    → classes_of (files_of (trees_of all)) ≡ trees_of all
 is_whole all files e = ap classes_of (its_files all files e) ∙ sym e
 
-pub all_differ : (all : List ClassFile) (files : Program) → trees_of all ≡ classes_of files → two_of_one_name (trees_of all) ≡ false → stands files DuplicateClass ≡ false
+pub all_differ : (all : List ClassFile) (files : Program) → trees_of all ≡ classes_of files → two_of_one_name (trees_of all) ≡ false
+    → stands files DuplicateClass ≡ false
 all_differ all files e h = no_duplicate files (ap two_of_one_name (sym e) ∙ h)

@@ -20,25 +20,29 @@ use Rattle.hierarchy.proofs.RowLaws.{name_eq_refl}
 -- ---- names that differ
 
 -- those of two lists, where none of the second has a name of the first
-apart : (xs ys : List FileTree) → two_of_one_name xs ≡ false → two_of_one_name ys ≡ false → list_any (λ y. list_any (is_named (name_of y)) xs) ys ≡ false → two_of_one_name (xs ++ ys) ≡ false
+apart : (xs ys : List FileTree) → two_of_one_name xs ≡ false → two_of_one_name ys ≡ false
+    → list_any (λ y. list_any (is_named (name_of y)) xs) ys ≡ false → two_of_one_name (xs ++ ys) ≡ false
 apart [] ys h k cross = k
 apart (x ∷ xs) ys h k cross =
     let here = or_parts (list_any (is_named (name_of x)) xs) _ h in
     or_from _ _ (list_any-append (is_named (name_of x)) xs ys ∙ or_from _ _ here.0 (first ys cross)) (apart xs ys here.1 k (rest ys cross))
   where
-    first : (ys : List FileTree) → list_any (λ y. list_any (is_named (name_of y)) (x ∷ xs)) ys ≡ false → list_any (is_named (name_of x)) ys ≡ false
+    first : (ys : List FileTree) → list_any (λ y. list_any (is_named (name_of y)) (x ∷ xs)) ys ≡ false
+        → list_any (is_named (name_of x)) ys ≡ false
     first [] c = refl
     first (y ∷ ys) c =
         let both = or_parts (list_any (is_named (name_of y)) (x ∷ xs)) _ c in
         or_from _ _ (name_eq_sym (name_of y) (name_of x) ∙ (or_parts (is_named (name_of y) x) _ both.0).0) (first ys both.1)
 
-    rest : (ys : List FileTree) → list_any (λ y. list_any (is_named (name_of y)) (x ∷ xs)) ys ≡ false → list_any (λ y. list_any (is_named (name_of y)) xs) ys ≡ false
+    rest : (ys : List FileTree) → list_any (λ y. list_any (is_named (name_of y)) (x ∷ xs)) ys ≡ false
+        → list_any (λ y. list_any (is_named (name_of y)) xs) ys ≡ false
     rest [] c = refl
     rest (y ∷ ys) c =
         let both = or_parts (list_any (is_named (name_of y)) (x ∷ xs)) _ c in
         or_from _ _ (or_parts (is_named (name_of y) x) _ both.0).1 (rest ys both.1)
 
-none_built_in : (files : Program) → list_any has_built_in_name files ≡ false → list_any (λ y. list_any (is_named (name_of y)) built_in_classes) files ≡ false
+none_built_in : (files : Program) → list_any has_built_in_name files ≡ false
+    → list_any (λ y. list_any (is_named (name_of y)) built_in_classes) files ≡ false
 none_built_in [] h = refl
 none_built_in (file ∷ files) h =
     let both = or_parts (has_built_in_name file) _ h in
@@ -52,7 +56,8 @@ all_differ files h =
 -- ---- classes
 
 -- the class at a place is the first of its name
-pub found_by_name : (classes : List FileTree) (k : ℕ) (file : FileTree) → two_of_one_name classes ≡ false → slice_get classes k ≡ Some file → find (is_named (name_of file)) classes ≡ Some file
+pub found_by_name : (classes : List FileTree) (k : ℕ) (file : FileTree) → two_of_one_name classes ≡ false → slice_get classes k ≡ Some file
+    → find (is_named (name_of file)) classes ≡ Some file
 found_by_name [] k file differ at = absurd cc
 found_by_name (x ∷ xs) zero file differ at =
     let same : x ≡ file = cc in
@@ -62,12 +67,14 @@ found_by_name (x ∷ xs) (suc k) file differ at =
     let other : is_named (name_of file) x ≡ false = name_eq_sym (name_of x) (name_of file) ∙ none_at (is_named (name_of x)) xs k file parts.0 at in
     ap (λ b. cond b (Some x) (find (is_named (name_of file)) xs)) other ∙ found_by_name xs k file parts.1 at
 
-pub class_of_its_name : (files : Program) (k : ℕ) (file : FileTree) → stands files DuplicateClass ≡ false → class_at files k ≡ Some file → class_of files (name_of file) ≡ Some file
+pub class_of_its_name : (files : Program) (k : ℕ) (file : FileTree) → stands files DuplicateClass ≡ false → class_at files k ≡ Some file
+    → class_of files (name_of file) ≡ Some file
 class_of_its_name files k file differ at = found_by_name (classes_of files) k file (all_differ files differ) at
 
 -- ---- members
 
-module _ (files : Program) (m : Member) (p : MemberPlace) (file : FileTree) (differ : stands files DuplicateClass ≡ false) (at : class_at files p.class ≡ Some file) where
+module _ (files : Program) (m : Member) (p : MemberPlace) (file : FileTree) (differ : stands files DuplicateClass ≡ false)
+    (at : class_at files p.class ≡ Some file) where
   named : class_of files (name_at files p.class) ≡ Some file
   named = ap (λ (o : Option FileTree). class_of files (option_map_or name_of o [])) at ∙ class_of_its_name files p.class file differ at
 

@@ -21,5 +21,6 @@ pub next_step : (files : Program) (n i : ℕ) (c s : Name) (f : Name → Option 
     → first_found f (lineage_of files (n - i) c) ≡ first_found f (lineage_of files (n - (i + 1)) s)
 next_step files n i c s f h e above = rw (lineage_step files n i c h, above, e) refl
 
-pub subclass_next : (files : Program) (n i : ℕ) (c s d : Name) → i < n → name_eq c d ≡ false → superclass_of files c ≡ Some s → is_within files (n - i) c d ≡ is_within files (n - (i + 1)) s d
+pub subclass_next : (files : Program) (n i : ℕ) (c s d : Name) → i < n → name_eq c d ≡ false → superclass_of files c ≡ Some s
+    → is_within files (n - i) c d ≡ is_within files (n - (i + 1)) s d
 subclass_next files n i c s d h other above = rw (within_step files n i c d h, other, above) refl

@@ -22,11 +22,13 @@ any_weaken p q (x ∷ xs) f h =
     (or_cases (p x) (list_any p xs) h)
 
 -- what stands directly above a class is above it
-direct_above : (files : Program) (n : ℕ) (b c : Name) → list_any (λ s. name_eq s c) (direct_supertypes files b) ≡ true → is_above files (suc n) b c ≡ true
+direct_above : (files : Program) (n : ℕ) (b c : Name) → list_any (λ s. name_eq s c) (direct_supertypes files b) ≡ true
+    → is_above files (suc n) b c ≡ true
 direct_above files n b c h = any_weaken (λ s. name_eq s c) (λ s. name_eq s c || is_above files n s c) (direct_supertypes files b) (λ s e. or_left (name_eq s c) (is_above files n s c) e) h
 
 -- what stands directly above what is above a class is above it
-above_more : (files : Program) (n : ℕ) (a b c : Name) → list_any (λ s. name_eq s c) (direct_supertypes files b) ≡ true → is_above files n a b ≡ true → is_above files (suc n) a c ≡ true
+above_more : (files : Program) (n : ℕ) (a b c : Name) → list_any (λ s. name_eq s c) (direct_supertypes files b) ≡ true
+    → is_above files n a b ≡ true → is_above files (suc n) a c ≡ true
 above_more files zero a b c h e = absurd cc
 above_more files (suc n) a b c h e =
     any_weaken (λ s. name_eq s b || is_above files n s b) (λ s. name_eq s c || is_above files (suc n) s c) (direct_supertypes files a)
@@ -53,19 +55,22 @@ IsUp files n class upper = (name_eq class upper || is_above files n class upper)
 pub up_first : (files : Program) (class : Name) → IsUp files 0 class class
 up_first files class = or_left (name_eq class class) false (name_eq_refl class)
 
-step_above : (files : Program) (n : ℕ) (class lower upper : Name) → IsUp files n class lower → list_any (λ s. name_eq s upper) (direct_supertypes files lower) ≡ true → is_above files (suc n) class upper ≡ true
+step_above : (files : Program) (n : ℕ) (class lower upper : Name) → IsUp files n class lower
+    → list_any (λ s. name_eq s upper) (direct_supertypes files lower) ≡ true → is_above files (suc n) class upper ≡ true
 step_above files n class lower upper up direct =
     ⊎_elim
     (λ same. subst (λ x. is_above files (suc n) x upper ≡ true) (sym (same_name class lower same)) (direct_above files n lower upper direct))
     (λ more. above_more files n class lower upper direct more)
     (or_cases (name_eq class lower) (is_above files n class lower) up)
 
-pub up_next : (files : Program) (n : ℕ) (class lower upper : Name) → IsUp files n class lower → list_any (λ s. name_eq s upper) (direct_supertypes files lower) ≡ true → IsUp files (n + 1) class upper
+pub up_next : (files : Program) (n : ℕ) (class lower upper : Name) → IsUp files n class lower
+    → list_any (λ s. name_eq s upper) (direct_supertypes files lower) ≡ true → IsUp files (n + 1) class upper
 up_next files n class lower upper up direct =
     let more : suc n ≡ n + 1 = omega arith in
     or_right (name_eq class upper) (is_above files (n + 1) class upper) (subst (λ k. is_above files k class upper ≡ true) more (step_above files n class lower upper up direct))
 
-pub leads_back_so : (files : Program) (n : ℕ) (class lower upper : Name) → n < length (classes_of files) → IsUp files n class lower → list_any (λ s. name_eq s upper) (direct_supertypes files lower) ≡ true → upper ≡ class
+pub leads_back_so : (files : Program) (n : ℕ) (class lower upper : Name) → n < length (classes_of files) → IsUp files n class lower
+    → list_any (λ s. name_eq s upper) (direct_supertypes files lower) ≡ true → upper ≡ class
     → is_above files (length (classes_of files)) class class ≡ true
 leads_back_so files n class lower upper lt up direct same =
     subst (λ x. is_above files (length (classes_of files)) class x ≡ true) same (above_within files (suc n) (length (classes_of files)) class upper (next n (length (classes_of files)) lt) (step_above files n class lower upper up direct))
@@ -76,7 +81,8 @@ leads_back_so files n class lower upper lt up direct same =
 -- ---- ranks that never rise on a way up
 
 -- what is directly above a class has no greater rank
-falls : (files : Program) (ranks : List ℕ) (class : Name) → NeverRise files ranks → is_reached files ranks (rank_of files ranks class + 1) class ≡ false
+falls : (files : Program) (ranks : List ℕ) (class : Name) → NeverRise files ranks
+    → is_reached files ranks (rank_of files ranks class + 1) class ≡ false
 falls files ranks class h = by (class_of files class) refl
   where
     by : (o : Option FileTree) → class_of files class ≡ o → is_reached files ranks (rank_of files ranks class + 1) class ≡ false
@@ -86,13 +92,15 @@ falls files ranks class h = by (class_of files class) refl
         (not_found (is_named class) (rises files ranks) (classes_of files) file e h)
 
 -- what is above a class has no greater rank
-no_greater : (files : Program) (ranks : List ℕ) → NeverRise files ranks → (n : ℕ) (c d : Name) → is_above files n c d ≡ true → rank_of files ranks d ≤ rank_of files ranks c
+no_greater : (files : Program) (ranks : List ℕ) → NeverRise files ranks → (n : ℕ) (c d : Name) → is_above files n c d ≡ true
+    → rank_of files ranks d ≤ rank_of files ranks c
 no_greater files ranks h zero c d e = absurd cc
 no_greater files ranks h (suc n) c d e =
     none_both (λ s. name_eq s d || is_above files n s d) (is_late files ranks (rank_of files ranks c + 1)) (direct_supertypes files c) (falls files ranks c h)
     (λ s late found. step s (leb-false (rank_of files ranks c + 1) (rank_of files ranks s) late) found (no_greater files ranks h n s d)) e
   where
-    step : (s : Name) → rank_of files ranks s < rank_of files ranks c + 1 → (name_eq s d || is_above files n s d) ≡ true → (is_above files n s d ≡ true → rank_of files ranks d ≤ rank_of files ranks s) → rank_of files ranks d ≤ rank_of files ranks c
+    step : (s : Name) → rank_of files ranks s < rank_of files ranks c + 1 → (name_eq s d || is_above files n s d) ≡ true
+        → (is_above files n s d ≡ true → rank_of files ranks d ≤ rank_of files ranks s) → rank_of files ranks d ≤ rank_of files ranks c
     step s low found above =
         ⊎_elim
         (λ same. let less : rank_of files ranks s ≤ rank_of files ranks c = omega (arith, low) in subst (λ x. rank_of files ranks x ≤ rank_of files ranks c) (same_name s d same) less)
@@ -100,7 +108,8 @@ no_greater files ranks h (suc n) c d e =
         (or_cases (name_eq s d) (is_above files n s d) found)
 
 -- a class whose rank is greater than those directly above it isn't above itself
-pub unreached : (files : Program) (ranks : List ℕ) → NeverRise files ranks → (n : ℕ) (class : Name) → is_reached files ranks (rank_of files ranks class) class ≡ false → is_above files n class class ≡ false
+pub unreached : (files : Program) (ranks : List ℕ) → NeverRise files ranks → (n : ℕ) (class : Name)
+    → is_reached files ranks (rank_of files ranks class) class ≡ false → is_above files n class class ≡ false
 unreached files ranks h zero class low = refl
 unreached files ranks h (suc n) class low = by (is_above files (suc n) class class) refl
   where

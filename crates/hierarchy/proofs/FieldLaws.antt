@@ -31,13 +31,16 @@ object_alone files m (suc n) = rw (object_is files) refl
 -- ---- superinterfaces
 
 -- fields of the superclass of an interface that is below Object alone
-nothing_above : (files : Program) (m : Member) (n : ℕ) (o : Option Name) → option_map_or (λ s. not (name_eq s java_lang_object)) o false ≡ false → option_and_then (λ s. field_from files n m s) o ≡ None
+nothing_above : (files : Program) (m : Member) (n : ℕ) (o : Option Name)
+    → option_map_or (λ s. not (name_eq s java_lang_object)) o false ≡ false → option_and_then (λ s. field_from files n m s) o ≡ None
 nothing_above files m n None h = refl
 nothing_above files m n (Some s) h = ap (field_from files n m) (same_name s java_lang_object (not-false _ h)) ∙ object_alone files m n
 
 -- what is found in each of several is found in all of them together
-each_found : (f : Name → Option Member) (g : Name → Option Member) (h : Name → List Name) (late other : Name → Bool) (xs : List Name) → list_any late xs ≡ false → list_any other xs ≡ false
-    → ((x : Name) → late x ≡ false → other x ≡ false → g x ≡ first_found f (x ∷ h x)) → first_found g xs ≡ first_found f (flat_map (λ x. x ∷ h x) xs)
+each_found : (f : Name → Option Member) (g : Name → Option Member) (h : Name → List Name) (late other : Name → Bool) (xs : List Name)
+    → list_any late xs ≡ false → list_any other xs ≡ false
+    → ((x : Name) → late x ≡ false → other x ≡ false → g x ≡ first_found f (x ∷ h x))
+    → first_found g xs ≡ first_found f (flat_map (λ x. x ∷ h x) xs)
 each_found f g h late other [] low flat same = refl
 each_found f g h late other (x ∷ xs) low flat same =
     let a = or_parts (late x) (list_any late xs) low in
@@ -47,14 +50,17 @@ each_found f g h late other (x ∷ xs) low flat same =
     ∙ sym (found-append f (x ∷ h x) (flat_map (λ x. x ∷ h x) xs))
 
 -- no superinterface of a class is below another class than Object
-interfaces_flat : (files : Program) (class : Name) → list_any (has_interface_below_other files) (classes_of files) ≡ false → list_any (is_below_other files) (superinterfaces_of files class) ≡ false
+interfaces_flat : (files : Program) (class : Name) → list_any (has_interface_below_other files) (classes_of files) ≡ false
+    → list_any (is_below_other files) (superinterfaces_of files class) ≡ false
 interfaces_flat files class flat = by (class_of files class) refl
   where
     by : (o : Option FileTree) → class_of files class ≡ o → list_any (is_below_other files) (superinterfaces_of files class) ≡ false
     by None e = ap (λ (o : Option FileTree). list_any (is_below_other files) (option_map_or interface_names o [])) e
     by (Some file) e = ap (λ (o : Option FileTree). list_any (is_below_other files) (option_map_or interface_names o [])) e ∙ not_found (is_named class) (has_interface_below_other files) (classes_of files) file e flat
 
-from_interface : (files : Program) (rank : Name → ℕ) → Ranked files rank → list_any (has_interface_below_other files) (classes_of files) ≡ false → (m : Member) (n : ℕ) (i : Name) → rank i ≤ n → is_below_other files i ≡ false
+from_interface : (files : Program) (rank : Name → ℕ) → Ranked files rank
+    → list_any (has_interface_below_other files) (classes_of files) ≡ false → (m : Member) (n : ℕ) (i : Name) → rank i ≤ n
+    → is_below_other files i ≡ false
     → field_from files n m i ≡ first_found (field_in_class files m) (i ∷ names_above (directly_above files above.Interfaces) n i)
 from_interface files rank r flat m zero i low here = sym (ap (λ o. option_or o None) (field_of_none files m i (r.none i low)))
 from_interface files rank r flat m (suc n) i low here =
@@ -65,8 +71,10 @@ from_interface files rank r flat m (suc n) i low here =
 
 -- ---- along superclasses
 
-from_class : (files : Program) (rank : Name → ℕ) → Ranked files rank → list_any (has_interface_below_other files) (classes_of files) ≡ false → (m : Member) (n : ℕ) (class : Name) → rank class ≤ n
-    → field_from files n m class ≡ first_found (field_in_class files m) (flat_map (λ c. c ∷ interfaces_above files c) (lineage_of files n class))
+from_class : (files : Program) (rank : Name → ℕ) → Ranked files rank
+    → list_any (has_interface_below_other files) (classes_of files) ≡ false → (m : Member) (n : ℕ) (class : Name) → rank class ≤ n
+    → field_from files n m class ≡ first_found (field_in_class files m) (flat_map (λ c. c
+    ∷ interfaces_above files c) (lineage_of files n class))
 from_class files rank r flat m zero class low = refl
 from_class files rank r flat m (suc n) class low =
     let count = length (classes_of files) in
@@ -91,11 +99,14 @@ from_class files rank r flat m (suc n) class low =
 
     super : (o : Option Name) → list_any (λ s. nat_le (rank class) (rank s)) (option_to_list o) ≡ false
         → ((s : Name) → rank s ≤ n → field_from files n m s ≡ first_found (field_in_class files m) (flat_map near (lineage_of files n s)))
-        → option_and_then (λ s. field_from files n m s) o ≡ first_found (field_in_class files m) (flat_map near (option_map_or (λ s. lineage_of files n s) o []))
+        → option_and_then (λ s. field_from files n m s) o
+        ≡ first_found (field_in_class files m) (flat_map near (option_map_or (λ s. lineage_of files n s) o []))
     super None h same = refl
     super (Some s) h same = same s (one_less (rank s) (rank class) n (leb-false (rank class) (rank s) (or_parts (nat_le (rank class) (rank s)) false h).0) low)
 
-pub along_superclasses : (files : Program) → FieldsAlongSuperclasses files → (m : Member) → first_found (field_in_class files m) (flat_map (λ c. c ∷ interfaces_above files c) (lineage_of files (length (classes_of files) - 0) m.class)) ≡ find_field files m
+pub along_superclasses : (files : Program) → FieldsAlongSuperclasses files → (m : Member)
+    → first_found (field_in_class files m) (flat_map (λ c. c
+    ∷ interfaces_above files c) (lineage_of files (length (classes_of files) - 0) m.class)) ≡ find_field files m
 along_superclasses files h m =
     let r = ranked_by files h.ranked in
     ap (λ n. first_found (field_in_class files m) (flat_map (λ c. c ∷ interfaces_above files c) (lineage_of files n m.class))) (all (length (classes_of files)))
@@ -105,7 +116,8 @@ along_superclasses files h m =
     all n = omega arith
 
 -- nothing is found at the last of the superclasses
-pub last_found : (files : Program) (g : Name → List Name) (f : Name → Option Member) (n i : ℕ) (class : Name) (all : Option Member) → i < n → superclass_of files class ≡ None → None ≡ first_found f (g class)
+pub last_found : (files : Program) (g : Name → List Name) (f : Name → Option Member) (n i : ℕ) (class : Name) (all : Option Member) → i < n
+    → superclass_of files class ≡ None → None ≡ first_found f (g class)
     → first_found f (flat_map g (lineage_of files (n - i) class)) ≡ all → None ≡ all
 last_found files g f n i class all lt last none e = none ∙ ap (first_found f) (sym (lineage_last files g n i class lt last)) ∙ e
 
@@ -116,7 +128,8 @@ no_row f [] n h e = omega (arith, h)
 no_row f (x ∷ xs) n h e = cc
 
 -- rows of all supertypes stand where they are kept
-pub of_rows : (files : Program) (rows : List (List Name)) → rows ≡ rows_of files above.Supertypes (length (classes_of files) - 1) → HasSupertypes files rows
+pub of_rows : (files : Program) (rows : List (List Name)) → rows ≡ rows_of files above.Supertypes (length (classes_of files) - 1)
+    → HasSupertypes files rows
 unfolding rows_of
 of_rows files [] e = absurd (no_row _ (classes_of files) _ (class_count files) e)
 of_rows files (row ∷ rows) e = e

@@ -10,14 +10,16 @@ use Rattle.std.proofs.lemmas.Bool.{lt-ltb, le-ltb}
 use borrow.Author.Tests.{ltb-true, ltb-false}
 use Rattle.std.proofs.lemmas.Bool.{or_right, or_parts}
 
-pub position_or_len-map : {A B : Type 0} (p : B → Bool) (f : A → B) (xs : List A) → position_or_len p (map f xs) ≡ position_or_len (λ x. p (f x)) xs
+pub position_or_len-map : {A B : Type 0} (p : B → Bool) (f : A → B) (xs : List A)
+    → position_or_len p (map f xs) ≡ position_or_len (λ x. p (f x)) xs
 position_or_len-map p f [] = refl
 position_or_len-map p f (x ∷ xs) = rw (position_or_len-map p f xs) refl
 
 pub position-map : {A B : Type 0} (p : B → Bool) (f : A → B) (xs : List A) → position p (map f xs) ≡ position (λ x. p (f x)) xs
 position-map p f xs = rw (position_or_len-map p f xs, length-map xs f) refl
 
-pub position_or_len_same : {A : Type 0} (p q : A → Bool) → ((x : A) → p x ≡ q x) → (xs : List A) → position_or_len p xs ≡ position_or_len q xs
+pub position_or_len_same : {A : Type 0} (p q : A → Bool) → ((x : A) → p x ≡ q x) → (xs : List A)
+    → position_or_len p xs ≡ position_or_len q xs
 position_or_len_same p q same [] = refl
 position_or_len_same p q same (x ∷ xs) = rw (same x, position_or_len_same p q same xs) refl
 
@@ -28,7 +30,8 @@ position_same p q same xs = rw (position_or_len_same p q same xs) refl
 pub find_by_position : {A : Type 0} (p : A → Bool) (xs : List A) → find p xs ≡ option_and_then (slice_get xs) (position p xs)
 find_by_position p xs = by (ltb (position_or_len p xs) (length xs)) refl
   where
-    by : (b : Bool) → ltb (position_or_len p xs) (length xs) ≡ b → find p xs ≡ option_and_then (slice_get xs) (cond b (Some (position_or_len p xs)) None)
+    by : (b : Bool) → ltb (position_or_len p xs) (length xs) ≡ b
+        → find p xs ≡ option_and_then (slice_get xs) (cond b (Some (position_or_len p xs)) None)
     by true h = find_at p xs
     by false h = find_at p xs ∙ slice_get_past xs (position_or_len p xs) (ltb-false _ _ h)
 
@@ -48,19 +51,22 @@ find_passes p (y ∷ ys) x e = by (p y) refl (find_passes p ys x) e
     by true h more e = let same : y ≡ x = cc in subst (λ z. p z ≡ true) same h
     by false h more e = more e
 
-pub passes_at : {A : Type 0} (p : A → Bool) (xs : List A) (i : ℕ) (x : A) → position p xs ≡ Some i → slice_get xs i ≡ Some x → find p xs ≡ Some x
+pub passes_at : {A : Type 0} (p : A → Bool) (xs : List A) (i : ℕ) (x : A) → position p xs ≡ Some i → slice_get xs i ≡ Some x
+    → find p xs ≡ Some x
 passes_at p xs i x e at = find_by_position p xs ∙ ap (λ o. option_and_then (slice_get xs) o) e ∙ at
 
 pub nowhere : {A : Type 0} (p : A → Bool) (xs : List A) → position p xs ≡ None → find p xs ≡ None
 nowhere p xs e = find_by_position p xs ∙ ap (λ o. option_and_then (slice_get xs) o) e
 
 -- the first that passes stands at the position
-pub position_first : {A : Type 0} (p : A → Bool) (xs : List A) (k : ℕ) (x : A) → slice_get xs k ≡ Some x → p x ≡ true → list_any p (take k xs) ≡ false → position p xs ≡ Some k
+pub position_first : {A : Type 0} (p : A → Bool) (xs : List A) (k : ℕ) (x : A) → slice_get xs k ≡ Some x → p x ≡ true
+    → list_any p (take k xs) ≡ false → position p xs ≡ Some k
 position_first p xs k x at here before =
     let is = first_or_len p xs k x at here before in
     rw (is, lt-ltb _ _ (slice_get_within xs k x at)) refl
   where
-    first_or_len : {A : Type 0} (p : A → Bool) (xs : List A) (k : ℕ) (x : A) → slice_get xs k ≡ Some x → p x ≡ true → list_any p (take k xs) ≡ false → position_or_len p xs ≡ k
+    first_or_len : {A : Type 0} (p : A → Bool) (xs : List A) (k : ℕ) (x : A) → slice_get xs k ≡ Some x → p x ≡ true
+        → list_any p (take k xs) ≡ false → position_or_len p xs ≡ k
     first_or_len p [] k x at here before = absurd cc
     first_or_len p (y ∷ ys) zero x at here before = let same : y ≡ x = cc in rw (same, here) refl
     first_or_len p (y ∷ ys) (suc k) x at here before =

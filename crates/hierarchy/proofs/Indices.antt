@@ -19,7 +19,8 @@ abbrev pub SameFrom : (Name → Bool) → (ℕ → Option Name) → List ℕ →
 SameFrom q h xs i = list_any q (filter_map h (drop i xs)) ≡ list_any q (filter_map h xs)
 
 -- it isn't so of this one
-pub no_index : (q : Name → Bool) (h : ℕ → Option Name) (read xs : List ℕ) (i : ℕ) (o : Option Name) (b : Bool) → read ≡ xs → i < length read → o ≡ h (get_or read i 0) → b ≡ list_any q (option_to_list o) → b ≡ false
+pub no_index : (q : Name → Bool) (h : ℕ → Option Name) (read xs : List ℕ) (i : ℕ) (o : Option Name) (b : Bool) → read ≡ xs
+    → i < length read → o ≡ h (get_or read i 0) → b ≡ list_any q (option_to_list o) → b ≡ false
     → SameFrom q h xs i → SameFrom q h xs (i + 1)
 no_index q h read xs i o b same less is test fails before =
     let lt : i < length xs = subst (λ (l : List ℕ). i < length l) same less in
@@ -39,10 +40,12 @@ take_whole [] (suc i) e = refl
 take_whole (y ∷ xs) zero e = absurd cc
 take_whole (y ∷ xs) (suc i) e = ap (λ l. y ∷ l) (take_whole xs i e)
 
-pub none_more : {A : Type 0} (p : A → Bool) (xs : List A) (i : ℕ) (x : A) → slice_get xs i ≡ Some x → list_any p (take i xs) ≡ false → p x ≡ false → list_any p (take (i + 1) xs) ≡ false
+pub none_more : {A : Type 0} (p : A → Bool) (xs : List A) (i : ℕ) (x : A) → slice_get xs i ≡ Some x → list_any p (take i xs) ≡ false
+    → p x ≡ false → list_any p (take (i + 1) xs) ≡ false
 none_more p xs i x e h k = ap (list_any p) (take_one_more xs i x e) ∙ list_any-append p (take i xs) (x ∷ []) ∙ or_from _ _ h (or_from _ _ k refl)
 
-pub none_all : {A : Type 0} (p : A → Bool) (xs : List A) (i : ℕ) → slice_get xs i ≡ None → list_any p (take i xs) ≡ false → list_any p xs ≡ false
+pub none_all : {A : Type 0} (p : A → Bool) (xs : List A) (i : ℕ) → slice_get xs i ≡ None → list_any p (take i xs) ≡ false
+    → list_any p xs ≡ false
 none_all p xs i e h = ap (list_any p) (sym (take_whole xs i e)) ∙ h
 
 pub no_position : {A : Type 0} (p : A → Bool) (xs : List A) → position p xs ≡ None → list_any p xs ≡ false
@@ -58,7 +61,8 @@ not_found p q (y ∷ ys) x e h = let here = or_parts (q y) (list_any q ys) h in 
     by false fails more e = more e
 
 -- an item that passes one test and fails another, of which no item passes the second
-pub none_both : {A : Type 0} {G : Type 0} (p q : A → Bool) (xs : List A) → list_any q xs ≡ false → ((x : A) → q x ≡ false → p x ≡ true → G) → list_any p xs ≡ true → G
+pub none_both : {A : Type 0} {G : Type 0} (p q : A → Bool) (xs : List A) → list_any q xs ≡ false → ((x : A) → q x ≡ false → p x ≡ true → G)
+    → list_any p xs ≡ true → G
 none_both p q [] h f e = absurd cc
 none_both p q (y ∷ ys) h f e =
     let here = or_parts (q y) (list_any q ys) h in

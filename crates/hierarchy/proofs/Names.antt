@@ -29,7 +29,8 @@ found_any p (x ∷ xs) = by (p x) (found_any p xs)
     by false h = h
 
 -- one more, whose name none of them has
-pub differ_push : (xs : List FileTree) (y : FileTree) → two_of_one_name xs ≡ false → list_any (is_named (name_of y)) xs ≡ false → two_of_one_name (xs ++ y ∷ []) ≡ false
+pub differ_push : (xs : List FileTree) (y : FileTree) → two_of_one_name xs ≡ false → list_any (is_named (name_of y)) xs ≡ false
+    → two_of_one_name (xs ++ y ∷ []) ≡ false
 differ_push [] y h new = refl
 differ_push (x ∷ xs) y h new =
     let here = or_parts (list_any (is_named (name_of x)) xs) (two_of_one_name xs) h in
@@ -39,7 +40,8 @@ differ_push (x ∷ xs) y h new =
     let any : list_any (is_named (name_of x)) (xs ++ y ∷ []) ≡ false = list_any-append (is_named (name_of x)) xs (y ∷ []) ∙ or_from _ _ here.0 (or_from _ _ no refl) in
     or_from _ _ any rest
 
-pub again : (xs : List FileTree) (y : FileTree) (ys : List FileTree) → list_any (is_named (name_of y)) xs ≡ true → two_of_one_name (xs ++ y ∷ ys) ≡ true
+pub again : (xs : List FileTree) (y : FileTree) (ys : List FileTree) → list_any (is_named (name_of y)) xs ≡ true
+    → two_of_one_name (xs ++ y ∷ ys) ≡ true
 again [] y ys h = absurd cc
 again (x ∷ xs) y ys h =
     ⊎_elim
@@ -53,7 +55,8 @@ pub built_in_differ : two_of_one_name built_in_classes ≡ false
 unfolding built_in_classes
 built_in_differ = refl
 
-split_two : (xs ys : List FileTree) → two_of_one_name (xs ++ ys) ≡ false → (two_of_one_name xs ≡ false) × (two_of_one_name ys ≡ false) × (list_any (λ y. list_any (is_named (name_of y)) xs) ys ≡ false)
+split_two : (xs ys : List FileTree) → two_of_one_name (xs ++ ys) ≡ false
+    → (two_of_one_name xs ≡ false) × (two_of_one_name ys ≡ false) × (list_any (λ y. list_any (is_named (name_of y)) xs) ys ≡ false)
 split_two [] ys h = (refl, h, none ys)
   where
     none : (ys : List FileTree) → list_any (λ y. false) ys ≡ false
@@ -65,14 +68,17 @@ split_two (x ∷ xs) ys h =
     let apart = or_parts (list_any (is_named (name_of x)) xs) (list_any (is_named (name_of x)) ys) (sym (list_any-append (is_named (name_of x)) xs ys) ∙ here.0) in
     (or_from _ _ apart.0 rest.0, rest.1, cross ys apart.1 rest.2)
   where
-    cross : (ys : List FileTree) → list_any (is_named (name_of x)) ys ≡ false → list_any (λ y. list_any (is_named (name_of y)) xs) ys ≡ false → list_any (λ y. list_any (is_named (name_of y)) (x ∷ xs)) ys ≡ false
+    cross : (ys : List FileTree) → list_any (is_named (name_of x)) ys ≡ false
+        → list_any (λ y. list_any (is_named (name_of y)) xs) ys ≡ false
+        → list_any (λ y. list_any (is_named (name_of y)) (x ∷ xs)) ys ≡ false
     cross [] h k = refl
     cross (y ∷ ys) h k =
         let a = or_parts (is_named (name_of x) y) (list_any (is_named (name_of x)) ys) h in
         let b = or_parts (list_any (is_named (name_of y)) xs) (list_any (λ y. list_any (is_named (name_of y)) xs) ys) k in
         or_from _ _ (or_from _ _ (name_eq_sym (name_of x) (name_of y) ∙ a.0) b.0) (cross ys a.1 b.1)
 
-built_in_is : (files : List FileTree) → list_any has_built_in_name files ≡ list_any (λ y. list_any (is_named (name_of y)) built_in_classes) files
+built_in_is : (files : List FileTree) → list_any has_built_in_name files
+    ≡ list_any (λ y. list_any (is_named (name_of y)) built_in_classes) files
 built_in_is [] = refl
 built_in_is (file ∷ files) = rw (found_any (is_named (name_of file)) built_in_classes, built_in_is files) refl
 

@@ -40,9 +40,11 @@ no_place files name e = by (place_of files name) refl
         at (Some file) g = let found = class_at_place files name k p ∙ g in absurd cc
 
 -- what is checked of a class of a name
-checked : (files : Program) (ranks : List ℕ) (name : Name) (file : FileTree) → list_any (is_misranked files ranks) (classes_of files) ≡ false → class_of files name ≡ Some file
+checked : (files : Program) (ranks : List ℕ) (name : Name) (file : FileTree)
+    → list_any (is_misranked files ranks) (classes_of files) ≡ false → class_of files name ≡ Some file
     → ((rank_of files ranks name == 0) ≡ false) × (nat_lt (length (classes_of files)) (rank_of files ranks name) ≡ false)
-    × (list_any (is_late files ranks (rank_of files ranks name)) (option_to_list (super_name_of file)) ≡ false) × (list_any (is_late files ranks (rank_of files ranks name)) (interface_names file) ≡ false)
+    × (list_any (is_late files ranks (rank_of files ranks name)) (option_to_list (super_name_of file)) ≡ false)
+    × (list_any (is_late files ranks (rank_of files ranks name)) (interface_names file) ≡ false)
 checked files ranks name file h is =
     let all : is_misranked files ranks file ≡ false = not_found (is_named name) (is_misranked files ranks) (classes_of files) file is h in
     let named : name_of file ≡ name = named_so files name file is in
@@ -74,11 +76,13 @@ ranked_by files h = record {
     few_by class None e = let zero_rank : rank class ≡ 0 = ap (λ (o : Option ℕ). option_map_or (λ rank. rank) (option_and_then (slice_get h.ranks) o) 0) (no_place files class e) in omega arith
     few_by class (Some file) e = ltb-false _ _ (checked files h.ranks class file h.ranked e).1
 
-    interfaces_by : (class : Name) → (o : Option FileTree) → class_of files class ≡ o → list_any (is_late files h.ranks (rank class)) (superinterfaces_of files class) ≡ false
+    interfaces_by : (class : Name) → (o : Option FileTree) → class_of files class ≡ o
+        → list_any (is_late files h.ranks (rank class)) (superinterfaces_of files class) ≡ false
     interfaces_by class None e = ap (λ (o : Option FileTree). list_any (is_late files h.ranks (rank class)) (option_map_or interface_names o [])) e
     interfaces_by class (Some file) e = ap (λ (o : Option FileTree). list_any (is_late files h.ranks (rank class)) (option_map_or interface_names o [])) e ∙ (checked files h.ranks class file h.ranked e).3
 
-    superclass_by : (class : Name) → (o : Option FileTree) → class_of files class ≡ o → list_any (is_late files h.ranks (rank class)) (option_to_list (superclass_of files class)) ≡ false
+    superclass_by : (class : Name) → (o : Option FileTree) → class_of files class ≡ o
+        → list_any (is_late files h.ranks (rank class)) (option_to_list (superclass_of files class)) ≡ false
     superclass_by class None e = ap (λ (o : Option FileTree). list_any (is_late files h.ranks (rank class)) (option_to_list (option_and_then super_name_of o))) e
     superclass_by class (Some file) e = ap (λ (o : Option FileTree). list_any (is_late files h.ranks (rank class)) (option_to_list (option_and_then super_name_of o))) e ∙ (checked files h.ranks class file h.ranked e).2
 
@@ -92,7 +96,8 @@ lower files rank r (suc n) c d e =
     (list_any-append (λ s. nat_le (rank c) (rank s)) (option_to_list (superclass_of files c)) (superinterfaces_of files c) ∙ ap (λ b. b || list_any (λ s. nat_le (rank c) (rank s)) (superinterfaces_of files c)) (r.superclass c) ∙ r.interfaces c)
     (λ s late found. step s (leb-false (rank c) (rank s) late) found (lower files rank r n s d)) e
   where
-    step : (s : Name) → rank s < rank c → (name_eq s d || is_above files n s d) ≡ true → (is_above files n s d ≡ true → rank d < rank s) → rank d < rank c
+    step : (s : Name) → rank s < rank c → (name_eq s d || is_above files n s d) ≡ true → (is_above files n s d ≡ true → rank d < rank s)
+        → rank d < rank c
     step s low found above =
         ⊎_elim
         (λ same. subst (λ x. rank x < rank c) (same_name s d same) low)
@@ -117,14 +122,17 @@ acyclic files (file ∷ some) h = ap (λ b. b || list_any (in_cycle files) some)
 -- ---- what is above a class
 
 -- lists that are the same at each name that passes no test
-flat_where : (q : Name → Bool) (f g : Name → List Name) (xs : List Name) → list_any q xs ≡ false → ((x : Name) → q x ≡ false → f x ≡ g x) → flat_map (λ x. x ∷ f x) xs ≡ flat_map (λ x. x ∷ g x) xs
+flat_where : (q : Name → Bool) (f g : Name → List Name) (xs : List Name) → list_any q xs ≡ false → ((x : Name) → q x ≡ false → f x ≡ g x)
+    → flat_map (λ x. x ∷ f x) xs ≡ flat_map (λ x. x ∷ g x) xs
 flat_where q f g [] h same = refl
 flat_where q f g (x ∷ xs) h same =
     let here = or_parts (q x) (list_any q xs) h in
     ap (λ (l : List Name). x ∷ (l ++ flat_map (λ x. x ∷ f x) xs)) (same x here.0) ∙ ap (λ (l : List Name). x ∷ (g x ++ l)) (flat_where q f g xs here.1 same)
 
 -- the same, cut to what stands in them once
-once_where : (q : Name → Bool) (f g : Name → List Name) (acc xs : List Name) → list_any q xs ≡ false → ((x : Name) → q x ≡ false → f x ≡ each_once (g x)) → with_names acc (flat_map (λ x. x ∷ f x) xs) ≡ with_names acc (flat_map (λ x. x ∷ g x) xs)
+once_where : (q : Name → Bool) (f g : Name → List Name) (acc xs : List Name) → list_any q xs ≡ false
+    → ((x : Name) → q x ≡ false → f x ≡ each_once (g x))
+    → with_names acc (flat_map (λ x. x ∷ f x) xs) ≡ with_names acc (flat_map (λ x. x ∷ g x) xs)
 once_where q f g acc xs h same =
     ap (with_names acc) (flat_where q f (λ x. each_once (g x)) xs h same) ∙ once_inside (λ x. each_once (g x)) g (λ x. refl) acc xs
 
@@ -144,20 +152,26 @@ steady files rank r (suc n) (suc m) class p q =
 -- ---- rows that a step doesn't change
 
 -- the row of a class after a step
-row_next : (files : Program) (rows : List (List Name)) (name : Name) → row_of files (next_rows files above.Interfaces rows) name ≡ next_row files above.Interfaces rows name
+row_next : (files : Program) (rows : List (List Name)) (name : Name)
+    → row_of files (next_rows files above.Interfaces rows) name ≡ next_row files above.Interfaces rows name
 row_next files rows name = by (place_of files name) refl
   where
-    by : (o : Option ℕ) → place_of files name ≡ o → option_map_or (λ row. row) (option_and_then (slice_get (next_rows files above.Interfaces rows)) o) [] ≡ next_row files above.Interfaces rows name
+    by : (o : Option ℕ) → place_of files name ≡ o
+        → option_map_or (λ row. row) (option_and_then (slice_get (next_rows files above.Interfaces rows)) o) []
+        ≡ next_row files above.Interfaces rows name
     by None e = ap (λ (l : List Name). each_once (flat_map (λ n. n ∷ row_of files rows n) l)) (sym (no_interfaces files name (no_class files name e)))
     by (Some k) e = at (slice_get (classes_of files) k) refl
       where
-        at : (c : Option FileTree) → slice_get (classes_of files) k ≡ c → option_map_or (λ row. row) (slice_get (next_rows files above.Interfaces rows) k) [] ≡ next_row files above.Interfaces rows name
+        at : (c : Option FileTree) → slice_get (classes_of files) k ≡ c
+            → option_map_or (λ row. row) (slice_get (next_rows files above.Interfaces rows) k) []
+            ≡ next_row files above.Interfaces rows name
         at None g = absurd (no_item (classes_of files) k (position_within (is_named name) (classes_of files) k e) g)
         at (Some file) g =
             ap (λ (o : Option (List Name)). option_map_or (λ row. row) o []) (get_map (λ (file : FileTree). next_row files above.Interfaces rows (name_of file)) (classes_of files) k file g)
             ∙ ap (next_row files above.Interfaces rows) (name_at_place files name k file e g)
 
-row_right : (files : Program) (rank : Name → ℕ) → Ranked files rank → (rows : List (List Name)) → next_rows files above.Interfaces rows ≡ rows → (n : ℕ) (name : Name) → rank name ≤ n
+row_right : (files : Program) (rank : Name → ℕ) → Ranked files rank → (rows : List (List Name))
+    → next_rows files above.Interfaces rows ≡ rows → (n : ℕ) (name : Name) → rank name ≤ n
     → row_of files rows name ≡ each_once (names_above (directly_above files above.Interfaces) n name)
 row_right files rank r rows same zero name p =
     ap (λ l. row_of files l name) (sym same) ∙ row_next files rows name
@@ -168,7 +182,8 @@ row_right files rank r rows same (suc n) name p =
     (λ s low. let less : rank s < rank name = leb-false (rank name) (rank s) low in row_right files rank r rows same n s (omega arith))
 
 -- they are the rows within as many steps as there are classes, and one more
-pub settled_rows : (files : Program) → HasRanks files → (rows : List (List Name)) → next_rows files above.Interfaces rows ≡ rows → rows ≡ rows_of files above.Interfaces (suc (length (classes_of files)))
+pub settled_rows : (files : Program) → HasRanks files → (rows : List (List Name)) → next_rows files above.Interfaces rows ≡ rows
+    → rows ≡ rows_of files above.Interfaces (suc (length (classes_of files)))
 settled_rows files h rows same =
     let r = ranked_by files h in
     let n = length (classes_of files) in

@@ -26,12 +26,14 @@ use Rattle.hierarchy.proofs.Finding.{position-map, position_same, find_by_positi
 pub same_name : (a b : Name) → name_eq a b ≡ true → a ≡ b
 same_name a b h = (bytes_eq-Decides a b).0 h
 
-pub position_by_name : {K : Type 0} (items : K → Name) (keys : List K) (trees : List FileTree) (name : Name) → map items keys ≡ map name_of trees → position (λ k. name_eq name (items k)) keys ≡ position (is_named name) trees
+pub position_by_name : {K : Type 0} (items : K → Name) (keys : List K) (trees : List FileTree) (name : Name)
+    → map items keys ≡ map name_of trees → position (λ k. name_eq name (items k)) keys ≡ position (is_named name) trees
 position_by_name items keys trees name e =
     sym (position-map (name_eq name) items keys) ∙ ap (position (name_eq name)) e ∙ position-map (name_eq name) name_of trees
     ∙ position_same (λ t. name_eq name (name_of t)) (is_named name) (λ t. name_eq_sym name (name_of t)) trees
 
-pub among_by_name : {K : Type 0} (items : K → Name) (keys : List K) (trees : List FileTree) (name : Name) → map items keys ≡ map name_of trees → list_any (λ k. name_eq name (items k)) keys ≡ list_any (is_named name) trees
+pub among_by_name : {K : Type 0} (items : K → Name) (keys : List K) (trees : List FileTree) (name : Name)
+    → map items keys ≡ map name_of trees → list_any (λ k. name_eq name (items k)) keys ≡ list_any (is_named name) trees
 among_by_name items keys trees name e = any_map items keys ∙ ap (list_any (name_eq name)) e ∙ sym (any_map name_of trees) ∙ flip trees
   where
     any_map : {X : Type 0} (f : X → Name) (xs : List X) → list_any (λ x. name_eq name (f x)) xs ≡ list_any (name_eq name) (map f xs)
@@ -62,10 +64,12 @@ at_split xs i d lt =
     sym (take-append-drop (i + 1) xs) ∙ ap (λ (l : List FileTree). l ++ drop (i + 1) xs) (take_more xs i d lt) ∙ append_assoc (take i xs) (get_or xs i d ∷ []) (drop (i + 1) xs)
 
 -- a name that stands before in a list
-two_at : (xs : List FileTree) (i : ℕ) (d : FileTree) → i < length xs → list_any (is_named (name_of (get_or xs i d))) (take i xs) ≡ true → two_of_one_name xs ≡ true
+two_at : (xs : List FileTree) (i : ℕ) (d : FileTree) → i < length xs → list_any (is_named (name_of (get_or xs i d))) (take i xs) ≡ true
+    → two_of_one_name xs ≡ true
 two_at xs i d lt h = ap two_of_one_name (at_split xs i d lt) ∙ again (take i xs) (get_or xs i d) (drop (i + 1) xs) h
 
-pub is_file : (files : Program) (i : ℕ) (d : FileTree) → list_any (is_named (name_of (get_or (classes_of files) i d))) (take i (classes_of files)) ≡ true → length built_in_classes ≤ i
+pub is_file : (files : Program) (i : ℕ) (d : FileTree)
+    → list_any (is_named (name_of (get_or (classes_of files) i d))) (take i (classes_of files)) ≡ true → length built_in_classes ≤ i
 is_file files i d h = by (ltb i (length built_in_classes)) refl
   where
     by : (b : Bool) → ltb i (length built_in_classes) ≡ b → length built_in_classes ≤ i
@@ -79,7 +83,8 @@ is_file files i d h = by (ltb i (length built_in_classes)) refl
         absurd (both_ways (two_of_one_name built_in_classes) built_in_differ (two_at built_in_classes i d lt h'))
 
 pub is_again : (files : Program) (k : ℕ) (d : FileTree) → k < length files
-    → list_any (is_named (name_of (get_or (classes_of files) (length built_in_classes + k) d))) (take (length built_in_classes + k) (classes_of files)) ≡ true → IsAgain files k
+    → list_any (is_named (name_of (get_or (classes_of files) (length built_in_classes + k) d)))
+    (take (length built_in_classes + k) (classes_of files)) ≡ true → IsAgain files k
 is_again files k d lt h = record {
   file = get_or files k d;
   stands = slice_get-get_or files k d lt;
@@ -105,35 +110,45 @@ again_stands files k h =
 -- ---- members that a class declares
 
 -- the name of the class that stands at the place of a name
-pub name_at_place : (files : Program) (name : Name) (k : ℕ) (file : FileTree) → position (is_named name) (classes_of files) ≡ Some k → slice_get (classes_of files) k ≡ Some file → name_of file ≡ name
+pub name_at_place : (files : Program) (name : Name) (k : ℕ) (file : FileTree) → position (is_named name) (classes_of files) ≡ Some k
+    → slice_get (classes_of files) k ≡ Some file → name_of file ≡ name
 name_at_place files name k file e at = named_so files name file (passes_at (is_named name) (classes_of files) k file e at)
 
 pub no_class : (files : Program) (name : Name) → position (is_named name) (classes_of files) ≡ None → class_of files name ≡ None
 no_class files name e = nowhere (is_named name) (classes_of files) e
 
 -- the field that a class declares
-pub field_found : (files : Program) (m : Member) (class : Name) (file : FileTree) (f : FieldTree) (i : ℕ) → class_of files class ≡ Some file → position (is_field file.pool m.name m.descriptor) file.fields ≡ Some i → slice_get file.fields i ≡ Some f
+pub field_found : (files : Program) (m : Member) (class : Name) (file : FileTree) (f : FieldTree) (i : ℕ)
+    → class_of files class ≡ Some file → position (is_field file.pool m.name m.descriptor) file.fields ≡ Some i
+    → slice_get file.fields i ≡ Some f
     → field_in_class files m class ≡ Some (in_class class m)
 field_found files m class file f i c e at = rw (c, passes_at (is_field file.pool m.name m.descriptor) file.fields i f e at) refl
 
-pub no_field : (files : Program) (m : Member) (class : Name) (file : FileTree) → class_of files class ≡ Some file → position (is_field file.pool m.name m.descriptor) file.fields ≡ None → field_in_class files m class ≡ None
+pub no_field : (files : Program) (m : Member) (class : Name) (file : FileTree) → class_of files class ≡ Some file
+    → position (is_field file.pool m.name m.descriptor) file.fields ≡ None → field_in_class files m class ≡ None
 no_field files m class file c e = rw (c, nowhere (is_field file.pool m.name m.descriptor) file.fields e) refl
 
 pub field_of_none : (files : Program) (m : Member) (class : Name) → class_of files class ≡ None → field_in_class files m class ≡ None
 field_of_none files m class c = rw c refl
 
 -- the method that a class declares
-pub method_found : (files : Program) (wanted : MethodTree → Bool) (m : Member) (class : Name) (file : FileTree) (f : MethodTree) (i : ℕ) → class_of files class ≡ Some file → position (is_method file.pool m.name m.descriptor) file.methods ≡ Some i → slice_get file.methods i ≡ Some f
+pub method_found : (files : Program) (wanted : MethodTree → Bool) (m : Member) (class : Name) (file : FileTree) (f : MethodTree) (i : ℕ)
+    → class_of files class ≡ Some file → position (is_method file.pool m.name m.descriptor) file.methods ≡ Some i
+    → slice_get file.methods i ≡ Some f
     → method_in_class files wanted m class ≡ where_so (wanted f) (in_class class m)
 method_found files wanted m class file f i c e at = rw (c, passes_at (is_method file.pool m.name m.descriptor) file.methods i f e at) refl
 
-pub no_method : (files : Program) (wanted : MethodTree → Bool) (m : Member) (class : Name) (file : FileTree) → class_of files class ≡ Some file → position (is_method file.pool m.name m.descriptor) file.methods ≡ None → method_in_class files wanted m class ≡ None
+pub no_method : (files : Program) (wanted : MethodTree → Bool) (m : Member) (class : Name) (file : FileTree)
+    → class_of files class ≡ Some file → position (is_method file.pool m.name m.descriptor) file.methods ≡ None
+    → method_in_class files wanted m class ≡ None
 no_method files wanted m class file c e = rw (c, nowhere (is_method file.pool m.name m.descriptor) file.methods e) refl
 
-pub method_of_none : (files : Program) (wanted : MethodTree → Bool) (m : Member) (class : Name) → class_of files class ≡ None → method_in_class files wanted m class ≡ None
+pub method_of_none : (files : Program) (wanted : MethodTree → Bool) (m : Member) (class : Name) → class_of files class ≡ None
+    → method_in_class files wanted m class ≡ None
 method_of_none files wanted m class c = rw c refl
 
-pub class_at_place : (files : Program) (name : Name) (k : ℕ) → position (is_named name) (classes_of files) ≡ Some k → class_of files name ≡ slice_get (classes_of files) k
+pub class_at_place : (files : Program) (name : Name) (k : ℕ) → position (is_named name) (classes_of files) ≡ Some k
+    → class_of files name ≡ slice_get (classes_of files) k
 class_at_place files name k e = find_by_position (is_named name) (classes_of files) ∙ ap (λ o. option_and_then (slice_get (classes_of files)) o) e
 
 -- there is an item below the length
@@ -143,7 +158,8 @@ no_item (x ∷ xs) zero lt e = cc
 no_item (x ∷ xs) (suc i) lt e = no_item xs i (omega arith) e
 
 -- a field at a position is declared
-pub field_at : (files : Program) (m : Member) (class : Name) (file : FileTree) (i : ℕ) → class_of files class ≡ Some file → position (is_field file.pool m.name m.descriptor) file.fields ≡ Some i → field_in_class files m class ≡ Some (in_class class m)
+pub field_at : (files : Program) (m : Member) (class : Name) (file : FileTree) (i : ℕ) → class_of files class ≡ Some file
+    → position (is_field file.pool m.name m.descriptor) file.fields ≡ Some i → field_in_class files m class ≡ Some (in_class class m)
 field_at files m class file i c e =
     by (slice_get file.fields i) refl
   where

@@ -74,7 +74,8 @@ pub(crate) fn rows_for_fields(alloc: Global, set: &ClassSet) -> Result<Vec<NameS
 
 /// The first of the names of a row whose class declares the field.
 fn field_among(set: &ClassSet, row: &NameSet, field: Reference<'_>) -> Option<MemberPlace>
-    ensures found { option_map (λ p. member_in set.now (reference_of field.entry) p) result ≡ first_found (field_in_class set.now (reference_of field.entry)) row.now }
+    ensures found { option_map (λ p. member_in set.now (reference_of field.entry) p) result
+        ≡ first_found (field_in_class set.now (reference_of field.entry)) row.now }
     ensures place { IfSome result (IsFieldAt set.now (reference_of field.entry)) }
 {
     for place in 0..row.count() {
@@ -96,7 +97,8 @@ fn field_near(
     field: Reference<'_>,
 ) -> Option<MemberPlace>
     requires { interfaces.now ≡ rows_of set.now above.Interfaces (suc (length (classes_of set.now))) }
-    ensures found { option_map (λ p. member_in set.now (reference_of field.entry) p) result ≡ first_found (field_in_class set.now (reference_of field.entry)) (class.now ∷ interfaces_above set.now class.now) }
+    ensures found { option_map (λ p. member_in set.now (reference_of field.entry) p) result
+        ≡ first_found (field_in_class set.now (reference_of field.entry)) (class.now ∷ interfaces_above set.now class.now) }
     ensures place { IfSome result (IsFieldAt set.now (reference_of field.entry)) }
 {
     if let Some(found) = set.field_in(class, field) {
@@ -116,7 +118,8 @@ pub(crate) fn field_along_superclasses(
 ) -> Option<MemberPlace>
     requires rows { interfaces.now ≡ rows_of set.now above.Interfaces (suc (length (classes_of set.now))) }
     requires along { FieldsAlongSuperclasses set.now }
-    ensures found { option_map (λ p. member_in set.now (reference_of field.entry) p) result ≡ find_field set.now (reference_of field.entry) }
+    ensures found { option_map (λ p. member_in set.now (reference_of field.entry) p) result
+        ≡ find_field set.now (reference_of field.entry) }
     ensures place { IfSome result (IsFieldAt set.now (reference_of field.entry)) }
 {
     let mut class = field.class;
@@ -139,7 +142,8 @@ pub(crate) fn field_among_supertypes(
     field: Reference<'_>,
 ) -> Option<MemberPlace>
     requires { supertypes.now ≡ rows_of set.now above.Supertypes (length (classes_of set.now) - 1) }
-    ensures found { option_map (λ p. member_in set.now (reference_of field.entry) p) result ≡ find_field set.now (reference_of field.entry) }
+    ensures found { option_map (λ p. member_in set.now (reference_of field.entry) p) result
+        ≡ find_field set.now (reference_of field.entry) }
     ensures place { IfSome result (IsFieldAt set.now (reference_of field.entry)) }
 {
     if let Some(found) = set.declared_field(field) {

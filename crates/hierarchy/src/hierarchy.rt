@@ -46,7 +46,8 @@ impl Model for Hierarchy {
 
 /// The first of the names of a row whose class declares the method.
 fn method_among(set: &ClassSet, row: &NameSet, method: Reference<'_>) -> Option<MemberPlace>
-    ensures found { option_map (λ p. member_in set.now (reference_of method.entry) p) result ≡ first_found (method_in_class set.now any_method (reference_of method.entry)) row.now }
+    ensures found { option_map (λ p. member_in set.now (reference_of method.entry) p) result
+        ≡ first_found (method_in_class set.now any_method (reference_of method.entry)) row.now }
     ensures place { IfSome result (IsMethodAt set.now (reference_of method.entry)) }
 {
     for place in 0..row.count() {
@@ -134,7 +135,8 @@ impl Hierarchy {
     }
 
     fn method_in_interfaces_above(&self, class: &[u8], method: Reference<'_>) -> Option<MemberPlace>
-        ensures found { option_map (λ p. member_in self.now (reference_of method.entry) p) result ≡ first_found (method_in_class self.now any_method (reference_of method.entry)) (interfaces_above self.now class.now) }
+        ensures found { option_map (λ p. member_in self.now (reference_of method.entry) p) result
+            ≡ first_found (method_in_class self.now any_method (reference_of method.entry)) (interfaces_above self.now class.now) }
         ensures place { IfSome result (IsMethodAt self.now (reference_of method.entry)) }
     {
         match self.interfaces_above(class) {
@@ -145,7 +147,8 @@ impl Hierarchy {
 
     /// The method that one of all superinterfaces of a class declares, the first of several.
     fn method_in_superinterfaces(&self, class: &[u8], method: Reference<'_>) -> Option<MemberPlace>
-        ensures found { option_map (λ p. member_in self.now (reference_of method.entry) p) result ≡ first_found (method_in_class self.now any_method (reference_of method.entry)) (all_superinterfaces self.now class.now) }
+        ensures found { option_map (λ p. member_in self.now (reference_of method.entry) p) result
+            ≡ first_found (method_in_class self.now any_method (reference_of method.entry)) (all_superinterfaces self.now class.now) }
         ensures place { IfSome result (IsMethodAt self.now (reference_of method.entry)) }
     {
         let mut class = class;
@@ -163,7 +166,8 @@ impl Hierarchy {
 
     /// The method that a symbolic reference to a method of a class names (JVMS 5.4.3.3). Takes no memory.
     pub fn find_method(&self, method: Reference<'_>) -> Option<MemberPlace>
-        ensures found { option_map (λ p. member_in self.now (reference_of method.entry) p) result ≡ find_method self.now (reference_of method.entry) }
+        ensures found { option_map (λ p. member_in self.now (reference_of method.entry) p) result
+            ≡ find_method self.now (reference_of method.entry) }
         ensures place { IfSome result (IsMethodAt self.now (reference_of method.entry)) }
     {
         if let Some(found) = self.set.method_above(method.class, method, Wanted::Any) {
@@ -174,7 +178,8 @@ impl Hierarchy {
 
     /// The method that a symbolic reference to a method of an interface names (JVMS 5.4.3.4). Takes no memory.
     pub fn find_interface_method(&self, method: Reference<'_>) -> Option<MemberPlace>
-        ensures found { option_map (λ p. member_in self.now (reference_of method.entry) p) result ≡ find_interface_method self.now (reference_of method.entry) }
+        ensures found { option_map (λ p. member_in self.now (reference_of method.entry) p) result
+            ≡ find_interface_method self.now (reference_of method.entry) }
         ensures place { IfSome result (IsMethodAt self.now (reference_of method.entry)) }
     {
         if let Some(found) = self.set.declared_method(method) {
@@ -189,7 +194,8 @@ impl Hierarchy {
 
     /// The field that a symbolic reference names (JVMS 5.4.3.2). Takes no memory.
     pub fn find_field(&self, field: Reference<'_>) -> Option<MemberPlace>
-        ensures found { option_map (λ p. member_in self.now (reference_of field.entry) p) result ≡ find_field self.now (reference_of field.entry) }
+        ensures found { option_map (λ p. member_in self.now (reference_of field.entry) p) result
+            ≡ find_field self.now (reference_of field.entry) }
         ensures place { IfSome result (IsFieldAt self.now (reference_of field.entry)) }
     {
         if self.supertypes.is_empty() {

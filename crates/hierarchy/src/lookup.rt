@@ -55,7 +55,8 @@ impl ClassSet {
         method: Reference<'_>,
         wanted: Wanted,
     ) -> Option<MemberPlace>
-        ensures found { option_map (λ p. member_in self.now (reference_of method.entry) p) result ≡ method_in_class self.now (wants wanted) (reference_of method.entry) class.now }
+        ensures found { option_map (λ p. member_in self.now (reference_of method.entry) p) result
+            ≡ method_in_class self.now (wants wanted) (reference_of method.entry) class.now }
         ensures place { IfSome result (IsMethodAt self.now (reference_of method.entry)) }
     {
         let Some(place) = self.place_of(class) else {
@@ -86,7 +87,8 @@ impl ClassSet {
         method: Reference<'_>,
         wanted: Wanted,
     ) -> Option<MemberPlace>
-        ensures found { option_map (λ p. member_in self.now (reference_of method.entry) p) result ≡ first_found (method_in_class self.now (wants wanted) (reference_of method.entry)) (lineage self.now class.now) }
+        ensures found { option_map (λ p. member_in self.now (reference_of method.entry) p) result
+            ≡ first_found (method_in_class self.now (wants wanted) (reference_of method.entry)) (lineage self.now class.now) }
         ensures place { IfSome result (IsMethodAt self.now (reference_of method.entry)) }
     {
         let mut class = class;
@@ -105,7 +107,8 @@ impl ClassSet {
     /// The method that a receiver of a class has of this name and descriptor (JVMS 6.5, invokevirtual): the nearest
     /// declaration that is neither static nor private, abstract or not. Takes no memory.
     pub fn select(&self, class: &[u8], method: Reference<'_>) -> Option<MemberPlace>
-        ensures found { option_map (λ p. member_in self.now (reference_of method.entry) p) result ≡ select self.now class.now (reference_of method.entry) }
+        ensures found { option_map (λ p. member_in self.now (reference_of method.entry) p) result
+            ≡ select self.now class.now (reference_of method.entry) }
         ensures place { IfSome result (IsMethodAt self.now (reference_of method.entry)) }
     {
         self.method_above(class, method, Wanted::Selectable)
@@ -113,7 +116,8 @@ impl ClassSet {
 
     /// The method of this name and descriptor that the class of a reference itself declares (JVMS 4.6). Takes no memory.
     pub fn declared_method(&self, method: Reference<'_>) -> Option<MemberPlace>
-        ensures found { option_map (λ p. member_in self.now (reference_of method.entry) p) result ≡ method_in_class self.now any_method (reference_of method.entry) method.entry.class.now }
+        ensures found { option_map (λ p. member_in self.now (reference_of method.entry) p) result
+            ≡ method_in_class self.now any_method (reference_of method.entry) method.entry.class.now }
         ensures place { IfSome result (IsMethodAt self.now (reference_of method.entry)) }
     {
         self.method_in(method.class, method, Wanted::Any)
@@ -121,7 +125,8 @@ impl ClassSet {
 
     /// The field of this name and descriptor that the class of a reference itself declares (JVMS 4.5). Takes no memory.
     pub fn declared_field(&self, field: Reference<'_>) -> Option<MemberPlace>
-        ensures found { option_map (λ p. member_in self.now (reference_of field.entry) p) result ≡ field_in_class self.now (reference_of field.entry) field.entry.class.now }
+        ensures found { option_map (λ p. member_in self.now (reference_of field.entry) p) result
+            ≡ field_in_class self.now (reference_of field.entry) field.entry.class.now }
         ensures place { IfSome result (IsFieldAt self.now (reference_of field.entry)) }
     {
         self.field_in(field.class, field)
@@ -129,7 +134,8 @@ impl ClassSet {
 
     /// The field that a class itself declares.
     pub(crate) fn field_in(&self, class: &[u8], field: Reference<'_>) -> Option<MemberPlace>
-        ensures found { option_map (λ p. member_in self.now (reference_of field.entry) p) result ≡ field_in_class self.now (reference_of field.entry) class.now }
+        ensures found { option_map (λ p. member_in self.now (reference_of field.entry) p) result
+            ≡ field_in_class self.now (reference_of field.entry) class.now }
         ensures place { IfSome result (IsFieldAt self.now (reference_of field.entry)) }
     {
         let Some(place) = self.place_of(class) else {

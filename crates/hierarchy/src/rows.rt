@@ -57,7 +57,8 @@ fn add_named(
     row: &mut NameSet,
     name: Option<&[u8]>,
 ) -> Result<(), AllocError>
-    ensures { OnOk result (row.new ≡ with_names row.old (flat_map (λ n. n ∷ row_of set.now rows.now n) (option_to_list (option_map (λ t. t.now) name.entry)))) }
+    ensures { OnOk result (row.new ≡ with_names row.old (flat_map (λ n. n
+        ∷ row_of set.now rows.now n) (option_to_list (option_map (λ t. t.now) name.entry)))) }
 {
     match name {
         Some(name) => add_with_row(alloc, set, rows, row, name),
@@ -73,7 +74,8 @@ fn add_interfaces(
     row: &mut NameSet,
     file: &ClassFile,
 ) -> Result<(), AllocError>
-    ensures { OnOk result (row.new ≡ with_names row.old (flat_map (λ n. n ∷ row_of set.now rows.now n) (interface_names (file_of file.now)))) }
+    ensures { OnOk result (row.new ≡ with_names row.old (flat_map (λ n. n
+        ∷ row_of set.now rows.now n) (interface_names (file_of file.now)))) }
 {
     for index in &file.interfaces {
         add_named(alloc, set, rows, row, file.class_name(*index))?;

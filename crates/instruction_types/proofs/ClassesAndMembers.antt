@@ -18,19 +18,22 @@ use Rattle.instruction_types.specs.Places.{IsPlaceOf, is_field_of_kind, is_metho
 -- ---- names that differ
 
 -- what a slice has at an index, by what `get` gave
-pub read_at : {A B : Type 0} (f : A → B) (read : List A) (i : ℕ) (x : A) → true ≡ ltb i (length read) → x ≡ get_or read i x → slice_get (map f read) i ≡ Some (f x)
+pub read_at : {A B : Type 0} (f : A → B) (read : List A) (i : ℕ) (x : A) → true ≡ ltb i (length read) → x ≡ get_or read i x
+    → slice_get (map f read) i ≡ Some (f x)
 read_at f read i x lt is =
     slice_get-map f read i ∙ ap (option_map f) (slice_get-get_or read i x (ltb-true _ _ (sym lt)) ∙ ap Some (sym is))
 
 -- ---- kinds of members
 
-pub field_kind : (wants_static : Bool) (f : FieldTree) (b : Bool) → b ≡ is_static_field f → beq b wants_static ≡ is_field_of_kind wants_static f
+pub field_kind : (wants_static : Bool) (f : FieldTree) (b : Bool) → b ≡ is_static_field f
+    → beq b wants_static ≡ is_field_of_kind wants_static f
 field_kind true f true e = e
 field_kind true f false e = e
 field_kind false f true e = ap not e
 field_kind false f false e = ap not e
 
-pub method_kind : (wants_static : Bool) (m : MethodTree) (b : Bool) → b ≡ is_static_method m → beq b wants_static ≡ is_method_of_kind wants_static m
+pub method_kind : (wants_static : Bool) (m : MethodTree) (b : Bool) → b ≡ is_static_method m
+    → beq b wants_static ≡ is_method_of_kind wants_static m
 method_kind true m true e = e
 method_kind true m false e = e
 method_kind false m true e = ap not e
@@ -41,7 +44,8 @@ module _ (files : Program) where
   pub placed : (name : Name) → IsPlaceOf files name (place_of files name)
   placed name = by (place_of files name) refl
     where
-      at : (k : ℕ) → place_of files name ≡ Some k → (o : Option FileTree) → slice_get (classes_of files) k ≡ o → (name_at files k ≡ name) × (is_missing files name ≡ false)
+      at : (k : ℕ) → place_of files name ≡ Some k → (o : Option FileTree) → slice_get (classes_of files) k ≡ o
+          → (name_at files k ≡ name) × (is_missing files name ≡ false)
       at k e None here = absurd (no_item (classes_of files) k (position_within (is_named name) (classes_of files) k e) here)
       at k e (Some file) here =
           (ap (λ o. option_map_or name_of o []) here ∙ name_at_place files name k file e here, ap is_none (class_at_place files name k e ∙ here))

@@ -16,13 +16,15 @@ use Rattle.instruction_types.specs.Fields.{gets_system_out, accessed}
 use Rattle.instruction_types.proofs.Calling.{picked_field}
 
 module _ (files : Program) (site : Site) (m : Member) where
-  pub out_first : (how : FieldAccess) → gets_system_out how m ≡ true → field_meaning values files site.next how m ≡ Some (system_out_meaning values site.next)
+  pub out_first : (how : FieldAccess) → gets_system_out how m ≡ true
+      → field_meaning values files site.next how m ≡ Some (system_out_meaning values site.next)
   out_first access.GetStatic h = ap (λ b. cond b (Some (system_out_meaning values site.next)) (option_and_then (if_field is_static_field files (get_static_of values files site.next)) (find_field files m))) h
   out_first access.PutStatic h = absurd cc
   out_first access.GetField h = absurd cc
   out_first access.PutField h = absurd cc
 
-  pub found_so : (how : FieldAccess) (found : Member) → gets_system_out how m ≡ false → Some found ≡ find_field files m → option_map_or (is_field_of_kind (wants_static_field how)) (field_of files found) false ≡ true
+  pub found_so : (how : FieldAccess) (found : Member) → gets_system_out how m ≡ false → Some found ≡ find_field files m
+      → option_map_or (is_field_of_kind (wants_static_field how)) (field_of files found) false ≡ true
       → field_meaning values files site.next how m ≡ Some (accessed files site how m found)
   found_so access.GetStatic found h e k =
       ap (λ b. cond b (Some (system_out_meaning values site.next)) (option_and_then (if_field is_static_field files (get_static_of values files site.next)) (find_field files m))) h

@@ -26,13 +26,15 @@ use Rattle.instruction_types.proofs.operand_types.Lists.{map-reverse}
 
 module _ (files : Program) (site : Site) (meaning : Meaning) (l : Leads) (old new : FrameType) (ls ts : List model.VerificationType) where
   pub next_after : meaning.leads ≡ l → frame_in files new ≡ with_slots (frame_in files old) ls ts
-      → leads_in files site l (frame_in files old).slots (found_by files meaning.wants old) (left_by files meaning.wants old) ≡ (site.next, record { locals = ls; stack = ts }) ∷ []
+      → leads_in files site l (frame_in files old).slots (found_by files meaning.wants old) (left_by files meaning.wants old)
+      ≡ (site.next, record { locals = ls; stack = ts }) ∷ []
       → lead_after true site.next (frame_in files new).slots ≡ followed files site meaning old
   next_after is shown led =
       ap (λ (t : frames.FrameType). (site.next, t.slots) ∷ []) shown ∙ sym led
       ∙ ap (λ k. leads_in files site k (frame_in files old).slots (found_by files meaning.wants old) (left_by files meaning.wants old)) (sym is)
 
-pub mark_after : (files : Program) (old new : FrameType) (ls ts : List model.VerificationType) → frame_in files new ≡ with_slots (frame_in files old) ls ts → new.constructed ≡ old.constructed
+pub mark_after : (files : Program) (old new : FrameType) (ls ts : List model.VerificationType)
+    → frame_in files new ≡ with_slots (frame_in files old) ls ts → new.constructed ≡ old.constructed
 mark_after files old new ls ts shown = ap (λ (t : frames.FrameType). t.constructed) shown
 
 -- a list that another of its length was written over
@@ -45,20 +47,23 @@ pub written_over : {A : Type 0} (n : ℕ) (xs ws : List A) → length ws ≡ n �
 written_over n xs ws e = ap (λ k. take k (ws ++ drop (length ws) xs)) (sym e) ∙ taken_front ws (drop (length ws) xs)
 
 -- one type more on a stack
-pub pushed_on : (files : Program) (old new : List Declared.VerificationType) (t : Declared.VerificationType) (rest : List model.VerificationType) → new ≡ old ++ t ∷ [] → reverse (map (type_in files) old) ≡ rest
+pub pushed_on : (files : Program) (old new : List Declared.VerificationType) (t : Declared.VerificationType)
+    (rest : List model.VerificationType) → new ≡ old ++ t ∷ [] → reverse (map (type_in files) old) ≡ rest
     → reverse (map (type_in files) new) ≡ type_in files t ∷ rest
 pushed_on files old new t rest grown is =
     ap (λ l. reverse (map (type_in files) l)) grown ∙ ap reverse (map-append (type_in files) old (t ∷ [])) ∙ reverse-append (map (type_in files) old) (type_in files t ∷ []) ∙ ap (λ l. type_in files t ∷ l) is
 
 -- ---- operands, one after the other
 
-any_from : {A : Type 0} (P : A → Bool) (d : A) → P d ≡ false → (xs : List A) (i : ℕ) → list_any P (drop i xs) ≡ (P (get_or xs i d) || list_any P (drop (suc i) xs))
+any_from : {A : Type 0} (P : A → Bool) (d : A) → P d ≡ false → (xs : List A) (i : ℕ)
+    → list_any P (drop i xs) ≡ (P (get_or xs i d) || list_any P (drop (suc i) xs))
 any_from P d none [] zero = sym (ap (λ b. b || false) none)
 any_from P d none [] (suc i) = sym (ap (λ b. b || false) none)
 any_from P d none (x ∷ xs) zero = refl
 any_from P d none (x ∷ xs) (suc i) = any_from P d none xs i
 
-pub any_next : {A : Type 0} (P : A → Bool) (d : A) (xs : List A) (i : ℕ) (b : Bool) → P d ≡ false → b ≡ P (get_or xs i d) → list_any P (drop i xs) ≡ (b || list_any P (drop (i + 1) xs))
+pub any_next : {A : Type 0} (P : A → Bool) (d : A) (xs : List A) (i : ℕ) (b : Bool) → P d ≡ false → b ≡ P (get_or xs i d)
+    → list_any P (drop i xs) ≡ (b || list_any P (drop (i + 1) xs))
 any_next P d xs i b none is =
     let next : suc i ≡ i + 1 = omega arith in
     any_from P d none xs i ∙ ap (λ k. P (get_or xs i d) || list_any P (drop k xs)) next ∙ ap (λ c. c || list_any P (drop (i + 1) xs)) (sym is)
@@ -70,11 +75,13 @@ any_end P n i xs le =
 
 -- ---- the mark
 
-marked_lead : (on : Bool) (next : ℕ) (slots : Slots model.VerificationType) (mark : Bool) → lead_after on next (record { slots = slots; constructed = mark }) ≡ map (marked mark) (lead_after on next slots)
+marked_lead : (on : Bool) (next : ℕ) (slots : Slots model.VerificationType) (mark : Bool)
+    → lead_after on next (record { slots = slots; constructed = mark }) ≡ map (marked mark) (lead_after on next slots)
 marked_lead true next slots mark = refl
 marked_lead false next slots mark = refl
 
-module _ (files : Program) (site : Site) (meaning : Meaning) (M : MeaningOf Value) (old new : FrameType) (means : Means files site meaning M) where
+module _ (files : Program) (site : Site) (meaning : Meaning) (M : MeaningOf Value) (old new : FrameType)
+    (means : Means files site meaning M) where
   its_operands : found_by files meaning.wants old ≡ operands over_types M.wants (frame_in files old).slots
   its_operands =
       sym (ap (λ r. map (λ q. get_or (frame_in files old).slots.locals q.0 model.Unusable) (reads_in files r) ++ take (length (map (want_in files) meaning.wants.pops.items)) (frame_in files old).slots.stack) means.reads
@@ -85,8 +92,10 @@ module _ (files : Program) (site : Site) (meaning : Meaning) (M : MeaningOf Valu
   what_is_under = ap (λ n. drop n (frame_in files old).slots.stack) (sym (length-map meaning.wants.pops.items (want_in files))) ∙ ap (λ w. under w (frame_in files old).slots) means.wants
 
   -- by where it leads but for the mark, and by the mark
-  pub led_on : (on mark constructs : Bool) → lead_after on site.next (frame_in files new).slots ≡ followed files site meaning old → constructs ≡ constructs_this site (found_by files meaning.wants old) site.instr
-      → mark ≡ (old.constructed || constructs) → lead_after on site.next (record (frame_in files new) { constructed = mark }) ≡ successors site M (frame_in files old)
+  pub led_on : (on mark constructs : Bool) → lead_after on site.next (frame_in files new).slots ≡ followed files site meaning old
+      → constructs ≡ constructs_this site (found_by files meaning.wants old) site.instr
+      → mark ≡ (old.constructed || constructs)
+      → lead_after on site.next (record (frame_in files new) { constructed = mark }) ≡ successors site M (frame_in files old)
   led_on on mark constructs leads constructed is =
       let slots = (frame_in files old).slots in
       let mark_of = λ (ops : List model.VerificationType). old.constructed || constructs_this site ops site.instr in
@@ -97,7 +106,9 @@ module _ (files : Program) (site : Site) (meaning : Meaning) (M : MeaningOf Valu
       ∙ ap (λ rest. map (marked (mark_of (operands over_types M.wants slots))) (M.leads slots (operands over_types M.wants slots) rest)) what_is_under
 
 -- what lies under the operands, initialised
-pub initialised_under : (files : Program) (new old : List Declared.VerificationType) (t : Declared.VerificationType) (r : model.VerificationType) (rest : List model.VerificationType)
-    → map (type_in files) new ≡ map (initialised (type_in files t)) (map (type_in files) old) → type_in files t ≡ r → reverse (map (type_in files) old) ≡ rest → reverse (map (type_in files) new) ≡ map (initialised r) rest
+pub initialised_under : (files : Program) (new old : List Declared.VerificationType) (t : Declared.VerificationType)
+    (r : model.VerificationType) (rest : List model.VerificationType)
+    → map (type_in files) new ≡ map (initialised (type_in files t)) (map (type_in files) old) → type_in files t ≡ r
+    → reverse (map (type_in files) old) ≡ rest → reverse (map (type_in files) new) ≡ map (initialised r) rest
 initialised_under files new old t r rest e is left =
     ap reverse (e ∙ ap (λ x. map (initialised x) (map (type_in files) old)) is) ∙ sym (map-reverse (initialised r) (map (type_in files) old)) ∙ ap (map (initialised r)) left

@@ -40,7 +40,8 @@ no_name bytes = by (names_of bytes)
 
 -- a descriptor has the dimensions that come first
 with_dimensions : (n : ℕ) (f : FieldType) (o : Option (ElementType × List ℕ)) (long : Bool)
-    → (cond long None (o >>= (λ e. Some (record { dimensions = n; element = e.0 }, e.1))) >>= (λ (g : FieldType × List ℕ). cond (length g.1 == 0) (Some g.0) None)) ≡ Some f → f.dimensions ≡ n
+    → (cond long None (o >>= (λ e. Some (record { dimensions = n; element = e.0 }, e.1))) >>= (λ (g : FieldType
+    × List ℕ). cond (length g.1 == 0) (Some g.0) None)) ≡ Some f → f.dimensions ≡ n
 with_dimensions n f None true h = absurd cc
 with_dimensions n f None false h = absurd cc
 with_dimensions n f (Some e) true h = absurd cc
@@ -66,7 +67,8 @@ no_array b bytes q e = by (field_type (b ∷ bytes)) refl e
         let many : f.dimensions ≡ suc (dimensions_of bytes) = its_dimensions (c ∷ bytes) f h ∙ ap (λ n. dimensions_of (n ∷ bytes)) q in
         no_int (dimensions_of bytes) f.element (sym (ap (λ n. declared_with n f.element) many) ∙ e)
 
-    by : (o : Option FieldType) → field_type (b ∷ bytes) ≡ o → option_map_or declared_of o DeclaredInt ≡ DeclaredInt → not (is_class_or_array (b ∷ bytes)) ≡ true
+    by : (o : Option FieldType) → field_type (b ∷ bytes) ≡ o → option_map_or declared_of o DeclaredInt ≡ DeclaredInt
+        → not (is_class_or_array (b ∷ bytes)) ≡ true
     by None h e =
         let named : is_class_name (b ∷ bytes) ≡ false = subst (λ (c : ℕ). is_class_name (c ∷ bytes) ≡ false) (sym q) (no_name bytes) in
         rw (named, h, and-false (eqb b 91)) refl
@@ -83,7 +85,8 @@ module _ (files : Program) where
   lacks f = declared_missing files (declared_of f)
 
   -- a type lacks its class where the class is not found
-  by_element : (n : ℕ) (e : ElementType) → declared_missing files (declared_with n e) ≡ option_map_or (is_missing files) (class_of_element e) false
+  by_element : (n : ℕ) (e : ElementType) → declared_missing files (declared_with n e)
+      ≡ option_map_or (is_missing files) (class_of_element e) false
   by_element zero element.Byte = refl
   by_element zero element.Char = refl
   by_element zero element.Double = refl
@@ -103,14 +106,17 @@ module _ (files : Program) where
   by_element (suc n) element.Short = arrays_missing files n (array_of element.Short)
   by_element (suc n) element.Boolean = arrays_missing files n (array_of element.Boolean)
 
-  one_named : (o : Option Name) (names : List Name) → (option_map_or (is_missing files) o false || some_missing names) ≡ some_missing (option_map_or (λ name. name ∷ names) o names)
+  one_named : (o : Option Name) (names : List Name)
+      → (option_map_or (is_missing files) o false || some_missing names) ≡ some_missing (option_map_or (λ name. name ∷ names) o names)
   one_named None names = refl
   one_named (Some name) names = refl
 
-  named_first : (f : FieldType) (fs : List FieldType) → named_in (f ∷ fs) ≡ option_map_or (λ name. name ∷ named_in fs) (class_of_element f.element) (named_in fs)
+  named_first : (f : FieldType) (fs : List FieldType)
+      → named_in (f ∷ fs) ≡ option_map_or (λ name. name ∷ named_in fs) (class_of_element f.element) (named_in fs)
   named_first f fs = by (class_of_element f.element) refl
     where
-      by : (o : Option Name) → class_of_element f.element ≡ o → named_in (f ∷ fs) ≡ option_map_or (λ name. name ∷ named_in fs) o (named_in fs)
+      by : (o : Option Name) → class_of_element f.element ≡ o
+          → named_in (f ∷ fs) ≡ option_map_or (λ name. name ∷ named_in fs) o (named_in fs)
       by None e = rw e refl
       by (Some name) e = rw e refl
 
@@ -151,7 +157,8 @@ module _ (files : Program) where
       by true q o h = after_bracket b bytes (eqb-true b 40 q)
       by false q o h = absurd cc
 
-  declared_together : (ps : List FieldType) (r : Option FieldType) → list_any (declared_missing files) (map declared_of ps ++ returned_type r) ≡ list_any lacks (ps ++ return_types r)
+  declared_together : (ps : List FieldType) (r : Option FieldType)
+      → list_any (declared_missing files) (map declared_of ps ++ returned_type r) ≡ list_any lacks (ps ++ return_types r)
   declared_together [] None = refl
   declared_together [] (Some f) = refl
   declared_together (p ∷ ps) r = ap (λ b. lacks p || b) (declared_together ps r)
@@ -159,7 +166,8 @@ module _ (files : Program) where
   abbrev declared : Option MethodType → List DeclaredType
   declared o = option_map_or (λ (m : MethodType). map declared_of m.parameters) o [] ++ option_map_or (λ (m : MethodType). returned_type m.returns) o []
 
-  pub method_lacks : (d : Name) → list_any (declared_missing files) (parameters_declared d ++ results_declared d) ≡ true → some_missing (classes_in d) ≡ true
+  pub method_lacks : (d : Name) → list_any (declared_missing files) (parameters_declared d ++ results_declared d) ≡ true
+      → some_missing (classes_in d) ≡ true
   method_lacks d h = by (method_type d) refl
     where
       by : (o : Option MethodType) → method_type d ≡ o → some_missing (classes_in d) ≡ true
@@ -174,14 +182,18 @@ module _ (files : Program) where
 
   -- ---- a class constant
 
-  pub name_lacks : (name : Name) → type_missing files (type_named name) ≡ true → (some_missing (classes_named name) || not (is_class_or_array name)) ≡ true
+  pub name_lacks : (name : Name) → type_missing files (type_named name) ≡ true
+      → (some_missing (classes_named name) || not (is_class_or_array name)) ≡ true
   name_lacks [] h = or_left (some_missing ([] ∷ [])) _ (or-false (is_missing files []) ∙ h)
   name_lacks (b ∷ bytes) h = by (eqb b 91) refl h
     where
-      stands : b ≡ 91 → (t : DeclaredType) → field_declared (b ∷ bytes) ≡ t → type_missing files (reference_declared (b ∷ bytes) t) ≡ true → (some_missing (classes_in (b ∷ bytes)) || not (is_class_or_array (b ∷ bytes))) ≡ true
+      stands : b ≡ 91 → (t : DeclaredType) → field_declared (b ∷ bytes) ≡ t → type_missing files (reference_declared (b ∷ bytes) t) ≡ true
+          → (some_missing (classes_in (b ∷ bytes)) || not (is_class_or_array (b ∷ bytes))) ≡ true
       stands q DeclaredInt e h = or_right (some_missing (classes_in (b ∷ bytes))) _ (no_array b bytes q e)
       stands q (DeclaredReference t) e h = or_left (some_missing (classes_in (b ∷ bytes))) _ (field_lacks (b ∷ bytes) (ap (declared_missing files) e ∙ h))
 
-      by : (v : Bool) → eqb b 91 ≡ v → type_missing files (cond v (reference_declared (b ∷ bytes) (field_declared (b ∷ bytes))) (ClassType (b ∷ bytes))) ≡ true → (some_missing (cond v (classes_in (b ∷ bytes)) ((b ∷ bytes) ∷ [])) || not (is_class_or_array (b ∷ bytes))) ≡ true
+      by : (v : Bool) → eqb b 91 ≡ v → type_missing files (cond v (reference_declared (b
+          ∷ bytes) (field_declared (b ∷ bytes))) (ClassType (b ∷ bytes))) ≡ true
+          → (some_missing (cond v (classes_in (b ∷ bytes)) ((b ∷ bytes) ∷ [])) || not (is_class_or_array (b ∷ bytes))) ≡ true
       by true q h = stands (eqb-true b 91 q) (field_declared (b ∷ bytes)) refl h
       by false q h = or_left (some_missing ((b ∷ bytes) ∷ [])) _ (or-false (is_missing files (b ∷ bytes)) ∙ h)

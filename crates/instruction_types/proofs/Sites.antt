@@ -48,7 +48,8 @@ module _ (files : Program) (site : Site) (r : Result Meaning NoMeaning) where
   -- ---- members
 
   pub for_field : (how : FieldAccess) (index : ℕ) (m : Member) → site.instr ≡ instr.Field how index → Some m ≡ field_at site.body.pool index
-      → Answers files site (some_missing (member_classes (Some m)) || false) (field_meaning values files site.next how m) r → AnswersAt files site r
+      → Answers files site (some_missing (member_classes (Some m)) || false) (field_meaning values files site.next how m) r
+      → AnswersAt files site r
   for_field how index m is e h =
       let there = subst (λ (names : List Name). Answers files site (some_missing names || false) (field_meaning values files site.next how m) r) (sym (append-nil (member_classes (Some m)))) h in
       answers_for (instr.Field how index) is (subst (λ (o : Option Member). Answers files site (some_missing (member_classes o ++ []) || false) (option_and_then (field_meaning values files site.next how) o) r) e there)
@@ -67,10 +68,12 @@ module _ (files : Program) (site : Site) (r : Result Meaning NoMeaning) where
   abbrev static_found : Option Member → Option (MeaningOf Value)
   static_found o = option_and_then (if_method is_static_method files (static_call values files site)) (option_and_then (find_method files) o)
 
-  pub for_static : (index : ℕ) (m : Member) → site.instr ≡ instr.Invoke invocation.Static index → Some m ≡ method_at site.body.pool index → AnswersCall static_found (Some m) → AnswersAt files site r
+  pub for_static : (index : ℕ) (m : Member) → site.instr ≡ instr.Invoke invocation.Static index → Some m ≡ method_at site.body.pool index
+      → AnswersCall static_found (Some m) → AnswersAt files site r
   for_static index m is e h = answers_for (instr.Invoke invocation.Static index) is (subst (AnswersCall static_found) e h)
 
-  pub for_interface : (index count last : ℕ) (m : Member) → site.instr ≡ instr.InvokeInterface index count last → Some m ≡ interface_method_at site.body.pool index
+  pub for_interface : (index count last : ℕ) (m : Member) → site.instr ≡ instr.InvokeInterface index count last
+      → Some m ≡ interface_method_at site.body.pool index
       → AnswersCall (option_and_then (interface_of values files site)) (Some m) → AnswersAt files site r
   for_interface index count last m is e h = answers_for (instr.InvokeInterface index count last) is (subst (AnswersCall (option_and_then (interface_of values files site))) e h)
 
@@ -82,7 +85,9 @@ module _ (files : Program) (site : Site) (r : Result Meaning NoMeaning) where
   abbrev AnswersClass : (Name → Bool) → (Option Name → Option (MeaningOf Value)) → Option Name → Type 0
   AnswersClass long model o = Answers files site (refused_class long o) (model o) r
 
-  of_name : (long : Name → Bool) (model : Option (MeaningOf Value)) (name : Name) → Answers files site (some_missing (classes_named name) || (long name || is_no_type name)) model r → Answers files site (refused_class long (Some name)) model r
+  of_name : (long : Name → Bool) (model : Option (MeaningOf Value)) (name : Name)
+      → Answers files site (some_missing (classes_named name) || (long name || is_no_type name)) model r
+      → Answers files site (refused_class long (Some name)) model r
   of_name long model name h =
       subst (λ (names : List Name). Answers files site (some_missing names || (long name || is_no_type name)) model r) (sym (append-nil (classes_named name ++ []) ∙ append-nil (classes_named name))) h
 
@@ -99,7 +104,8 @@ module _ (files : Program) (site : Site) (r : Result Meaning NoMeaning) where
   abbrev refused_new : Option Name → Bool
   refused_new o = some_missing (flat_map classes_named (option_to_list o) ++ []) || option_map_or is_no_type o false
 
-  pub for_new : (index : ℕ) (name : Name) → site.instr ≡ instr.New index → Some name ≡ class_name_at site.body.pool index → ((refused : Bool) → Answers files site refused (new_named values files site name) r) → AnswersAt files site r
+  pub for_new : (index : ℕ) (name : Name) → site.instr ≡ instr.New index → Some name ≡ class_name_at site.body.pool index
+      → ((refused : Bool) → Answers files site refused (new_named values files site name) r) → AnswersAt files site r
   for_new index name is e h = answers_for (instr.New index) is (subst (λ (o : Option Name). Answers files site (refused_new o) (new_model o) r) e (h (refused_new (Some name))))
 
   abbrev long_name : Name → Bool
@@ -109,14 +115,16 @@ module _ (files : Program) (site : Site) (r : Result Meaning NoMeaning) where
   array_model o = option_map (λ (name : Name). reference_array_meaning values files site (type_named name)) o
 
   pub for_array : (index : ℕ) (name : Name) → site.instr ≡ instr.NewReferenceArray index → Some name ≡ class_name_at site.body.pool index
-      → Answers files site (some_missing (classes_named name) || (long_name name || is_no_type name)) (Some (reference_array_meaning values files site (type_named name))) r → AnswersAt files site r
+      → Answers files site (some_missing (classes_named name) || (long_name name || is_no_type name))
+      (Some (reference_array_meaning values files site (type_named name))) r → AnswersAt files site r
   for_array index name is e h = answers_for (instr.NewReferenceArray index) is (subst (AnswersClass long_name array_model) e (of_name long_name (array_model (Some name)) name h))
 
   abbrev cast_model : Option Name → Option (MeaningOf Value)
   cast_model o = option_map (λ (name : Name). check_cast_meaning values files site (type_named name)) o
 
   pub for_cast : (index : ℕ) (name : Name) → site.instr ≡ instr.CheckCast index → Some name ≡ class_name_at site.body.pool index
-      → Answers files site (some_missing (classes_named name) || (false || is_no_type name)) (Some (check_cast_meaning values files site (type_named name))) r → AnswersAt files site r
+      → Answers files site (some_missing (classes_named name) || (false || is_no_type name))
+      (Some (check_cast_meaning values files site (type_named name))) r → AnswersAt files site r
   for_cast index name is e h =
       answers_for (instr.CheckCast index) is (subst (λ (o : Option Name). Answers files site (refused_new o) (cast_model o) r) e (of_name never (cast_model (Some name)) name h))
 
@@ -124,12 +132,15 @@ module _ (files : Program) (site : Site) (r : Result Meaning NoMeaning) where
   test_model o = option_map (λ (name : Name). instance_of_meaning values files site (type_named name)) o
 
   pub for_test : (index : ℕ) (name : Name) → site.instr ≡ instr.InstanceOf index → Some name ≡ class_name_at site.body.pool index
-      → ((refused : Bool) → Answers files site refused (Some (instance_of_meaning values files site (type_named name))) r) → AnswersAt files site r
+      → ((refused : Bool) → Answers files site refused (Some (instance_of_meaning values files site (type_named name))) r)
+      → AnswersAt files site r
   for_test index name is e h = answers_for (instr.InstanceOf index) is (subst (λ (o : Option Name). Answers files site (refused_new o) (test_model o) r) e (h (refused_new (Some name))))
 
   -- ---- returns
 
-  pub for_return : (how : Returned) → site.instr ≡ instr.Return how → Answers files site (some_missing (classes_in site.method.descriptor) || false) (Some (return_of values files site.method.descriptor how)) r → AnswersAt files site r
+  pub for_return : (how : Returned) → site.instr ≡ instr.Return how
+      → Answers files site (some_missing (classes_in site.method.descriptor) || false)
+      (Some (return_of values files site.method.descriptor how)) r → AnswersAt files site r
   for_return how is h =
       answers_for (instr.Return how) is
       (subst (λ (names : List Name). Answers files site (some_missing names || false) (Some (return_of values files site.method.descriptor how)) r) (sym (append-nil (classes_in site.method.descriptor))) h)

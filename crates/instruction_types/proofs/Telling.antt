@@ -29,16 +29,21 @@ use Rattle.instruction_types.specs.Means.{Means}
 use Rattle.instruction_types.specs.Answers.{Answers}
 
 -- the type that is pushed, where it is known
-pub pushed : (r : Result Meaning NoMeaning) (s t : ReferenceType) → s ≡ t → IfOk r (λ m. m.leads ≡ leads.Pushes (type.Object s)) → IfOk r (λ m. m.leads ≡ leads.Pushes (type.Object t))
+pub pushed : (r : Result Meaning NoMeaning) (s t : ReferenceType) → s ≡ t → IfOk r (λ m. m.leads ≡ leads.Pushes (type.Object s))
+    → IfOk r (λ m. m.leads ≡ leads.Pushes (type.Object t))
 pushed r s t e h = subst (λ (u : ReferenceType). IfOk r (λ m. m.leads ≡ leads.Pushes (type.Object u))) e h
 
 -- what is told of each site is told of one
-pub narrowed : (files : Program) (site : Site) (r : Result Meaning NoMeaning) (M : Site → MeaningOf Value) → IfOk r (λ m. (files : Program) (site : Site) → Means files site m (M site)) → IfOk r (λ m. Means files site m (M site))
+pub narrowed : (files : Program) (site : Site) (r : Result Meaning NoMeaning) (M : Site → MeaningOf Value)
+    → IfOk r (λ m. (files : Program) (site : Site) → Means files site m (M site)) → IfOk r (λ m. Means files site m (M site))
 narrowed files site (Ok m) M h = h files site
 narrowed files site (Err e) M h = tt
 
 -- and what is told of each type
-pub narrowed_type : (files : Program) (site : Site) (t : reference.ReferenceType) (r : Result Meaning NoMeaning) (M : Program → Site → reference.ReferenceType → MeaningOf Value) → IfOk r (λ m. (files : Program) (site : Site) (t : reference.ReferenceType) → Means files site m (M files site t)) → IfOk r (λ m. Means files site m (M files site t))
+pub narrowed_type : (files : Program) (site : Site) (t : reference.ReferenceType) (r : Result Meaning NoMeaning)
+    (M : Program → Site → reference.ReferenceType → MeaningOf Value)
+    → IfOk r (λ m. (files : Program) (site : Site) (t : reference.ReferenceType) → Means files site m (M files site t))
+    → IfOk r (λ m. Means files site m (M files site t))
 narrowed_type files site t (Ok m) M h = h files site t
 narrowed_type files site t (Err e) M h = tt
 
@@ -48,26 +53,31 @@ module _ (files : Program) (site : Site) (refused : Bool) where
   abbrev same_leads : Leads → MeaningOf Value → Type 0
   same_leads rule M = (ts : Slots model.VerificationType) (ops rest : List model.VerificationType) → leads_in files site rule ts ops rest ≡ M.leads ts ops rest
 
-  answers_means : (M : MeaningOf Value) (r : Result Meaning NoMeaning) → IfOk r (λ m. Means files site m M) → IfErr r (λ e. e ≡ reasons.OutOfMemory) → Answers files site refused (Some M) r
+  answers_means : (M : MeaningOf Value) (r : Result Meaning NoMeaning) → IfOk r (λ m. Means files site m M)
+      → IfErr r (λ e. e ≡ reasons.OutOfMemory) → Answers files site refused (Some M) r
   answers_means M (Ok m) h e = h
   answers_means M (Err reasons.Unnamed) h e = absurd cc
   answers_means M (Err reasons.NotLinked) h e = absurd cc
   answers_means M (Err reasons.OutOfMemory) h e = tt
 
-  pub answers_told : (model : Option (MeaningOf Value)) (M : MeaningOf Value) (r : Result Meaning NoMeaning) → model ≡ Some M → IfOk r (λ m. Means files site m M) → IfErr r (λ e. e ≡ reasons.OutOfMemory) → Answers files site refused model r
+  pub answers_told : (model : Option (MeaningOf Value)) (M : MeaningOf Value) (r : Result Meaning NoMeaning) → model ≡ Some M
+      → IfOk r (λ m. Means files site m M) → IfErr r (λ e. e ≡ reasons.OutOfMemory) → Answers files site refused model r
   answers_told model M r q h e = subst (λ (o : Option (MeaningOf Value)). Answers files site refused o r) (sym q) (answers_means M r h e)
 
   pub means : (M : MeaningOf Value) (pops : List Want) (grows : ℕ) (rule : Leads) (r : Result Meaning NoMeaning)
       → wants_of (map (want_in files) pops) grows ≡ M.wants → same_leads rule M
-      → IfOk r (λ m. (files : Program) → wants_in files m.wants ≡ wants_of (map (want_in files) pops) grows) → IfOk r (λ m. m.wants.reads ≡ None) → IfOk r (λ m. m.leads ≡ rule)
+      → IfOk r (λ m. (files : Program) → wants_in files m.wants ≡ wants_of (map (want_in files) pops) grows)
+      → IfOk r (λ m. m.wants.reads ≡ None) → IfOk r (λ m. m.leads ≡ rule)
       → IfOk r (λ m. Means files site m M)
   means M pops grows rule (Err e) p l w n h = tt
   means M pops grows rule (Ok m) p l w n h =
       record { wants = w files ∙ p; reads = n; leads = λ ts ops rest. ap (λ x. leads_in files site x ts ops rest) h ∙ l ts ops rest }
 
-  pub answers : (model : Option (MeaningOf Value)) (M : MeaningOf Value) (pops : List Want) (grows : ℕ) (rule : Leads) (r : Result Meaning NoMeaning)
+  pub answers : (model : Option (MeaningOf Value)) (M : MeaningOf Value) (pops : List Want) (grows : ℕ) (rule : Leads)
+      (r : Result Meaning NoMeaning)
       → model ≡ Some M → wants_of (map (want_in files) pops) grows ≡ M.wants → same_leads rule M
-      → IfOk r (λ m. (files : Program) → wants_in files m.wants ≡ wants_of (map (want_in files) pops) grows) → IfOk r (λ m. m.wants.reads ≡ None) → IfOk r (λ m. m.leads ≡ rule)
+      → IfOk r (λ m. (files : Program) → wants_in files m.wants ≡ wants_of (map (want_in files) pops) grows)
+      → IfOk r (λ m. m.wants.reads ≡ None) → IfOk r (λ m. m.leads ≡ rule)
       → IfErr r (λ e. e ≡ reasons.OutOfMemory) → Answers files site refused model r
   answers model M pops grows rule r q p l w n h e = answers_told model M r q (means M pops grows rule r p l w n h) e
 
@@ -97,14 +107,17 @@ module _ (files : Program) (site : Site) (refused : Bool) where
       by None e = rw e refl
       by (Some file) e = let absent : is_none (Some file) ≡ true = sym (ap is_none e) ∙ h in absurd cc
 
-  pub some_class : (name : Name) → is_missing files name ≡ false → class_constant values files site name ≡ Some (object_meaning values site java_lang_class (class_reference files name))
+  pub some_class : (name : Name) → is_missing files name ≡ false
+      → class_constant values files site name ≡ Some (object_meaning values site java_lang_class (class_reference files name))
   some_class name h = by (class_of files name) refl
     where
-      by : (o : Option FileTree) → class_of files name ≡ o → class_constant values files site name ≡ Some (object_meaning values site java_lang_class (class_reference files name))
+      by : (o : Option FileTree) → class_of files name ≡ o
+          → class_constant values files site name ≡ Some (object_meaning values site java_lang_class (class_reference files name))
       by None e = let there : true ≡ false = sym (ap is_none e) ∙ h in absurd cc
       by (Some file) e = rw e refl
 
-  pub of_string : (e : Entry) (bytes : Name) → string_of site.body.pool e ≡ Some bytes → constant e ≡ Some (object_meaning values site java_lang_string (string_reference files bytes))
+  pub of_string : (e : Entry) (bytes : Name) → string_of site.body.pool e ≡ Some bytes
+      → constant e ≡ Some (object_meaning values site java_lang_string (string_reference files bytes))
   of_string (Utf8 text) bytes h = absurd cc
   of_string (Integer bits) bytes h = absurd cc
   of_string (Float bits) bytes h = absurd cc

@@ -13,7 +13,8 @@ use Rattle.instruction_types.specs.declared.leads.Leads as declared_leads
 use Rattle.instruction_types.specs.declared.leads.Leads.TheVariants as leads
 
 -- all copies of a receiver are initialised (JVMS 4.10.1.9, invokespecial)
-abbrev pub initialised_leads : Site → ℕ → Slots VerificationType → List VerificationType → List VerificationType → List (ℕ × Slots VerificationType)
+abbrev pub initialised_leads : Site → ℕ → Slots VerificationType → List VerificationType → List VerificationType
+    → List (ℕ × Slots VerificationType)
 initialised_leads site operand ts ops rest = (
   site.next,
   record {
@@ -24,7 +25,8 @@ initialised_leads site operand ts ops rest = (
     ∷ []
 
 -- from the types before the instruction, those of its operands, and those that lie under them
-abbrev pub leads_in : Program → Site → declared_leads.Leads → Slots VerificationType → List VerificationType → List VerificationType → List (ℕ × Slots VerificationType)
+abbrev pub leads_in : Program → Site → declared_leads.Leads → Slots VerificationType → List VerificationType → List VerificationType
+    → List (ℕ × Slots VerificationType)
 leads_in files site leads.Nowhere ts ops rest = nowhere ts ops rest
 leads_in files site leads.Next ts ops rest = to_next site.next [] ts ops rest
 leads_in files site (leads.Pushes type) ts ops rest = to_next site.next (type_in files type ∷ []) ts ops rest

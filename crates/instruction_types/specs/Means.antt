@@ -14,4 +14,5 @@ pub record Means (files : Program) (site : Site) (meaning : Meaning) (model : Me
   pub wants : wants_in files meaning.wants ≡ model.wants
   -- local variables are read by local instructions alone
   pub reads : meaning.wants.reads ≡ None
-  pub leads : (ts : Slots VerificationType) (ops rest : List VerificationType) → leads_in files site meaning.leads ts ops rest ≡ model.leads ts ops rest
+  pub leads : (ts : Slots VerificationType) (ops rest : List VerificationType)
+      → leads_in files site meaning.leads ts ops rest ≡ model.leads ts ops rest

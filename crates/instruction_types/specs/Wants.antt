@@ -38,12 +38,14 @@ pub record Calls (files : Program) (method : Member) (receiver : Option Want) (m
 -- And its result is pushed.
 pub record CallsOn (files : Program) (method : Member) (receiver : Option Want) (meaning : Meaning) : Type 0 where
   pub calls : Calls files method receiver meaning
-  pub leads : (site : Site) (ts : Slots model.VerificationType) (ops rest : List model.VerificationType) → leads_in files site meaning.leads ts ops rest ≡ to_next site.next (result_types files method) ts ops rest
+  pub leads : (site : Site) (ts : Slots model.VerificationType) (ops rest : List model.VerificationType)
+      → leads_in files site meaning.leads ts ops rest ≡ to_next site.next (result_types files method) ts ops rest
 
 -- Or all copies of the receiver are initialised, as by a constructor of the class at a place.
 pub record Constructs (files : Program) (method : Member) (class : ℕ) (meaning : Meaning) : Type 0 where
   pub calls : Calls files method (Some (want.AReceiver class)) meaning
-  pub leads : (site : Site) (ts : Slots model.VerificationType) (ops rest : List model.VerificationType) → leads_in files site meaning.leads ts ops rest ≡ constructed_leads site method ts ops rest
+  pub leads : (site : Site) (ts : Slots model.VerificationType) (ops rest : List model.VerificationType)
+      → leads_in files site meaning.leads ts ops rest ≡ constructed_leads site method ts ops rest
 
 -- the types that a method's descriptor describes, where none of its classes is missing
 abbrev pub DescribesMethod : Program → Name → Result MethodTypes NoMeaning → Type 0

@@ -51,7 +51,8 @@ fn system_out(alloc: Global) -> Result<Meaning, NoMeaning>
 /// The object whose field is put: of the class that the instruction names, or `this` in a constructor of that class, where
 /// it is the class that declares the field.
 fn owner(set: &ClassSet, field: Reference<'_>, found: MemberPlace) -> Option<Want>
-    ensures { Gives (want_in set.now) (is_missing set.now field.entry.class.now) (owner_want set.now field.entry.class.now (member_in set.now (reference_of field.entry) found)) result }
+    ensures { Gives (want_in set.now) (is_missing set.now field.entry.class.now)
+        (owner_want set.now field.entry.class.now (member_in set.now (reference_of field.entry) found)) result }
 {
     let Some(class) = place_of(set, field.class) else {
         return None;
@@ -70,7 +71,9 @@ fn on_found(
     field: Reference<'_>,
     found: MemberPlace,
 ) -> Result<Meaning, NoMeaning>
-    ensures { (site : Site) (others : Bool) → Answers set.now site (list_any (is_missing set.now) (member_classes (Some (reference_of field.entry))) || others) (Some (accessed set.now site access (reference_of field.entry) (member_in set.now (reference_of field.entry) found))) result }
+    ensures { (site : Site) (others : Bool)
+        → Answers set.now site (list_any (is_missing set.now) (member_classes (Some (reference_of field.entry))) || others)
+        (Some (accessed set.now site access (reference_of field.entry) (member_in set.now (reference_of field.entry) found))) result }
 {
     let Some(t) = field_type(set, field.descriptor) else {
         return Err(NoMeaning::NotLinked);
@@ -123,7 +126,9 @@ pub(crate) fn on_field(
     field: Reference<'_>,
 ) -> Result<Meaning, NoMeaning>
     requires differ { IsFalse (stands hierarchy.now DuplicateClass) }
-    ensures { (site : Site) (others : Bool) → Answers hierarchy.now site (list_any (is_missing hierarchy.now) (member_classes (Some (reference_of field.entry))) || others) (field_meaning values hierarchy.now site.next access (reference_of field.entry)) result }
+    ensures { (site : Site) (others : Bool)
+        → Answers hierarchy.now site (list_any (is_missing hierarchy.now) (member_classes (Some (reference_of field.entry))) || others)
+        (field_meaning values hierarchy.now site.next access (reference_of field.entry)) result }
 {
     if gets_system_out(access, field) {
         return system_out(alloc);

@@ -54,7 +54,8 @@ pub fn is_field_of_kind(
 ) -> bool
     requires differ { IsFalse (stands set.now DuplicateClass) }
     requires there { IsFieldAt set.now (reference_of field) found }
-    ensures { result ≡ option_map_or (is_field_of_kind wants_static) (field_of set.now (member_in set.now (reference_of field.entry) found)) false }
+    ensures { result ≡ option_map_or (is_field_of_kind wants_static)
+        (field_of set.now (member_in set.now (reference_of field.entry) found)) false }
 {
     let Some(class) = set.class_at(found.class) else {
         return false;
@@ -74,7 +75,8 @@ pub fn is_method_of_kind(
 ) -> bool
     requires differ { IsFalse (stands set.now DuplicateClass) }
     requires there { IsMethodAt set.now (reference_of method) found }
-    ensures { result ≡ option_map_or (is_method_of_kind wants_static) (method_of set.now (member_in set.now (reference_of method.entry) found)) false }
+    ensures { result ≡ option_map_or (is_method_of_kind wants_static)
+        (method_of set.now (member_in set.now (reference_of method.entry) found)) false }
 {
     let Some(class) = set.class_at(found.class) else {
         return false;

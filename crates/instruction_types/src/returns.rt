@@ -53,7 +53,8 @@ fn returns_as(kind: Returned, returned: Returned) -> bool
 
 /// A return that pops these, where it may stand at all.
 fn leaving(alloc: Global, allowed: bool, pops: &[Want]) -> Result<Meaning, NoMeaning>
-    ensures wants { IfOk result (λ m. (files : Program) → wants_in files m.wants ≡ record { allowed = allowed; reads = []; pops = map (want_in files) pops.now; grows = 0 }) }
+    ensures wants { IfOk result (λ m. (files : Program)
+        → wants_in files m.wants ≡ record { allowed = allowed; reads = []; pops = map (want_in files) pops.now; grows = 0 }) }
     ensures reads { IfOk result (λ m. m.wants.reads ≡ None) }
     ensures leads { IfOk result (λ m. m.leads ≡ Leads.Nowhere) }
     ensures memory { IfErr result (λ e. e ≡ NoMeaning.OutOfMemory) }
@@ -80,7 +81,9 @@ pub(crate) fn return_of(
     descriptor: &[u8],
     returned: Returned,
 ) -> Result<Meaning, NoMeaning>
-    ensures { (site : Site) (others : Bool) → Answers set.now site (list_any (is_missing set.now) (classes_in descriptor.now) || others) (Some (return_of values set.now descriptor.now returned)) result }
+    ensures { (site : Site) (others : Bool)
+        → Answers set.now site (list_any (is_missing set.now) (classes_in descriptor.now) || others)
+        (Some (return_of values set.now descriptor.now returned)) result }
 {
     let types = match types_of(alloc, set, descriptor) {
         Ok(types) => types,

@@ -61,7 +61,8 @@ fn invoke_at(
 /// `invokeinterface` of the method that an index names.
 fn invoke_interface_at(alloc: Global, site: &Site<'_>, index: u16) -> Result<Meaning, NoMeaning>
     requires differ { IsFalse (stands (files_of site.now.method) DuplicateClass) }
-    ensures { (count last : ℕ) → site.now.instr ≡ Instr.InvokeInterface index count last → AnswersAt (files_of site.now.method) (site_of site.now) result }
+    ensures { (count last : ℕ) → site.now.instr ≡ Instr.InvokeInterface index count last
+        → AnswersAt (files_of site.now.method) (site_of site.now) result }
 {
     match site.method.file.interface_method_reference(index) {
         Some(method) => invoke_interface(alloc, site.method.hierarchy, method),

@@ -39,7 +39,8 @@ module _ (files : Program) (linked : IsLinked files) where
       by None e = absurd cc
       by (Some m) e = refl
 
-  pub has_place : (o : Option MemberPlace) → option_map (λ p. member_in files the_main p) o ≡ method_in_class files any_method the_main (initial_class files) → o ≡ None → ⊥
+  pub has_place : (o : Option MemberPlace)
+      → option_map (λ p. member_in files the_main p) o ≡ method_in_class files any_method the_main (initial_class files) → o ≡ None → ⊥
   has_place o found none = by o (found ∙ declared) none
     where
       by : (o : Option MemberPlace) → option_map (λ p. member_in files the_main p) o ≡ Some the_main → o ≡ None → ⊥
@@ -60,5 +61,6 @@ module _ (files : Program) (linked : IsLinked files) where
     pub main_fits : (number : ℕ) → Names files (Some number) (member_at files place) → number < 2 ^ 32
     main_fits number names = number_fits files linked number (member_at files place) names
 
-    pub main_numbered : Some (member_in files the_main place) ≡ method_in_class files any_method the_main (initial_class files) → (number : ℕ) → Names files (Some number) (member_at files place) → IsMethodAt files number the_main
+    pub main_numbered : Some (member_in files the_main place) ≡ method_in_class files any_method the_main (initial_class files)
+        → (number : ℕ) → Names files (Some number) (member_at files place) → IsMethodAt files number the_main
     main_numbered found number names = numbered files the_main place number found at names

@@ -19,7 +19,8 @@ use Rattle.link_conditions.specs.declared.refusal.why.RefusalKind.{RefusalKind}
 use Rattle.link_conditions.specs.declared.refusal.why.RefusalKind.TheVariants as kinds
 use Rattle.hierarchy.proofs.RowLaws.{get_map}
 
-pub spelled_push : (files : List (List ℕ)) (trees : Program) (bytes : List ℕ) (tree : FileTree) → AreSpelled files trees → Spells bytes tree → AreSpelled (files ++ bytes ∷ []) (trees ++ tree ∷ [])
+pub spelled_push : (files : List (List ℕ)) (trees : Program) (bytes : List ℕ) (tree : FileTree) → AreSpelled files trees
+    → Spells bytes tree → AreSpelled (files ++ bytes ∷ []) (trees ++ tree ∷ [])
 spelled_push [] [] bytes tree h s = (s, tt)
 spelled_push [] (t ∷ trees) bytes tree h s = absurd h
 spelled_push (f ∷ files) [] bytes tree h s = absurd h
@@ -29,7 +30,8 @@ spelled_push (f ∷ files) (t ∷ trees) bytes tree h s = (h.0, spelled_push fil
 abbrev Split : List (List ℕ) → List ℕ → Program → Type 0
 Split files bytes trees = (before : Program) × (last : FileTree) × (trees ≡ before ++ last ∷ []) × AreSpelled files before × Spells bytes last
 
-spelled_split : (files : List (List ℕ)) (bytes : List ℕ) (trees : Program) → AreSpelled (files ++ bytes ∷ []) trees → Split files bytes trees
+spelled_split : (files : List (List ℕ)) (bytes : List ℕ) (trees : Program) → AreSpelled (files ++ bytes ∷ []) trees
+    → Split files bytes trees
 spelled_split [] bytes [] h = absurd h
 spelled_split [] bytes (t ∷ []) h = ([], t, refl, tt, h.0)
 spelled_split [] bytes (t ∷ u ∷ trees) h = absurd h.1
@@ -46,20 +48,23 @@ only_push files bytes trees tree only one others h =
     ap (λ (l : Program). l ++ tree ∷ []) (only s.0 s.3) ∙ ap (λ t. s.0 ++ t ∷ []) (one s.1 s.4) ∙ sym s.2
 
 -- a file that spells nothing is in no list that is spelled
-pub nothing_spelled : (files : List (List ℕ)) (place : ℕ) (bytes : List ℕ) (trees : Program) → slice_get files place ≡ Some bytes → SpellsNothing bytes → AreSpelled files trees → ⊥
+pub nothing_spelled : (files : List (List ℕ)) (place : ℕ) (bytes : List ℕ) (trees : Program) → slice_get files place ≡ Some bytes
+    → SpellsNothing bytes → AreSpelled files trees → ⊥
 nothing_spelled [] place bytes trees e none h = absurd cc
 nothing_spelled (f ∷ files) place bytes [] e none h = h
 nothing_spelled (f ∷ files) zero bytes (t ∷ trees) e none h = let same : f ≡ bytes = cc in none t (subst (λ b. Spells b t) same h.0)
 nothing_spelled (f ∷ files) (suc place) bytes (t ∷ trees) e none h = nothing_spelled files place bytes trees e none h.1
 
-pub unread_memory : (files : List (List ℕ)) (trees : Program) (kind : RefusalKind) (file offset : Option ℕ) (cause : Option Cause) → AreSpelled files trees → IsUnreadable files kind file offset cause → kind ≡ kinds.OutOfMemory
+pub unread_memory : (files : List (List ℕ)) (trees : Program) (kind : RefusalKind) (file offset : Option ℕ) (cause : Option Cause)
+    → AreSpelled files trees → IsUnreadable files kind file offset cause → kind ≡ kinds.OutOfMemory
 unread_memory files trees kind file offset cause h (inl memory) = memory
 unread_memory files trees kind file offset cause h (inr unread) = absurd (nothing_spelled files unread.1.place unread.1.bytes trees unread.1.stands unread.1.malformed.none h)
 
 -- ---- bytes that aren't decoded
 
 -- a fault that isn't a want of memory stands in the bytes
-pub malformed_so : (bytes : List ℕ) (fault : Malformed) → (fault.cause ≡ causes.OutOfMemory → ⊥) → IsFaultOf bytes fault → ((c : FileTree) → Spells bytes c → fault.cause ≡ causes.OutOfMemory) → IsMalformed bytes (Some fault.offset) (Some fault.cause)
+pub malformed_so : (bytes : List ℕ) (fault : Malformed) → (fault.cause ≡ causes.OutOfMemory → ⊥) → IsFaultOf bytes fault
+    → ((c : FileTree) → Spells bytes c → fault.cause ≡ causes.OutOfMemory) → IsMalformed bytes (Some fault.offset) (Some fault.cause)
 malformed_so bytes fault other told only = record {
   fault = fault;
   at = refl;
@@ -70,18 +75,24 @@ malformed_so bytes fault other told only = record {
 
 -- ---- files in memory
 
-pub bytes_more : (files : List (Vec ℕ Global)) (i : ℕ) (file : Vec ℕ Global) (bytes : List ℕ) → i < length files → file ≡ get_or files i file → bytes ≡ file.items → map vec_items (take (i + 1) files) ≡ map vec_items (take i files) ++ bytes ∷ []
+pub bytes_more : (files : List (Vec ℕ Global)) (i : ℕ) (file : Vec ℕ Global) (bytes : List ℕ) → i < length files
+    → file ≡ get_or files i file → bytes ≡ file.items → map vec_items (take (i + 1) files) ≡ map vec_items (take i files) ++ bytes ∷ []
 bytes_more files i file bytes lt at e =
     map_more vec_items files i file lt ∙ ap (λ (v : Vec ℕ Global). map vec_items (take i files) ++ v.items ∷ []) (sym at) ∙ ap (λ (b : List ℕ). map vec_items (take i files) ++ b ∷ []) (sym e)
 
-pub bytes_at : (files : List (Vec ℕ Global)) (i : ℕ) (file : Vec ℕ Global) (bytes : List ℕ) → i < length files → file ≡ get_or files i file → bytes ≡ file.items → slice_get (map vec_items files) i ≡ Some bytes
+pub bytes_at : (files : List (Vec ℕ Global)) (i : ℕ) (file : Vec ℕ Global) (bytes : List ℕ) → i < length files → file ≡ get_or files i file
+    → bytes ≡ file.items → slice_get (map vec_items files) i ≡ Some bytes
 bytes_at files i file bytes lt at e = get_map vec_items files i file (slice_get-get_or files i file lt ∙ ap (λ v. Some v) (sym at)) ∙ ap (λ b. Some b) (sym e)
 
-pub trees_more : (classes all : List ClassFile) (class : ClassFile) → all ≡ classes ++ class ∷ [] → trees_of all ≡ trees_of classes ++ file_of class ∷ []
+pub trees_more : (classes all : List ClassFile) (class : ClassFile) → all ≡ classes ++ class ∷ []
+    → trees_of all ≡ trees_of classes ++ file_of class ∷ []
 trees_more classes all class e = ap trees_of e ∙ map-append file_of classes (class ∷ [])
 
-pub unread_at : (files : List (Vec ℕ Global)) (i : ℕ) (file : Vec ℕ Global) (bytes : List ℕ) (trees : Program) (kind : RefusalKind) (named offset : Option ℕ) (cause : Option Cause) → i < length files → file ≡ get_or files i file → bytes ≡ file.items
-    → AreSpelled (map vec_items (take i files)) trees → (kind ≡ kinds.OutOfMemory) ⊎ ((kind ≡ kinds.Malformed) × (named ≡ Some i) × IsMalformed bytes offset cause) → IsUnreadable (map vec_items files) kind named offset cause
+pub unread_at : (files : List (Vec ℕ Global)) (i : ℕ) (file : Vec ℕ Global) (bytes : List ℕ) (trees : Program) (kind : RefusalKind)
+    (named offset : Option ℕ) (cause : Option Cause) → i < length files → file ≡ get_or files i file → bytes ≡ file.items
+    → AreSpelled (map vec_items (take i files)) trees
+    → (kind ≡ kinds.OutOfMemory) ⊎ ((kind ≡ kinds.Malformed) × (named ≡ Some i) × IsMalformed bytes offset cause)
+    → IsUnreadable (map vec_items files) kind named offset cause
 unread_at files i file bytes trees kind named offset cause lt at e found (inl memory) = inl memory
 unread_at files i file bytes trees kind named offset cause lt at e found (inr r) =
     inr (

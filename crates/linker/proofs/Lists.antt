@@ -15,7 +15,8 @@ alone true true h k = absurd cc
 
 -- ---- rows by the index of an entry
 
-pub row_is : {A : Type 0} (f : A → Bool) (d : A) (xs : List A) (index : ℕ) → f d ≡ false → slice_index_or (map f xs) index false ≡ f (get_or xs index d)
+pub row_is : {A : Type 0} (f : A → Bool) (d : A) (xs : List A) (index : ℕ) → f d ≡ false
+    → slice_index_or (map f xs) index false ≡ f (get_or xs index d)
 row_is f d xs index past =
     ⊎_elim (λ h. get_or-map f xs index d false h)
     (λ h. get_or_past (map f xs) index false (omega (arith, length-map xs f)) ∙ sym (ap f (get_or_past xs index d h) ∙ past))
@@ -23,7 +24,8 @@ row_is f d xs index past =
 
 -- ---- the first that passes a test
 
-pub position_passes : {A : Type 0} (p : A → Bool) (xs : List A) (k : ℕ) → position p xs ≡ Some k → (x : A) × (slice_get xs k ≡ Some x) × (p x ≡ true)
+pub position_passes : {A : Type 0} (p : A → Bool) (xs : List A) (k : ℕ) → position p xs ≡ Some k
+    → (x : A) × (slice_get xs k ≡ Some x) × (p x ≡ true)
 position_passes p xs k e = by (slice_get xs k) refl
   where
     by : (o : Option _) → slice_get xs k ≡ o → (x : _) × (slice_get xs k ≡ Some x) × (p x ≡ true)

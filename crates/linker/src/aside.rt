@@ -48,7 +48,8 @@ fn row(rows: &[bool], index: u16) -> bool
 
 /// Whether an entry is a Methodref of such a class, and not to a constructor.
 fn names_method_aside(file: &ClassFile, others: &[bool], constant: &Constant) -> bool
-    ensures { (files : Program) → others.now ≡ other_classes files (file_of file.now) → result ≡ names_method_aside files (file_of file.now) (entry_of constant.now) }
+    ensures { (files : Program) → others.now ≡ other_classes files (file_of file.now)
+        → result ≡ names_method_aside files (file_of file.now) (entry_of constant.now) }
 {
     let Constant::Method {
         class,
@@ -65,7 +66,8 @@ fn names_method_aside(file: &ClassFile, others: &[bool], constant: &Constant) ->
 
 /// The same for each entry, by its index.
 fn methods_aside(alloc: Global, file: &ClassFile, others: &[bool]) -> Result<Vec<bool>, AllocError>
-    ensures { (files : Program) → others.now ≡ other_classes files (file_of file.now) → IfOk result (λ rows. rows.items ≡ methods_aside files (file_of file.now)) }
+    ensures { (files : Program) → others.now ≡ other_classes files (file_of file.now)
+        → IfOk result (λ rows. rows.items ≡ methods_aside files (file_of file.now)) }
 {
     let mut rows = Vec::new(alloc);
     rows.push(false)?;

@@ -18,7 +18,8 @@ use std::alloc::Global;
 fn decoded(alloc: Global, number: usize, bytes: &[u8]) -> Result<ClassFile, Refusal>
     ensures found { IfOk result (λ file. Spells bytes.now (file_of file)) }
     ensures only { IfOk result (λ file. (c : FileTree) → Spells bytes.now c → file_of file ≡ c) }
-    ensures refused { IfErr result (λ r. (r.kind ≡ RefusalKind.OutOfMemory) ⊎ ((r.kind ≡ RefusalKind.Malformed) × (r.file ≡ Some number) × IsMalformed bytes.now r.offset r.cause)) }
+    ensures refused { IfErr result (λ r. (r.kind ≡ RefusalKind.OutOfMemory)
+        ⊎ ((r.kind ≡ RefusalKind.Malformed) × (r.file ≡ Some number) × IsMalformed bytes.now r.offset r.cause)) }
 {
     match decode(alloc, bytes) {
         Ok(file) => Ok(file),
@@ -32,7 +33,8 @@ fn decoded(alloc: Global, number: usize, bytes: &[u8]) -> Result<ClassFile, Refu
 /// The class files that the files are, in their order, or why the first of them that is none is refused.
 pub(crate) fn decode_all(alloc: Global, files: &[Vec<u8>]) -> Result<Vec<ClassFile>, Refusal>
     ensures found { IfOk result (λ classes. AreSpelled (map vec_items files.now) (trees_of classes.items)) }
-    ensures only { IfOk result (λ classes. (trees : Program) → AreSpelled (map vec_items files.now) trees → trees_of classes.items ≡ trees) }
+    ensures only { IfOk result (λ classes. (trees : Program) → AreSpelled (map vec_items files.now) trees
+        → trees_of classes.items ≡ trees) }
     ensures refused { IfErr result (λ r. IsUnreadable (map vec_items files.now) r.kind r.file r.offset r.cause) }
 {
     let mut classes = Vec::new(alloc);

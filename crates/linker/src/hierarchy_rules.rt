@@ -42,7 +42,8 @@ fn check_file(alloc: Global, set: &ClassSet, number: usize, file: &ClassFile) ->
     requires differ { IsFalse (stands set.now DuplicateClass) }
     requires acyclic { in_cycle set.now (file_of file.now) ≡ false }
     ensures passed { OnOk result (has_bad_hierarchy set.now (file_of file.now) ≡ false) }
-    ensures refused { IfErr result (λ r. RefusesFor RefusalKind.BadHierarchy (has_bad_hierarchy set.now (file_of file.now)) number r.kind r.file) }
+    ensures refused { IfErr result (λ r. RefusesFor RefusalKind.BadHierarchy (has_bad_hierarchy set.now (file_of file.now)) number r.kind
+        r.file) }
 {
     match first_broken_rule(set, file) {
         Some(place) => Err(refusal_of(alloc, number, file, place)?),

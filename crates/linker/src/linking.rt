@@ -44,7 +44,8 @@ pub fn link(alloc: Global, files: &[Vec<u8>]) -> Result<Linked, Refusal>
     // What is answered are the trees that the files spell, and no condition stands in them.
     ensures linked { IfOk result (λ linked. IsLinkable (map vec_items files.now) linked) }
     // Files that may be linked are answered, unless memory runs out.
-    ensures only { (trees : Program) → IsLinkable (map vec_items files.now) trees → MatchResult result (λ linked. linked ≡ trees) (λ r. r.kind ≡ kinds.OutOfMemory) }
+    ensures only { (trees : Program) → IsLinkable (map vec_items files.now) trees
+        → MatchResult result (λ linked. linked ≡ trees) (λ r. r.kind ≡ kinds.OutOfMemory) }
     // A refusal is answered only where it stands, and none stands that comes before it. Of a file that is no class file the
     // cause stands at the offset.
     ensures refused { IfErr result (λ r. MayRefuse (map vec_items files.now) r.kind r.file r.offset r.cause) }

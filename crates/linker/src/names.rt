@@ -63,7 +63,8 @@ fn check_file(
 ) -> Result<(), Refusal>
     requires { IsFalse (stands hierarchy.now DuplicateClass) }
     ensures passed { OnOk result (is_unresolved hierarchy.now (file_of file.now) ≡ false) }
-    ensures refused { IfErr result (λ r. RefusesFor RefusalKind.Unresolved (is_unresolved hierarchy.now (file_of file.now)) number r.kind r.file) }
+    ensures refused { IfErr result (λ r. RefusesFor RefusalKind.Unresolved (is_unresolved hierarchy.now (file_of file.now)) number r.kind
+        r.file) }
 {
     match first_unresolved(alloc, hierarchy, file)? {
         Some(place) => Err(refusal_of(alloc, number, file, place)?),

@@ -14,7 +14,8 @@ use Rattle.machine_state.proofs.shown_runs.Same.{shown_still}
 use Rattle.machine.proofs.Turning.{with_shared}
 
 -- where so many events led
-pub record HasLed (old : MachineOf) (shared : Shared) (files : List (List ℕ)) (trees : Program) (event : Event) (n : ℕ) (inflated : List ℕ) (state : StateOf ℕ) : Type 0 where
+pub record HasLed (old : MachineOf) (shared : Shared) (files : List (List ℕ)) (trees : Program) (event : Event) (n : ℕ) (inflated : List ℕ)
+    (state : StateOf ℕ) : Type 0 where
   pub locks : List ℕ
   pub next : StateOf ℕ
   pub repeated : IsRepeated trees (bounds_of old.limits) event n inflated state locks next
@@ -22,7 +23,8 @@ pub record HasLed (old : MachineOf) (shared : Shared) (files : List (List ℕ)) 
 
 pub record IsSoFar (event : Event) (n : ℕ) (old new : MachineOf) : Type 0 where
   pub same : new ≡ with_shared old new.shared
-  pub led : (files : List (List ℕ)) (trees : Program) (inflated : List ℕ) (state : StateOf ℕ) → Shows old files trees inflated state → HasLed old new.shared files trees event n inflated state
+  pub led : (files : List (List ℕ)) (trees : Program) (inflated : List ℕ) (state : StateOf ℕ) → Shows old files trees inflated state
+      → HasLed old new.shared files trees event n inflated state
 
 pub begins : (event : Event) (m : MachineOf) → IsSoFar event 0 m m
 begins event m =
@@ -58,7 +60,8 @@ module _ (event : Event) (n : ℕ) (old between new : MachineOf) (so_far : IsSoF
   goes_on_by m e s = subst (λ k. IsSoFar event k old new) (omega (arith, e)) (goes_on s)
 
   -- the next one is not enabled
-  pub not_enabled : (most : ℕ) → n < most → Steps (Ok answer.NotEnabled) event between new → Repeats (n, stopped.NotEnabled) event most old new
+  pub not_enabled : (most : ℕ) → n < most → Steps (Ok answer.NotEnabled) event between new
+      → Repeats (n, stopped.NotEnabled) event most old new
   not_enabled most within s = (
     omega (arith, within),
     still_same (Ok answer.NotEnabled) s,
@@ -79,7 +82,8 @@ module _ (event : Event) (n : ℕ) (old between new : MachineOf) (so_far : IsSoF
   )
 
   -- or it is refused
-  pub refused : (most : ℕ) → n < most → (told : Refusal) → Steps (Err told) event between new → Repeats (n, stopped.Refused told) event most old new
+  pub refused : (most : ℕ) → n < most → (told : Refusal) → Steps (Err told) event between new
+      → Repeats (n, stopped.Refused told) event most old new
   refused most within told s = (
     omega (arith, within),
     still_same (Err told) s,
@@ -100,7 +104,8 @@ module _ (event : Event) (n : ℕ) (old between new : MachineOf) (so_far : IsSoF
   )
 
 -- as many are done as were asked for
-pub all_done : (event : Event) (most n : ℕ) (old new : MachineOf) → n ≡ most → IsSoFar event n old new → Repeats (most, stopped.Most) event most old new
+pub all_done : (event : Event) (most n : ℕ) (old new : MachineOf) → n ≡ most → IsSoFar event n old new
+    → Repeats (most, stopped.Most) event most old new
 all_done event most n old new e so_far = (
   omega (arith),
   so_far.same,

@@ -53,7 +53,8 @@ pub record IsOfAccepted (p : LinkedProgram) : Type 0 where
 abbrev pub Opens : LinkedProgram → Limits → MachineOf → Type 0
 Opens p limits m =
     (m ≡ record { program = p; limits = limits; shared = m.shared })
-    × ((files : List (List ℕ)) (trees : Program) → IsAccepted files trees → IsProgram trees p → Shows m files trees [] (opening words trees))
+    × ((files : List (List ℕ)) (trees : Program) → IsAccepted files trees → IsProgram trees p
+    → Shows m files trees [] (opening words trees))
 
 -- Whatever state of whatever files was shown, the answer tells what becomes of it by the event, and that state is shown: the program
 -- and the limits stay.
@@ -77,7 +78,8 @@ placed p limits t shared stack = record { program = p; limits = limits; shared =
 -- ---- one event again and again
 
 -- it is done once more, and no limit stood
-pub record IsDoneAgain (trees : Program) (bounds : Bounds) (event : Event) (inflated : List ℕ) (state : StateOf ℕ) (inflated_then : List ℕ) (then : StateOf ℕ) : Type 0 where
+pub record IsDoneAgain (trees : Program) (bounds : Bounds) (event : Event) (inflated : List ℕ) (state : StateOf ℕ) (inflated_then : List ℕ)
+    (then : StateOf ℕ) : Type 0 where
   pub cost : Cost
   pub is : stepped words trees bounds.frames state event ≡ Next cost then
   pub within : limit_of trees bounds inflated state.world cost ≡ None
@@ -96,7 +98,8 @@ StopsBy stopped.NotEnabled trees bounds event n most inflated state = (n < most)
 StopsBy (stopped.Refused told) trees bounds event n most inflated state = (n < most) × IsEventRefused trees bounds inflated state event told
 
 -- the state to which so many led, and that a machine shows after them
-pub record HasRepeated (m : MachineOf) (files : List (List ℕ)) (trees : Program) (event : Event) (n most : ℕ) (why : Stopped) (inflated : List ℕ) (state : StateOf ℕ) : Type 0 where
+pub record HasRepeated (m : MachineOf) (files : List (List ℕ)) (trees : Program) (event : Event) (n most : ℕ) (why : Stopped)
+    (inflated : List ℕ) (state : StateOf ℕ) : Type 0 where
   pub locks : List ℕ
   pub next : StateOf ℕ
   pub repeated : IsRepeated trees (bounds_of m.limits) event n inflated state locks next

@@ -43,7 +43,8 @@ limit_of trees bounds inflated world cost = limit_in trees bounds (is_crowded bo
 
 -- What is shown is the part after the event: no limit stood, the object whose monitor it takes is there, and the fat locks are those
 -- before it, with the one that it makes fat.
-pub record HasBecome (trees : Program) (p : LinkedProgram) (bounds : Bounds) (inflated : List ℕ) (world : WorldOf ℕ) (cost : Cost) (next : PartOf ℕ) (old new : Shared) (to : List ShownEntry) : Type 0 where
+pub record HasBecome (trees : Program) (p : LinkedProgram) (bounds : Bounds) (inflated : List ℕ) (world : WorldOf ℕ) (cost : Cost)
+    (next : PartOf ℕ) (old new : Shared) (to : List ShownEntry) : Type 0 where
   pub within : limit_of trees bounds inflated world cost ≡ None
   pub there : IsOneOf cost (length old.heap.locks.monitors)
   pub represents : Represents trees p bounds new next.world
@@ -56,13 +57,15 @@ abbrev pub MayBeRefused : Program → Bounds → List ℕ → WorldOf ℕ → Co
 MayBeRefused trees bounds inflated world cost refusal.Memory = Unit {0}
 MayBeRefused trees bounds inflated world cost told = limit_of trees bounds inflated world cost ≡ limit_told told
 
-pub record IsDone (trees : Program) (p : LinkedProgram) (bounds : Bounds) (inflated : List ℕ) (world : WorldOf ℕ) (stepped : SteppedOf (PartOf ℕ)) (old new : Shared) (to : List ShownEntry) : Type 0 where
+pub record IsDone (trees : Program) (p : LinkedProgram) (bounds : Bounds) (inflated : List ℕ) (world : WorldOf ℕ)
+    (stepped : SteppedOf (PartOf ℕ)) (old new : Shared) (to : List ShownEntry) : Type 0 where
   pub cost : Cost
   pub next : PartOf ℕ
   pub is : stepped ≡ Next cost next
   pub becomes : HasBecome trees p bounds inflated world cost next old new to
 
-pub record IsRefused (trees : Program) (bounds : Bounds) (inflated : List ℕ) (world : WorldOf ℕ) (stepped : SteppedOf (PartOf ℕ)) (told : Refusal) : Type 0 where
+pub record IsRefused (trees : Program) (bounds : Bounds) (inflated : List ℕ) (world : WorldOf ℕ) (stepped : SteppedOf (PartOf ℕ))
+    (told : Refusal) : Type 0 where
   pub cost : Cost
   pub next : PartOf ℕ
   pub is : stepped ≡ Next cost next
@@ -70,7 +73,8 @@ pub record IsRefused (trees : Program) (bounds : Bounds) (inflated : List ℕ) (
 
 -- What an answer says of what becomes of an event: it is done, it is not enabled, or it is refused; in the latter two cases
 -- nothing has changed.
-abbrev pub Becomes : Program → LinkedProgram → Bounds → List ℕ → WorldOf ℕ → SteppedOf (PartOf ℕ) → Result Answer Refusal → (old new : Shared) (from to : List ShownEntry) → Type 0
+abbrev pub Becomes : Program → LinkedProgram → Bounds → List ℕ → WorldOf ℕ → SteppedOf (PartOf ℕ) → Result Answer Refusal
+    → (old new : Shared) (from to : List ShownEntry) → Type 0
 Becomes trees p bounds inflated world stepped (Ok answer.Done) old new from to = IsDone trees p bounds inflated world stepped old new to
 Becomes trees p bounds inflated world stepped (Ok answer.NotEnabled) old new from to = (stepped ≡ NotEnabled) × IsUnchanged old new from to
 Becomes trees p bounds inflated world stepped (Err told) old new from to = IsRefused trees bounds inflated world stepped told × IsUnchanged old new from to

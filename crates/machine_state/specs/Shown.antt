@@ -78,7 +78,8 @@ pub record Represents (trees : Program) (p : LinkedProgram) (bounds : Bounds) (s
 -- ---- a state
 
 -- The own stack of a thread is lent, and all else shows words of a well-typed state, in which these locks are inflated.
-pub record IsLent (trees : Program) (p : LinkedProgram) (bounds : Bounds) (inflated : List ℕ) (t : ℕ) (shared : Shared) (stack : List ShownEntry) (state : StateOf ℕ) (own : StackOf ℕ) : Type 0 where
+pub record IsLent (trees : Program) (p : LinkedProgram) (bounds : Bounds) (inflated : List ℕ) (t : ℕ) (shared : Shared)
+    (stack : List ShownEntry) (state : StateOf ℕ) (own : StackOf ℕ) : Type 0 where
   pub represents : Represents trees p bounds shared state.world
   pub flags : AreFlags shared.heap.locks.fat inflated
   pub counted : AreMonitorsCounted (is_inflated inflated) state.world

@@ -15,14 +15,17 @@ IsWithin code pc s = HasBytes code pc s.1
 abbrev pub AreWithin : List ℕ → ℕ → Option Sized → Type 0
 AreWithin code pc o = IfSome o (IsWithin code pc)
 
-guarded : {A : Type 0} (P : Sized → Type 0) (b : Bool) (x : A) (f : A → Option Sized) → (b ≡ false → IfSome (f x) P) → IfSome ((if b then None else Some x) >>= f) P
+guarded : {A : Type 0} (P : Sized → Type 0) (b : Bool) (x : A) (f : A → Option Sized) → (b ≡ false → IfSome (f x) P)
+    → IfSome ((if b then None else Some x) >>= f) P
 guarded P true x f h = tt
 guarded P false x f h = h refl
 
-word_then : (code : List ℕ) (pc n at : ℕ) (f : ℕ → Option Sized) → ((x : ℕ) → at + n ≤ length code → AreWithin code pc (f x)) → AreWithin code pc (word_at n code at >>= f)
+word_then : (code : List ℕ) (pc n at : ℕ) (f : ℕ → Option Sized) → ((x : ℕ) → at + n ≤ length code → AreWithin code pc (f x))
+    → AreWithin code pc (word_at n code at >>= f)
 word_then code pc n at f h = guarded (IsWithin code pc) (ltb (length code) (at + n)) (big_number n (drop at code)) f (λ e. h (big_number n (drop at code)) (ltb-false _ _ e))
 
-signed_then : (code : List ℕ) (pc : ℕ) (w : Width) (at : ℕ) (f : ℤ → Option Sized) → ((x : ℤ) → at + byte_len w ≤ length code → AreWithin code pc (f x)) → AreWithin code pc (signed_at w code at >>= f)
+signed_then : (code : List ℕ) (pc : ℕ) (w : Width) (at : ℕ) (f : ℤ → Option Sized)
+    → ((x : ℤ) → at + byte_len w ≤ length code → AreWithin code pc (f x)) → AreWithin code pc (signed_at w code at >>= f)
 signed_then code pc w at f h =
     let x = cast_signed w (big_number (byte_len w) (drop at code)) in
     guarded (IsWithin code pc) (ltb (length code) (at + byte_len w)) x f (λ e. h x (ltb-false _ _ e))
@@ -88,7 +91,8 @@ made_fits NoForm code pc here = tt
 pub sized_fits : (code : List ℕ) (pc : ℕ) → AreWithin code pc (sized_at code pc)
 sized_fits code pc = word_then code pc 1 pc _ (λ opcode here. made_fits (form_of opcode) code pc (omega (arith, here)))
 
-some_fits : (code : List ℕ) (pc : ℕ) (o : Option Sized) → AreWithin code pc o → IfSome (option_map (λ (s : Sized). s.1) o) (HasBytes code pc)
+some_fits : (code : List ℕ) (pc : ℕ) (o : Option Sized) → AreWithin code pc o
+    → IfSome (option_map (λ (s : Sized). s.1) o) (HasBytes code pc)
 some_fits code pc None h = tt
 some_fits code pc (Some s) h = h
 
@@ -97,7 +101,8 @@ pub length_fits : (code : List ℕ) (pc : ℕ) → IfSome (length_at code pc) (H
 length_fits code pc = some_fits code pc (sized_at code pc) (sized_fits code pc)
 
 -- the two parts of what is found
-pub sized_parts : (code : List ℕ) (pc : ℕ) (s : Sized) → sized_at code pc ≡ Some s → (instr_at code pc ≡ Some s.0) × (length_at code pc ≡ Some s.1)
+pub sized_parts : (code : List ℕ) (pc : ℕ) (s : Sized) → sized_at code pc ≡ Some s
+    → (instr_at code pc ≡ Some s.0) × (length_at code pc ≡ Some s.1)
 sized_parts code pc s e = (ap (λ o. option_map (λ (t : Sized). t.0) o) e, ap (λ o. option_map (λ (t : Sized). t.1) o) e)
 
 both_some : (o : Option Sized) → is_some (option_map (λ (t : Sized). t.1) o) ≡ is_some (option_map (λ (t : Sized). t.0) o)

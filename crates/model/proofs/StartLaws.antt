@@ -58,7 +58,8 @@ within_from code (suc n) pc zero (suc k) h = let l = within_from code n (suc pc)
 within_from code (suc n) pc (suc inside) (suc k) h = let l = within_from code n (suc pc) inside k h in omega (arith, l)
 
 -- a mark stands at a boundary
-marked_from : (code : List ℕ) (n pc inside k : ℕ) → n + pc ≡ length code → (inside < n → IsStart code (pc + inside)) → get_or (starts_from code n pc inside) k false ≡ true → IsStart code (pc + k)
+marked_from : (code : List ℕ) (n pc inside k : ℕ) → n + pc ≡ length code → (inside < n → IsStart code (pc + inside))
+    → get_or (starts_from code n pc inside) k false ≡ true → IsStart code (pc + k)
 unfolding starts_from
 marked_from code zero pc inside k len next h = absurd cc
 marked_from code (suc n) pc zero zero len next h = next (omega arith)
@@ -82,7 +83,8 @@ pub start_within : (code : List ℕ) (pc : ℕ) → is_start code pc ≡ true �
 start_within code pc h = within_from code (length code) 0 0 pc h
 
 -- the offset past a boundary's instruction is a boundary, or the code's end or past it
-pub next_start : (code : List ℕ) (pc : ℕ) → is_start code pc ≡ true → pc + step_at code pc < length code → is_start code (pc + step_at code pc) ≡ true
+pub next_start : (code : List ℕ) (pc : ℕ) → is_start code pc ≡ true → pc + step_at code pc < length code
+    → is_start code (pc + step_at code pc) ≡ true
 next_start code pc h more = next_from code (length code) 0 0 pc pc (pc + step_at code pc) (omega arith) (omega arith) refl more h
 
 -- the marks are the boundaries
@@ -97,7 +99,8 @@ start_is_marked code _ (Next pc next before place within) =
 pub marks_are_starts : (code : List ℕ) (pc : ℕ) → IsTrue (is_start code pc) ↔ IsStart code pc
 marks_are_starts code pc = (marked_is_start code pc, start_is_marked code pc)
 
-start_or_end : (code : List ℕ) (pc : ℕ) → is_start code pc ≡ true → (is_start code (pc + step_at code pc) ≡ true) ⊎ (pc + step_at code pc ≡ length code)
+start_or_end : (code : List ℕ) (pc : ℕ) → is_start code pc ≡ true
+    → (is_start code (pc + step_at code pc) ≡ true) ⊎ (pc + step_at code pc ≡ length code)
 start_or_end code pc h =
     let fits = step_fits code pc (start_within code pc h) in
     elim (cases_lt (pc + step_at code pc) (length code)) [
@@ -106,7 +109,8 @@ start_or_end code pc h =
     ]
 
 -- the offset past a boundary's instruction is a boundary or the code's end
-pub after_start : (code : List ℕ) (pc n : ℕ) → is_start code pc ≡ true → length_at code pc ≡ Some n → (is_start code (pc + n) ≡ true) ⊎ (pc + n ≡ length code)
+pub after_start : (code : List ℕ) (pc n : ℕ) → is_start code pc ≡ true → length_at code pc ≡ Some n
+    → (is_start code (pc + n) ≡ true) ⊎ (pc + n ≡ length code)
 after_start code pc n h is =
     let step : step_at code pc ≡ n = ap (λ o. unwrap_or o 1) is in
     subst (λ (k : ℕ). (is_start code (pc + k) ≡ true) ⊎ (pc + k ≡ length code)) step (start_or_end code pc h)

@@ -66,7 +66,8 @@ of_receiver (Some r) choose = choose r
 
 -- ---- what an invocation does: a method with code gets a frame, one without is done at once
 
-abbrev pub runs : {A : Type 0} → Carrier A → Program → Site → Event → WorldOf A → Slots A → List A → List A → ℕ → Member → Option Body → OutcomeOf A
+abbrev pub runs : {A : Type 0} → Carrier A → Program → Site → Event → WorldOf A → Slots A → List A → List A → ℕ → Member → Option Body
+    → OutcomeOf A
 runs C files site event world slots ops rest object method None = built_in_does C (built_in_method method) site.next event world slots ops rest
 runs C files site event world slots ops rest object method (Some body) = Calls (frame_with C method (reverse ops) (entered_by files method object) body) rest
 
@@ -150,7 +151,8 @@ special_call C files site named method =
     (λ world r. selected files (special_class files site.method.class named) method)
 
 -- a constructor leaves all copies of its receiver initialised
-abbrev pub constructed_leads : Site → Member → Slots VerificationType → List VerificationType → List VerificationType → List (ℕ × Slots VerificationType)
+abbrev pub constructed_leads : Site → Member → Slots VerificationType → List VerificationType → List VerificationType
+    → List (ℕ × Slots VerificationType)
 constructed_leads site method ts ops rest = (
   site.next,
   record {

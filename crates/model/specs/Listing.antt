@@ -214,7 +214,8 @@ listing c = class_line c ++ (flat_map (field_line c.pool) c.fields ++ flat_map (
 
 -- ---- examples
 
-widened_increment : instruction_line [] (codes "\0\0" ++ (0xc4 ∷ 0x84 ∷ 0x00 ∷ 0x01 ∷ 0x80 ∷ 0x00 ∷ [])) 2 ≡ codes "00002 c48400018000 wide iinc 1 -32768\n"
+widened_increment : instruction_line [] (codes "\0\0" ++ (0xc4 ∷ 0x84 ∷ 0x00 ∷ 0x01 ∷ 0x80 ∷ 0x00 ∷ [])) 2
+    ≡ codes "00002 c48400018000 wide iinc 1 -32768\n"
 unfolding low_form high_form low_mnemonic high_mnemonic wide_at digits
 widened_increment = refl
 

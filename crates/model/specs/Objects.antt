@@ -24,7 +24,8 @@ any_object = ClassType java_lang_object
 -- ---- new: .. -> .., objectref
 
 -- what was made here before is not to be used any more
-abbrev pub new_leads : Site → Name → Slots VerificationType → List VerificationType → List VerificationType → List (ℕ × Slots VerificationType)
+abbrev pub new_leads : Site → Name → Slots VerificationType → List VerificationType → List VerificationType
+    → List (ℕ × Slots VerificationType)
 new_leads site class ts ops rest =
     (site.next, record { locals = map (forgotten site.offset) ts.locals; stack = Uninitialised site.offset class ∷ rest }) ∷ []
 

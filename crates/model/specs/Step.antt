@@ -95,13 +95,15 @@ abbrev pub begun_class : {A : Type 0} → Carrier A → Program → ℕ → Name
 begun_class C files t class world stack = on_to (with_class_begun C files t class world) (Initialisation class Super ∷ stack)
 
 -- what comes first of an event that needs a class, and then the rest of it
-abbrev pub needing : {A : Type 0} → Carrier A → Program → ℕ → Name → Look → WorldOf A → StackOf A → SteppedOf (PartOf A) → SteppedOf (PartOf A)
+abbrev pub needing : {A : Type 0} → Carrier A → Program → ℕ → Name → Look → WorldOf A → StackOf A → SteppedOf (PartOf A)
+    → SteppedOf (PartOf A)
 needing C files t class IsReady world stack rest = rest
 needing C files t class IsNew world stack rest = begun_class C files t class world stack
 needing C files t class IsHeld world stack rest = NotEnabled
 needing C files t class HasFailed world stack rest = raised t NoClassDefFound world stack
 
-abbrev pub needing_class : {A : Type 0} → Carrier A → Program → ℕ → Option Name → WorldOf A → StackOf A → SteppedOf (PartOf A) → SteppedOf (PartOf A)
+abbrev pub needing_class : {A : Type 0} → Carrier A → Program → ℕ → Option Name → WorldOf A → StackOf A → SteppedOf (PartOf A)
+    → SteppedOf (PartOf A)
 needing_class C files t None world stack rest = rest
 needing_class C files t (Some class) world stack rest = needing C files t class (look_by t (status_of world class)) world stack rest
 
@@ -160,7 +162,8 @@ done C files frames event world frame stack meaning =
     (meaning.does event world frame.place.slots (ops_of C meaning frame.place.slots) (under meaning.wants frame.place.slots))
 
 -- The operands first. Then its pick and the other threads have to let it; then comes the class that it needs, and then the rest.
-abbrev pub bytecode_by : {A : Type 0} → Carrier A → Program → ℕ → Event → WorldOf A → FrameOf A → StackOf A → ℕ → Option (MeaningOf A) → SteppedOf (PartOf A)
+abbrev pub bytecode_by : {A : Type 0} → Carrier A → Program → ℕ → Event → WorldOf A → FrameOf A → StackOf A → ℕ → Option (MeaningOf A)
+    → SteppedOf (PartOf A)
 bytecode_by C files frames event world frame stack max_stack None = unpicked event WrongKind
 bytecode_by C files frames event world frame stack max_stack (Some meaning) =
     if C.finds files (types_of world.heap) meaning.wants max_stack frame.place.slots
@@ -168,7 +171,8 @@ bytecode_by C files frames event world frame stack max_stack (Some meaning) =
     (needing_class C files event.thread meaning.looks world (Invocation frame ∷ stack) (done C files frames event world frame stack meaning))
     else unpicked event WrongKind
 
-abbrev pub bytecode_in : {A : Type 0} → Carrier A → Program → ℕ → Event → WorldOf A → FrameOf A → StackOf A → Option Body → SteppedOf (PartOf A)
+abbrev pub bytecode_in : {A : Type 0} → Carrier A → Program → ℕ → Event → WorldOf A → FrameOf A → StackOf A → Option Body
+    → SteppedOf (PartOf A)
 bytecode_in C files frames event world frame stack None = unpicked event WrongKind
 bytecode_in C files frames event world frame stack (Some body) =
     bytecode_by C files frames event world frame stack body.code.max_stack (option_and_then (meaning_of C files) (site_at frame.method body frame.place.offset))

@@ -30,7 +30,8 @@ IsBytes-take n bytes small i =
 
 -- ---- one step after the other
 
-pub bind_ok : {A B : Type 0} (r : Result A ScheduleFault) (f : A → Result B ScheduleFault) (y : B) → (r >>= f) ≡ Ok y → (x : A) × (r ≡ Ok x) × (f x ≡ Ok y)
+pub bind_ok : {A B : Type 0} (r : Result A ScheduleFault) (f : A → Result B ScheduleFault) (y : B) → (r >>= f) ≡ Ok y
+    → (x : A) × (r ≡ Ok x) × (f x ≡ Ok y)
 bind_ok (Ok x) f y e = (x, refl, e)
 bind_ok (Err d) f y e = absurd cc
 
@@ -46,7 +47,8 @@ ok_is x y e = cc
 pub err_is : {B : Type 0} (c d : ScheduleFault) → failed {A = B} c ≡ failed d → c ≡ d
 err_is c d e = cc
 
-pub bind_err : {A B : Type 0} (r : Result A ScheduleFault) (f : A → Result B ScheduleFault) (d : ScheduleFault) → (r >>= f) ≡ Err d → (r ≡ Err d) ⊎ ((x : A) × (r ≡ Ok x) × (f x ≡ Err d))
+pub bind_err : {A B : Type 0} (r : Result A ScheduleFault) (f : A → Result B ScheduleFault) (d : ScheduleFault) → (r >>= f) ≡ Err d
+    → (r ≡ Err d) ⊎ ((x : A) × (r ≡ Ok x) × (f x ≡ Err d))
 bind_err (Ok x) f d e = inr (x, refl, e)
 bind_err {B = B} (Err c) f d e = inl (ap failed (err_is {B = B} c d e))
 
@@ -92,7 +94,8 @@ back8 bytes len small = be_bytes_8 bytes (big_number 8 bytes) len small (omega a
 pub back4 : IsBack 4
 back4 bytes len small = be_bytes_4 bytes (big_number 4 bytes) len small (omega arith)
 
-pub number_takes : (n : ℕ) → IsBack n → (bytes : List ℕ) (x : ℕ) (rest : List ℕ) → IsBytes bytes → number_at n bytes ≡ Ok (x, rest) → Takes bytes (big_bytes n x) rest × (x < 256 ^ n)
+pub number_takes : (n : ℕ) → IsBack n → (bytes : List ℕ) (x : ℕ) (rest : List ℕ) → IsBytes bytes → number_at n bytes ≡ Ok (x, rest)
+    → Takes bytes (big_bytes n x) rest × (x < 256 ^ n)
 number_takes n back bytes x rest small e =
     let g = guard_ok (ltb (length bytes) n) faults.Truncated (big_number n bytes, drop n bytes) (x, rest) e in
     let long : n ≤ length bytes = ltb-false _ _ g.0 in
@@ -128,7 +131,8 @@ test_fits pick repeat h = (grind (arith, nat_tests), λ lt. grind (arith, nat_te
 fits_test : (pick repeat : ℕ) → 1 ≤ repeat → (1 < repeat → pick ≡ 0) → is_repeat pick repeat ≡ true
 fits_test pick repeat some alone = grind (arith, nat_tests)
 
-pub entry_takes : (bytes : List ℕ) (x : ScheduleEntry) (rest : List ℕ) → IsBytes bytes → entry_at bytes ≡ Ok (x, rest) → Takes bytes (entry x) rest × EntryFits x
+pub entry_takes : (bytes : List ℕ) (x : ScheduleEntry) (rest : List ℕ) → IsBytes bytes → entry_at bytes ≡ Ok (x, rest)
+    → Takes bytes (entry x) rest × EntryFits x
 unfolding entry_at
 entry_takes bytes x rest small e =
     let s = bind_ok (number_at 2 bytes) (λ thread. number_at 2 thread.1 >>= λ pick. number_at 4 pick.1 >>= λ repeat. made thread.0 pick.0 repeat) (x, rest) e in
@@ -194,7 +198,8 @@ Reads {A = A} part text Fits = (bytes : List ℕ) (x : A) (rest : List ℕ) → 
 abbrev pub ReadsBack : {A : Type 0} → (List ℕ → Read A) → (A → List ℕ) → (A → Type 0) → Type 0
 ReadsBack {A = A} part text Fits = (x : A) (rest : List ℕ) → Fits x → part (text x ++ rest) ≡ Ok (x, rest)
 
-pub many_take : {A : Type 0} (part : List ℕ → Read A) (text : A → List ℕ) (Fits : A → Type 0) → Reads part text Fits → (n : ℕ) (bytes : List ℕ) (xs : List A) (rest : List ℕ) → IsBytes bytes
+pub many_take : {A : Type 0} (part : List ℕ → Read A) (text : A → List ℕ) (Fits : A → Type 0) → Reads part text Fits → (n : ℕ)
+    (bytes : List ℕ) (xs : List A) (rest : List ℕ) → IsBytes bytes
     → many_at part n bytes ≡ Ok (xs, rest) → Takes bytes (flat_map text xs) rest × ((length xs ≡ n) × AllByRecursion Fits xs)
 unfolding many_at
 many_take {A = A} part text Fits reads zero bytes xs rest small e =
@@ -212,7 +217,8 @@ many_take {A = A} part text Fits reads (suc n) bytes xs rest small e =
     subst (λ (p : List A × List ℕ). Takes bytes (flat_map text p.0) p.1 × ((length p.0 ≡ suc n) × AllByRecursion Fits p.0)) (ok_is (a.0.0 ∷ b.0.0, b.0.1) (xs, rest) b.2)
     (taken, (ap suc u.1.0, (t.1, u.1.1)))
 
-pub many_again : {A : Type 0} (part : List ℕ → Read A) (text : A → List ℕ) (Fits : A → Type 0) → ReadsBack part text Fits → (xs : List A) (rest : List ℕ) → AllByRecursion Fits xs
+pub many_again : {A : Type 0} (part : List ℕ → Read A) (text : A → List ℕ) (Fits : A → Type 0) → ReadsBack part text Fits → (xs : List A)
+    (rest : List ℕ) → AllByRecursion Fits xs
     → many_at part (length xs) (flat_map text xs ++ rest) ≡ Ok (xs, rest)
 unfolding many_at
 many_again part text Fits back [] rest f = refl
@@ -233,7 +239,8 @@ many_stop part stops (suc n) bytes f e =
     ]
 
 -- as many as were asked for
-pub many_count : {A : Type 0} (part : List ℕ → Read A) (n : ℕ) (bytes : List ℕ) (xs : List A) (rest : List ℕ) → many_at part n bytes ≡ Ok (xs, rest) → length xs ≡ n
+pub many_count : {A : Type 0} (part : List ℕ → Read A) (n : ℕ) (bytes : List ℕ) (xs : List A) (rest : List ℕ)
+    → many_at part n bytes ≡ Ok (xs, rest) → length xs ≡ n
 unfolding many_at
 many_count part zero bytes xs rest e = ap (λ (p : List _ × List ℕ). length p.0) (sym (ok_is ([], bytes) (xs, rest) e))
 many_count part (suc n) bytes xs rest e =
@@ -297,7 +304,8 @@ table_stops bytes f e =
     ]
 
 -- bytes after a whole table
-pub table_trailing : (bytes : List ℕ) → IsBytes bytes → table_at bytes ≡ Err faults.Trailing → (xs : List ScheduleEntry) × (rest : List ℕ) × AreEntries xs × (0 < length rest) × (bytes ≡ table xs ++ rest)
+pub table_trailing : (bytes : List ℕ) → IsBytes bytes → table_at bytes ≡ Err faults.Trailing
+    → (xs : List ScheduleEntry) × (rest : List ℕ) × AreEntries xs × (0 < length rest) × (bytes ≡ table xs ++ rest)
 unfolding table_at
 table_trailing bytes small e =
     elim (bind_err (number_at 4 bytes) (λ count. many_at entry_at count.0 count.1 >>= λ x. ends x) faults.Trailing e) [

@@ -25,7 +25,8 @@ inside least most n above below = grind (arith, nat_tests)
 abbrev tested : ℕ → ℕ → ℕ × List ℕ → Read ℕ
 tested least most limit = cond (ltb limit.0 least || ltb most limit.0) (failed faults.Limits) (done limit)
 
-limit_takes : (least most : ℕ) (bytes : List ℕ) (n : ℕ) (rest : List ℕ) → IsBytes bytes → limit_at least most bytes ≡ Ok (n, rest) → Takes bytes (big_bytes 4 n) rest × (n < 256 ^ 4) × (least ≤ n) × (n ≤ most)
+limit_takes : (least most : ℕ) (bytes : List ℕ) (n : ℕ) (rest : List ℕ) → IsBytes bytes → limit_at least most bytes ≡ Ok (n, rest)
+    → Takes bytes (big_bytes 4 n) rest × (n < 256 ^ 4) × (least ≤ n) × (n ≤ most)
 unfolding limit_at
 limit_takes least most bytes n rest small e =
     let a = bind_ok (number_at 4 bytes) (λ limit. tested least most limit) (n, rest) e in
@@ -34,7 +35,8 @@ limit_takes least most bytes n rest small e =
     let o = outside least most a.0.0 g.0 in
     subst (λ (p : ℕ × List ℕ). Takes bytes (big_bytes 4 p.0) p.1 × (p.0 < 256 ^ 4) × (least ≤ p.0) × (p.0 ≤ most)) g.1 (t.0, t.1, o.0, o.1)
 
-limit_again : (least most n : ℕ) (rest : List ℕ) → n < 256 ^ 4 → least ≤ n → n ≤ most → limit_at least most (big_bytes 4 n ++ rest) ≡ Ok (n, rest)
+limit_again : (least most n : ℕ) (rest : List ℕ) → n < 256 ^ 4 → least ≤ n → n ≤ most
+    → limit_at least most (big_bytes 4 n ++ rest) ≡ Ok (n, rest)
 unfolding limit_at
 limit_again least most n rest lt above below = rw (number_again 4 n rest lt, inside least most n above below) refl
 
@@ -54,7 +56,8 @@ AreWithin (range ∷ ranges) (n ∷ ns) = (range.0 ≤ n) × (n ≤ range.1) × 
 AreWithin [] (n ∷ ns) = ⊥
 AreWithin (range ∷ ranges) [] = ⊥
 
-limits_take : (ranges : List (ℕ × ℕ)) (bytes ns rest : List ℕ) → IsBytes bytes → limits_at ranges bytes ≡ Ok (ns, rest) → Takes bytes (flat_map (big_bytes 4) ns) rest × AreWithin ranges ns
+limits_take : (ranges : List (ℕ × ℕ)) (bytes ns rest : List ℕ) → IsBytes bytes → limits_at ranges bytes ≡ Ok (ns, rest)
+    → Takes bytes (flat_map (big_bytes 4) ns) rest × AreWithin ranges ns
 unfolding limits_at
 limits_take [] bytes ns rest small e =
     subst (λ (p : List ℕ × List ℕ). Takes bytes (flat_map (big_bytes 4) p.0) p.1 × AreWithin [] p.0) (ok_is ([], bytes) (ns, rest) e)
@@ -71,7 +74,8 @@ limits_take (range ∷ ranges) bytes ns rest small e =
     subst (λ (p : List ℕ × List ℕ). Takes bytes (flat_map (big_bytes 4) p.0) p.1 × AreWithin (range ∷ ranges) p.0) (ok_is (a.0.0 ∷ b.0.0, b.0.1) (ns, rest) b.2)
     (taken, (t.2, t.3, u.1))
 
-limits_again : (ranges : List (ℕ × ℕ)) (ns rest : List ℕ) → AllByRecursion (λ n. n < 256 ^ 4) ns → AreWithin ranges ns → limits_at ranges (flat_map (big_bytes 4) ns ++ rest) ≡ Ok (ns, rest)
+limits_again : (ranges : List (ℕ × ℕ)) (ns rest : List ℕ) → AllByRecursion (λ n. n < 256 ^ 4) ns → AreWithin ranges ns
+    → limits_at ranges (flat_map (big_bytes 4) ns ++ rest) ≡ Ok (ns, rest)
 unfolding limits_at
 limits_again [] [] rest f w = refl
 limits_again (range ∷ ranges) (n ∷ ns) rest f w =
@@ -165,7 +169,8 @@ pub record Recorded (bytes : List ℕ) (numbers : Numbers) (rest : List ℕ) : T
   pub numbers_are : numbers_of recorded ≡ numbers
   pub taken : Takes bytes (recording recorded) rest
 
-pub recording_takes : (bytes : List ℕ) (numbers : Numbers) (rest : List ℕ) → IsBytes bytes → recording_at bytes ≡ Ok (numbers, rest) → Recorded bytes numbers rest
+pub recording_takes : (bytes : List ℕ) (numbers : Numbers) (rest : List ℕ) → IsBytes bytes → recording_at bytes ≡ Ok (numbers, rest)
+    → Recorded bytes numbers rest
 unfolding recording_at
 recording_takes bytes numbers rest small e =
     let a = bind_ok (limits_at limit_ranges bytes) (λ limits. number_at 4 limits.1 >>= λ count. many_at (number_at 8) count.0 count.1 >>= λ lengths. Ok ((limits.0, lengths.0), lengths.1)) (numbers, rest) e in

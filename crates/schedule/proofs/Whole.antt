@@ -16,12 +16,14 @@ use Rattle.schedule.proofs.Recordings.{Recorded, recording_takes, recording_agai
 
 -- ---- tests
 
-chosen_ok : {A : Type 0} (b : Bool) (r : Result A ScheduleFault) (d : ScheduleFault) (y : A) → cond b r (failed d) ≡ Ok y → (b ≡ true) × (r ≡ Ok y)
+chosen_ok : {A : Type 0} (b : Bool) (r : Result A ScheduleFault) (d : ScheduleFault) (y : A) → cond b r (failed d) ≡ Ok y
+    → (b ≡ true) × (r ≡ Ok y)
 chosen_ok true r d y e = (refl, e)
 chosen_ok false r d y e = absurd cc
 
 -- with how the test went
-test_err : {A : Type 0} (b : Bool) (r : Result A ScheduleFault) (d f : ScheduleFault) → cond b r (failed d) ≡ Err f → ((b ≡ true) × (r ≡ Err f)) ⊎ (d ≡ f)
+test_err : {A : Type 0} (b : Bool) (r : Result A ScheduleFault) (d f : ScheduleFault) → cond b r (failed d) ≡ Err f
+    → ((b ≡ true) × (r ≡ Err f)) ⊎ (d ≡ f)
 test_err true r d f e = inl (refl, e)
 test_err {A = A} false r d f e = inr (err_is {B = A} d f e)
 
@@ -49,7 +51,8 @@ after_second : (rest : List ℕ) → version_at (2 ∷ rest) ≡ recorded_at res
 unfolding version_at
 after_second rest = ap (λ (r : Read ℕ). ◌>>=◌ {B = Option Numbers × List ℕ} r of_version) (number_again 1 2 rest (lit< tt))
 
-version_again : (r : Option Recording) (rest : List ℕ) → RecordedFits r → version_at (version r ++ rest) ≡ Ok (option_map numbers_of r, rest)
+version_again : (r : Option Recording) (rest : List ℕ) → RecordedFits r
+    → version_at (version r ++ rest) ≡ Ok (option_map numbers_of r, rest)
 version_again None rest f = after_first rest
 version_again (Some r) rest f =
     after_second (recording r ++ rest) ∙ ap (λ (read : Read Numbers). ◌>>=◌ {B = Option Numbers × List ℕ} read (λ r. Ok (Some r.0, r.1))) (recording_again r rest f)
@@ -69,7 +72,8 @@ first_takes bytes x behind t e = record {
   taken = record { parts = t.parts ∙ ap (λ (k : ℕ). big_bytes 1 k ++ behind) e; rest_fits = t.rest_fits };
 }
 
-second_takes : (bytes : List ℕ) (x : ℕ) (behind : List ℕ) (n : Numbers) (rest : List ℕ) → Takes bytes (big_bytes 1 x) behind → x ≡ 2 → Recorded behind n rest → Versioned bytes (Some n) rest
+second_takes : (bytes : List ℕ) (x : ℕ) (behind : List ℕ) (n : Numbers) (rest : List ℕ) → Takes bytes (big_bytes 1 x) behind → x ≡ 2
+    → Recorded behind n rest → Versioned bytes (Some n) rest
 second_takes bytes x behind n rest t e r = record {
   recorded = Some r.recorded;
   fits = r.fits;
@@ -77,7 +81,8 @@ second_takes bytes x behind n rest t e r = record {
   taken = record { parts = t.parts ∙ ap (λ (k : ℕ). big_bytes 1 k ++ behind) e ∙ ap (λ (l : List ℕ). 2 ∷ l) r.taken.parts; rest_fits = r.taken.rest_fits };
 }
 
-version_takes : (bytes : List ℕ) (numbers : Option Numbers) (rest : List ℕ) → IsBytes bytes → version_at bytes ≡ Ok (numbers, rest) → Versioned bytes numbers rest
+version_takes : (bytes : List ℕ) (numbers : Option Numbers) (rest : List ℕ) → IsBytes bytes → version_at bytes ≡ Ok (numbers, rest)
+    → Versioned bytes numbers rest
 unfolding version_at
 version_takes bytes numbers rest small e =
     let family = λ (p : Option Numbers × List ℕ). Versioned bytes p.0 p.1 in
@@ -137,13 +142,15 @@ after_magic : (rest : List ℕ) → schedule_at (codes "JSCH" ++ rest) ≡ body_
 unfolding schedule_at
 after_magic rest = ap (λ (r : Read ℕ). ◌>>=◌ {B = List ScheduleEntry × Option Numbers} r (λ magic. cond (eqb magic.0 0x4a534348) (body_at magic.1) (failed faults.Magic))) (number_again 4 0x4a534348 rest (lit< tt))
 
-body_again : (r : Option Recording) (xs : List ScheduleEntry) → RecordedFits r → AreEntries xs → body_at (version r ++ table xs) ≡ Ok (xs, option_map numbers_of r)
+body_again : (r : Option Recording) (xs : List ScheduleEntry) → RecordedFits r → AreEntries xs
+    → body_at (version r ++ table xs) ≡ Ok (xs, option_map numbers_of r)
 unfolding body_at
 body_again r xs f fits =
     ap (λ (read : Read (Option Numbers)). ◌>>=◌ {B = List ScheduleEntry × Option Numbers} read table_behind) (version_again r (table xs) f)
     ∙ ap (λ (read : Result (List ScheduleEntry) ScheduleFault). ◌>>=◌ {B = List ScheduleEntry × Option Numbers} read (λ entries. done (entries, option_map numbers_of r))) (table_again xs fits)
 
-schedule_again : (r : Option Recording) (xs : List ScheduleEntry) → RecordedFits r → AreEntries xs → schedule_at (schedule r xs) ≡ Ok (xs, option_map numbers_of r)
+schedule_again : (r : Option Recording) (xs : List ScheduleEntry) → RecordedFits r → AreEntries xs
+    → schedule_at (schedule r xs) ≡ Ok (xs, option_map numbers_of r)
 schedule_again r xs f fits = after_magic (version r ++ table xs) ∙ body_again r xs f fits
 
 -- what is read of a file
@@ -154,7 +161,8 @@ pub record Spelled (bytes : List ℕ) (xs : List ScheduleEntry) (numbers : Optio
   pub fits : AreEntries xs
   pub spelled : bytes ≡ schedule recorded xs
 
-pub schedule_takes : (bytes : List ℕ) (xs : List ScheduleEntry) (numbers : Option Numbers) → IsBytes bytes → schedule_at bytes ≡ Ok (xs, numbers) → Spelled bytes xs numbers
+pub schedule_takes : (bytes : List ℕ) (xs : List ScheduleEntry) (numbers : Option Numbers) → IsBytes bytes
+    → schedule_at bytes ≡ Ok (xs, numbers) → Spelled bytes xs numbers
 unfolding schedule_at body_at
 schedule_takes bytes xs numbers small e =
     let a = bind_ok (number_at 4 bytes) (λ magic. cond (eqb magic.0 0x4a534348) (body_at magic.1) (failed faults.Magic)) (xs, numbers) e in
@@ -170,24 +178,28 @@ schedule_takes bytes xs numbers small e =
     subst (λ (p : List ScheduleEntry × Option Numbers). Spelled bytes p.0 p.1) (ok_is (c.0, b.0.0) (xs, numbers) c.2) spelled
 
 -- what the bytes spell is what is read
-pub spells_one : (bytes : List ℕ) (r : Option Recording) (events : List Event) → ScheduleFile bytes r events → (xs : List ScheduleEntry) × (schedule_at bytes ≡ Ok (xs, option_map numbers_of r)) × (events_of xs ≡ events)
+pub spells_one : (bytes : List ℕ) (r : Option Recording) (events : List Event) → ScheduleFile bytes r events
+    → (xs : List ScheduleEntry) × (schedule_at bytes ≡ Ok (xs, option_map numbers_of r)) × (events_of xs ≡ events)
 spells_one bytes r events s = (s.entries, ap schedule_at s.spelled ∙ schedule_again r s.entries s.recording_fits s.fits, sym s.stands_for)
 
 -- ---- of an answer
 
-pub found_of : (bytes : List ℕ) (xs : List ScheduleEntry) (r : Option Recording) → IsBytes bytes → schedule_at bytes ≡ Ok (xs, option_map numbers_of r) → ScheduleFile bytes r (events_of xs)
+pub found_of : (bytes : List ℕ) (xs : List ScheduleEntry) (r : Option Recording) → IsBytes bytes
+    → schedule_at bytes ≡ Ok (xs, option_map numbers_of r) → ScheduleFile bytes r (events_of xs)
 found_of bytes xs r small e =
     let t = schedule_takes bytes xs (option_map numbers_of r) small e in
     let same : t.recorded ≡ r = options_same t.recorded r t.numbers_are in
     subst (λ (recorded : Option Recording). ScheduleFile bytes recorded (events_of xs)) same
     (record { entries = xs; fits = t.fits; recording_fits = t.recording_fits; spelled = t.spelled; stands_for = refl })
 
-pub entries_of : (bytes : List ℕ) (xs : List ScheduleEntry) (r : Option Recording) → IsBytes bytes → schedule_at bytes ≡ Ok (xs, option_map numbers_of r) → bytes ≡ schedule r xs
+pub entries_of : (bytes : List ℕ) (xs : List ScheduleEntry) (r : Option Recording) → IsBytes bytes
+    → schedule_at bytes ≡ Ok (xs, option_map numbers_of r) → bytes ≡ schedule r xs
 entries_of bytes xs r small e =
     let t = schedule_takes bytes xs (option_map numbers_of r) small e in
     t.spelled ∙ ap (λ (recorded : Option Recording). schedule recorded xs) (options_same t.recorded r t.numbers_are)
 
-pub only_of : (bytes : List ℕ) (xs : List ScheduleEntry) (r : Option Recording) → schedule_at bytes ≡ Ok (xs, option_map numbers_of r) → (recorded : Option Recording) (events : List Event) → ScheduleFile bytes recorded events
+pub only_of : (bytes : List ℕ) (xs : List ScheduleEntry) (r : Option Recording) → schedule_at bytes ≡ Ok (xs, option_map numbers_of r)
+    → (recorded : Option Recording) (events : List Event) → ScheduleFile bytes recorded events
     → (r ≡ recorded) × (events_of xs ≡ events)
 only_of bytes xs r e recorded events s =
     let t = spells_one bytes recorded events s in
@@ -195,13 +207,15 @@ only_of bytes xs r e recorded events s =
     let numbers : option_map numbers_of r ≡ option_map numbers_of recorded = ap (λ (p : List ScheduleEntry × Option Numbers). p.1) both in
     (options_same r recorded numbers, ap (λ (p : List ScheduleEntry × Option Numbers). events_of p.0) both ∙ t.2)
 
-unspelled : (bytes : List ℕ) (f : ScheduleFault) → schedule_at bytes ≡ Err f → (r : Option Recording) (events : List Event) → ScheduleFile bytes r events → ⊥
+unspelled : (bytes : List ℕ) (f : ScheduleFault) → schedule_at bytes ≡ Err f → (r : Option Recording) (events : List Event)
+    → ScheduleFile bytes r events → ⊥
 unspelled bytes f e r events s =
     let t = spells_one bytes r events s in
     let clash : failed {A = List ScheduleEntry × Option Numbers} f ≡ done (t.0, option_map numbers_of r) = sym e ∙ t.1 in
     absurd cc
 
-pub only_memory : (bytes : List ℕ) (f : ScheduleFault) → Fails f (schedule_at bytes) → (r : Option Recording) (events : List Event) → ScheduleFile bytes r events → f ≡ faults.OutOfMemory
+pub only_memory : (bytes : List ℕ) (f : ScheduleFault) → Fails f (schedule_at bytes) → (r : Option Recording) (events : List Event)
+    → ScheduleFile bytes r events → f ≡ faults.OutOfMemory
 only_memory bytes faults.OutOfMemory e r events s = refl
 only_memory bytes faults.Truncated e r events s = absurd (unspelled bytes faults.Truncated e r events s)
 only_memory bytes faults.Magic e r events s = absurd (unspelled bytes faults.Magic e r events s)
@@ -239,7 +253,9 @@ of_table_fault faults.Limits h = h
 of_table_fault faults.Files h = h
 
 -- the fault is the version's, or the table's behind it
-body_err : (bytes : List ℕ) (f : ScheduleFault) → body_at bytes ≡ Err f → (version_at bytes ≡ Err f) ⊎ ((numbers : Option Numbers) × (rest : List ℕ) × (version_at bytes ≡ Ok (numbers, rest)) × (table_at rest ≡ Err f))
+body_err : (bytes : List ℕ) (f : ScheduleFault) → body_at bytes ≡ Err f
+    → (version_at bytes ≡ Err f) ⊎ ((numbers : Option Numbers) × (rest : List ℕ) × (version_at bytes ≡ Ok (numbers, rest))
+    × (table_at rest ≡ Err f))
 unfolding body_at
 body_err bytes f e =
     elim (bind_err (version_at bytes) table_behind f e) [
@@ -262,7 +278,8 @@ there : (n : ℕ) (bytes : List ℕ) (x : ℕ × List ℕ) → number_at n bytes
 there n bytes x e = ltb-false _ _ (guard_ok (ltb (length bytes) n) faults.Truncated (big_number n bytes, drop n bytes) x e).0
 
 -- the magic was read
-behind_magic : (bytes : List ℕ) (f : ScheduleFault) → IsBytes bytes → (faults.Magic ≡ f → ⊥) → (faults.Truncated ≡ f → ⊥) → schedule_at bytes ≡ Err f → (rest : List ℕ) × IsBytes rest × (bytes ≡ codes "JSCH" ++ rest) × (body_at rest ≡ Err f)
+behind_magic : (bytes : List ℕ) (f : ScheduleFault) → IsBytes bytes → (faults.Magic ≡ f → ⊥) → (faults.Truncated ≡ f → ⊥)
+    → schedule_at bytes ≡ Err f → (rest : List ℕ) × IsBytes rest × (bytes ≡ codes "JSCH" ++ rest) × (body_at rest ≡ Err f)
 unfolding schedule_at
 behind_magic bytes f small no_magic no_cut e =
     elim (bind_err (number_at 4 bytes) (λ magic. cond (eqb magic.0 0x4a534348) (body_at magic.1) (failed faults.Magic)) f e) [

@@ -25,14 +25,16 @@ module _ (P : StatesOf → ℕ → Type 0) where
   pub begins : (s : StatesOf) → HasGrown P s s 0
   begins s = record { grows = stays s; each = below_none (P s) }
 
-  pub goes_further : (old mid new : StatesOf) (i : ℕ) → ((k : ℕ) → Grows mid new → P mid k → P new k) → HasGrown P old mid i → GrowsTo (λ s. P s i) mid new true → HasGrown P old new (i + 1)
+  pub goes_further : (old mid new : StatesOf) (i : ℕ) → ((k : ℕ) → Grows mid new → P mid k → P new k) → HasGrown P old mid i
+      → GrowsTo (λ s. P s i) mid new true → HasGrown P old new (i + 1)
   goes_further old mid new i keeps so_far more =
       record {
         grows = further old mid new so_far.grows more.grows;
         each = below_more (P new) i (λ k lt. keeps k more.grows (so_far.each k lt)) (more.then refl);
       }
 
-  pub goes_further_if : (old mid new : StatesOf) (i : ℕ) → ((k : ℕ) → Grows mid new → P mid k → P new k) → HasGrown P old mid i → (went_on : Bool) → GrowsTo (λ s. P s i) mid new went_on → went_on ≡ true
+  pub goes_further_if : (old mid new : StatesOf) (i : ℕ) → ((k : ℕ) → Grows mid new → P mid k → P new k) → HasGrown P old mid i
+      → (went_on : Bool) → GrowsTo (λ s. P s i) mid new went_on → went_on ≡ true
       → HasGrown P old new (i + 1)
   goes_further_if old mid new i keeps so_far went_on more e = goes_further old mid new i keeps so_far (subst (GrowsTo (λ s. P s i) mid new) e more)
 
@@ -44,11 +46,13 @@ event_at thread pick = record { thread = thread; pick = pick }
 abbrev pub IsPickMet : (number thread : ℕ) → StatesOf → ℕ → Type 0
 IsPickMet number thread s pick = IsMetFrom s number (event_at thread pick)
 
-pub pick_kept : AreMetStatesKept → (number thread : ℕ) (mid new : StatesOf) → number < length mid.schedules → (k : ℕ) → Grows mid new → IsPickMet number thread mid k → IsPickMet number thread new k
+pub pick_kept : AreMetStatesKept → (number thread : ℕ) (mid new : StatesOf) → number < length mid.schedules → (k : ℕ) → Grows mid new
+    → IsPickMet number thread mid k → IsPickMet number thread new k
 pick_kept kept number thread mid new lt k grows met = still_met mid new grows number lt kept (event_at thread k) met
 
 -- the first pick that isn't enabled
-pub all_picks : AreHigherPicksLeft → (number thread i : ℕ) (old new : StatesOf) (m then : MachineOf) → HasGrown (IsPickMet number thread) old new i → IsInState new number m
+pub all_picks : AreHigherPicksLeft → (number thread i : ℕ) (old new : StatesOf) (m then : MachineOf)
+    → HasGrown (IsPickMet number thread) old new i → IsInState new number m
     → GoesBy (Ok answer.NotEnabled) (event_at thread i) m then → GrowsTo (λ s. AreMetByThread s number thread) old new true
 all_picks higher number thread i old new m then so_far there goes =
     went_on (λ s. AreMetByThread s number thread) old new so_far.grows (λ pick. by pick (leb_tells i pick))
@@ -61,7 +65,8 @@ all_picks higher number thread i old new m then so_far there goes =
         subst (λ (l : Limits). IsNextMet trees l.frames new.schedules events (event_at thread pick)) at.limits_are
         (higher trees m.limits.frames new.schedules events has.run.lead.state thread i pick le has.run.lead.reached off)
 
-    by : (pick : ℕ) → ((nat_le i pick ≡ true) × (i ≤ pick)) ⊎ ((nat_le i pick ≡ false) × (pick < i)) → IsMetFrom new number (event_at thread pick)
+    by : (pick : ℕ) → ((nat_le i pick ≡ true) × (i ≤ pick)) ⊎ ((nat_le i pick ≡ false) × (pick < i))
+        → IsMetFrom new number (event_at thread pick)
     by pick (inl h) = above pick h.1
     by pick (inr h) = so_far.each pick h.1
 
@@ -70,15 +75,18 @@ all_picks higher number thread i old new m then so_far there goes =
 abbrev pub IsThreadMet : (number : ℕ) → StatesOf → ℕ → Type 0
 IsThreadMet number s thread = AreMetByThread s number thread
 
-pub thread_kept : AreMetStatesKept → (number : ℕ) (mid new : StatesOf) → number < length mid.schedules → (k : ℕ) → Grows mid new → IsThreadMet number mid k → IsThreadMet number new k
+pub thread_kept : AreMetStatesKept → (number : ℕ) (mid new : StatesOf) → number < length mid.schedules → (k : ℕ) → Grows mid new
+    → IsThreadMet number mid k → IsThreadMet number new k
 thread_kept kept number mid new lt k grows met pick = still_met mid new grows number lt kept (event_at k pick) (met pick)
 
-pub all_threads : (number threads at : ℕ) (old new : StatesOf) → at ≡ threads → HasGrown (IsThreadMet number) old new at → GrowsTo (λ s. AreMetByThreads s number threads) old new true
+pub all_threads : (number threads at : ℕ) (old new : StatesOf) → at ≡ threads → HasGrown (IsThreadMet number) old new at
+    → GrowsTo (λ s. AreMetByThreads s number threads) old new true
 all_threads number threads at old new e so_far = went_on (λ s. AreMetByThreads s number threads) old new so_far.grows (subst (λ n. AreMetByThreads new number n) e so_far.each)
 
 -- ---- all
 
-module _ (left : AreOtherThreadsLeft) (number threads : ℕ) (old new : StatesOf) (m : MachineOf) (lt : number < length old.schedules) (there : IsInState old number m) (count : threads ≡ length m.shared.threads.threads) where
+module _ (left : AreOtherThreadsLeft) (number threads : ℕ) (old new : StatesOf) (m : MachineOf) (lt : number < length old.schedules)
+    (there : IsInState old number m) (count : threads ≡ length m.shared.threads.threads) where
   others : Grows old new → (event : Event) → threads ≤ event.thread → IsMetFrom new number event
   others grows event le events is files trees accepted program =
       let at = there events (earlier old new grows number lt events is) in
@@ -87,14 +95,18 @@ module _ (left : AreOtherThreadsLeft) (number threads : ℕ) (old new : StatesOf
       subst (λ (l : Limits). IsNextMet trees l.frames new.schedules events event) (sym grows.limits_are)
       (left trees old.program (bounds_of old.limits) new.schedules events event m.shared run past)
 
-  pub all_events : (went : Bool) → GrowsTo (λ s. AreMetByThreads s number threads) old new went → GrowsTo (λ s. AreAllMet s number) old new went
+  pub all_events : (went : Bool) → GrowsTo (λ s. AreMetByThreads s number threads) old new went
+      → GrowsTo (λ s. AreAllMet s number) old new went
   all_events went grown = record { grows = grown.grows; then = λ e event. by event (grown.then e) (leb_tells threads event.thread) }
     where
-      by : (event : Event) → AreMetByThreads new number threads → ((nat_le threads event.thread ≡ true) × (threads ≤ event.thread)) ⊎ ((nat_le threads event.thread ≡ false) × (event.thread < threads))
+      by : (event : Event) → AreMetByThreads new number threads
+          → ((nat_le threads event.thread ≡ true) × (threads ≤ event.thread))
+          ⊎ ((nat_le threads event.thread ≡ false) × (event.thread < threads))
           → IsMetFrom new number event
       by event each (inl h) = others grown.grows event h.1
       by event each (inr h) = each event.thread h.1 event.pick
 
-  pub all_if : {E : Type 0} (result : Result Bool E) → IfOk result (GrowsTo (λ s. AreMetByThreads s number threads) old new) → IfOk result (GrowsTo (λ s. AreAllMet s number) old new)
+  pub all_if : {E : Type 0} (result : Result Bool E) → IfOk result (GrowsTo (λ s. AreMetByThreads s number threads) old new)
+      → IfOk result (GrowsTo (λ s. AreAllMet s number) old new)
   all_if (Ok went) grown = all_events went grown
   all_if (Err e) grown = tt

@@ -49,7 +49,8 @@ gave_up P old new grows = record { grows = grows; then = λ e. absurd (false≢t
 pub went_on : (P : StatesOf → Type 0) (old new : StatesOf) → Grows old new → P new → GrowsTo P old new true
 went_on P old new grows holds = record { grows = grows; then = λ e. holds }
 
-pub new_met : AreNewStatesMet → (number : ℕ) (event : Event) (old new : StatesOf) → IsPushed number event old new → GrowsTo (λ s. IsMetFrom s number event) old new true
+pub new_met : AreNewStatesMet → (number : ℕ) (event : Event) (old new : StatesOf) → IsPushed number event old new
+    → GrowsTo (λ s. IsMetFrom s number event) old new true
 new_met holds number event old new pushed =
     went_on (λ s. IsMetFrom s number event) old new pushed.grows
     (λ events is files trees accepted program. holds trees new.limits.frames new.schedules events event (pushed.has events is))

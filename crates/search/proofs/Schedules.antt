@@ -28,7 +28,8 @@ pub schedule_of : (ways : List (List ScheduleEntry)) (number : ℕ) (entries : L
     → slice_get (map events_of ways) number ≡ Some (events_of entries)
 schedule_of ways number entries e = slice_get-map events_of ways number ∙ ap (option_map events_of) e
 
-pub schedule_if : (ways : List (List ScheduleEntry)) (number : ℕ) → {E : Type 0} (result : Result (List ScheduleEntry) E) → IfOk result (λ s. slice_get ways number ≡ Some s)
+pub schedule_if : (ways : List (List ScheduleEntry)) (number : ℕ) → {E : Type 0} (result : Result (List ScheduleEntry) E)
+    → IfOk result (λ s. slice_get ways number ≡ Some s)
     → IfOk result (λ s. slice_get (map events_of ways) number ≡ Some (events_of s))
 schedule_if ways number (Ok s) e = schedule_of ways number s e
 schedule_if ways number (Err x) e = tt
@@ -39,16 +40,19 @@ module _ (s : StatesOf) (number : ℕ) where
   in_state : (events : List Event) (m : MachineOf) → IsSchedule s number events → IsAt s.program s.limits events m → IsInState s number m
   in_state events m is at others are = subst (λ l. IsAt s.program s.limits l m) (same_Some events others (sym is ∙ are)) at
 
-  pub in_state_if : (p : LinkedProgram) (limits : Limits) (events : List Event) → p ≡ s.program → limits ≡ s.limits → IsSchedule s number events → {E : Type 0} (result : Result MachineOf E)
+  pub in_state_if : (p : LinkedProgram) (limits : Limits) (events : List Event) → p ≡ s.program → limits ≡ s.limits
+      → IsSchedule s number events → {E : Type 0} (result : Result MachineOf E)
       → IfOk result (IsAt p limits events) → IfOk result (IsInState s number)
   in_state_if p limits events same_program same_limits is (Ok m) at =
       in_state events m is (subst (λ q. IsAt q s.limits events m) same_program (subst (λ l. IsAt p l events m) same_limits at))
   in_state_if p limits events same_program same_limits is (Err x) at = tt
 
-  pub after : (event : Event) (old new : MachineOf) → IsInState s number old → GoesBy (Ok answer.Done) event old new → IsAfter s number event new
+  pub after : (event : Event) (old new : MachineOf) → IsInState s number old → GoesBy (Ok answer.Done) event old new
+      → IsAfter s number event new
   after event old new in_old goes events is = gone_on s.program s.limits events event old new (in_old events is) goes
 
-  pub alike_met : AreAlikeStatesMet → (met : ℕ) (event : Event) (one other : MachineOf) → met < length s.schedules → IsAfter s number event one → IsInState s met other
+  pub alike_met : AreAlikeStatesMet → (met : ℕ) (event : Event) (one other : MachineOf) → met < length s.schedules
+      → IsAfter s number event one → IsInState s met other
       → AreAlike one.shared other.shared → IsMetFrom s number event
   alike_met holds met event one other lt is_after is_there alike events is files trees accepted program =
       let schedule = get_or s.schedules met [] in
@@ -88,8 +92,10 @@ module _ (ways : List (List ScheduleEntry)) (number : ℕ) (lt : number < length
   schedules : map events_of (ways ++ (way ++ entry ∷ []) ∷ []) ≡ map events_of ways ++ (events_of way ++ event ∷ []) ∷ []
   schedules = map_push events_of ways (way ++ entry ∷ []) ∙ ap (λ l. map events_of ways ++ l ∷ []) longer
 
-  pub pushed : (p : LinkedProgram) (limits : Limits) (old new : StatesOf) → old ≡ record { program = p; limits = limits; schedules = map events_of ways }
-      → new ≡ record { program = p; limits = limits; schedules = map events_of (with_way ways number entry) } → IsPushed number event old new
+  pub pushed : (p : LinkedProgram) (limits : Limits) (old new : StatesOf)
+      → old ≡ record { program = p; limits = limits; schedules = map events_of ways }
+      → new ≡ record { program = p; limits = limits; schedules = map events_of (with_way ways number entry) }
+      → IsPushed number event old new
   unfolding way
   pushed p limits old new old_is new_is =
       subst (λ s. IsPushed number event s new) (sym old_is)
@@ -98,10 +104,12 @@ module _ (ways : List (List ScheduleEntry)) (number : ℕ) (lt : number < length
       same : map events_of (with_way ways number entry) ≡ map events_of ways ++ (events_of way ++ event ∷ []) ∷ []
       same = schedules
 
-      kept : (k : ℕ) (events : List Event) → slice_get (map events_of ways) k ≡ Some events → slice_get (map events_of (with_way ways number entry)) k ≡ Some events
+      kept : (k : ℕ) (events : List Event) → slice_get (map events_of ways) k ≡ Some events
+          → slice_get (map events_of (with_way ways number entry)) k ≡ Some events
       kept k events e = subst (λ l. slice_get l k ≡ Some events) (sym same) (get_front (map events_of ways) _ k events e)
 
-      has : (events : List Event) → slice_get (map events_of (with_way ways number entry)) number ≡ Some events → Has (map events_of (with_way ways number entry)) (events ++ event ∷ [])
+      has : (events : List Event) → slice_get (map events_of (with_way ways number entry)) number ≡ Some events
+          → Has (map events_of (with_way ways number entry)) (events ++ event ∷ [])
       has events e =
           let own : slice_get (map events_of (with_way ways number entry)) number ≡ Some (events_of way) = kept number (events_of way) (schedule_of ways number way way_there) in
           let is : events_of way ≡ events = same_Some (events_of way) events (sym own ∙ e) in
@@ -114,9 +122,12 @@ module _ (ways : List (List ScheduleEntry)) (number : ℕ) (lt : number < length
       here = record { grows = record { program = refl; limits_are = refl; kept = kept }; has = has }
 
 -- where there was memory for it
-pub pushed_if : (ways ways_new : List (List ScheduleEntry)) (number : ℕ) (event : Event) (p : LinkedProgram) (limits : Limits) (old new : StatesOf)
-    → record { program = p; limits = limits; schedules = map events_of ways } ≡ old → new ≡ record { program = p; limits = limits; schedules = map events_of ways_new }
-    → ways_new ≡ with_way ways number (record { event = event; repeat = 1 }) → number < length old.schedules → {E : Type 0} (result : Result (Unit {0}) E) → OnOk result (IsPushed number event old new)
+pub pushed_if : (ways ways_new : List (List ScheduleEntry)) (number : ℕ) (event : Event) (p : LinkedProgram) (limits : Limits)
+    (old new : StatesOf)
+    → record { program = p; limits = limits; schedules = map events_of ways } ≡ old
+    → new ≡ record { program = p; limits = limits; schedules = map events_of ways_new }
+    → ways_new ≡ with_way ways number (record { event = event; repeat = 1 }) → number < length old.schedules → {E : Type 0}
+    (result : Result (Unit {0}) E) → OnOk result (IsPushed number event old new)
 pushed_if ways ways_new number event p limits old new old_is new_is ways_are lt (Ok u) =
     pushed ways number within event p limits old new (sym old_is) (new_is ∙ ap (λ l. let s : StatesOf = record { program = p; limits = limits; schedules = map events_of l } in s) ways_are)
   where

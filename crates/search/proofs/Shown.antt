@@ -44,14 +44,16 @@ opened_at opens p limits m o =
     }
 
 -- where there was memory for it
-pub opened_if : AreRunsOpened → (p : LinkedProgram) (limits : Limits) → {E : Type 0} (result : Result MachineOf E) → IfOk result (Opens p limits) → IfOk result (IsAt p limits [])
+pub opened_if : AreRunsOpened → (p : LinkedProgram) (limits : Limits) → {E : Type 0} (result : Result MachineOf E)
+    → IfOk result (Opens p limits) → IfOk result (IsAt p limits [])
 opened_if opens p limits (Ok m) o = opened_at opens p limits m o
 opened_if opens p limits (Err e) o = tt
 
 -- ---- a schedule, and an event
 
 module _ (p : LinkedProgram) (limits : Limits) (events : List Event) where
-  pub gone_through : (schedule : List Event) (old new : MachineOf) (result : ℕ × Stopped) → IsAt p limits events old → GoesThrough result schedule old new → result.1 ≡ stopped.Most
+  pub gone_through : (schedule : List Event) (old new : MachineOf) (result : ℕ × Stopped) → IsAt p limits events old
+      → GoesThrough result schedule old new → result.1 ≡ stopped.Most
       → IsAt p limits (events ++ schedule) new
   gone_through schedule old new result at goes most =
       record {
@@ -66,7 +68,8 @@ module _ (p : LinkedProgram) (limits : Limits) (events : List Event) where
             subst (λ l. HasDone new files trees (events ++ l)) all gone.done;
       }
 
-  pub gone_on : (event : Event) (old new : MachineOf) → IsAt p limits events old → GoesBy (Ok answer.Done) event old new → IsAt p limits (events ++ event ∷ []) new
+  pub gone_on : (event : Event) (old new : MachineOf) → IsAt p limits events old → GoesBy (Ok answer.Done) event old new
+      → IsAt p limits (events ++ event ∷ []) new
   gone_on event old new at goes =
       record {
         program = ap (λ (x : MachineOf). x.program) goes.0 ∙ at.program;
@@ -80,12 +83,14 @@ module _ (p : LinkedProgram) (limits : Limits) (events : List Event) where
       }
 
   -- the run that it shows
-  pub run_of : (m : MachineOf) → IsAt p limits events m → (files : List (List ℕ)) (trees : Program) → IsAccepted files trees → IsProgram trees p → HasRun trees p (bounds_of limits) m.shared events
+  pub run_of : (m : MachineOf) → IsAt p limits events m → (files : List (List ℕ)) (trees : Program) → IsAccepted files trees
+      → IsProgram trees p → HasRun trees p (bounds_of limits) m.shared events
   run_of m at files trees accepted program =
       subst (λ (l : Limits). HasRun trees p (bounds_of l) m.shared events) at.limits_are
       (subst (λ q. HasRun trees q (bounds_of m.limits) m.shared events) at.program (at.done files trees accepted program).run)
 
-pub goes_by : AreRunsGoingOn → (result : Result Answer Refusal) (event : Event) (old new : MachineOf) → Steps result event old new → GoesBy result event old new
+pub goes_by : AreRunsGoingOn → (result : Result Answer Refusal) (event : Event) (old new : MachineOf) → Steps result event old new
+    → GoesBy result event old new
 goes_by goes result event old new steps = (
   steps.0,
   λ files trees events has.
@@ -97,20 +102,23 @@ goes_by goes result event old new steps = (
 
 -- what is lent is of the machine
 pub reports_at : (trees : Program) (m : MachineOf) (p : LinkedProgram) (shared : Shared) (limits : Limits) (r : Report)
-    → p ≡ m.program → shared ≡ m.shared → limits ≡ m.limits → Reports trees p shared limits.frames 0 r → Reports trees m.program m.shared m.limits.frames 0 r
+    → p ≡ m.program → shared ≡ m.shared → limits ≡ m.limits → Reports trees p shared limits.frames 0 r
+    → Reports trees m.program m.shared m.limits.frames 0 r
 reports_at trees m p shared limits r program_is shared_is limits_are reports =
     let by_limits : Reports trees p shared m.limits.frames 0 r = subst (λ (l : Limits). Reports trees p shared l.frames 0 r) limits_are reports in
     let by_shared : Reports trees p m.shared m.limits.frames 0 r = subst (λ s. Reports trees p s m.limits.frames 0 r) shared_is by_limits in
     subst (λ q. Reports trees q m.shared m.limits.frames 0 r) program_is by_shared
 
-module _ (reported : AreReportsOfWords) (trees : Program) (m : MachineOf) (r : Report) (reports : Reports trees m.program m.shared m.limits.frames 0 r) (quiet : Bool)
+module _ (reported : AreReportsOfWords) (trees : Program) (m : MachineOf) (r : Report)
+    (reports : Reports trees m.program m.shared m.limits.frames 0 r) (quiet : Bool)
     (quiet_is : AreQuietAt r.threads.items quiet) where
   record IsTold (state : State) : Type 0 where
     quiet_so : quiet ≡ is_quiet trees m.limits.frames state
     printed : r.printed.items ≡ state.world.printed
     threads : map end_state_of r.threads.items ≡ thread_ends trees m.limits.frames state
 
-  told : (files : List (List ℕ)) (events : List Event) (state : State) → HasDone m files trees events → run trees m.limits.frames events ≡ Some state → IsTold state
+  told : (files : List (List ℕ)) (events : List Event) (state : State) → HasDone m files trees events
+      → run trees m.limits.frames events ≡ Some state → IsTold state
   told files events state done reached =
       let has = done.run in
       let same = reported files trees done.accepted.linkable m.limits.frames has.at has.lead.state has.lead.are in

@@ -26,7 +26,8 @@ use Rattle.search.proofs.Growth.{earlier, still_met}
 
 -- ---- a machine that has done the events of a run
 
-module _ (trees : Program) (limits : Limits) (files : List (List ℕ)) (m : MachineOf) (same : m.limits ≡ limits) (events : List Event) (done : HasDone m files trees events) where
+module _ (trees : Program) (limits : Limits) (files : List (List ℕ)) (m : MachineOf) (same : m.limits ≡ limits) (events : List Event)
+    (done : HasDone m files trees events) where
   reached : run trees limits.frames events ≡ Some done.run.lead.state
   reached = subst (λ (l : Limits). run trees l.frames events ≡ Some done.run.lead.state) same done.run.lead.reached
 
@@ -54,7 +55,8 @@ module _ (trees : Program) (limits : Limits) (files : List (List ℕ)) (m : Mach
         record { state = done.run.lead.state; reached = reached; quiet = end.quiet; outcome_is = sym end.outcome_is }
 
   -- it has none
-  none_of : TellsOutcome trees m None → (state : State) → run trees limits.frames events ≡ Some state → IsTrue (is_quiet trees limits.frames state) → ⊥
+  none_of : TellsOutcome trees m None → (state : State) → run trees limits.frames events ≡ Some state
+      → IsTrue (is_quiet trees limits.frames state) → ⊥
   none_of tells state r quiet =
       let before : run trees m.limits.frames events ≡ Some state = subst (λ (l : Limits). run trees l.frames events ≡ Some state) (sym same) r in
       let not = subst (λ (l : Limits). is_quiet trees l.frames state ≡ false) same (tells files events state done before) in
@@ -62,7 +64,8 @@ module _ (trees : Program) (limits : Limits) (files : List (List ℕ)) (m : Mach
 
 -- ---- the state of a number
 
-module _ (trees : Program) (limits : Limits) (want : Wanted) (s : StatesOf) (outcomes : List Outcome) (number : ℕ) (visited : HasVisited trees limits want s outcomes number) (lt : number < length s.schedules)
+module _ (trees : Program) (limits : Limits) (want : Wanted) (s : StatesOf) (outcomes : List Outcome) (number : ℕ)
+    (visited : HasVisited trees limits want s outcomes number) (lt : number < length s.schedules)
     (m : MachineOf) (there : IsInState s number m) where
   module _ (events : List Event) (is : IsSchedule s number events) where
     at : IsAt s.program s.limits events m
@@ -84,11 +87,13 @@ module _ (trees : Program) (limits : Limits) (want : Wanted) (s : StatesOf) (out
           is_wanted = wanted;
         }
 
-  found : (o : Option TheOutcome) (new : List Outcome) → TellsOutcome trees m o → ListsOr want o true outcomes new → (events : List Event) → IsSchedule s number events → IsFound trees limits want events
+  found : (o : Option TheOutcome) (new : List Outcome) → TellsOutcome trees m o → ListsOr want o true outcomes new → (events : List Event)
+      → IsSchedule s number events → IsFound trees limits want events
   found None new tells lists events is = absurd (true≢false lists.0)
   found (Some o) new tells lists events is = found_at events is o tells lists
 
-  pub found_if : (o : Option TheOutcome) (new : List Outcome) (is_found : Bool) → TellsOutcome trees m o → ListsOr want o is_found outcomes new → is_found ≡ true
+  pub found_if : (o : Option TheOutcome) (new : List Outcome) (is_found : Bool) → TellsOutcome trees m o
+      → ListsOr want o is_found outcomes new → is_found ≡ true
       → (events : List Event) → IsSchedule s number events → IsFound trees limits want events
   found_if o new is_found tells lists e = found o new tells (subst (λ b. ListsOr want o b outcomes new) e lists)
 
@@ -98,15 +103,18 @@ module _ (trees : Program) (limits : Limits) (want : Wanted) (s : StatesOf) (out
     none_listed tells still = subst (λ l. AreListed trees limits.frames want s.schedules l (suc number)) (sym still)
         (record { listed = λ k events state before is r quiet. by k events state before is r quiet (leb_tells number k); only = visited.outcomes_are.only; none = visited.outcomes_are.none })
       where
-        by : (k : ℕ) (events : List Event) (state : State) → k < suc number → IsSchedule s k events → run trees limits.frames events ≡ Some state → IsTrue (is_quiet trees limits.frames state)
-            → ((nat_le number k ≡ true) × (number ≤ k)) ⊎ ((nat_le number k ≡ false) × (k < number)) → Has outcomes (outcome_of trees limits.frames state)
+        by : (k : ℕ) (events : List Event) (state : State) → k < suc number → IsSchedule s k events
+            → run trees limits.frames events ≡ Some state → IsTrue (is_quiet trees limits.frames state)
+            → ((nat_le number k ≡ true) × (number ≤ k)) ⊎ ((nat_le number k ≡ false) × (k < number))
+            → Has outcomes (outcome_of trees limits.frames state)
         by k events state before is r quiet (inr h) = visited.outcomes_are.listed k events state h.1 is r quiet
         by k events state before is r quiet (inl h) =
             let here : k ≡ number = omega (arith, before, h.1) in
             let own : IsSchedule s number events = subst (λ n. IsSchedule s n events) here is in
             absurd (none_of trees limits visited.program.files m (same events own) events (done events own) tells state r quiet)
 
-    one_listed : (o : TheOutcome) → TellsOutcome trees m (Some o) → (IsWanted want (told_by o) → ⊥) → IsAdded (told_by o) outcomes new → AreListed trees limits.frames want s.schedules new (suc number)
+    one_listed : (o : TheOutcome) → TellsOutcome trees m (Some o) → (IsWanted want (told_by o) → ⊥) → IsAdded (told_by o) outcomes new
+        → AreListed trees limits.frames want s.schedules new (suc number)
     one_listed o tells unwanted added =
         record {
           listed = λ k events state before is r quiet. by k events state before is r quiet (leb_tells number k);
@@ -114,8 +122,10 @@ module _ (trees : Program) (limits : Limits) (want : Wanted) (s : StatesOf) (out
           none = λ outcome h. not_wanted outcome (added.only outcome h);
         }
       where
-        by : (k : ℕ) (events : List Event) (state : State) → k < suc number → IsSchedule s k events → run trees limits.frames events ≡ Some state → IsTrue (is_quiet trees limits.frames state)
-            → ((nat_le number k ≡ true) × (number ≤ k)) ⊎ ((nat_le number k ≡ false) × (k < number)) → Has new (outcome_of trees limits.frames state)
+        by : (k : ℕ) (events : List Event) (state : State) → k < suc number → IsSchedule s k events
+            → run trees limits.frames events ≡ Some state → IsTrue (is_quiet trees limits.frames state)
+            → ((nat_le number k ≡ true) × (number ≤ k)) ⊎ ((nat_le number k ≡ false) × (k < number))
+            → Has new (outcome_of trees limits.frames state)
         by k events state before is r quiet (inr h) = added.kept _ (visited.outcomes_are.listed k events state h.1 is r quiet)
         by k events state before is r quiet (inl h) =
             let here : k ≡ number = omega (arith, before, h.1) in
@@ -123,7 +133,8 @@ module _ (trees : Program) (limits : Limits) (want : Wanted) (s : StatesOf) (out
             let end = end_of trees limits visited.program.files m (same events own) events (done events own) o tells state r in
             subst (Has new) end.outcome_is added.has
 
-        of_run : (outcome : Outcome) → Has outcomes outcome ⊎ (outcome ≡ told_by o) → (events : List Event) × EndsWith trees limits.frames events outcome
+        of_run : (outcome : Outcome) → Has outcomes outcome ⊎ (outcome ≡ told_by o)
+            → (events : List Event) × EndsWith trees limits.frames events outcome
         of_run outcome (inl h) = visited.outcomes_are.only outcome h
         of_run outcome (inr e) =
             let events : List Event = get_or s.schedules number [] in
@@ -135,7 +146,8 @@ module _ (trees : Program) (limits : Limits) (want : Wanted) (s : StatesOf) (out
         not_wanted outcome (inl h) w = visited.outcomes_are.none outcome h w
         not_wanted outcome (inr e) w = unwanted (subst (IsWanted want) e w)
 
-    now_listed : (o : Option TheOutcome) → TellsOutcome trees m o → ListsOr want o false outcomes new → AreListed trees limits.frames want s.schedules new (suc number)
+    now_listed : (o : Option TheOutcome) → TellsOutcome trees m o → ListsOr want o false outcomes new
+        → AreListed trees limits.frames want s.schedules new (suc number)
     now_listed None tells lists = none_listed tells lists.1
     now_listed (Some o) tells lists = one_listed o tells lists.0 lists.1
 
@@ -155,19 +167,23 @@ module _ (trees : Program) (limits : Limits) (want : Wanted) (s : StatesOf) (out
         now : AreListed trees limits.frames want s.schedules new (suc number)
         now = now_listed o tells lists
 
-        met : (k : ℕ) → k < suc number → ((nat_le number k ≡ true) × (number ≤ k)) ⊎ ((nat_le number k ≡ false) × (k < number)) → AreAllMet s_new k
+        met : (k : ℕ) → k < suc number → ((nat_le number k ≡ true) × (number ≤ k)) ⊎ ((nat_le number k ≡ false) × (k < number))
+            → AreAllMet s_new k
         met k before (inl h) = let here : number ≡ k = omega (arith, before, h.1) in subst (AreAllMet s_new) here (grown.then refl)
         met k before (inr h) =
             let inside : k < length s.schedules = omega (arith, h.1, lt) in
             λ event. still_met s s_new grown.grows k inside kept event (visited.met k h.1 event)
 
-        listed_now : (k : ℕ) (events : List Event) (state : State) → k < suc number → IsSchedule s_new k events → run trees limits.frames events ≡ Some state → IsTrue (is_quiet trees limits.frames state)
+        listed_now : (k : ℕ) (events : List Event) (state : State) → k < suc number → IsSchedule s_new k events
+            → run trees limits.frames events ≡ Some state → IsTrue (is_quiet trees limits.frames state)
             → Has new (outcome_of trees limits.frames state)
         listed_now k events state before is r quiet =
             let inside : k < length s.schedules = omega (arith, before, lt) in
             now.listed k events state before (earlier s s_new grown.grows k inside events is) r quiet
 
-    pub visited_if : AreMetStatesKept → (o : Option TheOutcome) (is_found : Bool) → TellsOutcome trees m o → ListsOr want o is_found outcomes new → is_found ≡ false
-        → (s_new : StatesOf) (went_on : Bool) → GrowsTo (λ x. AreAllMet x number) s s_new went_on → went_on ≡ true → HasVisited trees limits want s_new new (suc number)
+    pub visited_if : AreMetStatesKept → (o : Option TheOutcome) (is_found : Bool) → TellsOutcome trees m o
+        → ListsOr want o is_found outcomes new → is_found ≡ false
+        → (s_new : StatesOf) (went_on : Bool) → GrowsTo (λ x. AreAllMet x number) s s_new went_on → went_on ≡ true
+        → HasVisited trees limits want s_new new (suc number)
     visited_if kept o is_found tells lists e s_new went_on grown went =
         visited_too kept o tells (subst (λ b. ListsOr want o b outcomes new) e lists) s_new (subst (GrowsTo (λ x. AreAllMet x number) s s_new) went grown)

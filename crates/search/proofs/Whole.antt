@@ -22,7 +22,8 @@ use Rattle.search.specs.declared.searching.Visit.TheVariants as visit
 use Rattle.search.specs.Visits.{HasVisited, Visits}
 
 -- no state has been visited
-pub none_visited : (trees : Program) (limits : Limits) (want : Wanted) (p : LinkedProgram) → IsProgramOf trees p → HasVisited trees limits want (one_state p limits) [] 0
+pub none_visited : (trees : Program) (limits : Limits) (want : Wanted) (p : LinkedProgram) → IsProgramOf trees p
+    → HasVisited trees limits want (one_state p limits) [] 0
 none_visited trees limits want p program =
     record {
       program = program;
@@ -32,7 +33,8 @@ none_visited trees limits want p program =
       outcomes_are = record { listed = λ number events state lt. absurd (omega (arith, lt)); only = λ outcome h. absurd (none-some outcome h.1); none = λ outcome h. absurd (none-some outcome h.1) };
     }
 
-module _ (trees : Program) (limits : Limits) (want : Wanted) (s : StatesOf) (outcomes : List Outcome) (number : ℕ) (visited : HasVisited trees limits want s outcomes number) (all : length s.schedules ≤ number) where
+module _ (trees : Program) (limits : Limits) (want : Wanted) (s : StatesOf) (outcomes : List Outcome) (number : ℕ)
+    (visited : HasVisited trees limits want s outcomes number) (all : length s.schedules ≤ number) where
   met_all : HasMetAll trees limits.frames s.schedules outcomes
   met_all = record {
     opened = (0, visited.opened);
@@ -55,20 +57,24 @@ module _ (trees : Program) (limits : Limits) (want : Wanted) (s : StatesOf) (out
 
 -- ---- the limits are those of the states
 
-module _ (trees : Program) (limits : Limits) (want : Wanted) (s : StatesOf) (outcomes : List Outcome) (number : ℕ) (visited : HasVisited trees limits want s outcomes number) where
+module _ (trees : Program) (limits : Limits) (want : Wanted) (s : StatesOf) (outcomes : List Outcome) (number : ℕ)
+    (visited : HasVisited trees limits want s outcomes number) where
   pub by_own_limits : HasVisited trees s.limits want s outcomes number
   by_own_limits = subst (λ l. HasVisited trees l want s outcomes number) (sym visited.limits_are) visited
 
-  pub visits_by : (v : Visit) (s_new : StatesOf) (new : List Outcome) → Visits trees s.limits want number v s_new new → Visits trees limits want number v s_new new
+  pub visits_by : (v : Visit) (s_new : StatesOf) (new : List Outcome) → Visits trees s.limits want number v s_new new
+      → Visits trees limits want number v s_new new
   visits_by v s_new new visits = subst (λ l. Visits trees l want number v s_new new) visited.limits_are visits
 
-  pub visited_by : (v : Visit) (s_new : StatesOf) (new : List Outcome) → Visits trees s.limits want number v s_new new → v ≡ visit.Visited → HasVisited trees limits want s_new new (number + 1)
+  pub visited_by : (v : Visit) (s_new : StatesOf) (new : List Outcome) → Visits trees s.limits want number v s_new new → v ≡ visit.Visited
+      → HasVisited trees limits want s_new new (number + 1)
   visited_by v s_new new visits is =
       let visited_it : HasVisited trees limits want s_new new (suc number) = subst (λ x. Visits trees limits want number x s_new new) is (visits_by v s_new new visits) in
       let next : suc number ≡ number + 1 = omega arith in
       subst (HasVisited trees limits want s_new new) next visited_it
 
-  pub found_by : (v : Visit) (s_new : StatesOf) (new : List Outcome) (schedule : List ScheduleEntry) → Visits trees s.limits want number v s_new new → v ≡ visit.Found schedule
+  pub found_by : (v : Visit) (s_new : StatesOf) (new : List Outcome) (schedule : List ScheduleEntry)
+      → Visits trees s.limits want number v s_new new → v ≡ visit.Found schedule
       → IsFound trees limits want (events_of schedule)
   found_by v s_new new schedule visits is = subst (λ x. Visits trees limits want number x s_new new) is (visits_by v s_new new visits)
 
@@ -77,7 +83,8 @@ module _ (trees : Program) (limits : Limits) (want : Wanted) (s : StatesOf) (out
 pub accepted_of : (trees : Program) (p : LinkedProgram) → IsProgramOf trees p → IsOfAccepted p
 accepted_of trees p program = record { files = program.files; trees = trees; accepted = program.accepted; program = program.program }
 
-module _ (trees set : Program) (limits : Limits) (want : Wanted) (p : LinkedProgram) (s : StatesOf) (set_is : set ≡ trees) (s_is : s ≡ one_state p limits) where
+module _ (trees set : Program) (limits : Limits) (want : Wanted) (p : LinkedProgram) (s : StatesOf) (set_is : set ≡ trees)
+    (s_is : s ≡ one_state p limits) where
   pub none_visited_in : IsProgramOf trees p → HasVisited set s.limits want s [] 0
   none_visited_in program =
       subst (λ x. HasVisited x s.limits want s [] 0) (sym set_is) (subst (λ (x : StatesOf). HasVisited trees x.limits want x [] 0) (sym s_is) (none_visited trees limits want p program))

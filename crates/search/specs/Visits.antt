@@ -17,14 +17,17 @@ use Rattle.search.specs.States.{StatesOf, IsSchedule, AreAllMet}
 use Rattle.search.specs.Verdicts.{IsFound}
 
 -- the outcomes of the states below a number that are quiet are listed, and only such as a run has, none of them wanted
-pub record AreListed (trees : Program) (frames : ℕ) (want : Wanted) (schedules : List (List Event)) (outcomes : List Outcome) (below : ℕ) : Type 0 where
-  pub listed : (number : ℕ) (events : List Event) (state : State) → number < below → slice_get schedules number ≡ Some events → run trees frames events ≡ Some state
+pub record AreListed (trees : Program) (frames : ℕ) (want : Wanted) (schedules : List (List Event)) (outcomes : List Outcome)
+    (below : ℕ) : Type 0 where
+  pub listed : (number : ℕ) (events : List Event) (state : State) → number < below → slice_get schedules number ≡ Some events
+      → run trees frames events ≡ Some state
       → IsTrue (is_quiet trees frames state) → Has outcomes (outcome_of trees frames state)
   pub only : (outcome : Outcome) → Has outcomes outcome → (events : List Event) × EndsWith trees frames events outcome
   pub none : (outcome : Outcome) → Has outcomes outcome → IsWanted want outcome → ⊥
 
 -- the states below a number have been visited
-pub record HasVisited (trees : Program) (limits : Limits) (want : Wanted) (s : StatesOf) (outcomes : List Outcome) (below : ℕ) : Type 0 where
+pub record HasVisited (trees : Program) (limits : Limits) (want : Wanted) (s : StatesOf) (outcomes : List Outcome)
+    (below : ℕ) : Type 0 where
   pub program : IsProgramOf trees s.program
   pub limits_are : s.limits ≡ limits
   pub opened : IsSchedule s 0 []

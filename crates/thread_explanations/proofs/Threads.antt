@@ -6,7 +6,8 @@ use Rattle.model.specs.Report.{ThreadEnd, end_state_of}
 use Rattle.thread_explanations.specs.Explained.{told_of, told_of_all}
 
 module _ (below : ℕ → List (List ℕ)) where
-  push : (t : ℕ) (ends : List ThreadEnd) (end : ThreadEnd) → told_of_all t (ends ++ end ∷ []) below ≡ told_of_all t ends below ++ told_of (t + length ends) end (below (t + length ends))
+  push : (t : ℕ) (ends : List ThreadEnd) (end : ThreadEnd)
+      → told_of_all t (ends ++ end ∷ []) below ≡ told_of_all t ends below ++ told_of (t + length ends) end (below (t + length ends))
   push t [] end = append-nil (told_of t end (below t)) ∙ ap (λ (n : ℕ). told_of n end (below n)) (sym (add-zero t))
   push t (first ∷ ends) end =
       let place : suc t + length ends ≡ t + length (first ∷ ends) = omega arith in
@@ -16,7 +17,8 @@ module _ (below : ℕ → List (List ℕ)) where
 
   -- with one thread more
   pub one_more : (states : List EndState) (k : ℕ) (d : EndState) → k < length states
-      → told_of_all 0 (map end_state_of (take (k + 1) states)) below ≡ told_of_all 0 (map end_state_of (take k states)) below ++ told_of k (end_state_of (get_or states k d)) (below k)
+      → told_of_all 0 (map end_state_of (take (k + 1) states)) below
+      ≡ told_of_all 0 (map end_state_of (take k states)) below ++ told_of k (end_state_of (get_or states k d)) (below k)
   one_more states k d lt =
       let place : 0 + length (map end_state_of (take k states)) ≡ k = omega (arith, length-map (take k states) end_state_of, length-take k states) in
       ap (λ (l : List EndState). told_of_all 0 (map end_state_of l) below) (take_more states k d lt)

@@ -59,12 +59,14 @@ module _ (bytes : List ℕ) (at : ℕ) where
       pub two_at : (value : ℕ) → value ≡ unit_of_two x y → 192 ≤ x → x < 224 → units (drop at bytes) ≡ value ∷ units (drop (at + 2) bytes)
       two_at value same high low = ap units second ∙ two_bytes x y (drop (at + 2) bytes) high low ∙ ap (λ v. v ∷ units (drop (at + 2) bytes)) (sym same)
 
-      pub last_two_at : (value : ℕ) → value ≡ unit_of_two x y → 192 ≤ x → length bytes ≤ at + 2 → units (drop at bytes) ≡ value ∷ units (drop (at + 2) bytes)
+      pub last_two_at : (value : ℕ) → value ≡ unit_of_two x y → 192 ≤ x → length bytes ≤ at + 2
+          → units (drop at bytes) ≡ value ∷ units (drop (at + 2) bytes)
       last_two_at value same high end =
           let none : drop (at + 2) bytes ≡ [] = drop_all (at + 2) bytes end in
           ap units (second ∙ ap (λ l. x ∷ y ∷ l) none) ∙ last_two_bytes x y high ∙ ap (λ v. v ∷ units []) (sym same) ∙ ap (λ l. value ∷ units l) (sym none)
 
-      pub three_at : (z value : ℕ) → z ≡ byte_at bytes (at + 2) → at + 2 < length bytes → value ≡ unit_of_three x y z → 224 ≤ x → units (drop at bytes) ≡ value ∷ units (drop (at + 3) bytes)
+      pub three_at : (z value : ℕ) → z ≡ byte_at bytes (at + 2) → at + 2 < length bytes → value ≡ unit_of_three x y z → 224 ≤ x
+          → units (drop at bytes) ≡ value ∷ units (drop (at + 3) bytes)
       three_at z value is_third inside_third same high =
           ap units (second ∙ ap (λ l. x ∷ y ∷ l) (begins (at + 2) (at + 3) (omega arith) inside_third ∙ ap (λ b. b ∷ drop (at + 3) bytes) (sym is_third)))
           ∙ three_bytes x y z (drop (at + 3) bytes) high
@@ -73,7 +75,8 @@ module _ (bytes : List ℕ) (at : ℕ) where
 -- ---- one unit after the other
 
 -- the unit at a place is written, and what is behind it is left
-pub one_unit : (bytes : List ℕ) (at next unit : ℕ) (all written more : List ℕ) → units (drop at bytes) ≡ unit ∷ units (drop next bytes) → written ++ escaped (drop at bytes) ≡ all → more ≡ written ++ escape unit
+pub one_unit : (bytes : List ℕ) (at next unit : ℕ) (all written more : List ℕ) → units (drop at bytes) ≡ unit ∷ units (drop next bytes)
+    → written ++ escaped (drop at bytes) ≡ all → more ≡ written ++ escape unit
     → more ++ escaped (drop next bytes) ≡ all
 unfolding escaped
 one_unit bytes at next unit all written more spelled before pushed =
@@ -82,7 +85,8 @@ one_unit bytes at next unit all written more spelled before pushed =
     ∙ ap (λ (l : List ℕ). written ++ flat_map escape l) (sym spelled)
     ∙ before
 
-pub none_left : (bytes : List ℕ) (at : ℕ) (written all : List ℕ) → length bytes ≤ at → written ++ escaped (drop at bytes) ≡ all → written ≡ all
+pub none_left : (bytes : List ℕ) (at : ℕ) (written all : List ℕ) → length bytes ≤ at → written ++ escaped (drop at bytes) ≡ all
+    → written ≡ all
 unfolding escaped units
 none_left bytes at written all end before =
     sym (append-nil written) ∙ ap (λ (l : List ℕ). written ++ escaped l) (sym (drop_all at bytes end)) ∙ before

@@ -38,14 +38,16 @@ same_methods : (files : Program) → method_links.methods_of files ≡ linked_co
 unfolding method_links.methods_of linked_code.methods_of
 same_methods files = refl
 
-pub placed : (files : Program) (numbered : ℕ) (place : MemberPlace) → option_map (member_at files) (Some place) ≡ option_map (λ (m : Member). Some m) (slice_get (methods_of files) numbered)
+pub placed : (files : Program) (numbered : ℕ) (place : MemberPlace)
+    → option_map (member_at files) (Some place) ≡ option_map (λ (m : Member). Some m) (slice_get (methods_of files) numbered)
     → IsPlaceOf files numbered place
 placed files numbered place e method at =
     let is : slice_get (methods_of files) numbered ≡ Some method = ap (λ l. slice_get l numbered) (same_methods files) ∙ at in
     let both : Some (member_at files place) ≡ Some (Some method) = e ∙ ap (option_map (λ (m : Member). Some m)) is in
     cc
 
-pub no_place : (files : Program) (numbered : ℕ) (place : MemberPlace) → None ≡ option_map (λ (m : Member). Some m) (slice_get (methods_of files) numbered) → IsPlaceOf files numbered place
+pub no_place : (files : Program) (numbered : ℕ) (place : MemberPlace)
+    → None ≡ option_map (λ (m : Member). Some m) (slice_get (methods_of files) numbered) → IsPlaceOf files numbered place
 no_place files numbered place e method at =
     let is : slice_get (methods_of files) numbered ≡ Some method = ap (λ l. slice_get l numbered) (same_methods files) ∙ at in
     let bad : None ≡ Some (Some method) = e ∙ ap (option_map (λ (m : Member). Some m)) is in
@@ -63,20 +65,25 @@ pub record IsThere (files : Program) (place : MemberPlace) (method : Member) : T
 pub there : (files : Program) (place : MemberPlace) (method : Member) → member_at files place ≡ Some method → IsThere files place method
 there files place method e = by (class_at files place.class) refl e
   where
-    within : (file : FileTree) → class_at files place.class ≡ Some file → (o : Option MethodTree) → slice_get file.methods place.member ≡ o → option_map (member_of file) o ≡ Some method → IsThere files place method
+    within : (file : FileTree) → class_at files place.class ≡ Some file → (o : Option MethodTree) → slice_get file.methods place.member ≡ o
+        → option_map (member_of file) o ≡ Some method → IsThere files place method
     within file c None s e = absurd cc
     within file c (Some tree) s e = record { file = file; class_is = c; tree = tree; tree_is = s; is = cc }
 
-    by : (o : Option FileTree) → class_at files place.class ≡ o → option_and_then (λ (file : FileTree). option_map (member_of file) (slice_get file.methods place.member)) o ≡ Some method → IsThere files place method
+    by : (o : Option FileTree) → class_at files place.class ≡ o
+        → option_and_then (λ (file : FileTree). option_map (member_of file) (slice_get file.methods place.member)) o ≡ Some method
+        → IsThere files place method
     by None c e = absurd cc
     by (Some file) c e = within file c (slice_get file.methods place.member) refl e
 
-pub class_named : (files : Program) (place : MemberPlace) (method : Member) → member_at files place ≡ Some method → name_at files place.class ≡ method.class
+pub class_named : (files : Program) (place : MemberPlace) (method : Member) → member_at files place ≡ Some method
+    → name_at files place.class ≡ method.class
 class_named files place method e =
     let t = there files place method e in
     ap (λ (o : Option FileTree). option_map_or name_of o []) t.class_is ∙ ap (λ (m : Member). m.class) t.is
 
-pub method_named : (files : Program) (place : MemberPlace) (method : Member) → member_at files place ≡ Some method → name_in files place ≡ method.name
+pub method_named : (files : Program) (place : MemberPlace) (method : Member) → member_at files place ≡ Some method
+    → name_in files place ≡ method.name
 method_named files place method e = ap (λ (o : Option Member). option_map_or (λ (m : Member). m.name) o []) e
 
 pub class_at_number : (files : Program) (numbered : ℕ) (class : Name) → IsClassAt files numbered class → name_at files numbered ≡ class
@@ -84,8 +91,10 @@ class_at_number files numbered class h = ap (λ (o : Option FileTree). option_ma
 
 -- ---- a method as members of an object
 
-pub members_told : {A E : Type 0} (result : Result A E) (files : Program) (numbered : ℕ) (place : MemberPlace) → IsPlaceOf files numbered place → (old mid new class name : List ℕ)
-    → class ≡ name_at files place.class → name ≡ name_in files place → mid ≡ old ++ text_member (codes "class") class → OnOk result (new ≡ mid ++ text_member (codes "method") name)
+pub members_told : {A E : Type 0} (result : Result A E) (files : Program) (numbered : ℕ) (place : MemberPlace)
+    → IsPlaceOf files numbered place → (old mid new class name : List ℕ)
+    → class ≡ name_at files place.class → name ≡ name_in files place → mid ≡ old ++ text_member (codes "class") class
+    → OnOk result (new ≡ mid ++ text_member (codes "method") name)
     → (method : Member) → IsMethodAt files numbered method → OnOk result (new ≡ old ++ method_members method)
 members_told (Err fault) files numbered place p old mid new class name of_class of_name first second method at = tt
 members_told (Ok value) files numbered place p old mid new class name of_class of_name first second method at =
@@ -120,27 +129,33 @@ module _ (files : Program) (linked : IsLinked files) (place : MemberPlace) (meth
   its_body : classes.body_of files method ≡ option_map (with_pool t.file.pool) (code_in tree.parts)
   its_body = ap (classes.body_of files) (sym t.is) ∙ own_body
 
-  its_code : shown_at files place.class place.member ≡ option_map (λ (code : CodeTree). (member_of t.file tree, with_pool t.file.pool code)) (code_in tree.parts)
+  its_code : shown_at files place.class place.member
+      ≡ option_map (λ (code : CodeTree). (member_of t.file tree, with_pool t.file.pool code)) (code_in tree.parts)
   its_code =
       ap (option_and_then (λ (f : FileTree). option_and_then (shown_in f) (slice_get f.methods place.member))) t.class_is
       ∙ ap (option_and_then (shown_in t.file)) t.tree_is
 
-  pub body_is : (found : Option MethodCode) → option_map shown found ≡ shown_at files place.class place.member → classes.body_of files method ≡ option_map body_of found
+  pub body_is : (found : Option MethodCode) → option_map shown found ≡ shown_at files place.class place.member
+      → classes.body_of files method ≡ option_map body_of found
   body_is found e = its_body ∙ by found (code_in tree.parts) (e ∙ its_code)
     where
-      by : (o : Option MethodCode) (code : Option CodeTree) → option_map shown o ≡ option_map (λ (code : CodeTree). (member_of t.file tree, with_pool t.file.pool code)) code → option_map (with_pool t.file.pool) code ≡ option_map body_of o
+      by : (o : Option MethodCode) (code : Option CodeTree)
+          → option_map shown o ≡ option_map (λ (code : CodeTree). (member_of t.file tree, with_pool t.file.pool code)) code
+          → option_map (with_pool t.file.pool) code ≡ option_map body_of o
       by None None e = refl
       by None (Some code) e = absurd cc
       by (Some m) None e = absurd cc
       by (Some m) (Some code) e = ap (option_map (λ (p : Member × Body). p.1)) (sym e)
 
-pub body_found : (files : Program) → IsLinked files → (numbered : ℕ) (place : MemberPlace) → IsPlaceOf files numbered place → (found : Option MethodCode) → option_map shown found ≡ shown_at files place.class place.member
+pub body_found : (files : Program) → IsLinked files → (numbered : ℕ) (place : MemberPlace) → IsPlaceOf files numbered place
+    → (found : Option MethodCode) → option_map shown found ≡ shown_at files place.class place.member
     → IsBodyOf files numbered found
 body_found files linked numbered place p found e method at = body_is files linked place method (there files place method (p method at)) found e
 
 -- ---- where a thread stands
 
-pub frame_told : (form : Form) (trees : Program) (seen : FrameBefore) (o : Option FrameBefore) (class : Option ℕ) → o ≡ Some seen → (old new : List ℕ) {A E : Type 0} (result : Result A E)
+pub frame_told : (form : Form) (trees : Program) (seen : FrameBefore) (o : Option FrameBefore) (class : Option ℕ) → o ≡ Some seen
+    → (old new : List ℕ) {A E : Type 0} (result : Result A E)
     → ((method : Member) → IsMethodAt trees seen.method method → OnOk result (new ≡ old ++ frame_in form method seen.offset))
     → (stack : StackOf ℕ) → Sees trees o class stack → OnOk result (new ≡ old ++ place_in form stack)
 frame_told form trees seen o class is old new result h [] s = let bad : None ≡ Some seen = sym s.0 ∙ is in cc
@@ -152,7 +167,8 @@ frame_told form trees seen o class is old new result h (Invocation frame ∷ sta
     subst (λ n. OnOk result (new ≡ old ++ frame_in form frame.method n)) offset
     (h frame.method (subst (λ (f : FrameBefore). IsMethodAt trees f.method frame.method) same s.3))
 
-pub class_told : (form : Form) (trees : Program) (seen : ℕ) (frame : Option FrameBefore) (o : Option ℕ) → frame ≡ None → o ≡ Some seen → (name : Name) → name ≡ name_at trees seen
+pub class_told : (form : Form) (trees : Program) (seen : ℕ) (frame : Option FrameBefore) (o : Option ℕ) → frame ≡ None → o ≡ Some seen
+    → (name : Name) → name ≡ name_at trees seen
     → (old new : List ℕ) {A E : Type 0} (result : Result A E) → OnOk result (new ≡ old ++ class_in form name)
     → (stack : StackOf ℕ) → Sees trees frame o stack → OnOk result (new ≡ old ++ place_in form stack)
 class_told form trees seen frame o none is name named old new result h [] s = let bad : None ≡ Some seen = sym s.1 ∙ is in cc
@@ -163,21 +179,27 @@ class_told form trees seen frame o none is name named old new result h (Initiali
     let at : name_at trees seen ≡ on_top = class_at_number trees seen on_top (subst (λ n. IsClassAt trees n on_top) same s.3) in
     subst (λ n. OnOk result (new ≡ old ++ class_in form n)) (named ∙ at) h
 
-pub nowhere_told : (form : Form) (trees : Program) (frame : Option FrameBefore) (class : Option ℕ) → frame ≡ None → class ≡ None → (old new : List ℕ) {A E : Type 0} (result : Result A E)
-    → OnOk result (new ≡ old ++ nowhere_in form) → (stack : StackOf ℕ) → Sees trees frame class stack → OnOk result (new ≡ old ++ place_in form stack)
+pub nowhere_told : (form : Form) (trees : Program) (frame : Option FrameBefore) (class : Option ℕ) → frame ≡ None → class ≡ None
+    → (old new : List ℕ) {A E : Type 0} (result : Result A E)
+    → OnOk result (new ≡ old ++ nowhere_in form) → (stack : StackOf ℕ) → Sees trees frame class stack
+    → OnOk result (new ≡ old ++ place_in form stack)
 nowhere_told form trees frame class no_frame no_class old new result h [] s = h
 nowhere_told form trees frame class no_frame no_class old new result h (Invocation on_top ∷ stack) s = let bad : Some s.0 ≡ None = sym s.1 ∙ no_frame in cc
 nowhere_told form trees frame class no_frame no_class old new result h (Initialisation on_top phase ∷ stack) s = let bad : Some s.0 ≡ None = sym s.2 ∙ no_class in cc
 
 -- ---- the instruction of a frame on top
 
-words_of : (trees : Program) (method : Member) (offset : ℕ) (found : Option MethodCode) → classes.body_of trees method ≡ option_map body_of found
-    → option_map_or (λ (m : MethodCode). meaning_in offset (body_of m)) found [] ≡ option_map_or (meaning_in offset) (classes.body_of trees method) []
+words_of : (trees : Program) (method : Member) (offset : ℕ) (found : Option MethodCode)
+    → classes.body_of trees method ≡ option_map body_of found
+    → option_map_or (λ (m : MethodCode). meaning_in offset (body_of m)) found []
+    ≡ option_map_or (meaning_in offset) (classes.body_of trees method) []
 words_of trees method offset None e = ap (λ (o : Option Body). option_map_or (meaning_in offset) o []) (sym e)
 words_of trees method offset (Some m) e = ap (λ (o : Option Body). option_map_or (meaning_in offset) o []) (sym e)
 
-pub instruction_told : (trees : Program) (seen : FrameBefore) (o : Option FrameBefore) (class : Option ℕ) → o ≡ Some seen → (found : Option MethodCode) → IsBodyOf trees seen.method found
-    → (old new : List ℕ) {A E : Type 0} (result : Result A E) → OnOk result (new ≡ old ++ option_map_or (λ (m : MethodCode). meaning_in seen.offset (body_of m)) found [])
+pub instruction_told : (trees : Program) (seen : FrameBefore) (o : Option FrameBefore) (class : Option ℕ) → o ≡ Some seen
+    → (found : Option MethodCode) → IsBodyOf trees seen.method found
+    → (old new : List ℕ) {A E : Type 0} (result : Result A E)
+    → OnOk result (new ≡ old ++ option_map_or (λ (m : MethodCode). meaning_in seen.offset (body_of m)) found [])
     → (stack : StackOf ℕ) → Sees trees o class stack → OnOk result (new ≡ old ++ instruction_words trees stack)
 instruction_told trees seen o class is found b old new result h [] s = let bad : None ≡ Some seen = sym s.0 ∙ is in cc
 instruction_told trees seen o class is found b old new result h (Initialisation on_top phase ∷ stack) s = let bad : None ≡ Some seen = sym s.1 ∙ is in cc
@@ -191,21 +213,25 @@ instruction_told trees seen o class is found b old new result h (Invocation fram
     (subst (λ l. OnOk result (new ≡ old ++ l)) words h)
 
 -- no frame is on top
-pub no_instruction : (trees : Program) (o : Option FrameBefore) (class : Option ℕ) → o ≡ None → (stack : StackOf ℕ) → Sees trees o class stack → instruction_words trees stack ≡ []
+pub no_instruction : (trees : Program) (o : Option FrameBefore) (class : Option ℕ) → o ≡ None → (stack : StackOf ℕ)
+    → Sees trees o class stack → instruction_words trees stack ≡ []
 no_instruction trees o class is [] s = refl
 no_instruction trees o class is (Initialisation on_top phase ∷ stack) s = refl
 no_instruction trees o class is (Invocation frame ∷ stack) s = let bad : Some s.0 ≡ None = sym s.1 ∙ is in cc
 
 -- ---- the line
 
-pub told_line : {A E : Type 0} (result : Result A E) (form : Form) (trees : Program) (n t : ℕ) (stack : StackOf ℕ) (old a b c d e new source words deed : List ℕ)
+pub told_line : {A E : Type 0} (result : Result A E) (form : Form) (trees : Program) (n t : ℕ) (stack : StackOf ℕ)
+    (old a b c d e new source words deed : List ℕ)
     → a ≡ old ++ head_words form n t → b ≡ a ++ place_in form stack → c ≡ b ++ part form (codes " ") (codes "source") source
-    → d ≡ c ++ part form (codes " ") (codes "instruction") words → words ≡ instruction_words trees stack → e ≡ d ++ part form (codes " | ") (codes "did") deed
+    → d ≡ c ++ part form (codes " ") (codes "instruction") words → words ≡ instruction_words trees stack
+    → e ≡ d ++ part form (codes " | ") (codes "did") deed
     → OnOk result (new ≡ e ++ end_words form) → OnOk result (AddsLine form trees n t stack old new)
 told_line (Err fault) form trees n t stack old a b c d e new source words deed ha hb hc hd told he h = tt
 told_line (Ok value) form trees n t stack old a b c d e new source words deed ha hb hc hd told he h = (line_words form trees n t stack source deed, all, (source, deed, refl))
   where
-    six : (u v w x y z : List ℕ) → a ≡ old ++ u → b ≡ a ++ v → c ≡ b ++ w → d ≡ c ++ x → e ≡ d ++ y → new ≡ e ++ z → new ≡ old ++ (u ++ (v ++ (w ++ (x ++ (y ++ z)))))
+    six : (u v w x y z : List ℕ) → a ≡ old ++ u → b ≡ a ++ v → c ≡ b ++ w → d ≡ c ++ x → e ≡ d ++ y → new ≡ e ++ z
+        → new ≡ old ++ (u ++ (v ++ (w ++ (x ++ (y ++ z)))))
     six u v w x y z hu hv hw hx hy hz =
         hz
         ∙ ap (λ (l : List ℕ). l ++ z) (hy ∙ ap (λ (l : List ℕ). l ++ y) (hx ∙ ap (λ (l : List ℕ). l ++ x) (hw ∙ ap (λ (l : List ℕ). l ++ w) (hv ∙ ap (λ (l : List ℕ). l ++ v) hu))))

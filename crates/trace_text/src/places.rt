@@ -129,7 +129,8 @@ pub(crate) fn push_instruction(
     teller: &Teller<'_>,
     before: &Before,
 ) -> Result<(), AllocError>
-    ensures { (stack : _) → Sees teller.now.linked.now before.now.frame before.now.class stack → OnOk result (text.new.items ≡ text.old.items ++ instruction_words teller.now.linked.now stack) }
+    ensures { (stack : _) → Sees teller.now.linked.now before.now.frame before.now.class stack
+        → OnOk result (text.new.items ≡ text.old.items ++ instruction_words teller.now.linked.now stack) }
 {
     let Some(frame) = before.frame else {
         return Ok(());

@@ -94,7 +94,8 @@ impl<'a> Teller<'a> {
 
     /// The name of a method, by its number, behind that of its class and a dot.
     pub(crate) fn push_method(&self, text: &mut Vec<u8>, number: u32) -> Result<(), AllocError>
-        ensures { (method : _) → IsMethodAt self.now.linked.now number method → OnOk result (text.new.items ≡ text.old.items ++ method_words method) }
+        ensures { (method : _) → IsMethodAt self.now.linked.now number method
+            → OnOk result (text.new.items ≡ text.old.items ++ method_words method) }
     {
         let place = self.place(number);
         let set = self.linked.set();
@@ -110,7 +111,8 @@ impl<'a> Teller<'a> {
         text: &mut Vec<u8>,
         number: u32,
     ) -> Result<(), AllocError>
-        ensures { (method : _) → IsMethodAt self.now.linked.now number method → OnOk result (text.new.items ≡ text.old.items ++ method_members method) }
+        ensures { (method : _) → IsMethodAt self.now.linked.now number method
+            → OnOk result (text.new.items ≡ text.old.items ++ method_members method) }
     {
         let place = self.place(number);
         let set = self.linked.set();

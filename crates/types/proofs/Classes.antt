@@ -25,7 +25,8 @@ pub its_own_subclass : (files : Program) (c : Name) → is_subclass files c c �
 its_own_subclass files c = within_itself files (length (classes_of files)) c
 
 -- the place of a class that there is has its name
-pub placed : (files : Program) (name : Name) → is_some (class_of files name) ≡ true → option_map (name_at files) (place_of files name) ≡ Some name
+pub placed : (files : Program) (name : Name) → is_some (class_of files name) ≡ true
+    → option_map (name_at files) (place_of files name) ≡ Some name
 placed files name there = by (place_of files name) refl
   where
     named : (k : ℕ) → place_of files name ≡ Some k → (o : Option FileTree) → class_of files name ≡ o → Some (name_at files k) ≡ Some name
@@ -40,7 +41,8 @@ placed files name there = by (place_of files name) refl
 
 -- ---- the walk upwards
 
-pub common_here : (files : Program) (n i : ℕ) (c d : Name) → i < suc n → is_subclass files d c ≡ true → common_within files (suc n - i) c d ≡ Some c
+pub common_here : (files : Program) (n i : ℕ) (c d : Name) → i < suc n → is_subclass files d c ≡ true
+    → common_within files (suc n - i) c d ≡ Some c
 common_here files n i c d l e =
     let k : suc n - i ≡ suc (n - i) = omega arith in
     ap (λ m. common_within files m c d) k ∙ ap (λ b. cond b (Some c) (option_and_then (λ s. common_within files (n - i) s d) (superclass_of files c))) e
@@ -51,12 +53,14 @@ common_above files n i c s d l e q =
     let k : suc n - i ≡ suc (suc n - (i + 1)) = omega arith in
     ap (λ m. common_within files m c d) k ∙ ap (λ b. cond b (Some c) (option_and_then (λ s. common_within files (suc n - (i + 1)) s d) (superclass_of files c))) e ∙ ap (λ o. option_and_then (λ s. common_within files (suc n - (i + 1)) s d) o) q
 
-pub common_ends : (files : Program) (n i : ℕ) (c d : Name) → i < suc n → is_subclass files d c ≡ false → superclass_of files c ≡ None → common_within files (suc n - i) c d ≡ None
+pub common_ends : (files : Program) (n i : ℕ) (c d : Name) → i < suc n → is_subclass files d c ≡ false → superclass_of files c ≡ None
+    → common_within files (suc n - i) c d ≡ None
 common_ends files n i c d l e q =
     let k : suc n - i ≡ suc (n - i) = omega arith in
     ap (λ m. common_within files m c d) k ∙ ap (λ b. cond b (Some c) (option_and_then (λ s. common_within files (n - i) s d) (superclass_of files c))) e ∙ ap (λ o. option_and_then (λ s. common_within files (n - i) s d) o) q
 
-pub common_last : (files : Program) (n i : ℕ) (c d : Name) → suc n - i ≡ 1 → is_subclass files d c ≡ false → common_within files (suc n - i) c d ≡ None
+pub common_last : (files : Program) (n i : ℕ) (c d : Name) → suc n - i ≡ 1 → is_subclass files d c ≡ false
+    → common_within files (suc n - i) c d ≡ None
 common_last files n i c d k e =
     ap (λ m. common_within files m c d) k ∙ ap (λ b. cond b (Some c) (option_and_then (λ s. common_within files zero s d) (superclass_of files c))) e ∙ none (superclass_of files c)
   where

@@ -29,14 +29,16 @@ module _ (files : Program) where
   depth_found zero k c e = absurd cc
   depth_found (suc n) k c e = by (superclass_of files c) refl e (λ j s. depth_found n j s)
     where
-      deeper : (s : Name) (o : Option ℕ) → superclass_of files c ≡ Some s → option_map (λ j. suc j) o ≡ Some k → ((j : ℕ) → o ≡ Some j → (j < n) × HasDepth j s) → (k < suc n) × HasDepth k c
+      deeper : (s : Name) (o : Option ℕ) → superclass_of files c ≡ Some s → option_map (λ j. suc j) o ≡ Some k
+          → ((j : ℕ) → o ≡ Some j → (j < n) × HasDepth j s) → (k < suc n) × HasDepth k c
       deeper s None q e h = absurd cc
       deeper s (Some j) q e h =
           let below = h j refl in
           let more : suc j ≡ k = cc in
           subst (λ i. (i < suc n) × HasDepth i c) more (omega (arith, below.0), (s, (q, below.1)))
 
-      by : (o : Option Name) → superclass_of files c ≡ o → option_map_or (λ s. option_map (λ j. suc j) (depth_below files n s)) o (Some 0) ≡ Some k
+      by : (o : Option Name) → superclass_of files c ≡ o
+          → option_map_or (λ s. option_map (λ j. suc j) (depth_below files n s)) o (Some 0) ≡ Some k
           → ((j : ℕ) (s : Name) → depth_below files n s ≡ Some j → (j < n) × HasDepth j s) → (k < suc n) × HasDepth k c
       by None q e h =
           let none : 0 ≡ k = cc in
@@ -61,7 +63,8 @@ module _ (files : Program) where
 
   -- ---- which classes are below which
 
-  within_next : (m : ℕ) (c s d : Name) → superclass_of files c ≡ Some s → is_within files (suc m) c d ≡ (name_eq c d || is_within files m s d)
+  within_next : (m : ℕ) (c s d : Name) → superclass_of files c ≡ Some s
+      → is_within files (suc m) c d ≡ (name_eq c d || is_within files m s d)
   within_next m c s d e = ap (λ o. name_eq c d || option_map_or (λ s. is_within files m s d) o false) e
 
   within_last : (m : ℕ) (c d : Name) → superclass_of files c ≡ None → is_within files (suc m) c d ≡ name_eq c d
@@ -91,7 +94,8 @@ module _ (files : Program) where
       within_next m c h.0 d h.1.0 ∙ ap (λ b. name_eq c d || b) (not_within m k (suc k) h.0 d h.1.1 g (omega arith)) ∙ or-false (name_eq c d)
 
   -- what is above a class, and not so deep, is above its superclass
-  subclass_deeper : (k j : ℕ) (c s d : Name) → superclass_of files c ≡ Some s → HasDepth k s → HasDepth j d → j ≤ k → k < length (classes_of files) → is_subclass files c d ≡ is_subclass files s d
+  subclass_deeper : (k j : ℕ) (c s d : Name) → superclass_of files c ≡ Some s → HasDepth k s → HasDepth j d → j ≤ k
+      → k < length (classes_of files) → is_subclass files c d ≡ is_subclass files s d
   subclass_deeper k j c s d e h g l m =
       let all = length (classes_of files) in
       within_enough (suc k) all c d (s, (e, h)) (omega (arith, m)) ∙ within_next k c s d e
@@ -100,10 +104,12 @@ module _ (files : Program) where
 
   -- ---- the first common class
 
-  common_next : (m : ℕ) (c s d : Name) → superclass_of files c ≡ Some s → common_within files (suc m) c d ≡ cond (is_subclass files d c) (Some c) (common_within files m s d)
+  common_next : (m : ℕ) (c s d : Name) → superclass_of files c ≡ Some s
+      → common_within files (suc m) c d ≡ cond (is_subclass files d c) (Some c) (common_within files m s d)
   common_next m c s d e = ap (λ o. cond (is_subclass files d c) (Some c) (option_and_then (λ s. common_within files m s d) o)) e
 
-  common_last : (m : ℕ) (c d : Name) → superclass_of files c ≡ None → common_within files (suc m) c d ≡ cond (is_subclass files d c) (Some c) None
+  common_last : (m : ℕ) (c d : Name) → superclass_of files c ≡ None
+      → common_within files (suc m) c d ≡ cond (is_subclass files d c) (Some c) None
   common_last m c d e = ap (λ o. cond (is_subclass files d c) (Some c) (option_and_then (λ s. common_within files m s d) o)) e
 
   common_enough : (k m n : ℕ) (c d : Name) → HasDepth k c → k < m → k < n → common_within files m c d ≡ common_within files n c d
@@ -116,7 +122,8 @@ module _ (files : Program) where
       ∙ sym (common_next n c h.0 d h.1.0)
 
   -- it is the same from the superclass of the second class, where that is the deeper one
-  common_deeper : (m k j : ℕ) (c d t : Name) → superclass_of files d ≡ Some t → HasDepth k t → HasDepth j c → j ≤ k → k < length (classes_of files) → common_within files m c d ≡ common_within files m c t
+  common_deeper : (m k j : ℕ) (c d t : Name) → superclass_of files d ≡ Some t → HasDepth k t → HasDepth j c → j ≤ k
+      → k < length (classes_of files) → common_within files m c d ≡ common_within files m c t
   common_deeper zero k j c d t e h g l r = refl
   common_deeper (suc m) k zero c d t e h g l r =
       common_last m c d g ∙ ap (λ b. cond b (Some c) None) (subclass_deeper k zero d t c e h g l r) ∙ sym (common_last m c t g)
@@ -127,13 +134,15 @@ module _ (files : Program) where
       ∙ sym (common_next m c g.0 t g.1.0)
 
   -- and from the superclass of the first class, where that is the deeper one
-  common_above_first : (m k j : ℕ) (c s d : Name) → superclass_of files c ≡ Some s → HasDepth k s → HasDepth j d → j ≤ k → common_within files (suc m) c d ≡ common_within files m s d
+  common_above_first : (m k j : ℕ) (c s d : Name) → superclass_of files c ≡ Some s → HasDepth k s → HasDepth j d → j ≤ k
+      → common_within files (suc m) c d ≡ common_within files m s d
   common_above_first m k j c s d e h g l =
       common_next m c s d e ∙ ap (λ b. cond b (Some c) (common_within files m s d)) (not_within (length (classes_of files)) j (suc k) d c g (s, (e, h)) (omega (arith, l)))
 
   -- ---- where two classes meet
 
-  meeting_next : (m : ℕ) (c s d t : Name) → superclass_of files c ≡ Some s → superclass_of files d ≡ Some t → meeting_below files (suc m) c d ≡ cond (name_eq c d) (Some c) (meeting_below files m s t)
+  meeting_next : (m : ℕ) (c s d t : Name) → superclass_of files c ≡ Some s → superclass_of files d ≡ Some t
+      → meeting_below files (suc m) c d ≡ cond (name_eq c d) (Some c) (meeting_below files m s t)
   meeting_next m c s d t e f =
       ap (λ o. cond (name_eq c d) (Some c) (option_and_then (λ s. option_and_then (λ t. meeting_below files m s t) (superclass_of files d)) o)) e
       ∙ ap (λ o. cond (name_eq c d) (Some c) (option_and_then (λ t. meeting_below files m s t) o)) f
@@ -142,7 +151,8 @@ module _ (files : Program) where
   meeting_last m c d e = ap (λ o. cond (name_eq c d) (Some c) (option_and_then (λ s. option_and_then (λ t. meeting_below files m s t) (superclass_of files d)) o)) e
 
   -- from one depth it is the first common class
-  meeting_is : (m k : ℕ) (c d : Name) → HasDepth k c → HasDepth k d → k ≤ length (classes_of files) → meeting_below files m c d ≡ common_within files m c d
+  meeting_is : (m k : ℕ) (c d : Name) → HasDepth k c → HasDepth k d → k ≤ length (classes_of files)
+      → meeting_below files m c d ≡ common_within files m c d
   meeting_is zero k c d h g l = refl
   meeting_is (suc m) zero c d h g l =
       meeting_last m c d h
@@ -155,7 +165,8 @@ module _ (files : Program) where
       (meeting_is m k h.0 g.0 h.1.1 g.1.1 (omega (arith, l)) ∙ sym (common_deeper m k k h.0 d g.0 g.1.0 g.1.1 h.1.1 (omega arith) (omega (arith, l))))
       ∙ sym (common_next m c h.0 d h.1.0)
 
-  above_next : {B : Type 0} (f : Name → Option B) (i : ℕ) (c s : Name) → superclass_of files c ≡ Some s → option_and_then f (class_above files (suc i) c) ≡ option_and_then f (class_above files i s)
+  above_next : {B : Type 0} (f : Name → Option B) (i : ℕ) (c s : Name) → superclass_of files c ≡ Some s
+      → option_and_then f (class_above files (suc i) c) ≡ option_and_then f (class_above files i s)
   above_next f i c s e = ap (λ o. option_and_then f (option_and_then (λ s. class_above files i s) o)) e
 
   second_raised : (i m k j : ℕ) (c d : Name) → HasDepth k c → HasDepth j d → k + i ≡ j → j ≤ length (classes_of files)
@@ -184,7 +195,8 @@ module _ (files : Program) where
 
   -- ---- the join by depths
 
-  pub join_of_deeper_second : (k j : ℕ) (c d : Name) → depth_below files (length (classes_of files)) c ≡ Some k → depth_below files (length (classes_of files)) d ≡ Some j → k < j
+  pub join_of_deeper_second : (k j : ℕ) (c d : Name) → depth_below files (length (classes_of files)) c ≡ Some k
+      → depth_below files (length (classes_of files)) d ≡ Some j → k < j
       → option_and_then (λ t. meeting_below files (length (classes_of files)) c t) (class_above files (j - k) d) ≡ class_join files c d
   join_of_deeper_second k j c d p q l =
       let all = length (classes_of files) in
@@ -193,7 +205,8 @@ module _ (files : Program) where
       second_raised (j - k) all k j c d of_c.1 of_d.1 (omega (arith, l)) (omega (arith, of_d.0))
       ∙ common_enough k all (suc all) c d of_c.1 of_c.0 (omega (arith, of_c.0))
 
-  pub join_of_deeper_first : (k j : ℕ) (c d : Name) → depth_below files (length (classes_of files)) c ≡ Some k → depth_below files (length (classes_of files)) d ≡ Some j → j ≤ k
+  pub join_of_deeper_first : (k j : ℕ) (c d : Name) → depth_below files (length (classes_of files)) c ≡ Some k
+      → depth_below files (length (classes_of files)) d ≡ Some j → j ≤ k
       → option_and_then (λ s. meeting_below files (length (classes_of files)) s d) (class_above files (k - j) c) ≡ class_join files c d
   join_of_deeper_first k j c d p q l =
       let all = length (classes_of files) in
@@ -206,7 +219,8 @@ module _ (files : Program) where
   one_less : (n i : ℕ) → i < n → n - i ≡ suc (n - (i + 1))
   one_less n i h = omega arith
 
-  pub depth_next : (n i : ℕ) (c s : Name) → i < n → superclass_of files c ≡ Some s → option_map (λ k. i + k) (depth_below files (n - i) c) ≡ option_map (λ k. i + 1 + k) (depth_below files (n - (i + 1)) s)
+  pub depth_next : (n i : ℕ) (c s : Name) → i < n → superclass_of files c ≡ Some s
+      → option_map (λ k. i + k) (depth_below files (n - i) c) ≡ option_map (λ k. i + 1 + k) (depth_below files (n - (i + 1)) s)
   depth_next n i c s l e =
       ap (λ m. option_map (λ k. i + k) (depth_below files m c)) (one_less n i l)
       ∙ ap (λ o. option_map (λ k. i + k) (option_map_or (λ s. option_map (λ k. suc k) (depth_below files (n - (i + 1)) s)) o (Some 0))) e
@@ -216,16 +230,19 @@ module _ (files : Program) where
       by None = refl
       by (Some k) = let same : i + suc k ≡ i + 1 + k = omega arith in ap (λ j. Some j) same
 
-  pub above_step : (n i : ℕ) (c s : Name) → i < n → superclass_of files c ≡ Some s → class_above files (n - i) c ≡ class_above files (n - (i + 1)) s
+  pub above_step : (n i : ℕ) (c s : Name) → i < n → superclass_of files c ≡ Some s
+      → class_above files (n - i) c ≡ class_above files (n - (i + 1)) s
   above_step n i c s l e = ap (λ m. class_above files m c) (one_less n i l) ∙ ap (λ o. option_and_then (λ s. class_above files (n - (i + 1)) s) o) e
 
   unmet : (n i : ℕ) (c d : Name) → i < n → name_eq c d ≡ false
-      → meeting_below files (n - i) c d ≡ option_and_then (λ s. option_and_then (λ t. meeting_below files (n - (i + 1)) s t) (superclass_of files d)) (superclass_of files c)
+      → meeting_below files (n - i) c d ≡ option_and_then
+      (λ s. option_and_then (λ t. meeting_below files (n - (i + 1)) s t) (superclass_of files d)) (superclass_of files c)
   unmet n i c d l e =
       ap (λ m. meeting_below files m c d) (one_less n i l)
       ∙ ap (λ b. cond b (Some c) (option_and_then (λ s. option_and_then (λ t. meeting_below files (n - (i + 1)) s t) (superclass_of files d)) (superclass_of files c))) e
 
-  pub meeting_above : (n i : ℕ) (c s d t : Name) → i < n → name_eq c d ≡ false → superclass_of files c ≡ Some s → superclass_of files d ≡ Some t → meeting_below files (n - i) c d ≡ meeting_below files (n - (i + 1)) s t
+  pub meeting_above : (n i : ℕ) (c s d t : Name) → i < n → name_eq c d ≡ false → superclass_of files c ≡ Some s
+      → superclass_of files d ≡ Some t → meeting_below files (n - i) c d ≡ meeting_below files (n - (i + 1)) s t
   meeting_above n i c s d t l e f g =
       unmet n i c d l e
       ∙ ap (λ o. option_and_then (λ s. option_and_then (λ t. meeting_below files (n - (i + 1)) s t) (superclass_of files d)) o) f

@@ -22,7 +22,8 @@ module _ (files : Program) (a b : FrameType) where
 
   pub below_by : (x y m : Bool) (la lb sa sb : List declared_type.VerificationType)
       → la ≡ a.locals.items → lb ≡ b.locals.items → sa ≡ a.stack.items → sb ≡ b.stack.items
-      → x ≡ pairwise (is_local_below files) (in_model la) (in_model lb) → y ≡ pairwise (is_stack_below files) (in_model sa) (in_model sb) → m ≡ is_mark_below a.constructed b.constructed
+      → x ≡ pairwise (is_local_below files) (in_model la) (in_model lb) → y ≡ pairwise (is_stack_below files) (in_model sa) (in_model sb)
+      → m ≡ is_mark_below a.constructed b.constructed
       → (x && (y && m)) ≡ is_frame_below files (frame_in files a) (frame_in files b)
   below_by x y m la lb sa sb p q r s e f g =
       let locals = e ∙ ap (λ l. pairwise (is_local_below files) (in_model l) (in_model lb)) p ∙ ap (λ l. pairwise (is_local_below files) (locals_of a) (in_model l)) q in
@@ -33,7 +34,8 @@ module _ (files : Program) (a b : FrameType) where
 
   pub joined_by : (x y : Option (List VerificationType)) (m : Bool) (la lb sa sb : List declared_type.VerificationType)
       → la ≡ a.locals.items → lb ≡ b.locals.items → sa ≡ a.stack.items → sb ≡ b.stack.items
-      → x ≡ join_pairwise (λ s t. Some (local_join files s t)) (in_model la) (in_model lb) → y ≡ join_pairwise (stack_join files) (in_model sa) (in_model sb) → m ≡ (a.constructed && b.constructed)
+      → x ≡ join_pairwise (λ s t. Some (local_join files s t)) (in_model la) (in_model lb)
+      → y ≡ join_pairwise (stack_join files) (in_model sa) (in_model sb) → m ≡ (a.constructed && b.constructed)
       → frame_of_slots m x (option_map reverse y) ≡ frame_join files (frame_in files a) (frame_in files b)
   joined_by x y m la lb sa sb p q r s e f g =
       let joins = λ (s t : VerificationType). Some (local_join files s t) in

@@ -60,12 +60,14 @@ module _ {A : Type 0} (q : A → Bool) where
   any_here (x ∷ xs) zero = refl
   any_here (x ∷ xs) (suc i) = any_here xs i
 
-  pub any_next : (xs : List A) (i : ℕ) (b z : Bool) → b ≡ option_map_or q (slice_get xs i) false → b ≡ false → list_any q (drop i xs) ≡ z → list_any q (drop (i + 1) xs) ≡ z
+  pub any_next : (xs : List A) (i : ℕ) (b z : Bool) → b ≡ option_map_or q (slice_get xs i) false → b ≡ false → list_any q (drop i xs) ≡ z
+      → list_any q (drop (i + 1) xs) ≡ z
   any_next xs i b z e f h =
       let n : suc i ≡ i + 1 = omega arith in
       subst (λ m. list_any q (drop m xs) ≡ z) n (sym (ap (λ v. v || list_any q (drop (suc i) xs)) (sym e ∙ f)) ∙ sym (any_here xs i) ∙ h)
 
-  pub any_met : (xs : List A) (i : ℕ) (b z : Bool) → b ≡ option_map_or q (slice_get xs i) false → b ≡ true → list_any q (drop i xs) ≡ z → z ≡ true
+  pub any_met : (xs : List A) (i : ℕ) (b z : Bool) → b ≡ option_map_or q (slice_get xs i) false → b ≡ true → list_any q (drop i xs) ≡ z
+      → z ≡ true
   any_met xs i b z e f h = sym h ∙ any_here xs i ∙ ap (λ v. v || list_any q (drop (suc i) xs)) (sym e ∙ f)
 
   pub any_over : (xs : List A) (i : ℕ) (z : Bool) → length xs ≤ i → list_any q (drop i xs) ≡ z → z ≡ false

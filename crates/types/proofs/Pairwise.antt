@@ -30,7 +30,8 @@ module _ {A : Type 0} (R : A → A → Bool) where
   pairwise_unlike (x ∷ xs) [] ne = refl
   pairwise_unlike (x ∷ xs) (y ∷ ys) ne = ap (λ b. R x y && b) (pairwise_unlike xs ys (λ e. ne (ap suc e))) ∙ and-false (R x y)
 
-  pairwise_last : (xs ys : List A) (x y : A) → length xs ≡ length ys → pairwise R (xs ++ x ∷ []) (ys ++ y ∷ []) ≡ (pairwise R xs ys && R x y)
+  pairwise_last : (xs ys : List A) (x y : A) → length xs ≡ length ys
+      → pairwise R (xs ++ x ∷ []) (ys ++ y ∷ []) ≡ (pairwise R xs ys && R x y)
   pairwise_last [] [] x y e = and-true (R x y)
   pairwise_last [] (b ∷ ys) x y e = absurd (omega (arith, e))
   pairwise_last (a ∷ xs) [] x y e = absurd (omega (arith, e))
@@ -54,7 +55,8 @@ module _ {A : Type 0} (R : A → A → Bool) where
       ]
 
   -- one place further
-  pub pairwise_next : {T : Type 0} (f : T → A) (xs ys : List T) (d e : T) (i : ℕ) (r z : Bool) → length xs ≡ length ys → i < length xs → r ≡ R (f (get_or xs i d)) (f (get_or ys i e)) → r ≡ true
+  pub pairwise_next : {T : Type 0} (f : T → A) (xs ys : List T) (d e : T) (i : ℕ) (r z : Bool) → length xs ≡ length ys → i < length xs
+      → r ≡ R (f (get_or xs i d)) (f (get_or ys i e)) → r ≡ true
       → pairwise R (map f (drop i xs)) (map f (drop i ys)) ≡ z → pairwise R (map f (drop (i + 1) xs)) (map f (drop (i + 1) ys)) ≡ z
   pairwise_next f xs ys d e i r z same l q t h =
       let k : i < length ys = omega (arith, same, l) in
@@ -98,13 +100,15 @@ module _ {A : Type 0} (J : A → A → Option A) where
   join_unlike (x ∷ xs) [] ne = refl
   join_unlike (x ∷ xs) (y ∷ ys) ne = ap (in_front (J x y)) (join_unlike xs ys (λ e. ne (ap suc e))) ∙ front_none (J x y)
 
-  join_last : (xs ys : List A) (x y : A) → length xs ≡ length ys → join_pairwise J (xs ++ x ∷ []) (ys ++ y ∷ []) ≡ behind (join_pairwise J xs ys) (J x y)
+  join_last : (xs ys : List A) (x y : A) → length xs ≡ length ys
+      → join_pairwise J (xs ++ x ∷ []) (ys ++ y ∷ []) ≡ behind (join_pairwise J xs ys) (J x y)
   join_last [] [] x y e = behind_nothing (J x y)
   join_last [] (b ∷ ys) x y e = absurd (omega (arith, e))
   join_last (a ∷ xs) [] x y e = absurd (omega (arith, e))
   join_last (a ∷ xs) (b ∷ ys) x y e = ap (in_front (J a b)) (join_last xs ys x y (omega (arith, e))) ∙ front_behind (J a b) (join_pairwise J xs ys) (J x y)
 
-  join_turned : (xs ys : List A) → length xs ≡ length ys → join_pairwise J (reverse xs) (reverse ys) ≡ option_map reverse (join_pairwise J xs ys)
+  join_turned : (xs ys : List A) → length xs ≡ length ys
+      → join_pairwise J (reverse xs) (reverse ys) ≡ option_map reverse (join_pairwise J xs ys)
   join_turned [] [] e = refl
   join_turned [] (y ∷ ys) e = absurd (omega (arith, e))
   join_turned (x ∷ xs) [] e = absurd (omega (arith, e))

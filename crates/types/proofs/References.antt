@@ -17,13 +17,15 @@ module _ (files : Program) where
   below_same (suc m) zero s t e = absurd cc
   below_same (suc m) (suc n) s t e = below_same m n s t (omega (arith, e))
 
-  pub below_less : (m n : ℕ) (s t : Element) → m < n → is_assignable files (arrays m (element_in files s)) (arrays n (element_in files t)) ≡ false
+  pub below_less : (m n : ℕ) (s t : Element) → m < n
+      → is_assignable files (arrays m (element_in files s)) (arrays n (element_in files t)) ≡ false
   below_less m zero s t l = absurd (omega (arith, l))
   below_less zero (suc n) (element.Class c) t l = refl
   below_less zero (suc n) (element.PrimitiveArray a) t l = refl
   below_less (suc m) (suc n) s t l = below_less m n s t (omega (arith, l))
 
-  pub below_more : (m n : ℕ) (s t : Element) → n < m → is_assignable files (arrays m (element_in files s)) (arrays n (element_in files t)) ≡ is_object_type (element_in files t)
+  pub below_more : (m n : ℕ) (s t : Element) → n < m
+      → is_assignable files (arrays m (element_in files s)) (arrays n (element_in files t)) ≡ is_object_type (element_in files t)
   below_more zero n s t l = absurd (omega (arith, l))
   below_more (suc m) zero s (element.Class d) l = refl
   below_more (suc m) zero s (element.PrimitiveArray b) l = refl
@@ -32,19 +34,24 @@ module _ (files : Program) where
   abbrev in_array : Option ReferenceType → Option ReferenceType
   in_array o = Some (option_map_or (λ t. ReferenceArray t) o (ClassType java_lang_object))
 
-  pub join_same : (m n : ℕ) (s t : ReferenceType) → m ≡ n → reference_join files (arrays m s) (arrays n t) ≡ array_join m (reference_join files s t)
+  pub join_same : (m n : ℕ) (s t : ReferenceType) → m ≡ n
+      → reference_join files (arrays m s) (arrays n t) ≡ array_join m (reference_join files s t)
   join_same zero zero s t e = refl
   join_same zero (suc n) s t e = absurd cc
   join_same (suc m) zero s t e = absurd cc
   join_same (suc m) (suc n) s t e = ap in_array (join_same m n s t (omega (arith, e)))
 
-  pub join_less : (m n : ℕ) (s t : Element) → m < n → reference_join files (arrays m (element_in files s)) (arrays n (element_in files t)) ≡ array_join m (object_above_type files (element_in files s))
+  pub join_less : (m n : ℕ) (s t : Element) → m < n
+      → reference_join files (arrays m (element_in files s)) (arrays n (element_in files t))
+      ≡ array_join m (object_above_type files (element_in files s))
   join_less m zero s t l = absurd (omega (arith, l))
   join_less zero (suc n) (element.Class c) t l = refl
   join_less zero (suc n) (element.PrimitiveArray a) t l = refl
   join_less (suc m) (suc n) s t l = ap in_array (join_less m n s t (omega (arith, l)))
 
-  pub join_more : (m n : ℕ) (s t : Element) → n < m → reference_join files (arrays m (element_in files s)) (arrays n (element_in files t)) ≡ array_join n (object_above_type files (element_in files t))
+  pub join_more : (m n : ℕ) (s t : Element) → n < m
+      → reference_join files (arrays m (element_in files s)) (arrays n (element_in files t))
+      ≡ array_join n (object_above_type files (element_in files t))
   join_more zero n s t l = absurd (omega (arith, l))
   join_more (suc m) zero s (element.Class d) l = refl
   join_more (suc m) zero s (element.PrimitiveArray b) l = refl

@@ -86,7 +86,8 @@ fn class_above(set: &ClassSet, class: usize, steps: usize) -> Option<usize>
 /// The first class that stands as many steps above one class as above another.
 fn meeting(set: &ClassSet, c: usize, d: usize) -> Option<usize>
     requires { HasSuperclasses set.now }
-    ensures { option_map (name_at set.now) result ≡ meeting_below set.now (length (classes_of set.now)) (name_at set.now c) (name_at set.now d) }
+    ensures { option_map (name_at set.now) result
+        ≡ meeting_below set.now (length (classes_of set.now)) (name_at set.now c) (name_at set.now d) }
 {
     let mut first = c;
     let mut second = d;

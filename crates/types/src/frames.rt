@@ -68,7 +68,8 @@ fn join_locals(
     b: &[VerificationType],
 ) -> Result<Option<Vec<VerificationType>>, AllocError>
     requires { HasSuperclasses set.now }
-    ensures { IfOk result (λ o. option_map (λ v. map (type_in set.now) v.items) o ≡ join_pairwise (λ s t. Some (local_join set.now s t)) (map (type_in set.now) a.now) (map (type_in set.now) b.now)) }
+    ensures { IfOk result (λ o. option_map (λ v. map (type_in set.now) v.items) o
+        ≡ join_pairwise (λ s t. Some (local_join set.now s t)) (map (type_in set.now) a.now) (map (type_in set.now) b.now)) }
 {
     if a.len() != b.len() {
         return Ok(None);
@@ -87,7 +88,8 @@ fn join_stack(
     b: &[VerificationType],
 ) -> Result<Option<Vec<VerificationType>>, AllocError>
     requires { HasSuperclasses set.now }
-    ensures { IfOk result (λ o. option_map (λ v. map (type_in set.now) v.items) o ≡ join_pairwise (stack_join set.now) (map (type_in set.now) a.now) (map (type_in set.now) b.now)) }
+    ensures { IfOk result (λ o. option_map (λ v. map (type_in set.now) v.items) o
+        ≡ join_pairwise (stack_join set.now) (map (type_in set.now) a.now) (map (type_in set.now) b.now)) }
 {
     if a.len() != b.len() {
         return Ok(None);

@@ -34,10 +34,13 @@ use Rattle.opcodes.proofs.Marked.{mark_within}
 
 -- ---- entries
 
-pub entry_read : (files : Program) (types : List (Option Parts)) (k n : ℕ) (x : Option Parts) → n ≡ length types → k < n → x ≡ get_or types k x → slice_get (map (option_map (parts_in files)) types) k ≡ Some (option_map (parts_in files) x)
+pub entry_read : (files : Program) (types : List (Option Parts)) (k n : ℕ) (x : Option Parts) → n ≡ length types → k < n
+    → x ≡ get_or types k x → slice_get (map (option_map (parts_in files)) types) k ≡ Some (option_map (parts_in files) x)
 entry_read files types k n x e l g = get_map (option_map (parts_in files)) types k x (slice_get_read types n k x e l g)
 
-pub entry_written : (files : Program) (before after : List (Option Parts)) (k : ℕ) (frame : Parts) → after ≡ slice_set before k (Some frame) → map (option_map (parts_in files)) after ≡ found_at (map (option_map (parts_in files)) before) k (parts_in files frame)
+pub entry_written : (files : Program) (before after : List (Option Parts)) (k : ℕ) (frame : Parts)
+    → after ≡ slice_set before k (Some frame)
+    → map (option_map (parts_in files)) after ≡ found_at (map (option_map (parts_in files)) before) k (parts_in files frame)
 entry_written files before after k frame e = ap (map (option_map (parts_in files))) e ∙ sym (map_set (option_map (parts_in files)) before k (Some frame))
 
 pub tables_same : (a b : Tables) → a.types ≡ b.types → a.waiting ≡ b.waiting → a ≡ b
@@ -53,7 +56,9 @@ marked_again (m ∷ ms) zero w = ap (λ b. b ∷ ms) (sym w)
 marked_again (m ∷ ms) (suc k) w = ap (λ l. m ∷ l) (marked_again ms k w)
 
 -- an instruction begins within the code, and so within the tables
-pub start_within : (files : Program) (body : Body) (found : Found) (marks : List Bool) (k : ℕ) (is : Bool) → marks ≡ starts body.code.code → AreOver body (tables_in files found) → is ≡ get_or marks k false → is ≡ true → (k < length found.types.items) × (k < length found.waiting)
+pub start_within : (files : Program) (body : Body) (found : Found) (marks : List Bool) (k : ℕ) (is : Bool) → marks ≡ starts body.code.code
+    → AreOver body (tables_in files found) → is ≡ get_or marks k false → is ≡ true
+    → (k < length found.types.items) × (k < length found.waiting)
 start_within files body found marks k is e over f g =
     let l = mark_within marks k (sym f ∙ g) in
     let m : length marks ≡ length body.code.code = ap length e ∙ length-starts body.code.code in
@@ -62,7 +67,8 @@ start_within files body found marks k is e over f g =
     (omega (arith, l, m, n), omega (arith, l, m, o))
 
 -- an offset that waits is within the tables
-pub waiting_within : (files : Program) (body : Body) (found : Found) (k : ℕ) → AreOver body (tables_in files found) → waits found.waiting k ≡ true → k < length found.types.items
+pub waiting_within : (files : Program) (body : Body) (found : Found) (k : ℕ) → AreOver body (tables_in files found)
+    → waits found.waiting k ≡ true → k < length found.types.items
 waiting_within files body found k over w =
     let l = mark_within found.waiting k w in
     let n : length found.types.items ≡ length body.code.code = sym (length-map _ _) ∙ over.types in
@@ -74,17 +80,21 @@ pub none_found : (files : Program) (found : Found) (m n : ℕ) → IsEmpty m fou
 none_found files found m n empty e =
     ap (map (option_map (parts_in files))) (empty.types ∙ ap (λ k. replicate k None) e) ∙ sym (map_copies (option_map (parts_in files)) n None)
 
-pub read_at : (files : Program) (types : List (Option Parts)) (k : ℕ) (x y : Option Parts) → k < length types → x ≡ get_or types k x → x ≡ y → slice_get (map (option_map (parts_in files)) types) k ≡ Some (option_map (parts_in files) y)
+pub read_at : (files : Program) (types : List (Option Parts)) (k : ℕ) (x y : Option Parts) → k < length types → x ≡ get_or types k x
+    → x ≡ y → slice_get (map (option_map (parts_in files)) types) k ≡ Some (option_map (parts_in files) y)
 read_at files types k x y l g e = entry_read files types k (length types) x refl l g ∙ ap (λ o. Some (option_map (parts_in files) o)) e
 
 -- ---- the order and the join, in the set of the files
 
-pub below_in : (files set : Program) (a b : FrameType) (x y : Parts) (r c : Bool) → set ≡ files → parts_of a ≡ x → parts_of b ≡ y → r ≡ is_frame_below set (frame_in set a) (frame_in set b) → r ≡ c → is_frame_below files (parts_in files x) (parts_in files y) ≡ c
+pub below_in : (files set : Program) (a b : FrameType) (x y : Parts) (r c : Bool) → set ≡ files → parts_of a ≡ x → parts_of b ≡ y
+    → r ≡ is_frame_below set (frame_in set a) (frame_in set b) → r ≡ c → is_frame_below files (parts_in files x) (parts_in files y) ≡ c
 below_in files set a b x y r c same e f g h =
     ap (λ p. is_frame_below files (parts_in files p) (parts_in files y)) (sym e)
     ∙ (ap (λ p. is_frame_below files (parts_in files (parts_of a)) (parts_in files p)) (sym f) ∙ subst (λ s. is_frame_below s (frame_in s a) (frame_in s b) ≡ c) same (sym g ∙ h))
 
-pub join_in : (files set : Program) (a b : FrameType) (x y : Parts) (o p : Option FrameType) → set ≡ files → parts_of a ≡ x → parts_of b ≡ y → option_map (frame_in set) o ≡ frame_join set (frame_in set a) (frame_in set b) → o ≡ p → frame_join files (parts_in files x) (parts_in files y) ≡ option_map (frame_in files) p
+pub join_in : (files set : Program) (a b : FrameType) (x y : Parts) (o p : Option FrameType) → set ≡ files → parts_of a ≡ x
+    → parts_of b ≡ y → option_map (frame_in set) o ≡ frame_join set (frame_in set a) (frame_in set b) → o ≡ p
+    → frame_join files (parts_in files x) (parts_in files y) ≡ option_map (frame_in files) p
 join_in files set a b x y o p same e f g h =
     ap (λ q. frame_join files (parts_in files q) (parts_in files y)) (sym e)
     ∙ (ap (λ q. frame_join files (parts_in files (parts_of a)) (parts_in files q)) (sym f)
@@ -93,7 +103,8 @@ join_in files set a b x y o p same e f g h =
 -- ---- leads
 
 -- a handler begins with the exception alone on the stack
-pub lead_caught : (files : Program) (before after left : Parts) (h : Handler) (o : Option Handler) → left.locals ≡ before.locals → left.stack ≡ h.caught ∷ [] → left.constructed ≡ before.constructed → o ≡ Some h → parts_in files left ≡ led_to files before after o
+pub lead_caught : (files : Program) (before after left : Parts) (h : Handler) (o : Option Handler) → left.locals ≡ before.locals
+    → left.stack ≡ h.caught ∷ [] → left.constructed ≡ before.constructed → o ≡ Some h → parts_in files left ≡ led_to files before after o
 lead_caught files before after left handler o e f g h =
     let by_parts : List VerificationType → List VerificationType → Bool → Parts = λ locals stack constructed. record { locals = locals; stack = stack; constructed = constructed } in
     ap (λ l. parts_in files (by_parts l left.stack left.constructed)) e
@@ -104,34 +115,42 @@ abbrev lead_of : Program → Parts → Parts → Lead → ℕ × frames.FrameTyp
 lead_of files before after lead = (lead.offset, led_to files before after lead.handler)
 
 -- the leads up to one, which is the next, and those after it
-pub leads_more : (files : Program) (origin : Origin) (leads : List Lead) (i : ℕ) (d : Lead) → i < length leads → leads_in files origin (take i leads) ++ leads_in files origin (get_or leads i d ∷ []) ≡ leads_in files origin (take (i + 1) leads)
+pub leads_more : (files : Program) (origin : Origin) (leads : List Lead) (i : ℕ) (d : Lead) → i < length leads
+    → leads_in files origin (take i leads) ++ leads_in files origin (get_or leads i d ∷ []) ≡ leads_in files origin (take (i + 1) leads)
 leads_more files origin leads i d l =
     let n : suc i ≡ i + 1 = omega arith in
     sym (map-append (lead_of files origin.before origin.after) (take i leads) (get_or leads i d ∷ [])) ∙ (ap (leads_in files origin) (sym (take-suc leads i d l)) ∙ ap (λ m. leads_in files origin (take m leads)) n)
 
-pub leads_split : (files : Program) (origin : Origin) (leads : List Lead) (i : ℕ) (d : Lead) → i < length leads → leads_in files origin (take i leads) ++ (leads_in files origin (get_or leads i d ∷ []) ++ leads_in files origin (drop (i + 1) leads)) ≡ leads_in files origin leads
+pub leads_split : (files : Program) (origin : Origin) (leads : List Lead) (i : ℕ) (d : Lead) → i < length leads
+    → leads_in files origin (take i leads) ++ (leads_in files origin (get_or leads i d ∷ []) ++ leads_in files origin (drop (i + 1) leads))
+    ≡ leads_in files origin leads
 leads_split files origin leads i d l =
     let lead = lead_of files origin.before origin.after in
     sym (append_assoc (map lead (take i leads)) (map lead (get_or leads i d ∷ [])) (map lead (drop (i + 1) leads)))
     ∙ (ap (λ xs. xs ++ map lead (drop (i + 1) leads)) (leads_more files origin leads i d l)
     ∙ (sym (map-append lead (take (i + 1) leads) (drop (i + 1) leads)) ∙ ap (map lead) (take-append-drop (i + 1) leads)))
 
-pub all_leads : (files : Program) (origin : Origin) (leads : List Lead) (i : ℕ) → length leads ≤ i → leads_in files origin (take i leads) ≡ leads_in files origin leads
+pub all_leads : (files : Program) (origin : Origin) (leads : List Lead) (i : ℕ) → length leads ≤ i
+    → leads_in files origin (take i leads) ≡ leads_in files origin leads
 all_leads files origin leads i l = ap (leads_in files origin) (take_all i leads l)
 
 -- a lead by the parts of the frame types before and after the instruction
-lead_same : (files : Program) (before after : FrameType) (o : Option Handler) → frame_at files before after o ≡ led_to files (parts_of before) (parts_of after) o
+lead_same : (files : Program) (before after : FrameType) (o : Option Handler)
+    → frame_at files before after o ≡ led_to files (parts_of before) (parts_of after) o
 lead_same files before after None = refl
 lead_same files before after (Some h) = refl
 
-leads_same : (files : Program) (before after : FrameType) (leads : List Lead) → map (lead_in files before after) leads ≡ map (lead_of files (parts_of before) (parts_of after)) leads
+leads_same : (files : Program) (before after : FrameType) (leads : List Lead)
+    → map (lead_in files before after) leads ≡ map (lead_of files (parts_of before) (parts_of after)) leads
 leads_same files before after [] = refl
 leads_same files before after (lead ∷ leads) =
     ap (λ t. (lead.offset, t) ∷ map (lead_in files before after) leads) (lead_same files before after lead.handler) ∙ ap (λ l. lead_of files (parts_of before) (parts_of after) lead ∷ l) (leads_same files before after leads)
 
 -- what an instruction leads to from a frame type that was found
-pub flows_to : (files : Program) (method : Member) (body : Body) (offset : ℕ) (found : Parts) (before after : FrameType) (origin : Origin) (leads listed : List Lead) → parts_of before ≡ found → origin.before ≡ found → origin.after ≡ parts_of after
-    → Some (map (lead_in files before after) leads) ≡ flow files method body offset (frame_in files before) → listed ≡ leads → flow files method body offset (parts_in files found) ≡ Some (leads_in files origin listed)
+pub flows_to : (files : Program) (method : Member) (body : Body) (offset : ℕ) (found : Parts) (before after : FrameType) (origin : Origin)
+    (leads listed : List Lead) → parts_of before ≡ found → origin.before ≡ found → origin.after ≡ parts_of after
+    → Some (map (lead_in files before after) leads) ≡ flow files method body offset (frame_in files before) → listed ≡ leads
+    → flow files method body offset (parts_in files found) ≡ Some (leads_in files origin listed)
 flows_to files method body offset found before after origin leads listed p q r e f =
     ap (λ x. flow files method body offset (parts_in files x)) (sym p)
     ∙ (sym e
@@ -139,7 +158,10 @@ flows_to files method body offset found before after origin leads listed p q r e
     ∙ (ap (λ x. Some (map (lead_of files x (parts_of after)) leads)) (p ∙ sym q)
     ∙ (ap (λ x. Some (map (lead_of files origin.before x) leads)) (sym r) ∙ ap (λ l. Some (leads_in files origin l)) (sym f)))))
 
-pub flows_not : (files : Program) (method : Member) (body : Body) (offset : ℕ) (found : Parts) (before after : FrameType) (o : Option (Vec Lead)) → parts_of before ≡ found → o ≡ None → option_map (λ (v : Vec Lead). map (lead_in files before after) v.items) o ≡ flow files method body offset (frame_in files before) → flow files method body offset (parts_in files found) ≡ None
+pub flows_not : (files : Program) (method : Member) (body : Body) (offset : ℕ) (found : Parts) (before after : FrameType)
+    (o : Option (Vec Lead)) → parts_of before ≡ found → o ≡ None
+    → option_map (λ (v : Vec Lead). map (lead_in files before after) v.items) o ≡ flow files method body offset (frame_in files before)
+    → flow files method body offset (parts_in files found) ≡ None
 flows_not files method body offset found before after o p n e =
     ap (λ x. flow files method body offset (parts_in files x)) (sym p) ∙ (sym e ∙ ap (option_map (λ (v : Vec Lead). map (lead_in files before after) v.items)) n)
 

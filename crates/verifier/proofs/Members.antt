@@ -30,7 +30,8 @@ found_at p (y ∷ ys) x e = by (p y) refl e (λ q. found_at p ys x q)
     by true t q rest = let same = same_Some y x q in record { place = 0; there = q; passes = ap p (sym same) ∙ t }
     by false t q rest = let r = rest q in record { place = suc r.place; there = r.there; passes = r.passes }
 
-member_is : (member : Member) (class name descriptor : Name) → class ≡ member.class → name ≡ member.name → descriptor ≡ member.descriptor → record { class = class; name = name; descriptor = descriptor } ≡ member
+member_is : (member : Member) (class name descriptor : Name) → class ≡ member.class → name ≡ member.name → descriptor ≡ member.descriptor
+    → record { class = class; name = name; descriptor = descriptor } ≡ member
 member_is member class name descriptor p q r =
     let a : Member = record { class = class; name = name; descriptor = descriptor } in
     let b : Member = record { class = member.class; name = name; descriptor = descriptor } in
@@ -46,7 +47,9 @@ pub record StandsAt (files : Program) (member : Member) (body : Body) : Type 0 w
   pub there : shown_at files class method ≡ Some (member, body)
 
 module _ (files : Program) (member : Member) (body : Body) where
-  by_code : (file : FileTree) (c : FoundAt (is_named member.class) (classes_of files) file) (m : MethodTree) (f : FoundAt (is_method file.pool member.name member.descriptor) file.methods m) (o : Option CodeTree) → code_in m.parts ≡ o → option_map (with_pool file.pool) o ≡ Some body → StandsAt files member body
+  by_code : (file : FileTree) (c : FoundAt (is_named member.class) (classes_of files) file) (m : MethodTree)
+      (f : FoundAt (is_method file.pool member.name member.descriptor) file.methods m) (o : Option CodeTree) → code_in m.parts ≡ o
+      → option_map (with_pool file.pool) o ≡ Some body → StandsAt files member body
   by_code file c m f None q e = absurd cc
   by_code file c m f (Some code) q e =
       let named = and_parts _ _ f.passes in
@@ -60,12 +63,15 @@ module _ (files : Program) (member : Member) (body : Body) where
         there = ap (option_and_then (λ (k : FileTree). option_and_then (shown_in k) (slice_get k.methods f.place))) c.there ∙ (ap (option_and_then (shown_in file)) f.there ∙ (ap (option_map (λ (code : CodeTree). (member_named (name_of file) file.pool m.name m.descriptor, with_pool file.pool code))) q ∙ (ap (λ x. Some (x, with_pool file.pool code)) same ∙ ap (λ b. Some (member, b)) (same_Some (with_pool file.pool code) body e))));
       }
 
-  by_method : (file : FileTree) (c : FoundAt (is_named member.class) (classes_of files) file) (o : Option MethodTree) → declared_in file member.name member.descriptor ≡ o → option_map (with_pool file.pool) (option_and_then (λ (m : MethodTree). code_in m.parts) o) ≡ Some body → StandsAt files member body
+  by_method : (file : FileTree) (c : FoundAt (is_named member.class) (classes_of files) file) (o : Option MethodTree)
+      → declared_in file member.name member.descriptor ≡ o
+      → option_map (with_pool file.pool) (option_and_then (λ (m : MethodTree). code_in m.parts) o) ≡ Some body → StandsAt files member body
   by_method file c None q e = absurd cc
   by_method file c (Some m) q e =
       by_code file c m (found_at (is_method file.pool member.name member.descriptor) file.methods m q) (code_in m.parts) refl e
 
-  by_class : (o : Option FileTree) → class_of files member.class ≡ o → option_and_then (body_in member.name member.descriptor) o ≡ Some body → StandsAt files member body
+  by_class : (o : Option FileTree) → class_of files member.class ≡ o
+      → option_and_then (body_in member.name member.descriptor) o ≡ Some body → StandsAt files member body
   by_class None q e = absurd cc
   by_class (Some file) q e =
       by_method file (found_at (is_named member.class) (classes_of files) file q) (declared_in file member.name member.descriptor) refl e
@@ -78,7 +84,8 @@ are_typed files typed member body e =
     let s = stands_at files member body e in
     typed s.class s.method member body s.there
 
-none_shown : (files : Program) (member : Member) (body : Body) (o : Option (Member × Body)) → o ≡ None → o ≡ Some (member, body) → HasTyping files member body
+none_shown : (files : Program) (member : Member) (body : Body) (o : Option (Member × Body)) → o ≡ None → o ≡ Some (member, body)
+    → HasTyping files member body
 none_shown files member body o n e = none_some (member, body) (sym n ∙ e)
   where
     none_some : (x : Member × Body) → None ≡ Some x → HasTyping files member body
@@ -89,6 +96,7 @@ pub none_past_classes : (files : Program) (class : ℕ) → length (classes_of f
 none_past_classes files class l method member body e =
     none_shown files member body _ (ap (option_and_then (λ (k : FileTree). option_and_then (shown_in k) (slice_get k.methods method))) (slice_get_past (classes_of files) class l)) e
 
-pub none_past_methods : (files : Program) (file : FileTree) (class method : ℕ) → class_at files class ≡ Some file → length file.methods ≤ method → IsTypedAt files class method
+pub none_past_methods : (files : Program) (file : FileTree) (class method : ℕ) → class_at files class ≡ Some file
+    → length file.methods ≤ method → IsTypedAt files class method
 none_past_methods files file class method c l member body e =
     none_shown files member body _ (ap (option_and_then (λ (k : FileTree). option_and_then (shown_in k) (slice_get k.methods method))) c ∙ ap (option_and_then (shown_in file)) (slice_get_past file.methods method l)) e

@@ -21,7 +21,9 @@ use Rattle.run_laws.proofs.typing_search.Weights.{raised_lighter, first_lighter,
 use Rattle.verifier.specs.Found.{Tables, AreOver, AreLow, HasMerged}
 use Rattle.verifier.proofs.Entries.{tables_same}
 
-pub low_parts : (files : Program) (limit : ℕ) (xs ys : List (ℕ × FrameType)) → AllByRecursion (λ lead. IsLowFrame files limit lead.1) (xs ++ ys) → AllByRecursion (λ lead. IsLowFrame files limit lead.1) xs × AllByRecursion (λ lead. IsLowFrame files limit lead.1) ys
+pub low_parts : (files : Program) (limit : ℕ) (xs ys : List (ℕ × FrameType))
+    → AllByRecursion (λ lead. IsLowFrame files limit lead.1) (xs ++ ys)
+    → AllByRecursion (λ lead. IsLowFrame files limit lead.1) xs × AllByRecursion (λ lead. IsLowFrame files limit lead.1) ys
 low_parts files limit [] ys l = (tt, l)
 low_parts files limit (x ∷ xs) ys l = let q = low_parts files limit xs ys l.1 in ((l.0, q.0), q.1)
 
@@ -39,11 +41,16 @@ module _ (files : Program) (ordered : IsOrdered files) (body : Body) where
     over_put : (next : FrameType) → AreOver body (put_at next)
     over_put next = record { types = length-set before.types to (Some next) ∙ over.types; waiting = length-set before.waiting to true ∙ over.waiting }
 
-    low_put : (limit : ℕ) (entry : Option FrameType) (next : FrameType) → slice_get before.types to ≡ Some entry → AreLow files limit before → IsLowFrame files limit next → AreLow files limit (put_at next)
+    low_put : (limit : ℕ) (entry : Option FrameType) (next : FrameType) → slice_get before.types to ≡ Some entry
+        → AreLow files limit before → IsLowFrame files limit next → AreLow files limit (put_at next)
     low_put limit entry next at low l k u e =
-        ⊎_elim (λ q. subst (IsLowFrame files limit) (same_Some next u (sym (ap entry_of (get_set_here before.types to (Some next) entry at)) ∙ subst (λ j. typing_of (found_at before.types to next) j ≡ Some u) q e)) l) (λ n. low k u (sym (ap entry_of (get_set_other before.types to k (Some next) n)) ∙ e)) (cases_eq k to)
+        ⊎_elim (λ q. subst (IsLowFrame files limit)
+        (same_Some next u (sym (ap entry_of (get_set_here before.types to (Some next) entry at))
+        ∙ subst (λ j. typing_of (found_at before.types to next) j
+        ≡ Some u) q e)) l) (λ n. low k u (sym (ap entry_of (get_set_other before.types to k (Some next) n)) ∙ e)) (cases_eq k to)
 
-    first_put : slice_get before.types to ≡ Some None → is_start body.code.code to ≡ true → IsSized body t → HasMerged files body before ((to, t) ∷ []) (put_at t)
+    first_put : slice_get before.types to ≡ Some None → is_start body.code.code to ≡ true → IsSized body t
+        → HasMerged files body before ((to, t) ∷ []) (put_at t)
     first_put at start size =
         record {
           over = over_put t;
@@ -51,7 +58,8 @@ module _ (files : Program) (ordered : IsOrdered files) (body : Body) where
           no_heavier = λ limit low l. let w = work_merged files ordered.rooted limit body before.types before.waiting to None t at (first_lighter files ordered.rooted limit body t size l.0) in record { low = low_put limit None t at low l.0; lighter = omega (arith, w) };
         }
 
-    joined_put : (there join : FrameType) → slice_get before.types to ≡ Some (Some there) → (is_frame_below files t there ≡ true → ⊥) → frame_join files there t ≡ Some join → HasMerged files body before ((to, t) ∷ []) (put_at join)
+    joined_put : (there join : FrameType) → slice_get before.types to ≡ Some (Some there) → (is_frame_below files t there ≡ true → ⊥)
+        → frame_join files there t ≡ Some join → HasMerged files body before ((to, t) ∷ []) (put_at join)
     joined_put there join at misfit e =
         record {
           over = over_put join;
@@ -59,7 +67,8 @@ module _ (files : Program) (ordered : IsOrdered files) (body : Body) where
           no_heavier = λ limit low l. let r = raised_lighter files ordered.rooted limit there t join e misfit (low to there (ap entry_of at)) l.0 in let w = work_merged files ordered.rooted limit body before.types before.waiting to (Some there) join at r.1 in record { low = low_put limit (Some there) join at low r.0; lighter = omega (arith, w) };
         }
 
-    pub fits : (there : FrameType) → slice_get before.types to ≡ Some (Some there) → is_frame_below files t there ≡ true → HasMerged files body before ((to, t) ∷ []) before
+    pub fits : (there : FrameType) → slice_get before.types to ≡ Some (Some there) → is_frame_below files t there ≡ true
+        → HasMerged files body before ((to, t) ∷ []) before
     fits there at f =
         record {
           over = over;
@@ -68,11 +77,15 @@ module _ (files : Program) (ordered : IsOrdered files) (body : Body) where
         }
 
     module _ (after : Tables) where
-      pub first : slice_get before.types to ≡ Some None → is_start body.code.code to ≡ true → IsSized body t → after.types ≡ found_at before.types to t → after.waiting ≡ waiting_at before.waiting to → HasMerged files body before ((to, t) ∷ []) after
+      pub first : slice_get before.types to ≡ Some None → is_start body.code.code to ≡ true → IsSized body t
+          → after.types ≡ found_at before.types to t → after.waiting ≡ waiting_at before.waiting to
+          → HasMerged files body before ((to, t) ∷ []) after
       first at start size e f =
           subst (HasMerged files body before ((to, t) ∷ [])) (sym (tables_same after (put_at t) e f)) (first_put at start size)
 
-      pub joined : (there join : FrameType) → slice_get before.types to ≡ Some (Some there) → (is_frame_below files t there ≡ true → ⊥) → frame_join files there t ≡ Some join → after.types ≡ found_at before.types to join → after.waiting ≡ waiting_at before.waiting to → HasMerged files body before ((to, t) ∷ []) after
+      pub joined : (there join : FrameType) → slice_get before.types to ≡ Some (Some there) → (is_frame_below files t there ≡ true → ⊥)
+          → frame_join files there t ≡ Some join → after.types ≡ found_at before.types to join
+          → after.waiting ≡ waiting_at before.waiting to → HasMerged files body before ((to, t) ∷ []) after
       joined there join at misfit j e f =
           subst (HasMerged files body before ((to, t) ∷ [])) (sym (tables_same after (put_at join) e f)) (joined_put there join at misfit j)
 
@@ -86,7 +99,8 @@ module _ (files : Program) (ordered : IsOrdered files) (body : Body) where
         no_heavier = λ limit low l. record { low = low; lighter = omega arith };
       }
 
-  pub follows : (a b c : Tables) (xs ys : List (ℕ × FrameType)) → HasMerged files body a xs b → HasMerged files body b ys c → HasMerged files body a (xs ++ ys) c
+  pub follows : (a b c : Tables) (xs ys : List (ℕ × FrameType)) → HasMerged files body a xs b → HasMerged files body b ys c
+      → HasMerged files body a (xs ++ ys) c
   follows a b c xs ys p q =
       record {
         over = q.over;
@@ -94,5 +108,6 @@ module _ (files : Program) (ordered : IsOrdered files) (body : Body) where
         no_heavier = λ limit low l. let parts = low_parts files limit xs ys l in let r = p.no_heavier limit low parts.0 in let s = q.no_heavier limit r.low parts.1 in let m = r.lighter in let n = s.lighter in record { low = s.low; lighter = omega (arith, m, n) };
       }
 
-  pub clashes : (method : Member) (a b : Tables) (xs ys zs : List (ℕ × FrameType)) → HasMerged files body a xs b → Clashes files method body (typing_of b.types) ys → Clashes files method body (typing_of a.types) (xs ++ (ys ++ zs))
+  pub clashes : (method : Member) (a b : Tables) (xs ys zs : List (ℕ × FrameType)) → HasMerged files body a xs b
+      → Clashes files method body (typing_of b.types) ys → Clashes files method body (typing_of a.types) (xs ++ (ys ++ zs))
   clashes method a b xs ys zs p c = clash_then files ordered.rooted body method (typing_of a.types) (typing_of b.types) (waits a.waiting) (waits b.waiting) xs ys zs p.merged c

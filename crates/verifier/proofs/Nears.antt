@@ -45,7 +45,8 @@ use Rattle.verifier.proofs.Merges.{fits as merged_fits}
 
 -- ---- changes of types
 
-changed_more : (types : List VerificationType) (cs : List Change) (c : Change) → changed types (cs ++ c ∷ []) ≡ slice_set (changed types cs) c.local c.of
+changed_more : (types : List VerificationType) (cs : List Change) (c : Change)
+    → changed types (cs ++ c ∷ []) ≡ slice_set (changed types cs) c.local c.of
 changed_more types [] c = refl
 changed_more types (d ∷ cs) c = changed_more (slice_set types d.local d.of) cs c
 
@@ -53,7 +54,8 @@ changed_more types (d ∷ cs) c = changed_more (slice_set types d.local d.of) cs
 abbrev upto : List VerificationType → List VerificationType → ℕ → List VerificationType
 upto to from i = take i to ++ drop i from
 
-next_same : (to from : List VerificationType) (i : ℕ) (d : VerificationType) → length from ≡ length to → i < length to → get_or to i d ≡ get_or from i d → upto to from i ≡ upto to from (suc i)
+next_same : (to from : List VerificationType) (i : ℕ) (d : VerificationType) → length from ≡ length to → i < length to
+    → get_or to i d ≡ get_or from i d → upto to from i ≡ upto to from (suc i)
 next_same [] from i d l within e = absurd (omega (arith, within))
 next_same (x ∷ to) [] i d l within e = absurd cc
 next_same (x ∷ to) (y ∷ from) zero d l within e = ap (λ z. z ∷ from) (sym e)
@@ -62,7 +64,8 @@ next_same (x ∷ to) (y ∷ from) (suc i) d l within e =
     let w : i < length to = omega (arith, within) in
     ap (λ z. x ∷ z) (next_same to from i d m w e)
 
-next_set : (to from : List VerificationType) (i : ℕ) (d : VerificationType) → length from ≡ length to → i < length to → slice_set (upto to from i) i (get_or to i d) ≡ upto to from (suc i)
+next_set : (to from : List VerificationType) (i : ℕ) (d : VerificationType) → length from ≡ length to → i < length to
+    → slice_set (upto to from i) i (get_or to i d) ≡ upto to from (suc i)
 next_set [] from i d l within = absurd (omega (arith, within))
 next_set (x ∷ to) [] i d l within = absurd cc
 next_set (x ∷ to) (y ∷ from) zero d l within = refl
@@ -71,13 +74,15 @@ next_set (x ∷ to) (y ∷ from) (suc i) d l within =
     let w : i < length to = omega (arith, within) in
     ap (λ z. x ∷ z) (next_set to from i d m w)
 
-module _ (from to : List VerificationType) (changes : List Change) (i : ℕ) (d : VerificationType) (long : length from ≡ length to) (within : i < length to) (done : changed from changes ≡ upto to from i) where
+module _ (from to : List VerificationType) (changes : List Change) (i : ℕ) (d : VerificationType) (long : length from ≡ length to)
+    (within : i < length to) (done : changed from changes ≡ upto to from i) where
   pub kept : (after : List Change) → after ≡ changes → get_or to i d ≡ get_or from i d → changed from after ≡ upto to from (i + 1)
   kept after e same =
       let n : suc i ≡ i + 1 = omega arith in
       ap (changed from) e ∙ (done ∙ (next_same to from i d long within same ∙ ap (upto to from) n))
 
-  pub one_more : (after : List Change) (c : Change) → after ≡ changes ++ c ∷ [] → c.local ≡ i → c.of ≡ get_or to i d → changed from after ≡ upto to from (i + 1)
+  pub one_more : (after : List Change) (c : Change) → after ≡ changes ++ c ∷ [] → c.local ≡ i → c.of ≡ get_or to i d
+      → changed from after ≡ upto to from (i + 1)
   one_more after c e f g =
       let n : suc i ≡ i + 1 = omega arith in
       ap (changed from) e
@@ -88,21 +93,25 @@ module _ (from to : List VerificationType) (changes : List Change) (i : ℕ) (d 
 
 -- ---- the type at a place of runs
 
-in_run : (n place : ℕ) (t d : VerificationType) (rest : List VerificationType) → place < n → slice_index_or (replicate n t ++ rest) place d ≡ t
+in_run : (n place : ℕ) (t d : VerificationType) (rest : List VerificationType) → place < n
+    → slice_index_or (replicate n t ++ rest) place d ≡ t
 in_run zero place t d rest l = absurd (omega (arith, l))
 in_run (suc n) zero t d rest l = refl
 in_run (suc n) (suc place) t d rest l = let m : place < n = omega (arith, l) in in_run n place t d rest m
 
-past_run : (n place : ℕ) (t d : VerificationType) (rest : List VerificationType) → slice_index_or (replicate n t ++ rest) (n + place) d ≡ slice_index_or rest place d
+past_run : (n place : ℕ) (t d : VerificationType) (rest : List VerificationType)
+    → slice_index_or (replicate n t ++ rest) (n + place) d ≡ slice_index_or rest place d
 past_run zero place t d rest = let e : zero + place ≡ place = omega arith in ap (λ k. slice_index_or rest k d) e
 past_run (suc n) place t d rest =
     let e : suc n + place ≡ suc (n + place) = omega arith in
     ap (λ k. slice_index_or (t ∷ (replicate n t ++ rest)) k d) e ∙ past_run n place t d rest
 
-pub here : (runs rest : List Run) (run : Run) (left : ℕ) (d : VerificationType) → runs ≡ run ∷ rest → left < run.count → run.of ≡ slice_index_or (unpacked runs) left d
+pub here : (runs rest : List Run) (run : Run) (left : ℕ) (d : VerificationType) → runs ≡ run ∷ rest → left < run.count
+    → run.of ≡ slice_index_or (unpacked runs) left d
 here runs rest run left d e l = sym (ap (λ rs. slice_index_or (unpacked rs) left d) e ∙ in_run run.count left run.of d (unpacked rest) l)
 
-pub beyond : (runs rest : List Run) (run : Run) (left after : ℕ) (d : VerificationType) → runs ≡ run ∷ rest → run.count + after ≡ left → slice_index_or (unpacked runs) left d ≡ slice_index_or (unpacked rest) after d
+pub beyond : (runs rest : List Run) (run : Run) (left after : ℕ) (d : VerificationType) → runs ≡ run ∷ rest → run.count + after ≡ left
+    → slice_index_or (unpacked runs) left d ≡ slice_index_or (unpacked rest) after d
 beyond runs rest run left after d e f =
     ap (λ rs. slice_index_or (unpacked rs) left d) e
     ∙ (ap (λ k. slice_index_or (unpacked (run ∷ rest)) k d) (sym f) ∙ past_run run.count after run.of d (unpacked rest))
@@ -110,22 +119,28 @@ beyond runs rest run left after d e f =
 -- ---- what changed, below a frame type
 
 module _ (files : Program) where
-  set_below : (xs zs : List VerificationType) (k : ℕ) (t : VerificationType) → Pairwise (is_local_below files) (map (type_in files) xs) (map (type_in files) zs)
-      → is_local_below files (type_in files t) (type_in files (slice_index_or zs k type.Unusable)) ≡ true → Pairwise (is_local_below files) (map (type_in files) (slice_set xs k t)) (map (type_in files) zs)
+  set_below : (xs zs : List VerificationType) (k : ℕ) (t : VerificationType)
+      → Pairwise (is_local_below files) (map (type_in files) xs) (map (type_in files) zs)
+      → is_local_below files (type_in files t) (type_in files (slice_index_or zs k type.Unusable)) ≡ true
+      → Pairwise (is_local_below files) (map (type_in files) (slice_set xs k t)) (map (type_in files) zs)
   set_below [] zs k t p e = p
   set_below (x ∷ xs) [] k t p e = absurd p
   set_below (x ∷ xs) (z ∷ zs) zero t p e = (e, p.1)
   set_below (x ∷ xs) (z ∷ zs) (suc k) t p e = (p.0, set_below xs zs k t p.1 e)
 
-  changed_below : (there : Parts) (xs : List VerificationType) (cs : List Change) → Pairwise (is_local_below files) (map (type_in files) xs) (map (type_in files) there.locals)
-      → list_all (fits files there) cs ≡ true → Pairwise (is_local_below files) (map (type_in files) (changed xs cs)) (map (type_in files) there.locals)
+  changed_below : (there : Parts) (xs : List VerificationType) (cs : List Change)
+      → Pairwise (is_local_below files) (map (type_in files) xs) (map (type_in files) there.locals)
+      → list_all (fits files there) cs ≡ true
+      → Pairwise (is_local_below files) (map (type_in files) (changed xs cs)) (map (type_in files) there.locals)
   changed_below there xs [] p e = p
   changed_below there xs (c ∷ cs) p e =
       let q = and_parts _ _ e in
       changed_below there (slice_set xs c.local c.of) cs (set_below xs there.locals c.local c.of p q.0) q.1
 
-  above_still : (other before there : Parts) (h : Handler) (cs : List Change) → changed other.locals cs ≡ before.locals → other.constructed ≡ before.constructed
-      → is_frame_below files (led_to files other other (Some h)) (parts_in files there) ≡ true → list_all (fits files there) cs ≡ true → is_frame_below files (led_to files before before (Some h)) (parts_in files there) ≡ true
+  above_still : (other before there : Parts) (h : Handler) (cs : List Change) → changed other.locals cs ≡ before.locals
+      → other.constructed ≡ before.constructed
+      → is_frame_below files (led_to files other other (Some h)) (parts_in files there) ≡ true → list_all (fits files there) cs ≡ true
+      → is_frame_below files (led_to files before before (Some h)) (parts_in files there) ≡ true
   above_still other before there h cs e f b g =
       let p = below_parts files (led_to files other other (Some h)) (parts_in files there) b in
       from_parts files (led_to files before before (Some h)) (parts_in files there) (record {
@@ -141,13 +156,16 @@ get_mapped f [] k x e = absurd cc
 get_mapped f (y ∷ ys) zero x e = ap (λ o. option_map f o) e
 get_mapped f (y ∷ ys) (suc k) x e = get_mapped f ys k x e
 
-typed_in : (files : Program) (found : Found) (k : ℕ) (p : Parts) → slice_get found.types.items k ≡ Some (Some p) → slice_get (tables_in files found).types k ≡ Some (Some (parts_in files p))
+typed_in : (files : Program) (found : Found) (k : ℕ) (p : Parts) → slice_get found.types.items k ≡ Some (Some p)
+    → slice_get (tables_in files found).types k ≡ Some (Some (parts_in files p))
 typed_in files found k p e = get_mapped (option_map (parts_in files)) found.types.items k (Some p) e
 
 -- ---- a lead that needs no merge
 
-module _ (files : Program) (ordered : IsOrdered files) (body : Body) (found : Found) (over : AreOver body (tables_in files found)) (before after : Parts) where
-  skip_near : (near : Near) (lead : Lead) (h : Handler) → lead.handler ≡ Some h → IsAbove files found near h lead.offset → AreKnown files (tables_in files found) before near (lead ∷ [])
+module _ (files : Program) (ordered : IsOrdered files) (body : Body) (found : Found) (over : AreOver body (tables_in files found))
+    (before after : Parts) where
+  skip_near : (near : Near) (lead : Lead) (h : Handler) → lead.handler ≡ Some h → IsAbove files found near h lead.offset
+      → AreKnown files (tables_in files found) before near (lead ∷ [])
       → HasMerged files body (tables_in files found) ((lead.offset, led_to files before after (Some h)) ∷ []) (tables_in files found)
   skip_near near lead h e above known =
       let at = typed_in files found lead.offset above.there above.typed in
@@ -159,7 +177,9 @@ module _ (files : Program) (ordered : IsOrdered files) (body : Body) (found : Fo
       merged_fits files ordered body (tables_in files found) over lead.offset (led_to files before after (Some h)) (parts_in files above.there) at
       (above_still files known.other before above.there h near.changes.items known.locals known.constructed below above.fits)
 
-  pub skips : (near : Option Near) (lead : Lead) (h : Handler) → lead.handler ≡ Some h → IsSomeAnd near (λ n. IsAbove files found n h lead.offset) → IfSome near (λ n. AreKnown files (tables_in files found) before n (lead ∷ []))
+  pub skips : (near : Option Near) (lead : Lead) (h : Handler) → lead.handler ≡ Some h
+      → IsSomeAnd near (λ n. IsAbove files found n h lead.offset)
+      → IfSome near (λ n. AreKnown files (tables_in files found) before n (lead ∷ []))
       → HasMerged files body (tables_in files found) ((lead.offset, led_to files before after lead.handler) ∷ []) (tables_in files found)
   skips None lead h e above known = absurd above
   skips (Some n) lead h e above known =
@@ -167,13 +187,15 @@ module _ (files : Program) (ordered : IsOrdered files) (body : Body) (found : Fo
 
 -- ---- one lead after another
 
-led_same : (files : Program) (old new : Origin) → IsSameOrigin old new → (o : Option Handler) → led_to files new.before new.after o ≡ led_to files old.before old.after o
+led_same : (files : Program) (old new : Origin) → IsSameOrigin old new → (o : Option Handler)
+    → led_to files new.before new.after o ≡ led_to files old.before old.after o
 led_same files old new s None = ap (parts_in files) s.after
 led_same files old new s (Some h) =
     let by_parts : List VerificationType → Bool → Parts = λ locals constructed. record { locals = locals; stack = h.caught ∷ []; constructed = constructed } in
     ap (λ l. parts_in files (by_parts l new.before.constructed)) s.locals ∙ ap (λ c. parts_in files (by_parts old.before.locals c)) s.constructed
 
-pub leads_kept : (files : Program) (old new : Origin) → IsSameOrigin old new → (leads : List Lead) → leads_in files new leads ≡ leads_in files old leads
+pub leads_kept : (files : Program) (old new : Origin) → IsSameOrigin old new → (leads : List Lead)
+    → leads_in files new leads ≡ leads_in files old leads
 leads_kept files old new s [] = refl
 leads_kept files old new s (lead ∷ leads) =
     ap (λ t. (lead.offset, t) ∷ leads_in files new leads) (led_same files old new s lead.handler) ∙ ap (λ l. (lead.offset, led_to files old.before old.after lead.handler) ∷ l) (leads_kept files old new s leads)
@@ -190,12 +212,15 @@ every_or P [] i d l all = absurd (omega (arith, l))
 every_or P (x ∷ xs) zero d l all = all.0
 every_or P (x ∷ xs) (suc i) d l all = let m : i < length xs = omega (arith, l) in every_or P xs i d m all.1
 
-reached_up : (files : Program) → Rooted files → (F G : Typing) → Raised files F G → (offset : ℕ) (other : Parts) (to : ℕ) (o : Option Handler) → IsReachedBy files F offset other to o → IsReachedBy files G offset other to o
+reached_up : (files : Program) → Rooted files → (F G : Typing) → Raised files F G → (offset : ℕ) (other : Parts) (to : ℕ)
+    (o : Option Handler) → IsReachedBy files F offset other to o → IsReachedBy files G offset other to o
 reached_up files rooted F G up offset other to None r = tt
 reached_up files rooted F G up offset other to (Some h) r = λ c. reaches_up files rooted F G up to (led_to files other other (Some h)) (r c)
 
-module _ (files : Program) (rooted : Rooted files) (before now : Tables) (up : Raised files (typing_of before.types) (typing_of now.types)) where
-  known_at : (old new : Origin) → IsSameOrigin old new → (leads : List Lead) (i : ℕ) (d : Lead) → i < length leads → (n : Near) → AreKnown files before old.before n leads → AreKnown files now new.before n (get_or leads i d ∷ [])
+module _ (files : Program) (rooted : Rooted files) (before now : Tables)
+    (up : Raised files (typing_of before.types) (typing_of now.types)) where
+  known_at : (old new : Origin) → IsSameOrigin old new → (leads : List Lead) (i : ℕ) (d : Lead) → i < length leads → (n : Near)
+      → AreKnown files before old.before n leads → AreKnown files now new.before n (get_or leads i d ∷ [])
   known_at old new s leads i d l n k =
       let lead = get_or leads i d in
       record {
@@ -205,22 +230,27 @@ module _ (files : Program) (rooted : Rooted files) (before now : Tables) (up : R
         reached = (reached_up files rooted (typing_of before.types) (typing_of now.types) up n.offset k.other lead.offset lead.handler (every_or _ leads i d l k.reached), tt);
       }
 
-  pub known_on : (old new : Origin) → IsSameOrigin old new → (leads : List Lead) (i : ℕ) (d : Lead) → i < length leads → IfSome old.near (λ n. AreKnown files before old.before n leads) → IfSome new.near (λ n. AreKnown files now new.before n (get_or leads i d ∷ []))
+  pub known_on : (old new : Origin) → IsSameOrigin old new → (leads : List Lead) (i : ℕ) (d : Lead) → i < length leads
+      → IfSome old.near (λ n. AreKnown files before old.before n leads)
+      → IfSome new.near (λ n. AreKnown files now new.before n (get_or leads i d ∷ []))
   known_on old new s leads i d l k =
       subst (λ o. IfSome o (λ n. AreKnown files now new.before n (get_or leads i d ∷ []))) (sym s.near) (by old.near k)
     where
-      by : (o : Option Near) → IfSome o (λ n. AreKnown files before old.before n leads) → IfSome o (λ n. AreKnown files now new.before n (get_or leads i d ∷ []))
+      by : (o : Option Near) → IfSome o (λ n. AreKnown files before old.before n leads)
+          → IfSome o (λ n. AreKnown files now new.before n (get_or leads i d ∷ []))
       by None k = tt
       by (Some n) k = known_at old new s leads i d l n k
 
 -- ---- the leads of an instruction near by
 
 -- what an instruction leads to are its handlers, too
-module _ (files : Program) (method : Member) (body : Body) (offset : ℕ) (t : FrameType) (F : Typing) (leads : List (ℕ × FrameType)) (reached : AreReached files F leads) where
+module _ (files : Program) (method : Member) (body : Body) (offset : ℕ) (t : FrameType) (F : Typing) (leads : List (ℕ × FrameType))
+    (reached : AreReached files F leads) where
   abbrev handled : Site → List (ℕ × FrameType)
   handled site = handlers_from files site.body.pool site.offset t site.body.code.exceptions
 
-  by_test : (site : Site) (first : List (ℕ × FrameType)) (b : Bool) → cond b (Some (first ++ handled site)) None ≡ Some leads → AreReached files F (handled site)
+  by_test : (site : Site) (first : List (ℕ × FrameType)) (b : Bool) → cond b (Some (first ++ handled site)) None ≡ Some leads
+      → AreReached files F (handled site)
   by_test site first true e = (reached_parts files F first (handled site) (subst (AreReached files F) (sym (same_Some (first ++ handled site) leads e)) reached)).1
   by_test site first false e = absurd cc
 
@@ -228,11 +258,13 @@ module _ (files : Program) (method : Member) (body : Body) (offset : ℕ) (t : F
   by_meaning site None e = absurd cc
   by_meaning site (Some m) e = by_test site (successors site m t) _ e
 
-  by_site : (o : Option Sized) → flow_at files t (option_map (site_with method body offset) o) ≡ Some leads → AreReached files F (handlers_from files body.pool offset t body.code.exceptions)
+  by_site : (o : Option Sized) → flow_at files t (option_map (site_with method body offset) o) ≡ Some leads
+      → AreReached files F (handlers_from files body.pool offset t body.code.exceptions)
   by_site None e = absurd cc
   by_site (Some sized) e = by_meaning (site_with method body offset sized) (meaning_of values files (site_with method body offset sized)) e
 
-  pub handlers_reached : flow files method body offset t ≡ Some leads → AreReached files F (handlers_from files body.pool offset t body.code.exceptions)
+  pub handlers_reached : flow files method body offset t ≡ Some leads
+      → AreReached files F (handlers_from files body.pool offset t body.code.exceptions)
   handlers_reached e = by_site (sized_at body.code.code offset) e
 
 module _ (files : Program) (pool : List Entry) (F : Typing) (other : Parts) (near offset : ℕ) where
@@ -242,11 +274,13 @@ module _ (files : Program) (pool : List Entry) (F : Typing) (other : Parts) (nea
   abbrev IsTyped : Handler → Type 0
   IsTyped h = type_in files h.caught ≡ caught_type files pool h.entry
 
-  one_reached : (h : Handler) → IsTyped h → Reaches files F h.entry.handler (handler_type files pool (parts_in files other) h.entry).1 → Reaches files F h.entry.handler (led_to files other other (Some h))
+  one_reached : (h : Handler) → IsTyped h → Reaches files F h.entry.handler (handler_type files pool (parts_in files other) h.entry).1
+      → Reaches files F h.entry.handler (led_to files other other (Some h))
   one_reached h e r =
       subst (λ c. Reaches files F h.entry.handler (record { slots = record { locals = map (type_in files) other.locals; stack = c ∷ [] }; constructed = other.constructed })) (sym e) r
 
-  parted : (h : Handler) (rest : List (ℕ × FrameType)) → IsTyped h → (b : Bool) → covers near h.entry ≡ b → AreReached files F (cond b (handler_type files pool (parts_in files other) h.entry ∷ rest) rest)
+  parted : (h : Handler) (rest : List (ℕ × FrameType)) → IsTyped h → (b : Bool) → covers near h.entry ≡ b
+      → AreReached files F (cond b (handler_type files pool (parts_in files other) h.entry ∷ rest) rest)
       → IsReachedFrom files F near other (lead_to h) × AreReached files F rest
   parted h rest e true c r = (λ t. one_reached h e r.0, r.1)
   parted h rest e false c r = (λ t. absurd (apart (sym c ∙ t)), r)
@@ -254,25 +288,32 @@ module _ (files : Program) (pool : List Entry) (F : Typing) (other : Parts) (nea
       apart : false ≡ true → ⊥
       apart q = absurd cc
 
-  joined : (h : Handler) (rest : List Handler) (b : Bool) → IsReachedFrom files F near other (lead_to h) → AllByRecursion (IsReachedFrom files F near other) (map lead_to rest)
+  joined : (h : Handler) (rest : List Handler) (b : Bool) → IsReachedFrom files F near other (lead_to h)
+      → AllByRecursion (IsReachedFrom files F near other) (map lead_to rest)
       → AllByRecursion (IsReachedFrom files F near other) (map lead_to (cond b (h ∷ rest) rest))
   joined h rest true one more = (one, more)
   joined h rest false one more = more
 
-  each_reached : (hs : List Handler) → AllByRecursion IsTyped hs → AreReached files F (handlers_from files pool near (parts_in files other) (map entry_in hs)) → AllByRecursion (IsReachedFrom files F near other) (handler_leads offset hs)
+  each_reached : (hs : List Handler) → AllByRecursion IsTyped hs
+      → AreReached files F (handlers_from files pool near (parts_in files other) (map entry_in hs))
+      → AllByRecursion (IsReachedFrom files F near other) (handler_leads offset hs)
   each_reached [] all r = tt
   each_reached (h ∷ hs) all r =
       let p = parted h _ all.0 (covers near h.entry) refl r in
       joined h (filter (λ (h : Handler). covers offset h.entry) hs) (covers offset h.entry) p.0 (each_reached hs all.1 p.1)
 
-  pub leads_reached : (hs : List Handler) (es : List ExceptionEntry) (leads : List Lead) → map entry_in hs ≡ es → AllByRecursion IsTyped hs → AreReached files F (handlers_from files pool near (parts_in files other) es)
+  pub leads_reached : (hs : List Handler) (es : List ExceptionEntry) (leads : List Lead) → map entry_in hs ≡ es → AllByRecursion IsTyped hs
+      → AreReached files F (handlers_from files pool near (parts_in files other) es)
       → LeadOn offset hs leads → AllByRecursion (IsReachedFrom files F near other) leads
   leads_reached hs es leads e all r on =
       subst (AllByRecursion (IsReachedFrom files F near other)) (sym on.are)
       (every_append (IsReachedFrom files F near other) (map lead_on on.targets) (handler_leads offset hs) (every_map (IsReachedFrom files F near other) lead_on on.targets (λ to. tt)) (each_reached hs all (subst (λ l. AreReached files F (handlers_from files pool near (parts_in files other) l)) (sym e) r)))
 
-module _ (m : MethodCode) (found : Found) (offset : ℕ) (s : IsSearch (files_of m) (member_of m) (body_of m) (waiting_again (tables_in (files_of m) found) offset)) (hs : List Handler) (are : AreHandlers m hs) (leads : List Lead) (on : LeadOn offset hs leads) (before : Parts) where
-  near_known : (n : Near) → IsNear found before n → (n.offset ≡ offset → ⊥) → AreKnown (files_of m) (tables_in (files_of m) found) before n leads
+module _ (m : MethodCode) (found : Found) (offset : ℕ)
+    (s : IsSearch (files_of m) (member_of m) (body_of m) (waiting_again (tables_in (files_of m) found) offset)) (hs : List Handler)
+    (are : AreHandlers m hs) (leads : List Lead) (on : LeadOn offset hs leads) (before : Parts) where
+  near_known : (n : Near) → IsNear found before n → (n.offset ≡ offset → ⊥)
+      → AreKnown (files_of m) (tables_in (files_of m) found) before n leads
   near_known n near apart =
       let files = files_of m in
       let t = parts_in files near.other in
@@ -287,14 +328,17 @@ module _ (m : MethodCode) (found : Found) (offset : ℕ) (s : IsSearch (files_of
         reached = leads_reached files (body_of m).pool F near.other n.offset offset hs (body_of m).code.exceptions leads are.entries are.caught reached on;
       }
 
-  pub nears_known : (o : Option Near) → IfSome o (IsNear found before) → IfSome o (λ n. n.offset ≡ offset → ⊥) → IfSome o (λ n. AreKnown (files_of m) (tables_in (files_of m) found) before n leads)
+  pub nears_known : (o : Option Near) → IfSome o (IsNear found before) → IfSome o (λ n. n.offset ≡ offset → ⊥)
+      → IfSome o (λ n. AreKnown (files_of m) (tables_in (files_of m) found) before n leads)
   nears_known None near apart = tt
   nears_known (Some n) near apart = near_known n near apart
 
 -- ---- what is near
 
-module _ (found : Found) (other before : Parts) (offset : ℕ) (typed : slice_get found.types.items offset ≡ Some (Some other)) (still : waits found.waiting offset ≡ false) where
-  near_here : (n : Near) → n.offset ≡ offset → changed other.locals n.changes.items ≡ before.locals → other.constructed ≡ before.constructed → IsNear found before n
+module _ (found : Found) (other before : Parts) (offset : ℕ) (typed : slice_get found.types.items offset ≡ Some (Some other))
+    (still : waits found.waiting offset ≡ false) where
+  near_here : (n : Near) → n.offset ≡ offset → changed other.locals n.changes.items ≡ before.locals
+      → other.constructed ≡ before.constructed → IsNear found before n
   near_here n e f g =
       record {
         other = other;
@@ -304,13 +348,16 @@ module _ (found : Found) (other before : Parts) (offset : ℕ) (typed : slice_ge
         constructed = g;
       }
 
-  pub is_near : {E : Type 0} (r : Result (Option Near) E) → IfOk r (λ o. IfSome o (λ n. n.offset ≡ offset)) → IfOk r (λ o. IfSome o (λ n. changed other.locals n.changes.items ≡ before.locals)) → IfOk r (λ o. IfSome o (λ n. other.constructed ≡ before.constructed))
+  pub is_near : {E : Type 0} (r : Result (Option Near) E) → IfOk r (λ o. IfSome o (λ n. n.offset ≡ offset))
+      → IfOk r (λ o. IfSome o (λ n. changed other.locals n.changes.items ≡ before.locals))
+      → IfOk r (λ o. IfSome o (λ n. other.constructed ≡ before.constructed))
       → IfOk r (λ o. IfSome o (IsNear found before))
   is_near (Ok None) e f g = tt
   is_near (Ok (Some n)) e f g = near_here n e f g
   is_near (Err x) e f g = tt
 
-pub is_elsewhere : {E : Type 0} (last offset : ℕ) (r : Result (Option Near) E) → (last ≡ offset → ⊥) → IfOk r (λ o. IfSome o (λ n. n.offset ≡ last)) → IfOk r (λ o. IfSome o (λ n. n.offset ≡ offset → ⊥))
+pub is_elsewhere : {E : Type 0} (last offset : ℕ) (r : Result (Option Near) E) → (last ≡ offset → ⊥)
+    → IfOk r (λ o. IfSome o (λ n. n.offset ≡ last)) → IfOk r (λ o. IfSome o (λ n. n.offset ≡ offset → ⊥))
 is_elsewhere last offset (Ok None) apart e = tt
 is_elsewhere last offset (Ok (Some n)) apart e = λ q. apart (sym e ∙ q)
 is_elsewhere last offset (Err x) apart e = tt

@@ -7,9 +7,11 @@ use Rattle.verifier.specs.Packed.{unpacked}
 use Rattle.types.specs.declared.verification_type.VerificationType.{VerificationType}
 use Rattle.verifier.specs.declared.run.Run.{Run}
 
-module _ (runs : List Run) (types : List VerificationType) (b i : ℕ) (d : VerificationType) (within : i < length types) (done : unpacked runs ++ replicate (i - b) (get_or types b d) ≡ take i types) where
+module _ (runs : List Run) (types : List VerificationType) (b i : ℕ) (d : VerificationType) (within : i < length types)
+    (done : unpacked runs ++ replicate (i - b) (get_or types b d) ≡ take i types) where
   -- it is that of the run
-  pub kept : (after : List Run) (c : ℕ) → b ≤ i → after ≡ runs → c ≡ b → get_or types i d ≡ get_or types b d → unpacked after ++ replicate (i + 1 - c) (get_or types c d) ≡ take (i + 1) types
+  pub kept : (after : List Run) (c : ℕ) → b ≤ i → after ≡ runs → c ≡ b → get_or types i d ≡ get_or types b d
+      → unpacked after ++ replicate (i + 1 - c) (get_or types c d) ≡ take (i + 1) types
   kept after c l e f same =
       let t = get_or types b d in
       let n : i + 1 - b ≡ i - b + 1 = omega arith in
@@ -30,7 +32,8 @@ module _ (runs : List Run) (types : List VerificationType) (b i : ℕ) (d : Veri
       ∙ (ap (λ l. unpacked runs ++ l) (append-nil (replicate (i - b) (get_or types b d))) ∙ done)
 
   -- a run begins with it
-  pub begun : (after : List Run) (c : ℕ) → after ≡ runs ++ run_here ∷ [] → c ≡ i → unpacked after ++ replicate (i + 1 - c) (get_or types c d) ≡ take (i + 1) types
+  pub begun : (after : List Run) (c : ℕ) → after ≡ runs ++ run_here ∷ [] → c ≡ i
+      → unpacked after ++ replicate (i + 1 - c) (get_or types c d) ≡ take (i + 1) types
   begun after c e f =
       let x = get_or types i d in
       let one : i + 1 - i ≡ 1 = omega arith in

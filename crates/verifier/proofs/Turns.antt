@@ -26,7 +26,8 @@ module _ (files : Program) (ordered : IsOrdered files) (method : Member) (body :
     untyped : (k : ℕ) → typing_of before.types k ≡ None
     untyped k = subst (λ l. typing_of l k ≡ None) (sym empty) (blank (length body.code.code) k)
 
-    pub begins : (after : Tables) → HasMerged files body before ((0, entry_type files method body) ∷ []) after → IsSearch files method body after
+    pub begins : (after : Tables) → HasMerged files body before ((0, entry_type files method body) ∷ []) after
+        → IsSearch files method body after
     begins after w =
         record {
           over = w.over;
@@ -34,7 +35,8 @@ module _ (files : Program) (ordered : IsOrdered files) (method : Member) (body :
           low = λ limit bounded. (w.no_heavier limit (λ k t e. absurd (none_some t (sym (untyped k) ∙ e))) (bounded.begins, tt)).low;
         }
 
-    pub refused : Clashes files method body (typing_of before.types) ((0, entry_type files method body) ∷ []) → HasNoTyping files method body
+    pub refused : Clashes files method body (typing_of before.types) ((0, entry_type files method body) ∷ [])
+        → HasNoTyping files method body
     refused c = beginning_refused files ordered.rooted body method (typing_of before.types) untyped c
 
   -- ---- a turn
@@ -46,7 +48,8 @@ module _ (files : Program) (ordered : IsOrdered files) (method : Member) (body :
     over_off : AreOver body before
     over_off = record { types = s.over.types; waiting = sym (length-set before.waiting offset true) ∙ s.over.waiting }
 
-    pub turns : (t : FrameType) (leads : List (ℕ × FrameType)) (after : Tables) → typing_of before.types offset ≡ Some t → flow files method body offset t ≡ Some leads → HasMerged files body before leads after → HasTurned files method body before after
+    pub turns : (t : FrameType) (leads : List (ℕ × FrameType)) (after : Tables) → typing_of before.types offset ≡ Some t
+        → flow files method body offset t ≡ Some leads → HasMerged files body before leads after → HasTurned files method body before after
     turns t leads after e q w =
         record {
           search = record {
@@ -75,15 +78,19 @@ module _ (files : Program) (ordered : IsOrdered files) (method : Member) (body :
           lighter = λ limit bounded. omega arith;
         }
 
-    pub breaks : (t : FrameType) → typing_of before.types offset ≡ Some t → flow files method body offset t ≡ None → HasNoTyping files method body
+    pub breaks : (t : FrameType) → typing_of before.types offset ≡ Some t → flow files method body offset t ≡ None
+        → HasNoTyping files method body
     breaks t e n = refused_rule files ordered method body (typing_of before.types) (waits (waiting_at before.waiting offset)) offset t s.searches e n
 
-    pub clashes : (t : FrameType) (leads : List (ℕ × FrameType)) → typing_of before.types offset ≡ Some t → flow files method body offset t ≡ Some leads → Clashes files method body (typing_of before.types) leads → HasNoTyping files method body
+    pub clashes : (t : FrameType) (leads : List (ℕ × FrameType)) → typing_of before.types offset ≡ Some t
+        → flow files method body offset t ≡ Some leads → Clashes files method body (typing_of before.types) leads
+        → HasNoTyping files method body
     clashes t leads e q c = refused_merge files ordered method body (typing_of before.types) (waits (waiting_at before.waiting offset)) offset t leads s.searches e q c
 
   -- ---- the end
 
-  pub ends : (tables : Tables) → IsSearch files method body tables → ((k : ℕ) → waits tables.waiting k ≡ false) → HasTyping files method body
+  pub ends : (tables : Tables) → IsSearch files method body tables → ((k : ℕ) → waits tables.waiting k ≡ false)
+      → HasTyping files method body
   ends tables s none =
       record {
         typing = typing_of tables.types;
@@ -100,7 +107,8 @@ module _ (files : Program) (ordered : IsOrdered files) (method : Member) (body :
     again s =
         subst (IsSearch files method body) (tables_same tables (waiting_again (with_waiting tables waiting) offset) refl (sym (marked_again tables.waiting offset w) ∙ ap (λ l. waiting_at l offset) (sym off))) s
 
-    pub less : (limit : ℕ) (after : Tables) → work_left files body limit after ≤ work_left files body limit (with_waiting tables waiting) → work_left files body limit after < work_left files body limit tables
+    pub less : (limit : ℕ) (after : Tables) → work_left files body limit after ≤ work_left files body limit (with_waiting tables waiting)
+        → work_left files body limit after < work_left files body limit tables
     less limit after l =
         let m = work_taken_off files ordered.rooted limit body tables.types tables.waiting offset w in
         let n = ap (λ marks. work_left files body limit (with_waiting tables marks)) off in

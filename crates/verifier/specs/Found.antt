@@ -58,7 +58,8 @@ pub record IsNoHeavier (files : Program) (body : Body) (limit : ℕ) (before aft
 pub record HasMerged (files : Program) (body : Body) (before : Tables) (leads : List (ℕ × frames.FrameType)) (after : Tables) : Type 0 where
   pub over : AreOver body after
   pub merged : Merged files body (typing_of before.types) (waits before.waiting) leads (typing_of after.types) (waits after.waiting)
-  pub no_heavier : (limit : ℕ) → AreLow files limit before → AllByRecursion (λ lead. IsLowFrame files limit lead.1) leads → IsNoHeavier files body limit before after
+  pub no_heavier : (limit : ℕ) → AreLow files limit before → AllByRecursion (λ lead. IsLowFrame files limit lead.1) leads
+      → IsNoHeavier files body limit before after
 
 -- a search over a method; its types have no more above them than the method's may have
 pub record IsSearch (files : Program) (method : Member) (body : Body) (tables : Tables) : Type 0 where

@@ -24,8 +24,10 @@ use types::method_code::MethodCode;
 fn begin(alloc: Global, method: &MethodCode<'_>, starts: &[bool]) -> Result<Found, MethodFault>
     requires linked { IsLinked (files_of method.now) }
     requires starts { starts.now ≡ starts_of (body_of method.now).code.code }
-    ensures search { IfOk result (λ found. IsSearch (files_of method.now) (member_of method.now) (body_of method.now) (tables_in (files_of method.now) found)) }
-    ensures exact { IfErr result (λ fault. OnUnverified fault (HasNoTyping (files_of method.now) (member_of method.now) (body_of method.now))) }
+    ensures search { IfOk result (λ found. IsSearch (files_of method.now) (member_of method.now) (body_of method.now)
+        (tables_in (files_of method.now) found)) }
+    ensures exact { IfErr result (λ fault. OnUnverified
+        fault (HasNoTyping (files_of method.now) (member_of method.now) (body_of method.now))) }
 {
     let mut found = Found::new(alloc, method.code().code.len())?;
     let frame = entry_frame(alloc, method)?;
@@ -71,9 +73,12 @@ fn turn(
     requires starts { starts.now ≡ starts_of (body_of method.now).code.code }
     requires handlers { AreHandlers method.now handlers.now }
     requires offset { offset < length found.old.types.items }
-    requires search { IsSearch (files_of method.now) (member_of method.now) (body_of method.now) (waiting_again (tables_in (files_of method.now) found.old) offset) }
-    ensures turned { OnOk result (HasTurned (files_of method.now) (member_of method.now) (body_of method.now) (tables_in (files_of method.now) found.old) (tables_in (files_of method.now) found.new)) }
-    ensures exact { IfErr result (λ fault. OnUnverified fault (HasNoTyping (files_of method.now) (member_of method.now) (body_of method.now))) }
+    requires search { IsSearch (files_of method.now) (member_of method.now) (body_of method.now)
+        (waiting_again (tables_in (files_of method.now) found.old) offset) }
+    ensures turned { OnOk result (HasTurned (files_of method.now) (member_of method.now) (body_of method.now)
+        (tables_in (files_of method.now) found.old) (tables_in (files_of method.now) found.new)) }
+    ensures exact { IfErr result (λ fault. OnUnverified
+        fault (HasNoTyping (files_of method.now) (member_of method.now) (body_of method.now))) }
 {
     let Some(packed) = &found.types[offset] else {
         return Ok(());
@@ -104,7 +109,8 @@ fn turn(
 pub fn verify_method(alloc: Global, method: &MethodCode<'_>) -> Result<(), MethodFault>
     requires { IsLinked (files_of method.now) }
     ensures typed { OnOk result (HasTyping (files_of method.now) (member_of method.now) (body_of method.now)) }
-    ensures exact { IfErr result (λ fault. OnUnverified fault (HasNoTyping (files_of method.now) (member_of method.now) (body_of method.now))) }
+    ensures exact { IfErr result (λ fault. OnUnverified
+        fault (HasNoTyping (files_of method.now) (member_of method.now) (body_of method.now))) }
 {
     let starts = starts(alloc, &method.code().code)?;
     let handlers = handlers(alloc, method)?;

@@ -76,7 +76,8 @@ pub(crate) fn push_methods(
     members: &[Declared],
 ) -> Result<(), AllocError>
     requires { first + 2 * length members.now < 2 ^ 16 }
-    ensures { OnOk result (map method_of methods.new.items ≡ map method_of methods.old.items ++ methods_from first (members_of members.now)) }
+    ensures { OnOk result (map method_of methods.new.items
+        ≡ map method_of methods.old.items ++ methods_from first (members_of members.now)) }
 {
     let mut at = first;
     for member in members {

@@ -48,7 +48,8 @@ no_instr None h = refl
 no_instr (Some s) h = absurd cc
 
 -- what is so of each start is so of each boundary
-none_of_boundaries : (p : ℕ → Bool) (code : List ℕ) → ((k : ℕ) → is_start code k ≡ true → p k ≡ false) → list_any p (boundaries code) ≡ false
+none_of_boundaries : (p : ℕ → Bool) (code : List ℕ) → ((k : ℕ) → is_start code k ≡ true → p k ≡ false)
+    → list_any p (boundaries code) ≡ false
 none_of_boundaries p code h = none_of_marks p code (starts code) refl (λ k below m. h k m)
 
 -- the first mark that passes a test
@@ -57,7 +58,8 @@ none_found p [] h = refl
 none_found p (x ∷ xs) h = let parts = or_parts (p x) _ h in rw parts.0 (none_found p xs parts.1)
 
 first_marked : (p : ℕ → Bool) (n k place : ℕ) (marks : List Bool) → place ≡ n + k → slice_index_or marks k false ≡ true → p place ≡ true
-    → ((j other : ℕ) → other ≡ n + j → j < k → slice_index_or marks j false ≡ true → p other ≡ false) → find p (marked_from n marks) ≡ Some place
+    → ((j other : ℕ) → other ≡ n + j → j < k → slice_index_or marks j false ≡ true → p other ≡ false)
+    → find p (marked_from n marks) ≡ Some place
 first_marked p n k place [] e m h before = absurd cc
 first_marked p n zero place (true ∷ marks) e m h before =
     let same : place ≡ n = omega (arith, e) in
@@ -78,12 +80,14 @@ boundary_found p code (Some pc) h =
 
 -- ---- exception entries
 
-first_stands : (c : CodeTree) (field : ExceptionField) (e : ExceptionEntry) → is_first_field c field e ≡ true → exception_stands c field e ≡ true
+first_stands : (c : CodeTree) (field : ExceptionField) (e : ExceptionEntry) → is_first_field c field e ≡ true
+    → exception_stands c field e ≡ true
 first_stands c StartPc e h = h
 first_stands c EndPc e h = (and_parts (not (exception_stands c StartPc e)) _ h).1
 first_stands c HandlerPc e h = (and_parts (not (exception_stands c EndPc e)) _ (and_parts (not (exception_stands c StartPc e)) _ h).1).1
 
-none_earlier : (c : CodeTree) (other field : ExceptionField) (e : ExceptionEntry) → field_before other field ≡ true → is_first_field c field e ≡ true → exception_stands c other e ≡ false
+none_earlier : (c : CodeTree) (other field : ExceptionField) (e : ExceptionEntry) → field_before other field ≡ true
+    → is_first_field c field e ≡ true → exception_stands c other e ≡ false
 none_earlier c StartPc StartPc e lt h = absurd cc
 none_earlier c StartPc EndPc e lt h = denied (exception_stands c StartPc e) _ h
 none_earlier c StartPc HandlerPc e lt h = denied (exception_stands c StartPc e) _ h
@@ -94,11 +98,13 @@ none_earlier c HandlerPc StartPc e lt h = absurd cc
 none_earlier c HandlerPc EndPc e lt h = absurd cc
 none_earlier c HandlerPc HandlerPc e lt h = absurd cc
 
-entry_stands : (c : CodeTree) (field : ExceptionField) (o : Option ExceptionEntry) → option_map_or (is_first_field c field) o false ≡ true → option_map_or (exception_stands c field) o false ≡ true
+entry_stands : (c : CodeTree) (field : ExceptionField) (o : Option ExceptionEntry) → option_map_or (is_first_field c field) o false ≡ true
+    → option_map_or (exception_stands c field) o false ≡ true
 entry_stands c field None h = absurd cc
 entry_stands c field (Some e) h = first_stands c field e h
 
-no_earlier_field : (c : CodeTree) (other field : ExceptionField) (o : Option ExceptionEntry) → field_before other field ≡ true → option_map_or (is_first_field c field) o false ≡ true → option_map_or (exception_stands c other) o false ≡ false
+no_earlier_field : (c : CodeTree) (other field : ExceptionField) (o : Option ExceptionEntry) → field_before other field ≡ true
+    → option_map_or (is_first_field c field) o false ≡ true → option_map_or (exception_stands c other) o false ≡ false
 no_earlier_field c other field None lt h = absurd cc
 no_earlier_field c other field (Some e) lt h = none_earlier c other field e lt h
 
@@ -114,12 +120,15 @@ module _ (aside : ℕ → Bool) (file : FileTree) (m : MethodTree) where
   no_locals c MalformedCode h = h
 
   -- in a code that decodes only instructions count
-  no_instruction : (c : CodeTree) (pc : ℕ) (flaw : Flaw) → end_of_decoding c.code ≡ None → NothingAt c.code (instruction_outside_at file.pool c) (instruction_malformed_at aside file.pool c) pc → code_stands aside file m flaw (Instruction pc) c ≡ false
+  no_instruction : (c : CodeTree) (pc : ℕ) (flaw : Flaw) → end_of_decoding c.code ≡ None
+      → NothingAt c.code (instruction_outside_at file.pool c) (instruction_malformed_at aside file.pool c) pc
+      → code_stands aside file m flaw (Instruction pc) c ≡ false
   no_instruction c pc OutsideProfile e h = guarded (is_start c.code pc) _ (λ s. rw e (h s).0)
   no_instruction c pc MalformedCode e h = guarded (is_start c.code pc) _ (λ s. rw e (h s).1)
 
   -- before the end of decoding nothing counts
-  none_earlier_than : (c : CodeTree) (end pc : ℕ) (flaw : Flaw) → end_of_decoding c.code ≡ Some end → pc < end → code_stands aside file m flaw (Instruction pc) c ≡ false
+  none_earlier_than : (c : CodeTree) (end pc : ℕ) (flaw : Flaw) → end_of_decoding c.code ≡ Some end → pc < end
+      → code_stands aside file m flaw (Instruction pc) c ≡ false
   none_earlier_than c end pc flaw e lt = by flaw
     where
       apart : (end == pc) ≡ false
@@ -129,15 +138,20 @@ module _ (aside : ℕ → Bool) (file : FileTree) (m : MethodTree) where
       by OutsideProfile = guarded (is_start c.code pc) _ (λ s. rw (e, apart) refl)
       by MalformedCode = guarded (is_start c.code pc) _ (λ s. rw (e, apart) refl)
 
-  no_exception : (c : CodeTree) (entry : ℕ) (field : ExceptionField) (flaw : Flaw) → option_map_or (malformed_exception c) (slice_get c.exceptions entry) false ≡ false → code_stands aside file m flaw (Exception entry field) c ≡ false
+  no_exception : (c : CodeTree) (entry : ℕ) (field : ExceptionField) (flaw : Flaw)
+      → option_map_or (malformed_exception c) (slice_get c.exceptions entry) false ≡ false
+      → code_stands aside file m flaw (Exception entry field) c ≡ false
   no_exception c entry field OutsideProfile h = refl
   no_exception c entry field MalformedCode h = guarded (decodes c.code) _ (λ s. not_so _ _ (some_exception aside file m c field (slice_get c.exceptions entry)) h)
 
-  no_field_of : (c : CodeTree) (entry : ℕ) (other field : ExceptionField) (flaw : Flaw) → field_before other field ≡ true → option_map_or (is_first_field c field) (slice_get c.exceptions entry) false ≡ true → code_stands aside file m flaw (Exception entry other) c ≡ false
+  no_field_of : (c : CodeTree) (entry : ℕ) (other field : ExceptionField) (flaw : Flaw) → field_before other field ≡ true
+      → option_map_or (is_first_field c field) (slice_get c.exceptions entry) false ≡ true
+      → code_stands aside file m flaw (Exception entry other) c ≡ false
   no_field_of c entry other field OutsideProfile lt h = refl
   no_field_of c entry other field MalformedCode lt h = guarded (decodes c.code) _ (λ s. no_earlier_field c other field (slice_get c.exceptions entry) lt h)
 
-  pub locals_first : (c : CodeTree) → too_few_locals file m c ≡ true → IsFirstInCode aside file m c (record { flaw = MalformedCode; spot = MaxLocals })
+  pub locals_first : (c : CodeTree) → too_few_locals file m c ≡ true
+      → IsFirstInCode aside file m c (record { flaw = MalformedCode; spot = MaxLocals })
   locals_first c few = record { stands = few; none_before = before; outside_told = λ e. refl }
     where
       before : (flaw : Flaw) (spot : Spot) → spot_before spot MaxLocals ≡ true → code_stands aside file m flaw spot c ≡ false
@@ -146,8 +160,10 @@ module _ (aside : ℕ → Bool) (file : FileTree) (m : MethodTree) where
       before flaw (Instruction pc) e = absurd cc
       before flaw (Exception entry field) e = absurd cc
 
-  pub end_first : (c : CodeTree) (pc : ℕ) (flaw : Flaw) → too_few_locals file m c ≡ false → FindsBoundary c.code (begins_none c.code) (Some pc)
-      → Says (Some flaw) (not (is_known_opcode c.code pc)) (malformed_offset c pc) → IsFirstInCode aside file m c (record { flaw = flaw; spot = Instruction pc })
+  pub end_first : (c : CodeTree) (pc : ℕ) (flaw : Flaw) → too_few_locals file m c ≡ false
+      → FindsBoundary c.code (begins_none c.code) (Some pc)
+      → Says (Some flaw) (not (is_known_opcode c.code pc)) (malformed_offset c pc)
+      → IsFirstInCode aside file m c (record { flaw = flaw; spot = Instruction pc })
   end_first c pc flaw enough found says = record { stands = so flaw says; none_before = before; outside_told = told flaw says }
     where
       ends : end_of_decoding c.code ≡ Some pc
@@ -156,11 +172,13 @@ module _ (aside : ℕ → Bool) (file : FileTree) (m : MethodTree) where
       same : (pc == pc) ≡ true
       same = eq-eqb pc pc refl
 
-      so : (flaw : Flaw) → Says (Some flaw) (not (is_known_opcode c.code pc)) (malformed_offset c pc) → code_stands aside file m flaw (Instruction pc) c ≡ true
+      so : (flaw : Flaw) → Says (Some flaw) (not (is_known_opcode c.code pc)) (malformed_offset c pc)
+          → code_stands aside file m flaw (Instruction pc) c ≡ true
       so OutsideProfile h = rw (found.0, ends, same, h) refl
       so MalformedCode h = rw (found.0, ends, same, h.1) refl
 
-      told : (flaw : Flaw) → Says (Some flaw) (not (is_known_opcode c.code pc)) (malformed_offset c pc) → flaw ≡ MalformedCode → code_stands aside file m OutsideProfile (Instruction pc) c ≡ false
+      told : (flaw : Flaw) → Says (Some flaw) (not (is_known_opcode c.code pc)) (malformed_offset c pc) → flaw ≡ MalformedCode
+          → code_stands aside file m OutsideProfile (Instruction pc) c ≡ false
       told OutsideProfile h e = absurd cc
       told MalformedCode h e = guarded (is_start c.code pc) _ (λ s. rw (ends, same, h.0) refl)
 
@@ -171,14 +189,17 @@ module _ (aside : ℕ → Bool) (file : FileTree) (m : MethodTree) where
       before flaw (Exception entry field) e = absurd cc
 
   pub instruction_first : (c : CodeTree) (pc : ℕ) (flaw : Flaw) → too_few_locals file m c ≡ false → end_of_decoding c.code ≡ None
-      → FindsAmong c.code (instruction_outside_at file.pool c) (instruction_malformed_at aside file.pool c) (Some (pc, flaw)) → IsFirstInCode aside file m c (record { flaw = flaw; spot = Instruction pc })
+      → FindsAmong c.code (instruction_outside_at file.pool c) (instruction_malformed_at aside file.pool c) (Some (pc, flaw))
+      → IsFirstInCode aside file m c (record { flaw = flaw; spot = Instruction pc })
   instruction_first c pc flaw enough ends found = record { stands = so flaw found.1; none_before = before; outside_told = told flaw found.1 }
     where
-      so : (flaw : Flaw) → Says (Some flaw) (instruction_outside_at file.pool c pc) (instruction_malformed_at aside file.pool c pc) → code_stands aside file m flaw (Instruction pc) c ≡ true
+      so : (flaw : Flaw) → Says (Some flaw) (instruction_outside_at file.pool c pc) (instruction_malformed_at aside file.pool c pc)
+          → code_stands aside file m flaw (Instruction pc) c ≡ true
       so OutsideProfile h = rw (found.0, ends) h
       so MalformedCode h = rw (found.0, ends) h.1
 
-      told : (flaw : Flaw) → Says (Some flaw) (instruction_outside_at file.pool c pc) (instruction_malformed_at aside file.pool c pc) → flaw ≡ MalformedCode → code_stands aside file m OutsideProfile (Instruction pc) c ≡ false
+      told : (flaw : Flaw) → Says (Some flaw) (instruction_outside_at file.pool c pc) (instruction_malformed_at aside file.pool c pc)
+          → flaw ≡ MalformedCode → code_stands aside file m OutsideProfile (Instruction pc) c ≡ false
       told OutsideProfile h e = absurd cc
       told MalformedCode h e = guarded (is_start c.code pc) _ (λ s. rw ends h.0)
 
@@ -188,8 +209,10 @@ module _ (aside : ℕ → Bool) (file : FileTree) (m : MethodTree) where
       before flaw (Instruction j) e = no_instruction c j flaw ends (found.2 j (ltb-true _ _ e))
       before flaw (Exception entry field) e = absurd cc
 
-  pub exception_first : (c : CodeTree) (entry : ℕ) (field : ExceptionField) → too_few_locals file m c ≡ false → end_of_decoding c.code ≡ None
-      → FindsAmong c.code (instruction_outside_at file.pool c) (instruction_malformed_at aside file.pool c) None → FindsEntry c (Some (entry, field))
+  pub exception_first : (c : CodeTree) (entry : ℕ) (field : ExceptionField) → too_few_locals file m c ≡ false
+      → end_of_decoding c.code ≡ None
+      → FindsAmong c.code (instruction_outside_at file.pool c) (instruction_malformed_at aside file.pool c) None
+      → FindsEntry c (Some (entry, field))
       → IsFirstInCode aside file m c (record { flaw = MalformedCode; spot = Exception entry field })
   exception_first c entry field enough ends instructions found =
       record { stands = rw ends (entry_stands c field (slice_get c.exceptions entry) found.1); none_before = before; outside_told = λ e. refl }
@@ -207,7 +230,8 @@ module _ (aside : ℕ → Bool) (file : FileTree) (m : MethodTree) where
           (no_field_of c entry other field flaw (and_parts (j == entry) _ later).1 found.1))
           (or_cases (nat_lt j entry) (j == entry && field_before other field) e)
 
-  pub code_none : (c : CodeTree) → too_few_locals file m c ≡ false → end_of_decoding c.code ≡ None → FindsAmong c.code (instruction_outside_at file.pool c) (instruction_malformed_at aside file.pool c) None → FindsEntry c None
+  pub code_none : (c : CodeTree) → too_few_locals file m c ≡ false → end_of_decoding c.code ≡ None
+      → FindsAmong c.code (instruction_outside_at file.pool c) (instruction_malformed_at aside file.pool c) None → FindsEntry c None
       → FindsInCode aside file m c None
   code_none c enough ends found exceptions = (
     rw ends (none_of_boundaries (instruction_outside_at file.pool c) c.code (λ k s. (found k s).0)),
@@ -226,7 +250,8 @@ module _ (aside : ℕ → Bool) (file : FileTree) (m : MethodTree) where
   no_declared OutsideProfile (Exception entry field) h = refl
   no_declared MalformedCode spot h = refl
 
-  pub declaration_first : method_outside_profile file m ≡ true → IsFirstInMethod aside file m (record { flaw = OutsideProfile; spot = Declaration })
+  pub declaration_first : method_outside_profile file m ≡ true
+      → IsFirstInMethod aside file m (record { flaw = OutsideProfile; spot = Declaration })
   declaration_first h = record { stands = or_left _ _ h; none_before = before; outside_told = λ e. absurd cc }
     where
       before : (flaw : Flaw) (spot : Spot) → spot_before spot Declaration ≡ true → method_stands aside file flaw spot m ≡ false
@@ -235,17 +260,20 @@ module _ (aside : ℕ → Bool) (file : FileTree) (m : MethodTree) where
       before flaw (Instruction pc) e = absurd cc
       before flaw (Exception entry field) e = absurd cc
 
-  of_code : (c : CodeTree) (f : MethodFault) → code_in m.parts ≡ Some c → method_outside_profile file m ≡ false → IsFirstInCode aside file m c f → IsFirstInMethod aside file m f
+  of_code : (c : CodeTree) (f : MethodFault) → code_in m.parts ≡ Some c → method_outside_profile file m ≡ false
+      → IsFirstInCode aside file m c f → IsFirstInMethod aside file m f
   of_code c f is declared h = record {
     stands = or_right (declaration_stands file f.flaw f.spot m) _ (there true f.flaw f.spot h.stands);
     none_before = λ flaw spot e. or_from _ _ (no_declared flaw spot declared) (there false flaw spot (h.none_before flaw spot e));
     outside_told = λ e. or_from _ _ (no_declared OutsideProfile f.spot declared) (there false OutsideProfile f.spot (h.outside_told e));
   }
     where
-      there : (b : Bool) (flaw : Flaw) (spot : Spot) → code_stands aside file m flaw spot c ≡ b → option_map_or (code_stands aside file m flaw spot) (code_in m.parts) false ≡ b
+      there : (b : Bool) (flaw : Flaw) (spot : Spot) → code_stands aside file m flaw spot c ≡ b
+          → option_map_or (code_stands aside file m flaw spot) (code_in m.parts) false ≡ b
       there b flaw spot e = subst (λ (o : Option CodeTree). option_map_or (code_stands aside file m flaw spot) o false ≡ b) (sym is) e
 
-  pub in_code : {E : Type 0} (c : CodeTree) → code_in m.parts ≡ Some c → method_outside_profile file m ≡ false → (r : Result (Option MethodFault) E) → IfOk r (FindsInCode aside file m c) → IfOk r (FindsInMethod aside file m)
+  pub in_code : {E : Type 0} (c : CodeTree) → code_in m.parts ≡ Some c → method_outside_profile file m ≡ false
+      → (r : Result (Option MethodFault) E) → IfOk r (FindsInCode aside file m c) → IfOk r (FindsInMethod aside file m)
   in_code c is declared (Ok None) h = (
     or_from _ _ declared (subst (λ (o : Option CodeTree). option_map_or (code_outside_profile file) o false ≡ false) (sym is) h.0),
     subst (λ (o : Option CodeTree). option_map_or (malformed_code_by aside file m) o false ≡ false) (sym is) h.1,
@@ -256,17 +284,20 @@ module _ (aside : ℕ → Bool) (file : FileTree) (m : MethodTree) where
 -- ---- a class file
 
 module _ (aside : ℕ → Bool) (file : FileTree) where
-  no_field : (flaw : Flaw) (o : Option FieldTree) → option_map_or (field_outside_profile file) o false ≡ false → option_map_or (field_stands file flaw) o false ≡ false
+  no_field : (flaw : Flaw) (o : Option FieldTree) → option_map_or (field_outside_profile file) o false ≡ false
+      → option_map_or (field_stands file flaw) o false ≡ false
   no_field flaw None h = refl
   no_field OutsideProfile (Some f) h = h
   no_field MalformedCode (Some f) h = refl
 
-  no_method : (flaw : Flaw) (spot : Spot) (o : Option MethodTree) → option_map_or (whole_method_outside_profile file) o false ≡ false → option_map_or (malformed_method_by aside file) o false ≡ false → option_map_or (method_stands aside file flaw spot) o false ≡ false
+  no_method : (flaw : Flaw) (spot : Spot) (o : Option MethodTree) → option_map_or (whole_method_outside_profile file) o false ≡ false
+      → option_map_or (malformed_method_by aside file) o false ≡ false → option_map_or (method_stands aside file flaw spot) o false ≡ false
   no_method flaw spot None outside malformed = refl
   no_method OutsideProfile spot (Some m) outside malformed = not_so _ _ (method_is_outside aside file m spot) outside
   no_method MalformedCode spot (Some m) outside malformed = not_so _ _ (method_is_malformed aside file m spot) malformed
 
-  pub field_first : (k : ℕ) → list_any (field_outside_profile file) (take k file.fields) ≡ false → option_map_or (field_outside_profile file) (slice_get file.fields k) false ≡ true
+  pub field_first : (k : ℕ) → list_any (field_outside_profile file) (take k file.fields) ≡ false
+      → option_map_or (field_outside_profile file) (slice_get file.fields k) false ≡ true
       → IsFirstBy aside file (record { flaw = OutsideProfile; place = places.Field k })
   field_first k none here = record { stands = here; none_before = before; outside_told = λ e. absurd cc }
     where
@@ -275,7 +306,8 @@ module _ (aside : ℕ → Bool) (file : FileTree) where
       before flaw (places.Method j other) e = absurd cc
 
   pub method_first : (k : ℕ) (m : MethodTree) (f : MethodFault) → slice_get file.methods k ≡ Some m
-      → list_any (whole_method_outside_profile file) (take k file.methods) ≡ false → list_any (malformed_method_by aside file) (take k file.methods) ≡ false
+      → list_any (whole_method_outside_profile file) (take k file.methods) ≡ false
+      → list_any (malformed_method_by aside file) (take k file.methods) ≡ false
       → IsFirstInMethod aside file m f → list_any (field_outside_profile file) file.fields ≡ false
       → IsFirstBy aside file (record { flaw = f.flaw; place = places.Method k f.spot })
   method_first k m f is outside malformed h fields = record {
@@ -284,10 +316,12 @@ module _ (aside : ℕ → Bool) (file : FileTree) where
     outside_told = λ e. there false OutsideProfile f.spot (h.outside_told e);
   }
     where
-      there : (b : Bool) (flaw : Flaw) (spot : Spot) → method_stands aside file flaw spot m ≡ b → option_map_or (method_stands aside file flaw spot) (slice_get file.methods k) false ≡ b
+      there : (b : Bool) (flaw : Flaw) (spot : Spot) → method_stands aside file flaw spot m ≡ b
+          → option_map_or (method_stands aside file flaw spot) (slice_get file.methods k) false ≡ b
       there b flaw spot e = subst (λ (o : Option MethodTree). option_map_or (method_stands aside file flaw spot) o false ≡ b) (sym is) e
 
-      before : (flaw : Flaw) (place : Place) → place_before place (places.Method k f.spot) ≡ true → place_stands aside file flaw place ≡ false
+      before : (flaw : Flaw) (place : Place) → place_before place (places.Method k f.spot) ≡ true
+          → place_stands aside file flaw place ≡ false
       before flaw (places.Field j) e = no_field flaw (slice_get file.fields j) (none_at (field_outside_profile file) file.fields j fields)
       before flaw (places.Method j other) e =
           ⊎_elim

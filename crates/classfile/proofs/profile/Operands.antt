@@ -24,7 +24,8 @@ unfolding element_at scanned_at field_type method_type
 nothing_described = refl
 
 -- what the row of an index says
-pub row_said : (pool : List Entry) (rows : List Described) (index : ℕ) → rows ≡ rows_of pool → get_or rows index nothing ≡ described (text_at pool index)
+pub row_said : (pool : List Entry) (rows : List Described) (index : ℕ) → rows ≡ rows_of pool
+    → get_or rows index nothing ≡ described (text_at pool index)
 row_said pool rows index are =
     ap (λ (rs : List Described). get_or rs index nothing) are
     ∙ ap (λ (d : Described). get_or (rows_of pool) index d) (sym nothing_described)
@@ -32,7 +33,8 @@ row_said pool rows index are =
 
 -- ---- the descriptor of a member
 
-name_text : (class : Name) (n : Option Name) (e : Entry) (m : Member) → reference (Some class) (name_and_descriptor n (utf8_of e)) ≡ Some m → m.descriptor ≡ text_of e
+name_text : (class : Name) (n : Option Name) (e : Entry) (m : Member) → reference (Some class) (name_and_descriptor n (utf8_of e)) ≡ Some m
+    → m.descriptor ≡ text_of e
 name_text owner None e m h = absurd cc
 name_text owner (Some name) (Utf8 text) m h = sym (ap (λ (q : Option Member). option_map_or (λ (r : Member). r.descriptor) q []) h)
 name_text owner (Some name) (Integer bits) m h = absurd cc
@@ -47,7 +49,8 @@ name_text owner (Some name) (InterfaceMethod class nat) m h = absurd cc
 name_text owner (Some name) (NameAndType n d) m h = absurd cc
 name_text owner (Some name) Unusable m h = absurd cc
 
-member_of : (pool : List Entry) (class : Option Name) (e : Entry) (m : Member) → reference class (name_and_type_of pool e) ≡ Some m → m.descriptor ≡ descriptor_text pool e
+member_of : (pool : List Entry) (class : Option Name) (e : Entry) (m : Member) → reference class (name_and_type_of pool e) ≡ Some m
+    → m.descriptor ≡ descriptor_text pool e
 member_of pool None e m h = absurd cc
 member_of pool (Some owner) (Utf8 text) m h = absurd cc
 member_of pool (Some owner) (Integer bits) m h = absurd cc
@@ -90,7 +93,8 @@ method_entry pool (InterfaceMethod class nat) m h = absurd cc
 method_entry pool (NameAndType n d) m h = absurd cc
 method_entry pool Unusable m h = absurd cc
 
-interface_entry : (pool : List Entry) (e : Entry) (m : Member) → interface_method_of_entry pool e ≡ Some m → m.descriptor ≡ text_of_reference pool e
+interface_entry : (pool : List Entry) (e : Entry) (m : Member) → interface_method_of_entry pool e ≡ Some m
+    → m.descriptor ≡ text_of_reference pool e
 interface_entry pool (Utf8 text) m h = absurd cc
 interface_entry pool (Integer bits) m h = absurd cc
 interface_entry pool (Float bits) m h = absurd cc
@@ -105,7 +109,8 @@ interface_entry pool (NameAndType n d) m h = absurd cc
 interface_entry pool Unusable m h = absurd cc
 
 -- what is said of the descriptor of a member that is there
-tells : (p : Name → Bool) (o : Option Member) (text : Name) → ((m : Member) → o ≡ Some m → m.descriptor ≡ text) → (is_some o && p text) ≡ option_map_or (λ (m : Member). p m.descriptor) o false
+tells : (p : Name → Bool) (o : Option Member) (text : Name) → ((m : Member) → o ≡ Some m → m.descriptor ≡ text)
+    → (is_some o && p text) ≡ option_map_or (λ (m : Member). p m.descriptor) o false
 tells p None text h = refl
 tells p (Some m) text h = ap p (sym (h m refl))
 
@@ -114,24 +119,29 @@ any_told p None = refl
 any_told p (Some m) = sym (or-false (p m.descriptor))
 
 module _ (p : Name → Bool) (pool : List Entry) (index : ℕ) where
-  pub field_told : (is_some (pools.field_at pool index) && p (member_text pool index)) ≡ list_any p (descriptors_of (pools.field_at pool index))
+  pub field_told : (is_some (pools.field_at pool index) && p (member_text pool index))
+      ≡ list_any p (descriptors_of (pools.field_at pool index))
   field_told = tells p (pools.field_at pool index) (member_text pool index) (field_entry pool (entry_at pool index)) ∙ any_told p (pools.field_at pool index)
 
   pub method_told : (is_some (method_at pool index) && p (member_text pool index)) ≡ list_any p (descriptors_of (method_at pool index))
   method_told = tells p (method_at pool index) (member_text pool index) (method_entry pool (entry_at pool index)) ∙ any_told p (method_at pool index)
 
-  pub interface_said : (is_some (interface_method_at pool index) && p (member_text pool index)) ≡ option_map_or (λ (m : Member). p m.descriptor) (interface_method_at pool index) false
+  pub interface_said : (is_some (interface_method_at pool index) && p (member_text pool index))
+      ≡ option_map_or (λ (m : Member). p m.descriptor) (interface_method_at pool index) false
   interface_said = tells p (interface_method_at pool index) (member_text pool index) (interface_entry pool (entry_at pool index))
 
-  pub interface_told : (is_some (interface_method_at pool index) && p (member_text pool index)) ≡ list_any p (descriptors_of (interface_method_at pool index))
+  pub interface_told : (is_some (interface_method_at pool index) && p (member_text pool index))
+      ≡ list_any p (descriptors_of (interface_method_at pool index))
   interface_told = interface_said ∙ any_told p (interface_method_at pool index)
 
 module _ (p : Name → Bool) (pool : List Entry) (index : ℕ) where
-  pub field_there : is_some (pools.field_at pool index) ≡ true → p (member_text pool index) ≡ list_any p (descriptors_of (pools.field_at pool index))
+  pub field_there : is_some (pools.field_at pool index) ≡ true
+      → p (member_text pool index) ≡ list_any p (descriptors_of (pools.field_at pool index))
   field_there h = subst (λ (b : Bool). (b && p (member_text pool index)) ≡ list_any p (descriptors_of (pools.field_at pool index))) h (field_told p pool index)
 
   pub method_there : is_some (method_at pool index) ≡ true → p (member_text pool index) ≡ list_any p (descriptors_of (method_at pool index))
   method_there h = subst (λ (b : Bool). (b && p (member_text pool index)) ≡ list_any p (descriptors_of (method_at pool index))) h (method_told p pool index)
 
-  pub interface_there : is_some (interface_method_at pool index) ≡ true → p (member_text pool index) ≡ list_any p (descriptors_of (interface_method_at pool index))
+  pub interface_there : is_some (interface_method_at pool index) ≡ true
+      → p (member_text pool index) ≡ list_any p (descriptors_of (interface_method_at pool index))
   interface_there h = subst (λ (b : Bool). (b && p (member_text pool index)) ≡ list_any p (descriptors_of (interface_method_at pool index))) h (interface_told p pool index)

@@ -31,12 +31,15 @@ module _ (code : List ℕ) (pc : ℕ) where
   AreKnown [] = Unit {0}
   AreKnown (r ∷ rows) = ((k : ℕ) → is_known_form (r.form k) code pc ≡ true) × AreKnown rows
 
-  by_row : (r : Row) (rows : List Row) (opcode : ℕ) (b : Bool) → is_known_form (r.form (opcode - r.first)) code pc ≡ true → is_known_form (form_in rows opcode) code pc ≡ is_some (mnemonic_in rows opcode)
-      → is_known_form (if b then r.form (opcode - r.first) else form_in rows opcode) code pc ≡ is_some (if b then Some (r.mnemonic (opcode - r.first)) else mnemonic_in rows opcode)
+  by_row : (r : Row) (rows : List Row) (opcode : ℕ) (b : Bool) → is_known_form (r.form (opcode - r.first)) code pc ≡ true
+      → is_known_form (form_in rows opcode) code pc ≡ is_some (mnemonic_in rows opcode)
+      → is_known_form (if b then r.form (opcode - r.first) else form_in rows opcode) code pc
+      ≡ is_some (if b then Some (r.mnemonic (opcode - r.first)) else mnemonic_in rows opcode)
   by_row r rows opcode true known h = known
   by_row r rows opcode false known h = h
 
-  in_rows : (rows : List Row) → AreKnown rows → (opcode : ℕ) → is_known_form (form_in rows opcode) code pc ≡ is_some (mnemonic_in rows opcode)
+  in_rows : (rows : List Row) → AreKnown rows → (opcode : ℕ)
+      → is_known_form (form_in rows opcode) code pc ≡ is_some (mnemonic_in rows opcode)
   in_rows [] known opcode = refl
   in_rows (r ∷ rows) known opcode = by_row r rows opcode (is_of r opcode) (known.0 (opcode - r.first)) (in_rows rows known.1 opcode)
 
@@ -58,15 +61,18 @@ module _ (code : List ℕ) (pc : ℕ) where
   known_references : AreKnown references
   known_references = ((λ k. refl), ((λ k. refl), ((λ k. refl), ((λ k. refl), ((λ k. refl), ((λ k. refl), ((λ k. refl), ((λ k. refl), ((λ k. refl), ((λ k. refl), ((λ k. refl), ((λ k. refl), ((λ k. refl), ((λ k. refl), ((λ k. refl), ((λ k. refl), ((λ k. refl), tt)))))))))))))))))
 
-  split : (b : Bool) (f g : Form) (m n : Option (List ℕ)) → is_known_form f code pc ≡ is_some m → is_known_form g code pc ≡ is_some n → is_known_form (if b then f else g) code pc ≡ is_some (if b then m else n)
+  split : (b : Bool) (f g : Form) (m n : Option (List ℕ)) → is_known_form f code pc ≡ is_some m → is_known_form g code pc ≡ is_some n
+      → is_known_form (if b then f else g) code pc ≡ is_some (if b then m else n)
   split true f g m n x y = x
   split false f g m n x y = y
 
   -- all rows but that of `wide`
-  in_extended : (opcode : ℕ) → eqb opcode 0xc4 ≡ false → is_known_form (form_in extended opcode) code pc ≡ is_some (mnemonic_in extended opcode)
+  in_extended : (opcode : ℕ) → eqb opcode 0xc4 ≡ false
+      → is_known_form (form_in extended opcode) code pc ≡ is_some (mnemonic_in extended opcode)
   in_extended opcode other = past (leb 0xc4 opcode && leb opcode 0xc4) (not_both opcode other) _ _ _ _ (in_rows (drop 1 extended) ((λ k. refl), ((λ k. refl), ((λ k. refl), tt))) opcode)
     where
-      past : (b : Bool) → b ≡ false → (f g : Form) (m n : Option (List ℕ)) → is_known_form g code pc ≡ is_some n → is_known_form (if b then f else g) code pc ≡ is_some (if b then m else n)
+      past : (b : Bool) → b ≡ false → (f g : Form) (m n : Option (List ℕ)) → is_known_form g code pc ≡ is_some n
+          → is_known_form (if b then f else g) code pc ≡ is_some (if b then m else n)
       past true e f g m n h = absurd cc
       past false e f g m n h = h
 
@@ -92,7 +98,8 @@ module _ (code : List ℕ) (pc : ℕ) where
   unfolding high_form
   wide_form = refl
 
-  pub wide_is_known : (opcode : ℕ) → opcode ≡ 0xc4 → is_known_form (form_of opcode) code pc ≡ option_map_or is_widened (word_at 1 code (pc + 1)) true
+  pub wide_is_known : (opcode : ℕ) → opcode ≡ 0xc4
+      → is_known_form (form_of opcode) code pc ≡ option_map_or is_widened (word_at 1 code (pc + 1)) true
   wide_is_known opcode is = ap (λ (o : ℕ). is_known_form (form_of o) code pc) is ∙ ap (λ f. is_known_form f code pc) wide_form
 
 -- ---- the opcode of an instruction
@@ -124,18 +131,22 @@ known_at code pc here =
     let there : slice_get code pc ≡ Some (opcode_at code pc) = slice_get-get_or code pc 0 here in
     rw there (by (eqb (opcode_at code pc) 0xc4) refl)
   where
-    by : (b : Bool) → eqb (opcode_at code pc) 0xc4 ≡ b → (if b then option_map_or is_widened (slice_get code (pc + 1)) true else is_some (mnemonic_of (opcode_at code pc))) ≡ is_known_opcode code pc
+    by : (b : Bool) → eqb (opcode_at code pc) 0xc4 ≡ b
+        → (if b then option_map_or is_widened (slice_get code (pc + 1)) true else is_some (mnemonic_of (opcode_at code pc)))
+        ≡ is_known_opcode code pc
     by true e = ap (λ (o : Option ℕ). option_map_or is_widened o true) (sym (word_is code (pc + 1))) ∙ sym (wide_is_known code pc (opcode_at code pc) (eqb-true _ _ e))
     by false e = sym (named_is_known code pc (opcode_at code pc) e)
 
 -- ---- `wide`
 
-then_some : {A : Type 0} (o : Option A) (f : A → Option Sized) (s : Sized) (G : A → Type 0) → ((x : A) → o ≡ Some x → f x ≡ Some s → G x) → (o >>= f) ≡ Some s → (x : A) × ((o ≡ Some x) × G x)
+then_some : {A : Type 0} (o : Option A) (f : A → Option Sized) (s : Sized) (G : A → Type 0) → ((x : A) → o ≡ Some x → f x ≡ Some s → G x)
+    → (o >>= f) ≡ Some s → (x : A) × ((o ≡ Some x) × G x)
 then_some None f s G h e = absurd cc
 then_some (Some x) f s G h e = (x, (refl, h x refl e))
 
 one_of : (a b c d e : Bool) (v w x y z : Option Sized) (s : Sized)
-    → (if a then v else if b then w else if c then x else if d then y else if e then z else None) ≡ Some s → (a || (b || (c || (d || e)))) ≡ true
+    → (if a then v else if b then w else if c then x else if d then y else if e then z else None) ≡ Some s
+    → (a || (b || (c || (d || e)))) ≡ true
 one_of true b c d e v w x y z s h = refl
 one_of false true c d e v w x y z s h = refl
 one_of false false true d e v w x y z s h = refl
@@ -143,7 +154,8 @@ one_of false false false true e v w x y z s h = refl
 one_of false false false false true v w x y z s h = refl
 one_of false false false false false v w x y z s h = absurd cc
 
-wide_known : (code : List ℕ) (pc : ℕ) (s : Sized) → wide_at code pc ≡ Some s → option_map_or is_widened (word_at 1 code (pc + 1)) true ≡ true
+wide_known : (code : List ℕ) (pc : ℕ) (s : Sized) → wide_at code pc ≡ Some s
+    → option_map_or is_widened (word_at 1 code (pc + 1)) true ≡ true
 unfolding wide_at
 wide_known code pc s h =
     let found = then_some (word_at 1 code (pc + 1)) _ s (λ opcode. is_widened opcode ≡ true) (λ opcode is inner.
@@ -185,7 +197,8 @@ if_some : (b : Bool) (x : Option Sized) (s : Sized) → (if b then x else None) 
 if_some true x s h = refl
 if_some false x s h = absurd cc
 
-table_in_order : (code : List ℕ) (pc : ℕ) (s : Sized) → table_switch_at code pc ≡ Some s → exceeds (signed_at w32 code (operands_of pc + 4)) (signed_at w32 code (operands_of pc + 8)) ≡ false
+table_in_order : (code : List ℕ) (pc : ℕ) (s : Sized) → table_switch_at code pc ≡ Some s
+    → exceeds (signed_at w32 code (operands_of pc + 4)) (signed_at w32 code (operands_of pc + 8)) ≡ false
 unfolding table_switch_at
 table_in_order code pc s h =
     let low_at = signed_at w32 code (operands_of pc + 4) in
@@ -195,7 +208,8 @@ table_in_order code pc s h =
     (then_some high_at _ s (λ high. exceeds low_at high_at ≡ false) (λ high is2 e2.
     rw (is1, is2) (not_above low high (if_some (le_z low high) _ s e2))) e1).1.1) e0).1.1) h).1.1
 
-lookup_in_order : (code : List ℕ) (pc : ℕ) (s : Sized) → lookup_switch_at code pc ≡ Some s → option_map_or (leb (2 ^ 31)) (word_at 4 code (operands_of pc + 4)) false ≡ false
+lookup_in_order : (code : List ℕ) (pc : ℕ) (s : Sized) → lookup_switch_at code pc ≡ Some s
+    → option_map_or (leb (2 ^ 31)) (word_at 4 code (operands_of pc + 4)) false ≡ false
 unfolding lookup_switch_at
 lookup_in_order code pc s h =
     let count_at = word_at 4 code (operands_of pc + 4) in
@@ -222,7 +236,8 @@ module _ (code : List ℕ) (pc : ℕ) (here : pc < length code) where
   made : (s : Sized) → sized_at code pc ≡ Some s → made_of (form_of (opcode_at code pc)) code pc ≡ Some s
   made s e = sym (sized_is code pc here) ∙ e
 
-  made_by : (s : Sized) (opcode : ℕ) (form : Form) → sized_at code pc ≡ Some s → opcode_at code pc ≡ opcode → form_of opcode ≡ form → made_of form code pc ≡ Some s
+  made_by : (s : Sized) (opcode : ℕ) (form : Form) → sized_at code pc ≡ Some s → opcode_at code pc ≡ opcode → form_of opcode ≡ form
+      → made_of form code pc ≡ Some s
   made_by s opcode form e is formed =
       subst (λ (f : Form). made_of f code pc ≡ Some s) formed (subst (λ (o : ℕ). made_of (form_of o) code pc ≡ Some s) is (made s e))
 
@@ -240,11 +255,13 @@ module _ (code : List ℕ) (pc : ℕ) (here : pc < length code) where
   not_cut s e = rw (whole_is_known s e, e) refl
 
   -- nothing is malformed there
-  pub whole_is_formed : (s : Sized) → sized_at code pc ≡ Some s → (low_above_high code pc || (negative_count code pc || cut_instruction code pc)) ≡ false
+  pub whole_is_formed : (s : Sized) → sized_at code pc ≡ Some s
+      → (low_above_high code pc || (negative_count code pc || cut_instruction code pc)) ≡ false
   whole_is_formed s e = none_of_three _ _ _ (in_order s e) (counted s e) (not_cut s e)
 
 -- where none begins at a known opcode
-pub cut_is_malformed : (code : List ℕ) (pc : ℕ) → is_known_opcode code pc ≡ true → is_some (sized_at code pc) ≡ false → (low_above_high code pc || (negative_count code pc || cut_instruction code pc)) ≡ true
+pub cut_is_malformed : (code : List ℕ) (pc : ℕ) → is_known_opcode code pc ≡ true → is_some (sized_at code pc) ≡ false
+    → (low_above_high code pc || (negative_count code pc || cut_instruction code pc)) ≡ true
 cut_is_malformed code pc known none = rw (known, none) (by (low_above_high code pc) (negative_count code pc))
   where
     by : (l n : Bool) → (l || (n || (true && (true && (not l && not n))))) ≡ true
@@ -261,5 +278,6 @@ module _ (code : List ℕ) (pc : ℕ) (here : pc < length code) where
   pub known_there : is_some (sized_at code pc) ≡ true → not (is_known_opcode code pc) ≡ false
   known_there h = by_some (sized_at code pc) refl h (λ s e. ap not (whole_is_known code pc here s e))
 
-  pub formed_there : is_some (sized_at code pc) ≡ true → (low_above_high code pc || (negative_count code pc || cut_instruction code pc)) ≡ false
+  pub formed_there : is_some (sized_at code pc) ≡ true
+      → (low_above_high code pc || (negative_count code pc || cut_instruction code pc)) ≡ false
   formed_there h = by_some (sized_at code pc) refl h (λ s e. whole_is_formed code pc here s e)

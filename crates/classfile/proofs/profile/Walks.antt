@@ -32,7 +32,8 @@ use Rattle.opcodes.proofs.Marked.{any_of_starts}
 -- ---- elements of lists
 
 -- an element that a loop reads, seen as another value
-pub at_place : {V A : Type 0} (p : A → Bool) (f : V → A) (vs : List V) (k : ℕ) (v : V) → k < length vs → v ≡ get_or vs k v → p (f v) ≡ true → option_map_or p (slice_get (map f vs) k) false ≡ true
+pub at_place : {V A : Type 0} (p : A → Bool) (f : V → A) (vs : List V) (k : ℕ) (v : V) → k < length vs → v ≡ get_or vs k v → p (f v) ≡ true
+    → option_map_or p (slice_get (map f vs) k) false ≡ true
 at_place p f vs k v below is h = rw (slice_get-map f vs k, slice_get_read vs (length vs) k v refl below is) h
 
 -- ---- outside of the profile
@@ -44,11 +45,13 @@ module _ (file : FileTree) where
   abbrev left_out : MethodTree → Bool
   left_out m = option_map_or (λ c. any_decoded (λ pc i. instruction_outside_profile file.pool i) c) (code_in m.parts) false
 
-  no_unknown : (m : MethodTree) (o : Option CodeTree) → option_map_or (code_outside_profile file) o false ≡ false → option_map_or (unknown_opcode m) o false ≡ false
+  no_unknown : (m : MethodTree) (o : Option CodeTree) → option_map_or (code_outside_profile file) o false ≡ false
+      → option_map_or (unknown_opcode m) o false ≡ false
   no_unknown m None h = refl
   no_unknown m (Some c) h = (or_parts (unknown_opcode m c) _ h).0
 
-  no_left_out : (o : Option CodeTree) → option_map_or (code_outside_profile file) o false ≡ false → option_map_or (λ c. any_decoded (λ pc i. instruction_outside_profile file.pool i) c) o false ≡ false
+  no_left_out : (o : Option CodeTree) → option_map_or (code_outside_profile file) o false ≡ false
+      → option_map_or (λ c. any_decoded (λ pc i. instruction_outside_profile file.pool i) c) o false ≡ false
   no_left_out None h = refl
   no_left_out (Some c) h = (or_parts (option_map_or (λ pc. not (is_known_opcode c.code pc)) (end_of_decoding c.code) false) _ h).1
 
@@ -63,7 +66,8 @@ module _ (file : FileTree) where
       (rw declared rest.0, (rw (no_unknown m (code_in m.parts) coded) rest.1.0, rw (no_left_out (code_in m.parts) coded) rest.1.1))
 
   -- no field and no method with its code is outside
-  pub inside : list_any (field_outside_profile file) file.fields ≡ false → list_any (whole_method_outside_profile file) file.methods ≡ false → is_outside_profile file ≡ false
+  pub inside : list_any (field_outside_profile file) file.fields ≡ false
+      → list_any (whole_method_outside_profile file) file.methods ≡ false → is_outside_profile file ≡ false
   inside fields methods =
       let parts = none_outside file.methods methods in
       rw (fields, parts.0, parts.1.0, parts.1.1) refl
@@ -74,17 +78,20 @@ and_so : (a b : Bool) → a ≡ true → b ≡ true → (a && b) ≡ true
 and_so a b h e = rw h e
 
 -- what is so where decoding ends
-at_end : (test : ℕ → Bool) (pc : ℕ) (o : Option ℕ) → option_map_or (λ k. k == pc) o false ≡ true → test pc ≡ true → option_map_or test o false ≡ true
+at_end : (test : ℕ → Bool) (pc : ℕ) (o : Option ℕ) → option_map_or (λ k. k == pc) o false ≡ true → test pc ≡ true
+    → option_map_or test o false ≡ true
 at_end test pc None e h = absurd cc
 at_end test pc (Some k) e h = subst (λ (q : ℕ). test q ≡ true) (sym (eqb-true k pc e)) h
 
 -- what is so of an instruction of a code that decodes
-in_decoded : (c : CodeTree) (test : ℕ → Bool) (pc : ℕ) → is_start c.code pc ≡ true → decodes c.code ≡ true → test pc ≡ true → (decodes c.code && list_any test (boundaries c.code)) ≡ true
+in_decoded : (c : CodeTree) (test : ℕ → Bool) (pc : ℕ) → is_start c.code pc ≡ true → decodes c.code ≡ true → test pc ≡ true
+    → (decodes c.code && list_any test (boundaries c.code)) ≡ true
 in_decoded c test pc start d h = and_so (decodes c.code) _ d (any_of_starts test c.code pc start h)
 
 -- of a code
 module _ (aside : ℕ → Bool) (file : FileTree) (m : MethodTree) where
-  pub code_is_outside : (spot : Spot) (c : CodeTree) → code_stands aside file m OutsideProfile spot c ≡ true → code_outside_profile file c ≡ true
+  pub code_is_outside : (spot : Spot) (c : CodeTree) → code_stands aside file m OutsideProfile spot c ≡ true
+      → code_outside_profile file c ≡ true
   code_is_outside Declaration c h = absurd cc
   code_is_outside MaxLocals c h = absurd cc
   code_is_outside (Exception entry field) c h = absurd cc
@@ -95,7 +102,8 @@ module _ (aside : ℕ → Bool) (file : FileTree) (m : MethodTree) where
       (λ e. or_right _ _ (in_decoded c (instruction_outside_at file.pool c) pc start (and_parts (decodes c.code) _ e).0 (and_parts (decodes c.code) _ e).1))
       (or_cases (ends_at c.code pc && not (is_known_opcode c.code pc)) (decodes c.code && instruction_outside_at file.pool c pc) (and_parts (is_start c.code pc) _ h).1)
 
-  exception_is_malformed : (c : CodeTree) (field : ExceptionField) (e : ExceptionEntry) → exception_stands c field e ≡ true → malformed_exception c e ≡ true
+  exception_is_malformed : (c : CodeTree) (field : ExceptionField) (e : ExceptionEntry) → exception_stands c field e ≡ true
+      → malformed_exception c e ≡ true
   exception_is_malformed c StartPc e h =
       ⊎_elim
       (λ q. or_left _ _ q)
@@ -104,11 +112,13 @@ module _ (aside : ℕ → Bool) (file : FileTree) (m : MethodTree) where
   exception_is_malformed c EndPc e h = or_right (empty_range c e) _ (or_left _ _ (or_right (not (is_start c.code e.start)) _ h))
   exception_is_malformed c HandlerPc e h = or_right (empty_range c e) _ (or_right (range_off_boundary c e) _ h)
 
-  pub some_exception : (c : CodeTree) (field : ExceptionField) (o : Option ExceptionEntry) → option_map_or (exception_stands c field) o false ≡ true → option_map_or (malformed_exception c) o false ≡ true
+  pub some_exception : (c : CodeTree) (field : ExceptionField) (o : Option ExceptionEntry)
+      → option_map_or (exception_stands c field) o false ≡ true → option_map_or (malformed_exception c) o false ≡ true
   some_exception c field None h = absurd cc
   some_exception c field (Some e) h = exception_is_malformed c field e h
 
-  pub code_is_malformed : (spot : Spot) (c : CodeTree) → code_stands aside file m MalformedCode spot c ≡ true → malformed_code_by aside file m c ≡ true
+  pub code_is_malformed : (spot : Spot) (c : CodeTree) → code_stands aside file m MalformedCode spot c ≡ true
+      → malformed_code_by aside file m c ≡ true
   code_is_malformed Declaration c h = absurd cc
   code_is_malformed MaxLocals c h = or_left _ _ h
   code_is_malformed (Instruction pc) c h =
@@ -127,11 +137,13 @@ module _ (aside : ℕ → Bool) (file : FileTree) (m : MethodTree) where
       (and_so (decodes c.code) _ (and_parts (decodes c.code) _ h).0
       (any_at (malformed_exception c) c.exceptions entry (some_exception c field (slice_get c.exceptions entry) (and_parts (decodes c.code) _ h).1)))))
 
-  some_code_outside : (spot : Spot) (o : Option CodeTree) → option_map_or (code_stands aside file m OutsideProfile spot) o false ≡ true → option_map_or (code_outside_profile file) o false ≡ true
+  some_code_outside : (spot : Spot) (o : Option CodeTree) → option_map_or (code_stands aside file m OutsideProfile spot) o false ≡ true
+      → option_map_or (code_outside_profile file) o false ≡ true
   some_code_outside spot None h = absurd cc
   some_code_outside spot (Some c) h = code_is_outside spot c h
 
-  some_code_malformed : (spot : Spot) (o : Option CodeTree) → option_map_or (code_stands aside file m MalformedCode spot) o false ≡ true → option_map_or (malformed_code_by aside file m) o false ≡ true
+  some_code_malformed : (spot : Spot) (o : Option CodeTree) → option_map_or (code_stands aside file m MalformedCode spot) o false ≡ true
+      → option_map_or (malformed_code_by aside file m) o false ≡ true
   some_code_malformed spot None h = absurd cc
   some_code_malformed spot (Some c) h = code_is_malformed spot c h
 
@@ -157,7 +169,8 @@ module _ (aside : ℕ → Bool) (file : FileTree) where
       → (list_any (method_outside_profile file) ms || (list_any (unknown file) ms || list_any (left_out file) ms)) ≡ true
   whole_outside ms h = by (list_any (method_outside_profile file) ms) (list_any (unknown file) ms) (list_any (left_out file) ms) refl refl refl
     where
-      all_false : (ms : List MethodTree) → list_any (method_outside_profile file) ms ≡ false → list_any (unknown file) ms ≡ false → list_any (left_out file) ms ≡ false → list_any (whole_method_outside_profile file) ms ≡ false
+      all_false : (ms : List MethodTree) → list_any (method_outside_profile file) ms ≡ false → list_any (unknown file) ms ≡ false
+          → list_any (left_out file) ms ≡ false → list_any (whole_method_outside_profile file) ms ≡ false
       all_false [] a b c = refl
       all_false (m ∷ ms) a b c =
           let first : whole_method_outside_profile file m ≡ false =
@@ -165,21 +178,27 @@ module _ (aside : ℕ → Bool) (file : FileTree) where
           (coded m (code_in m.parts) (or_parts (unknown file m) _ b).0 (or_parts (left_out file m) _ c).0) in
           rw first (all_false ms (or_parts (method_outside_profile file m) _ a).1 (or_parts (unknown file m) _ b).1 (or_parts (left_out file m) _ c).1)
         where
-          coded : (m : MethodTree) (o : Option CodeTree) → option_map_or (unknown_opcode m) o false ≡ false → option_map_or (λ c. any_decoded (λ pc i. instruction_outside_profile file.pool i) c) o false ≡ false → option_map_or (code_outside_profile file) o false ≡ false
+          coded : (m : MethodTree) (o : Option CodeTree) → option_map_or (unknown_opcode m) o false ≡ false
+              → option_map_or (λ c. any_decoded (λ pc i. instruction_outside_profile file.pool i) c) o false ≡ false
+              → option_map_or (code_outside_profile file) o false ≡ false
           coded m None b c = refl
           coded m (Some code) b c = rw (b, c) refl
 
-      by : (a b c : Bool) → list_any (method_outside_profile file) ms ≡ a → list_any (unknown file) ms ≡ b → list_any (left_out file) ms ≡ c → (a || (b || c)) ≡ true
+      by : (a b c : Bool) → list_any (method_outside_profile file) ms ≡ a → list_any (unknown file) ms ≡ b
+          → list_any (left_out file) ms ≡ c → (a || (b || c)) ≡ true
       by true b c p q r = refl
       by false true c p q r = refl
       by false false true p q r = refl
       by false false false p q r = absurd (cc (all_false ms p q r))
 
-  some_method_outside : (spot : Spot) (o : Option MethodTree) → option_map_or (method_stands aside file OutsideProfile spot) o false ≡ true → option_map_or (whole_method_outside_profile file) o false ≡ true
+  some_method_outside : (spot : Spot) (o : Option MethodTree) → option_map_or (method_stands aside file OutsideProfile spot) o false ≡ true
+      → option_map_or (whole_method_outside_profile file) o false ≡ true
   some_method_outside spot None h = absurd cc
   some_method_outside spot (Some m) h = method_is_outside aside file m spot h
 
-  some_method_malformed : (spot : Spot) (o : Option MethodTree) → option_map_or (method_stands aside file MalformedCode spot) o false ≡ true → option_map_or (malformed_method_by aside file) o false ≡ true
+  some_method_malformed : (spot : Spot) (o : Option MethodTree)
+      → option_map_or (method_stands aside file MalformedCode spot) o false ≡ true
+      → option_map_or (malformed_method_by aside file) o false ≡ true
   some_method_malformed spot None h = absurd cc
   some_method_malformed spot (Some m) h = method_is_malformed aside file m spot h
 
@@ -199,7 +218,8 @@ module _ (aside : ℕ → Bool) (file : FileTree) where
 
 -- ---- the parts of a walk
 
-pub walked : {E : Type 0} (aside : ℕ → Bool) (file : FileTree) → list_any (field_outside_profile file) file.fields ≡ false → (r : Result (Option Fault) E) → IfOk r (FindsInMethods aside file) → IfOk r (FindsBy aside file)
+pub walked : {E : Type 0} (aside : ℕ → Bool) (file : FileTree) → list_any (field_outside_profile file) file.fields ≡ false
+    → (r : Result (Option Fault) E) → IfOk r (FindsInMethods aside file) → IfOk r (FindsBy aside file)
 walked aside file fields (Ok None) h = (inside file fields h.0, h.1)
 walked aside file fields (Ok (Some f)) h = h fields
 walked aside file fields (Err e) h = tt
@@ -244,7 +264,8 @@ module _ (files : Program) (file : FileTree) where
   same_special (instrs.Invoke invocations.Special a) = refl
   same_special (instrs.Invoke invocations.Static a) = refl
 
-  same_instruction : (c : CodeTree) (pc : ℕ) (i : Instr) → malformed_instruction_by (names_class_aside files file) file.pool c pc i ≡ malformed_instruction files file c pc i
+  same_instruction : (c : CodeTree) (pc : ℕ) (i : Instr)
+      → malformed_instruction_by (names_class_aside files file) file.pool c pc i ≡ malformed_instruction files file c pc i
   same_instruction c pc i = rw (same_special i) refl
 
   same_code : (m : MethodTree) (c : CodeTree) → malformed_code_by (names_class_aside files file) file m c ≡ malformed_code files file m c
@@ -255,7 +276,8 @@ module _ (files : Program) (file : FileTree) where
   same_file : has_malformed_code_by (names_class_aside files file) file ≡ has_malformed_code files file
   same_file = ap (λ (test : MethodTree → CodeTree → Bool). any_code test file) (fun_ext (λ m. fun_ext (λ c. same_code m c)))
 
-  of_flaw : (flaw : Flaw) (place : Place) → place_stands (names_class_aside files file) file flaw place ≡ true → has_flaw files file flaw ≡ true
+  of_flaw : (flaw : Flaw) (place : Place) → place_stands (names_class_aside files file) file flaw place ≡ true
+      → has_flaw files file flaw ≡ true
   of_flaw OutsideProfile place h = is_outside (names_class_aside files file) file place h
   of_flaw MalformedCode place h = sym same_file ∙ is_malformed (names_class_aside files file) file place h
 
@@ -267,5 +289,6 @@ module _ (files : Program) (file : FileTree) where
   all_so (Ok found) h = finds_so found h
   all_so (Err e) h = tt
 
-  pub finds_all : {E : Type 0} (rows : List Bool) (r : Result (Option Fault) E) → TellsClassAside files file rows → IfOk r (FindsBy (row_of rows) file) → IfOk r (Finds files file)
+  pub finds_all : {E : Type 0} (rows : List Bool) (r : Result (Option Fault) E) → TellsClassAside files file rows
+      → IfOk r (FindsBy (row_of rows) file) → IfOk r (Finds files file)
   finds_all rows r tells h = all_so r (subst (λ (aside : ℕ → Bool). IfOk r (FindsBy aside file)) (fun_ext tells) h)

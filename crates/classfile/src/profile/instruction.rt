@@ -93,7 +93,8 @@ fn flaw_at(
 ) -> Option<Flaw>
     requires described { rows.now ≡ rows_of file.now.pool }
     requires marked { marks.now ≡ starts code.now.code.items }
-    ensures { Says result (instruction_outside_at file.now.pool (code_of code.now) pc) (instruction_malformed_at (row_of aside.now) file.now.pool (code_of code.now) pc) }
+    ensures { Says result (instruction_outside_at file.now.pool (code_of code.now) pc)
+        (instruction_malformed_at (row_of aside.now) file.now.pool (code_of code.now) pc) }
 {
     let instr = decode_at(&code.code, pc)?;
     if is_outside(file, rows, instr) {
@@ -115,7 +116,8 @@ pub(crate) fn first_flaw(
 ) -> Option<(usize, Flaw)>
     requires described { rows.now ≡ rows_of file.now.pool }
     requires marked { marks.now ≡ starts code.now.code.items }
-    ensures { FindsAmong code.now.code.items (instruction_outside_at file.now.pool (code_of code.now)) (instruction_malformed_at (row_of aside.now) file.now.pool (code_of code.now)) result }
+    ensures { FindsAmong code.now.code.items (instruction_outside_at file.now.pool (code_of code.now))
+        (instruction_malformed_at (row_of aside.now) file.now.pool (code_of code.now)) result }
 {
     for (pc, is_start) in marks.iter().enumerate() {
         if *is_start {

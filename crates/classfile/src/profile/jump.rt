@@ -91,7 +91,8 @@ pub(crate) fn has_unsorted_matches(code: &Code, instr: Instr) -> bool
 
 /// Whether a value is not below the next.
 fn pairs_fall(code: &[u8], at: usize, count: usize) -> bool
-    ensures { result ≡ list_any (λ k. not (int_lt (lookup_pair code.now at k).0 (lookup_pair code.now at (suc k)).0)) (count_from 0 (count - 1)) }
+    ensures { result ≡ list_any (λ k. not (int_lt (lookup_pair code.now at k).0 (lookup_pair code.now at (suc k)).0))
+        (count_from 0 (count - 1)) }
 {
     for k in 0..count.saturating_sub(1) {
         let (value, _) = lookup_pair(code, at, k);

@@ -90,7 +90,8 @@ pub fn first_fault(
     file: &ClassFile,
     class_aside: &[bool],
 ) -> Result<Option<Fault>, AllocError>
-    ensures { (files : Program) → TellsClassAside files (file_of file.now) class_aside.now → IfOk result (λ found. Finds files (file_of file.now) found) }
+    ensures { (files : Program) → TellsClassAside files (file_of file.now) class_aside.now
+        → IfOk result (λ found. Finds files (file_of file.now) found) }
 {
     walk(alloc, file, class_aside)
 }

@@ -12,7 +12,9 @@ use Rattle.constant_pool.proofs.descriptors.NameLaws.{is_inside, class_name_insi
 
 -- ---- dimensions
 
-dimensions_more : (t : Bool) (b : ℕ) (bytes : List ℕ) → (b == 91) ≡ t → bytes ≡ replicate (dimensions_of bytes) 91 ++ drop (dimensions_of bytes) bytes → b ∷ bytes ≡ replicate (dimensions_of (b ∷ bytes)) 91 ++ drop (dimensions_of (b ∷ bytes)) (b ∷ bytes)
+dimensions_more : (t : Bool) (b : ℕ) (bytes : List ℕ) → (b == 91) ≡ t
+    → bytes ≡ replicate (dimensions_of bytes) 91 ++ drop (dimensions_of bytes) bytes
+    → b ∷ bytes ≡ replicate (dimensions_of (b ∷ bytes)) 91 ++ drop (dimensions_of (b ∷ bytes)) (b ∷ bytes)
 dimensions_more true b bytes is h = let same : b ≡ 91 = eqb-true b 91 is in rw is (ap (λ (k : ℕ). k ∷ bytes) same ∙ ap (λ (l : List ℕ). 91 ∷ l) h)
 dimensions_more false b bytes is h = rw is refl
 
@@ -31,7 +33,8 @@ pub record IsName (bytes : List ℕ) (n : ℕ) : Type 0 where
 some_is : (m n : ℕ) → ◌≡◌ {A = Option ℕ} (Some m) (Some n) → m ≡ n
 some_is m n e = cc
 
-name_more : (t : Bool) (b : ℕ) (bytes : List ℕ) (r : Option ℕ) (n : ℕ) → (b == 59) ≡ t → name_length bytes ≡ r → ((m : ℕ) → r ≡ Some m → IsName bytes m) → cond t (Some 0) (r >>= λ m. Some (suc m)) ≡ Some n → IsName (b ∷ bytes) n
+name_more : (t : Bool) (b : ℕ) (bytes : List ℕ) (r : Option ℕ) (n : ℕ) → (b == 59) ≡ t → name_length bytes ≡ r
+    → ((m : ℕ) → r ≡ Some m → IsName bytes m) → cond t (Some 0) (r >>= λ m. Some (suc m)) ≡ Some n → IsName (b ∷ bytes) n
 name_more true b bytes r n is e rec eq = subst (IsName (b ∷ bytes)) (some_is 0 n eq) (record { parts = ap (λ (k : ℕ). k ∷ bytes) (eqb-true b 59 is); named = refl; len = refl })
 name_more false b bytes None n is e rec eq = absurd cc
 name_more false b bytes (Some m) n is e rec eq =
@@ -114,12 +117,15 @@ chosen {b = false} on off e = off refl e
 pub none_some : {A G : Type 0} (x : A) → ◌≡◌ {A = Option A} None (Some x) → G
 none_some x e = absurd cc
 
-one_byte : (b n : ℕ) (bytes : List ℕ) (e : ElementType) (x : ElementType × List ℕ) → element e ≡ n ∷ [] → ElementFits e → (b == n) ≡ true → Some (e, bytes) ≡ Some x → TakesElement (b ∷ bytes) x
+one_byte : (b n : ℕ) (bytes : List ℕ) (e : ElementType) (x : ElementType × List ℕ) → element e ≡ n ∷ [] → ElementFits e → (b == n) ≡ true
+    → Some (e, bytes) ≡ Some x → TakesElement (b ∷ bytes) x
 one_byte b n bytes e x spelled fits is eq =
     let first : b ∷ bytes ≡ n ∷ bytes = ap (λ (k : ℕ). k ∷ bytes) (eqb-true b n is) in
     subst (TakesElement (b ∷ bytes)) (given_is (e, bytes) x eq) (record { parts = first ∙ ap (λ (l : List ℕ). l ++ bytes) (sym spelled); fits = fits })
 
-object_takes : (b : ℕ) (bytes : List ℕ) (r : Option ℕ) (x : ElementType × List ℕ) → (b == 76) ≡ true → name_length bytes ≡ r → ◌>>=◌ {B = ElementType × List ℕ} r (λ n. cond (is_class_name (take n bytes)) (Some (Object (take n bytes), drop (n + 1) bytes)) None) ≡ Some x → TakesElement (b ∷ bytes) x
+object_takes : (b : ℕ) (bytes : List ℕ) (r : Option ℕ) (x : ElementType × List ℕ) → (b == 76) ≡ true → name_length bytes ≡ r
+    → ◌>>=◌ {B = ElementType × List ℕ} r (λ n. cond (is_class_name (take n bytes)) (Some (Object (take n bytes), drop (n + 1) bytes)) None)
+    ≡ Some x → TakesElement (b ∷ bytes) x
 object_takes b bytes None x is named eq = absurd cc
 object_takes b bytes (Some n) x is named eq =
     chosen (λ name found.
@@ -144,8 +150,10 @@ element_takes (b ∷ bytes) x =
     chosen (one_byte b 90 bytes Boolean x refl tt) (λ _.
     chosen (λ is. object_takes b bytes (name_length bytes) x is refl) (λ _ out. none_some {G = TakesElement (b ∷ bytes) x} x out)))))))))
 
-field_made : (bytes : List ℕ) (r : Option (ElementType × List ℕ)) (x : FieldType × List ℕ) → dimensions_of bytes ≤ 255 → element_at (drop (dimensions_of bytes) bytes) ≡ r
-    → ◌>>=◌ {B = FieldType × List ℕ} r (λ e. Some (record { dimensions = dimensions_of bytes; element = e.0 }, e.1)) ≡ Some x → (bytes ≡ field x.0 ++ x.1) × FieldTypeFits x.0
+field_made : (bytes : List ℕ) (r : Option (ElementType × List ℕ)) (x : FieldType × List ℕ) → dimensions_of bytes ≤ 255
+    → element_at (drop (dimensions_of bytes) bytes) ≡ r
+    → ◌>>=◌ {B = FieldType × List ℕ} r (λ e. Some (record { dimensions = dimensions_of bytes; element = e.0 }, e.1)) ≡ Some x
+    → (bytes ≡ field x.0 ++ x.1) × FieldTypeFits x.0
 field_made bytes None x few read eq = absurd cc
 field_made bytes (Some e) x few read eq =
     let h = element_takes (drop (dimensions_of bytes) bytes) e read in
@@ -160,7 +168,8 @@ field_takes bytes x =
 
 -- ---- the whole text
 
-parse_made : (bytes : List ℕ) (r : Option (FieldType × List ℕ)) (f : FieldType) → field_at bytes ≡ r → ◌>>=◌ {B = FieldType} r (λ x. cond (eqb (length x.1) 0) (Some x.0) None) ≡ Some f → IsField bytes f
+parse_made : (bytes : List ℕ) (r : Option (FieldType × List ℕ)) (f : FieldType) → field_at bytes ≡ r
+    → ◌>>=◌ {B = FieldType} r (λ x. cond (eqb (length x.1) 0) (Some x.0) None) ≡ Some f → IsField bytes f
 parse_made bytes None f read = λ e. absurd cc
 parse_made bytes (Some x) f read =
     let h = field_takes bytes x read in
@@ -179,10 +188,12 @@ parse_again bytes f h =
 
 -- ---- what parsing promises, from what reading gives
 
-pub found_of : {X : Type 0} (view : X → FieldType) (text : List ℕ) (r : Option X) → Gives view r (field_type text) → IfSome r (λ x. IsField text (view x))
+pub found_of : {X : Type 0} (view : X → FieldType) (text : List ℕ) (r : Option X) → Gives view r (field_type text)
+    → IfSome r (λ x. IsField text (view x))
 found_of view text (Some x) h = parse_takes text (view x) h
 found_of view text None h = tt
 
-pub only_of : {X : Type 0} (view : X → FieldType) (text : List ℕ) (r : Option X) → Gives view r (field_type text) → (f : FieldType) → IsField text f → IsSomeAnd r (λ x. view x ≡ f)
+pub only_of : {X : Type 0} (view : X → FieldType) (text : List ℕ) (r : Option X) → Gives view r (field_type text) → (f : FieldType)
+    → IsField text f → IsSomeAnd r (λ x. view x ≡ f)
 only_of view text (Some x) h f is = given_is (view x) f (sym h ∙ parse_again text f is)
 only_of view text None h f is = none_some f (sym h ∙ parse_again text f is)

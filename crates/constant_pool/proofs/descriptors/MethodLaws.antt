@@ -28,12 +28,15 @@ abbrev pub behind : List FieldType → Option (List FieldType × List ℕ) → O
 behind front None = None
 behind front (Some p) = Some (front ++ p.0, p.1)
 
-behind_more : (front : List FieldType) (f : FieldType) (q : Option (List FieldType × List ℕ)) → behind (front ++ f ∷ []) q ≡ behind front (◌>>=◌ {B = List FieldType × List ℕ} q (λ o. Some (f ∷ o.0, o.1)))
+behind_more : (front : List FieldType) (f : FieldType) (q : Option (List FieldType × List ℕ))
+    → behind (front ++ f ∷ []) q ≡ behind front (◌>>=◌ {B = List FieldType × List ℕ} q (λ o. Some (f ∷ o.0, o.1)))
 behind_more front f None = refl
 behind_more front f (Some p) = ap (λ (l : List FieldType). given (l, p.1)) (append_assoc front (f ∷ []) p.0)
 
 -- one type is read, and the others follow
-pub behind_step : (front : List FieldType) (left less : ℕ) (bytes : List ℕ) (f : FieldType) (after : List ℕ) (whole : Option (List FieldType × List ℕ)) → left ≡ suc less → 0 < length bytes → (get_or bytes 0 0 ≡ 41 → ⊥) → field_at bytes ≡ Some (f, after)
+pub behind_step : (front : List FieldType) (left less : ℕ) (bytes : List ℕ) (f : FieldType) (after : List ℕ)
+    (whole : Option (List FieldType × List ℕ)) → left ≡ suc less → 0 < length bytes → (get_or bytes 0 0 ≡ 41 → ⊥)
+    → field_at bytes ≡ Some (f, after)
     → behind front (parameters_at left bytes) ≡ whole → behind (front ++ f ∷ []) (parameters_at less after) ≡ whole
 unfolding parameters_at
 behind_step front left less [] f after whole is some goes_on read h = absurd (omega (arith, some))
@@ -47,13 +50,17 @@ behind_step front left less (b ∷ bytes) f after whole is some goes_on read h =
 counted : Option (List FieldType × List ℕ) → Option (ℕ × List ℕ)
 counted read = ◌>>=◌ {B = ℕ × List ℕ} read (λ p. Some (sum_by slots p.0, p.1))
 
-counted_more : (f : FieldType) (q : Option (List FieldType × List ℕ)) → ◌>>=◌ {B = ℕ × List ℕ} (counted q) (λ o. Some (slots f + o.0, o.1)) ≡ counted (◌>>=◌ {B = List FieldType × List ℕ} q (λ o. Some (f ∷ o.0, o.1)))
+counted_more : (f : FieldType) (q : Option (List FieldType × List ℕ))
+    → ◌>>=◌ {B = ℕ × List ℕ} (counted q) (λ o. Some (slots f + o.0, o.1))
+    ≡ counted (◌>>=◌ {B = List FieldType × List ℕ} q (λ o. Some (f ∷ o.0, o.1)))
 unfolding counted
 counted_more f None = refl
 counted_more f (Some p) = ap (λ (n : ℕ). Some (n, p.1)) (sym (sum_by-cons slots f p.0))
 
-slots_more : (t : Bool) (bytes : List ℕ) (r : Option (FieldType × List ℕ)) (n : ℕ) → ((rest : List ℕ) → slots_at n rest ≡ counted (parameters_at n rest))
-    → cond t (Some (0, bytes)) (◌>>=◌ {B = ℕ × List ℕ} r (λ f. slots_at n f.1 >>= λ o. Some (slots f.0 + o.0, o.1))) ≡ counted (cond t (Some ([], bytes)) (◌>>=◌ {B = List FieldType × List ℕ} r (λ f. parameters_at n f.1 >>= λ o. Some (f.0 ∷ o.0, o.1))))
+slots_more : (t : Bool) (bytes : List ℕ) (r : Option (FieldType × List ℕ)) (n : ℕ)
+    → ((rest : List ℕ) → slots_at n rest ≡ counted (parameters_at n rest))
+    → cond t (Some (0, bytes)) (◌>>=◌ {B = ℕ × List ℕ} r (λ f. slots_at n f.1 >>= λ o. Some (slots f.0 + o.0, o.1)))
+    ≡ counted (cond t (Some ([], bytes)) (◌>>=◌ {B = List FieldType × List ℕ} r (λ f. parameters_at n f.1 >>= λ o. Some (f.0 ∷ o.0, o.1))))
 unfolding counted
 slots_more true bytes r n rec = refl
 slots_more false bytes None n rec = refl
@@ -76,11 +83,13 @@ slots_are (suc n) (b ∷ bytes) = slots_more (eqb b 41) bytes (field_at (b ∷ b
 TakesParameters : List ℕ → List FieldType × List ℕ → Type 0
 TakesParameters bytes x = (bytes ≡ flat_map field x.0 ++ (41 ∷ x.1)) × AllByRecursion FieldTypeFits x.0
 
-no_more : (b : ℕ) (bytes : List ℕ) (x : List FieldType × List ℕ) → eqb b 41 ≡ true → Some ([], bytes) ≡ Some x → TakesParameters (b ∷ bytes) x
+no_more : (b : ℕ) (bytes : List ℕ) (x : List FieldType × List ℕ) → eqb b 41 ≡ true → Some ([], bytes) ≡ Some x
+    → TakesParameters (b ∷ bytes) x
 unfolding TakesParameters
 no_more b bytes x is e = subst (λ (y : List FieldType × List ℕ). (b ∷ bytes ≡ flat_map field y.0 ++ (41 ∷ y.1)) × AllByRecursion FieldTypeFits y.0) (some_is ([], bytes) x e) (ap (λ (k : ℕ). k ∷ bytes) (eqb-true b 41 is), tt)
 
-one_more : (bytes : List ℕ) (f : FieldType × List ℕ) (p : List FieldType × List ℕ) (x : List FieldType × List ℕ) → field_at bytes ≡ Some f → TakesParameters f.1 p → Some (f.0 ∷ p.0, p.1) ≡ Some x → TakesParameters bytes x
+one_more : (bytes : List ℕ) (f : FieldType × List ℕ) (p : List FieldType × List ℕ) (x : List FieldType × List ℕ) → field_at bytes ≡ Some f
+    → TakesParameters f.1 p → Some (f.0 ∷ p.0, p.1) ≡ Some x → TakesParameters bytes x
 unfolding TakesParameters
 one_more bytes f p x read h e =
     let t = field_takes bytes f read in
@@ -121,7 +130,8 @@ begins_at (suc n) e tail = record { first = 91; rest = (replicate n 91 ++ elemen
 begins : (f : FieldType) (tail : List ℕ) → Begins (field f ++ tail)
 begins f tail = begins_at f.dimensions f.element tail
 
-parameters_step : (n : ℕ) (bytes : List ℕ) → Begins bytes → parameters_at (suc n) bytes ≡ (field_at bytes >>= λ f. parameters_at n f.1 >>= λ o. given (f.0 ∷ o.0, o.1))
+parameters_step : (n : ℕ) (bytes : List ℕ) → Begins bytes
+    → parameters_at (suc n) bytes ≡ (field_at bytes >>= λ f. parameters_at n f.1 >>= λ o. given (f.0 ∷ o.0, o.1))
 unfolding parameters_at
 parameters_step n bytes h =
     subst (λ (l : List ℕ). parameters_at (suc n) l ≡ (field_at l >>= λ f. parameters_at n f.1 >>= λ o. given (f.0 ∷ o.0, o.1))) (sym h.is) (rw h.goes_on refl)
@@ -131,7 +141,8 @@ unfolding parameters_at
 parameters_none zero rest = refl
 parameters_none (suc n) rest = refl
 
-parameters_again : (n : ℕ) (ps : List FieldType) (rest : List ℕ) → length ps ≤ n → AllByRecursion FieldTypeFits ps → parameters_at n (flat_map field ps ++ (41 ∷ rest)) ≡ Some (ps, rest)
+parameters_again : (n : ℕ) (ps : List FieldType) (rest : List ℕ) → length ps ≤ n → AllByRecursion FieldTypeFits ps
+    → parameters_at n (flat_map field ps ++ (41 ∷ rest)) ≡ Some (ps, rest)
 parameters_again n [] rest few fits = parameters_none n rest
 parameters_again zero (f ∷ ps) rest few fits = absurd (omega (arith, few))
 parameters_again (suc n) (f ∷ ps) rest few fits =
@@ -217,12 +228,16 @@ slots_made : (t : Bool) (m : MethodType) → cond t (Some (parameter_slots m)) N
 slots_made true m = refl
 slots_made false m = refl
 
-slots_of : (p : List FieldType × List ℕ) (r : Option (Option FieldType)) → cond (is_some r && leb (sum_by slots p.0) 255) (given (sum_by slots p.0)) None ≡ option_map parameter_slots (r >>= λ x. cond (leb (sum_by slots p.0) 255) (given (record { parameters = p.0; returns = x })) None)
+slots_of : (p : List FieldType × List ℕ) (r : Option (Option FieldType))
+    → cond (is_some r && leb (sum_by slots p.0) 255) (given (sum_by slots p.0)) None
+    ≡ option_map parameter_slots (r >>= λ x. cond (leb (sum_by slots p.0) 255) (given (record { parameters = p.0; returns = x })) None)
 slots_of p None = refl
 slots_of p (Some r) = slots_made (leb (sum_by slots p.0) 255) (record { parameters = p.0; returns = r })
 
-scan_of : (t : Bool) (q : Option (List FieldType × List ℕ)) → cond t (counted q >>= λ p. cond (is_some (return_type p.1) && leb p.0 255) (given p.0) None) None
-    ≡ option_map parameter_slots (cond t (q >>= λ p. return_type p.1 >>= λ r. cond (leb (sum_by slots p.0) 255) (given (record { parameters = p.0; returns = r })) None) None)
+scan_of : (t : Bool) (q : Option (List FieldType × List ℕ))
+    → cond t (counted q >>= λ p. cond (is_some (return_type p.1) && leb p.0 255) (given p.0) None) None
+    ≡ option_map parameter_slots (cond t (q >>= λ p. return_type p.1
+    >>= λ r. cond (leb (sum_by slots p.0) 255) (given (record { parameters = p.0; returns = r })) None) None)
 unfolding counted
 scan_of false q = refl
 scan_of true None = refl
@@ -233,12 +248,14 @@ unfolding scan method_type
 scan_is [] = refl
 scan_is (b ∷ bytes) = rw (slots_are 255 bytes) (scan_of (eqb b 40) (parameters_at 255 bytes))
 
-slots_found : (text : List ℕ) (r : Option ℕ) (q : Option MethodType) → method_type text ≡ q → r ≡ option_map parameter_slots q → IfSome r (λ n. (m : MethodType) × (IsMethod text m × (parameter_slots m ≡ n)))
+slots_found : (text : List ℕ) (r : Option ℕ) (q : Option MethodType) → method_type text ≡ q → r ≡ option_map parameter_slots q
+    → IfSome r (λ n. (m : MethodType) × (IsMethod text m × (parameter_slots m ≡ n)))
 slots_found text None q is h = tt
 slots_found text (Some n) None is h = absurd cc
 slots_found text (Some n) (Some m) is h = (m, (method_takes text m is, sym (some_is n (parameter_slots m) h)))
 
-pub found_slots : (text : List ℕ) (r : Option ℕ) → r ≡ scan text → IfSome r (λ n. (m : MethodType) × (IsMethod text m × (parameter_slots m ≡ n)))
+pub found_slots : (text : List ℕ) (r : Option ℕ) → r ≡ scan text
+    → IfSome r (λ n. (m : MethodType) × (IsMethod text m × (parameter_slots m ≡ n)))
 found_slots text r h = slots_found text r (method_type text) refl (h ∙ scan_is text)
 
 pub only_slots : (text : List ℕ) (r : Option ℕ) → r ≡ scan text → (m : MethodType) → IsMethod text m → r ≡ Some (parameter_slots m)

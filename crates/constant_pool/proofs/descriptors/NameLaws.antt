@@ -37,13 +37,15 @@ names_some : (text : List ℕ) → 0 < length (names_of text)
 names_some [] = omega arith
 names_some (b ∷ bytes) = choose_some (eqb b 47) ([] ∷ names_of bytes) (with_first b (names_of bytes)) (omega arith) (with_first_some b (names_of bytes))
 
-opened_first : (begun : Bool) (b : ℕ) (names : List (List ℕ)) → 0 < length names → opened begun (with_first b names) ≡ (is_name_byte b && opened true names)
+opened_first : (begun : Bool) (b : ℕ) (names : List (List ℕ)) → 0 < length names
+    → opened begun (with_first b names) ≡ (is_name_byte b && opened true names)
 unfolding opened
 opened_first begun b [] some = absurd (omega arith)
 opened_first begun b (name ∷ names) some =
     rw (some_bytes b name, or-true begun) (and_assoc (is_name_byte b) (list_all is_name_byte name) (list_all is_unqualified names))
 
-joined_more : (t : Bool) (begun : Bool) (b : ℕ) (names : List (List ℕ)) (before after : Bool) → 0 < length names → before ≡ opened false names → after ≡ opened true names
+joined_more : (t : Bool) (begun : Bool) (b : ℕ) (names : List (List ℕ)) (before after : Bool) → 0 < length names
+    → before ≡ opened false names → after ≡ opened true names
     → cond t (begun && before) (is_name_byte b && after) ≡ opened begun (cond t ([] ∷ names) (with_first b names))
 unfolding opened
 joined_more true begun b names before after some is then = rw (is, opened_all names some, or-false begun) refl
@@ -86,7 +88,8 @@ first_byte b (name ∷ names) h =
     let l = and_parts (is_name_byte b) (list_all is_name_byte name) k.0 in
     (l.0, rw (l.1, k.1) refl)
 
-inside_more : (t : Bool) (b : ℕ) (names : List (List ℕ)) (inside : Bool) → eqb b 47 ≡ t → (name_bytes names ≡ true → inside ≡ true) → name_bytes (cond t ([] ∷ names) (with_first b names)) ≡ true → (is_inside b && inside) ≡ true
+inside_more : (t : Bool) (b : ℕ) (names : List (List ℕ)) (inside : Bool) → eqb b 47 ≡ t → (name_bytes names ≡ true → inside ≡ true)
+    → name_bytes (cond t ([] ∷ names) (with_first b names)) ≡ true → (is_inside b && inside) ≡ true
 unfolding name_bytes
 inside_more true b names inside is rest h = rw (slash_inside b is, rest h) refl
 inside_more false b names inside is rest h = let k = first_byte b names h in rw (inside_byte b k.0, rest k.1) refl

@@ -120,11 +120,13 @@ moved_ok : {A : Type 0} (at : ℕ) (r : Result A Malformed) (x : A) → moved at
 moved_ok at (Ok y) x e = e
 moved_ok at (Err f) x e = absurd cc
 
-moved_err : {A : Type 0} (at : ℕ) (r : Result A Malformed) (f : Malformed) → moved at r ≡ Err f → (d : Malformed) × (r ≡ Err d) × (d.cause ≡ f.cause)
+moved_err : {A : Type 0} (at : ℕ) (r : Result A Malformed) (f : Malformed) → moved at r ≡ Err f
+    → (d : Malformed) × (r ≡ Err d) × (d.cause ≡ f.cause)
 moved_err at (Ok y) f e = absurd cc
 moved_err {A = A} at (Err d) f e = (d, refl, ap (λ (m : Malformed). m.cause) (err_is {B = A} (record { cause = d.cause; offset = at }) f e))
 
-pub whole_laws : {A : Type 0} {read : Input → Read A} {text : A → List ℕ} {Fits : A → Type 0} → Laws read text Fits → Laws (whole_at read) text Fits
+pub whole_laws : {A : Type 0} {read : Input → Read A} {text : A → List ℕ} {Fits : A → Type 0} → Laws read text Fits
+    → Laws (whole_at read) text Fits
 unfolding whole_at
 whole_laws {A = A} {read = read} laws = record {
   takes = λ i x j small e. laws.takes i x j small (moved_ok i.at (read i) (x, j) e);
@@ -158,13 +160,15 @@ inner_field_cause causes.Duplicate h = h
 inner_field_cause causes.OutOfMemory h = h
 inner_field_cause causes.Code h = h
 
-filled_err : {A : Type 0} (at : ℕ) (r : Read A) (f : Malformed) → ((d : Malformed) → r ≡ Err d → IsTrue (is_field_cause d.cause)) → filled at r ≡ Err f → IsTrue (is_field_cause f.cause)
+filled_err : {A : Type 0} (at : ℕ) (r : Read A) (f : Malformed) → ((d : Malformed) → r ≡ Err d → IsTrue (is_field_cause d.cause))
+    → filled at r ≡ Err f → IsTrue (is_field_cause f.cause)
 unfolding filled
 filled_err at (Ok y) f h e = guard_unpassed (eqb (length y.1.rest) 0) (record { cause = causes.Attribute; offset = at }) f y.0 refl e
 filled_err {A = A} at (Err d) f h e = subst (λ (m : Malformed). IsTrue (is_field_cause m.cause)) (err_is {B = A} (record { cause = inner_cause d.cause; offset = d.offset }) f e) (inner_field_cause d.cause (h d refl))
 
 inner_laws : {A : Type 0} {read : Input → Read A} {text : A → List ℕ} {Fits : A → Type 0} → Laws read text Fits
-    → (at n : ℕ) → Laws (λ i. inner_at n i >>= λ inner. filled at (read inner.0) >>= λ x. Ok (x, inner.1)) text (λ x. (length (text x) ≡ n) × Fits x)
+    → (at n : ℕ) → Laws (λ i. inner_at n i >>= λ inner. filled at (read inner.0) >>= λ x. Ok (x, inner.1)) text (λ x. (length (text x) ≡ n)
+    × Fits x)
 unfolding filled
 inner_laws {A = A} {read = read} {text = text} {Fits = Fits} laws place n = record {
   takes = λ i x j small e.

@@ -23,7 +23,8 @@ IsBytes-take n bytes h i =
     ]
 
 -- the value of a step that did not fail
-pub bind_ok : {A B : Type 0} (r : Result A Malformed) (f : A → Result B Malformed) (y : B) → (r >>= f) ≡ Ok y → (x : A) × (r ≡ Ok x) × (f x ≡ Ok y)
+pub bind_ok : {A B : Type 0} (r : Result A Malformed) (f : A → Result B Malformed) (y : B) → (r >>= f) ≡ Ok y
+    → (x : A) × (r ≡ Ok x) × (f x ≡ Ok y)
 bind_ok (Ok x) f y e = (x, refl, e)
 bind_ok (Err d) f y e = absurd cc
 
@@ -56,11 +57,13 @@ pub never_stops : {A : Type 0} (x : A) (f : Malformed) → done x ≡ Err f → 
 never_stops x f e = absurd cc
 
 -- a fault that is there by a test
-pub guard_err : {A : Type 0} (b : Bool) (d f : Malformed) (x : A) → IsTrue (is_field_cause d.cause) → cond b (failed d) (done x) ≡ Err f → IsTrue (is_field_cause f.cause)
+pub guard_err : {A : Type 0} (b : Bool) (d f : Malformed) (x : A) → IsTrue (is_field_cause d.cause) → cond b (failed d) (done x) ≡ Err f
+    → IsTrue (is_field_cause f.cause)
 guard_err {A = A} true d f x h e = subst (λ (m : Malformed). IsTrue (is_field_cause m.cause)) (err_is {B = A} d f e) h
 guard_err false d f x h e = absurd cc
 
-pub guard_unpassed : {A : Type 0} (b : Bool) (d f : Malformed) (x : A) → IsTrue (is_field_cause d.cause) → cond b (done x) (failed d) ≡ Err f → IsTrue (is_field_cause f.cause)
+pub guard_unpassed : {A : Type 0} (b : Bool) (d f : Malformed) (x : A) → IsTrue (is_field_cause d.cause)
+    → cond b (done x) (failed d) ≡ Err f → IsTrue (is_field_cause f.cause)
 guard_unpassed true d f x h e = absurd cc
 guard_unpassed {A = A} false d f x h e = subst (λ (m : Malformed). IsTrue (is_field_cause m.cause)) (err_is {B = A} d f e) h
 
@@ -81,7 +84,8 @@ pub Takes-nothing : (i : Input) → IsBytes i.rest → Takes i [] i
 Takes-nothing i small = record { parts = refl; at = omega arith; rest_fits = small }
 
 -- a step that failed
-pub bind_err : {A B : Type 0} (r : Result A Malformed) (f : A → Result B Malformed) (d : Malformed) → (r >>= f) ≡ Err d → (r ≡ Err d) ⊎ ((x : A) × (r ≡ Ok x) × (f x ≡ Err d))
+pub bind_err : {A B : Type 0} (r : Result A Malformed) (f : A → Result B Malformed) (d : Malformed) → (r >>= f) ≡ Err d
+    → (r ≡ Err d) ⊎ ((x : A) × (r ≡ Ok x) × (f x ≡ Err d))
 bind_err (Ok x) f d e = inr (x, refl, e)
 bind_err {B = B} (Err c) f d e = inl (ap failed (err_is {B = B} c d e))
 
@@ -92,7 +96,8 @@ pub record Laws {A : Type 0} (read : Input → Read A) (text : A → List ℕ) (
   pub stops : (i : Input) (f : Malformed) → IsBytes i.rest → read i ≡ Err f → IsTrue (is_field_cause f.cause)
 
 -- the same laws, with another word for what fits
-pub fits : {A : Type 0} {read : Input → Read A} {text : A → List ℕ} {F G : A → Type 0} → Laws read text F → ((x : A) → F x → G x) → ((x : A) → G x → F x) → Laws read text G
+pub fits : {A : Type 0} {read : Input → Read A} {text : A → List ℕ} {F G : A → Type 0} → Laws read text F → ((x : A) → F x → G x)
+    → ((x : A) → G x → F x) → Laws read text G
 fits laws there back = record {
   takes = λ i x j small e. (let t = laws.takes i x j small e in (t.0, there x t.1));
   again = λ at x rest f. laws.again at x rest (back x f);
@@ -100,7 +105,8 @@ fits laws there back = record {
 }
 
 -- what is read may depend on where it begins
-pub placed_laws : {A : Type 0} {text : A → List ℕ} {Fits : A → Type 0} (read : ℕ → Input → Read A) → ((at : ℕ) → Laws (read at) text Fits) → Laws (λ i. read i.at i) text Fits
+pub placed_laws : {A : Type 0} {text : A → List ℕ} {Fits : A → Type 0} (read : ℕ → Input → Read A) → ((at : ℕ) → Laws (read at) text Fits)
+    → Laws (λ i. read i.at i) text Fits
 placed_laws read laws = record {
   takes = λ i. (laws i.at).takes i;
   again = λ at. (laws at).again at;
@@ -108,7 +114,8 @@ placed_laws read laws = record {
 }
 
 -- a value made of one that is read
-pub last : {A B : Type 0} {read : Input → Read A} {text : A → List ℕ} {Fits : A → Type 0} (make : A → B) (part : B → A) → ((a : A) → part (make a) ≡ a) → Laws read text Fits
+pub last : {A B : Type 0} {read : Input → Read A} {text : A → List ℕ} {Fits : A → Type 0} (make : A → B) (part : B → A)
+    → ((a : A) → part (make a) ≡ a) → Laws read text Fits
     → Laws (λ i. read i >>= λ x. Ok (make x.0, x.1)) (λ b. text (part b)) (λ b. Fits (part b) × (make (part b) ≡ b))
 last {A = A} {B = B} {read = read} {text = text} {Fits = Fits} make part back laws = record {
   takes = λ i b j small e.
@@ -122,7 +129,8 @@ last {A = A} {B = B} {read = read} {text = text} {Fits = Fits} make part back la
 }
 
 -- a variant made of a value that is read
-pub made : {A B : Type 0} {read : Input → Read A} {text : A → List ℕ} {Fits : A → Type 0} (make : A → B) (body : B → List ℕ) → ((a : A) → body (make a) ≡ text a) → Laws read text Fits
+pub made : {A B : Type 0} {read : Input → Read A} {text : A → List ℕ} {Fits : A → Type 0} (make : A → B) (body : B → List ℕ)
+    → ((a : A) → body (make a) ≡ text a) → Laws read text Fits
     → Laws (λ i. read i >>= λ x. Ok (make x.0, x.1)) body (λ b. (a : A) × (Fits a × (make a ≡ b)))
 made {A = A} {B = B} {read = read} {text = text} {Fits = Fits} make body is laws = record {
   takes = λ i b j small e.
@@ -137,13 +145,16 @@ made {A = A} {B = B} {read = read} {text = text} {Fits = Fits} make body is laws
 }
 
 -- one of two readers, by a test
-pub either_laws : {A : Type 0} {yes no : Input → Read A} {text : A → List ℕ} {F G : A → Type 0} (b : Bool) → Laws yes text F → Laws no text G → Laws (λ i. cond b (yes i) (no i)) text (λ x. MatchBool b (F x) (G x))
+pub either_laws : {A : Type 0} {yes no : Input → Read A} {text : A → List ℕ} {F G : A → Type 0} (b : Bool) → Laws yes text F
+    → Laws no text G → Laws (λ i. cond b (yes i) (no i)) text (λ x. MatchBool b (F x) (G x))
 either_laws true l m = l
 either_laws false l m = m
 
 -- a field, and then the others, which may depend on it
-pub then : {A B : Type 0} {read : Input → Read A} {text : A → List ℕ} {Fits : A → Type 0} {others : B → List ℕ} {Rest : A → B → Type 0} (next : A × Input → Read B) (first : B → A)
-    → Laws read text Fits → ((a : A) → Fits a → Laws (λ j. next (a, j)) others (Rest a)) → ((a : A) (b : B) → Fits a → Rest a b → first b ≡ a)
+pub then : {A B : Type 0} {read : Input → Read A} {text : A → List ℕ} {Fits : A → Type 0} {others : B → List ℕ} {Rest : A → B → Type 0}
+    (next : A × Input → Read B) (first : B → A)
+    → Laws read text Fits → ((a : A) → Fits a → Laws (λ j. next (a, j)) others (Rest a))
+    → ((a : A) (b : B) → Fits a → Rest a b → first b ≡ a)
     → Laws (λ i. read i >>= next) (λ b. text (first b) ++ others b) (λ b. Fits (first b) × Rest (first b) b)
 then {A = A} {B = B} {read = read} {text = text} {Fits = Fits} {others = others} {Rest = Rest} next first laws others_laws same = record {
   takes = λ i b j small e.
@@ -161,7 +172,8 @@ then {A = A} {B = B} {read = read} {text = text} {Fits = Fits} {others = others}
 }
 
 -- a value that passes a test
-pub tested_laws : {A : Type 0} {read : Input → Read A} {text : A → List ℕ} {Fits : A → Type 0} (test : A → Bool) (cause : Cause) → IsTrue (is_field_cause cause) → Laws read text Fits
+pub tested_laws : {A : Type 0} {read : Input → Read A} {text : A → List ℕ} {Fits : A → Type 0} (test : A → Bool) (cause : Cause)
+    → IsTrue (is_field_cause cause) → Laws read text Fits
     → Laws (tested test cause read) text (λ x. Fits x × IsTrue (test x))
 tested_laws {A = A} {read = read} {text = text} {Fits = Fits} test cause is laws = record {
   takes = λ i x j small e.
@@ -178,7 +190,8 @@ tested_laws {A = A} {read = read} {text = text} {Fits = Fits} test cause is laws
 
 -- one after the other
 times_take : {A : Type 0} {read : Input → Read A} {text : A → List ℕ} {Fits : A → Type 0} → Laws read text Fits
-    → (n : ℕ) (i : Input) (x : List A) (j : Input) → IsBytes i.rest → times_at read n i ≡ Ok (x, j) → Takes i (flat_map text x) j × ((length x ≡ n) × AllByRecursion Fits x)
+    → (n : ℕ) (i : Input) (x : List A) (j : Input) → IsBytes i.rest → times_at read n i ≡ Ok (x, j)
+    → Takes i (flat_map text x) j × ((length x ≡ n) × AllByRecursion Fits x)
 unfolding times_at
 times_take {A = A} {text = text} {Fits = Fits} laws zero i x j small e =
     subst (λ (y : List A × Input). Takes i (flat_map text y.0) y.1 × ((length y.0 ≡ 0) × AllByRecursion Fits y.0)) (ok_is ([], i) (x, j) e) (Takes-nothing i small, (refl, tt))
@@ -204,7 +217,8 @@ times_stop {A = A} {read = read} laws (suc n) i f small e =
     ]
 
 times_again : {A : Type 0} {read : Input → Read A} {text : A → List ℕ} {Fits : A → Type 0} → Laws read text Fits
-    → (at : ℕ) (x : List A) (rest : List ℕ) → AllByRecursion Fits x → times_at read (length x) (at_place at (flat_map text x ++ rest)) ≡ Ok (x, at_place (at + length (flat_map text x)) rest)
+    → (at : ℕ) (x : List A) (rest : List ℕ) → AllByRecursion Fits x
+    → times_at read (length x) (at_place at (flat_map text x ++ rest)) ≡ Ok (x, at_place (at + length (flat_map text x)) rest)
 unfolding times_at
 times_again laws at [] rest f = rw add-zero refl
 times_again {read = read} {text = text} laws at (x ∷ xs) rest f =

@@ -19,7 +19,8 @@ use Rattle.heap.specs.declared.monitor.refusal.Refusal.TheVariants.{LockCount}
 use Rattle.heap.specs.monitor.Words.{monitor_of, monitors_of, is_fat_lock, is_fat_word, lock_at, AreSound, locks_of}
 use Rattle.heap.proofs.monitor.Sound.{monitor_at-monitors_of, is_fat_at-map, count_by-map, locks_thin, locks_record, locks_inflated, sound_inflated}
 
-pub answered_is : (call : Call) (ms : List Monitor) → answered call ms ≡ with_answered (object_of call) ms (answered_by call (monitor_at ms (object_of call)))
+pub answered_is : (call : Call) (ms : List Monitor)
+    → answered call ms ≡ with_answered (object_of call) ms (answered_by call (monitor_at ms (object_of call)))
 answered_is (Enter object thread) ms = refl
 answered_is (Exit object thread) ms = refl
 answered_is (Wait object thread) ms = refl
@@ -33,13 +34,16 @@ answered_is (Relock object thread count) ms = refl
 abbrev pub named : Call → List Monitor → List Word → Monitor
 named call t ws = monitor_of t (lock_at ws (object_of call))
 
-pub inflates_is : (call : Call) (t : List Monitor) (ws : List Word) (n : ℕ) → object_of call < length ws → inflates_in call (locks_of t ws n) ≡ inflates call (named call t ws)
+pub inflates_is : (call : Call) (t : List Monitor) (ws : List Word) (n : ℕ) → object_of call < length ws
+    → inflates_in call (locks_of t ws n) ≡ inflates call (named call t ws)
 inflates_is call t ws n h = ap (inflates call) (monitor_at-monitors_of t ws (object_of call) h)
 
-pub full_is : (call : Call) (t : List Monitor) (ws : List Word) (n : ℕ) → object_of call < length ws → is_count_full call (locks_of t ws n) ≡ is_count_full_by call (named call t ws)
+pub full_is : (call : Call) (t : List Monitor) (ws : List Word) (n : ℕ) → object_of call < length ws
+    → is_count_full call (locks_of t ws n) ≡ is_count_full_by call (named call t ws)
 full_is call t ws n h = ap (is_count_full_by call) (monitor_at-monitors_of t ws (object_of call) h)
 
-pub answers_is : (call : Call) (t : List Monitor) (ws : List Word) → object_of call < length ws → answered call (monitors_of t ws) ≡ with_answered (object_of call) (monitors_of t ws) (answered_by call (named call t ws))
+pub answers_is : (call : Call) (t : List Monitor) (ws : List Word) → object_of call < length ws
+    → answered call (monitors_of t ws) ≡ with_answered (object_of call) (monitors_of t ws) (answered_by call (named call t ws))
 answers_is call t ws h =
     answered_is call (monitors_of t ws) ∙ ap (λ (m : Monitor). with_answered (object_of call) (monitors_of t ws) (answered_by call m)) (monitor_at-monitors_of t ws (object_of call) h)
 
@@ -86,7 +90,8 @@ pub nat_le-false : (a b : ℕ) → b < a → nat_le a b ≡ false
 nat_le-false a b h = grind (arith, nat_tests)
 
 pub table_full : (call : Call) (t : List Monitor) (ws : List Word) (n : ℕ)
-    → AreSound t ws n → object_of call < length ws → is_fat_lock (lock_at ws (object_of call)) ≡ false → inflates call (named call t ws) ≡ true → n ≤ length t
+    → AreSound t ws n → object_of call < length ws → is_fat_lock (lock_at ws (object_of call)) ≡ false
+    → inflates call (named call t ws) ≡ true → n ≤ length t
     → is_table_full call (locks_of t ws n) ≡ true
 table_full call t ws n s h was joins full =
     all_three (inflates_in call (locks_of t ws n)) (is_fat_at (locks_of t ws n) (object_of call)) (nat_le n (fat_count (locks_of t ws n)))
@@ -109,19 +114,25 @@ abbrev pub MonitorKept : MonitorAnswer → Monitor → Monitor → Type 0
 MonitorKept Done old new = Unit {0}
 MonitorKept answer old new = new ≡ old
 
-pub as_owner_kept : (b : Bool) (m after : Monitor) → MonitorKept (if b then answers_done after else record { answer = NotOwner; after = m }).answer m (if b then answers_done after else record { answer = NotOwner; after = m }).after
+pub as_owner_kept : (b : Bool) (m after : Monitor)
+    → MonitorKept (if b then answers_done after else record { answer = NotOwner; after = m }).answer
+    m (if b then answers_done after else record { answer = NotOwner; after = m }).after
 as_owner_kept true m after = tt
 as_owner_kept false m after = refl
 
-pub entrant_kept : (thread : ℕ) (owner : Option ℕ) (m free again : Monitor) → MonitorKept (as_entrant thread owner m (answers_done free) (answers_done again)).answer m (as_entrant thread owner m (answers_done free) (answers_done again)).after
+pub entrant_kept : (thread : ℕ) (owner : Option ℕ) (m free again : Monitor)
+    → MonitorKept (as_entrant thread owner m (answers_done free) (answers_done again)).answer
+    m (as_entrant thread owner m (answers_done free) (answers_done again)).after
 entrant_kept thread None m free again = tt
 entrant_kept thread (Some owner) m free again = by_test (owner == thread)
   where
-    by_test : (b : Bool) → MonitorKept (if b then answers_done again else record { answer = Held; after = m }).answer m (if b then answers_done again else record { answer = Held; after = m }).after
+    by_test : (b : Bool) → MonitorKept (if b then answers_done again else record { answer = Held; after = m }).answer
+        m (if b then answers_done again else record { answer = Held; after = m }).after
     by_test true = tt
     by_test false = refl
 
-pub relock_kept : (owner : Option ℕ) (m free : Monitor) → MonitorKept (relock_from owner m (answers_done free)).answer m (relock_from owner m (answers_done free)).after
+pub relock_kept : (owner : Option ℕ) (m free : Monitor)
+    → MonitorKept (relock_from owner m (answers_done free)).answer m (relock_from owner m (answers_done free)).after
 relock_kept None m free = tt
 relock_kept (Some owner) m free = refl
 
@@ -135,7 +146,8 @@ monitor_kept (WakeAll object) m = tt
 monitor_kept (Interrupt object thread) m = tt
 monitor_kept (Relock object thread count) m = relock_kept m.owner m (owned m thread count)
 
-pub record_kept : (answer : MonitorAnswer) (t : List Monitor) (ws : List Word) (n i : ℕ) (m : Monitor) → MonitorKept answer (monitor_at t i) m → KeptUnlessDone answer (locks_of t ws n) (locks_of (set t i m) ws n)
+pub record_kept : (answer : MonitorAnswer) (t : List Monitor) (ws : List Word) (n i : ℕ) (m : Monitor)
+    → MonitorKept answer (monitor_at t i) m → KeptUnlessDone answer (locks_of t ws n) (locks_of (set t i m) ws n)
 record_kept Done t ws n i m k = tt
 record_kept Held t ws n i m k = ap (λ (u : List Monitor). locks_of u ws n) (ap (set t i) k ∙ set-get_or t i unlocked)
 record_kept NotOwner t ws n i m k = ap (λ (u : List Monitor). locks_of u ws n) (ap (set t i) k ∙ set-get_or t i unlocked)
@@ -193,7 +205,8 @@ in_range t ws n o v e h = rw (← e, length-map ws (λ (word : Word). monitor_of
 
 pub record_done : (call : Call) (answer : MonitorAnswer) (t u : List Monitor) (ws xs : List Word) (n i : ℕ) (v : Locks)
     → locks_of t ws n ≡ v → AreSound t ws n → object_of call < length v.monitors → xs ≡ ws → Fat i ≡ lock_at xs (object_of call)
-    → answer ≡ (answered_by call (monitor_at t i)).answer → u ≡ set t i (answered_by call (monitor_at t i)).after → is_count_full_by call (monitor_at t i) ≡ false
+    → answer ≡ (answered_by call (monitor_at t i)).answer → u ≡ set t i (answered_by call (monitor_at t i)).after
+    → is_count_full_by call (monitor_at t i) ≡ false
     → IsDone answer call v (locks_of u ws n)
 record_done call answer t u ws xs n i v e s h same fat ans after few =
     let at : lock_at ws (object_of call) ≡ Fat i = ap (λ (x : List Word). lock_at x (object_of call)) (sym same) ∙ sym fat in
@@ -203,7 +216,8 @@ abbrev pub lock_is : (ws xs : List Word) (o : ℕ) (l : Lock) → xs ≡ ws → 
 lock_is ws xs o l same is = ap (λ (x : List Word). lock_at x o) (sym same) ∙ sym is
 
 pub thin_done : (call : Call) (t : List Monitor) (ws xs : List Word) (n : ℕ) (v : Locks) (l : Lock) (w : Word)
-    → locks_of t ws n ≡ v → object_of call < length v.monitors → xs ≡ ws → l ≡ lock_at xs (object_of call) → is_fat_lock l ≡ false → is_fat_lock w.lock ≡ false
+    → locks_of t ws n ≡ v → object_of call < length v.monitors → xs ≡ ws → l ≡ lock_at xs (object_of call) → is_fat_lock l ≡ false
+    → is_fat_lock w.lock ≡ false
     → Done ≡ (answered_by call (monitor_of t l)).answer → monitor_of t w.lock ≡ (answered_by call (monitor_of t l)).after
     → inflates call (monitor_of t l) ≡ false → is_count_full_by call (monitor_of t l) ≡ false
     → IsDone Done call v (locks_of t (set ws (object_of call) w) n)
@@ -215,7 +229,8 @@ thin_done call t ws xs n v l w e h same is was new ans after small few =
     (ap (inflates call) it ∙ small) (ap (is_count_full_by call) it ∙ few))
 
 pub inflated_done : (call : Call) (t u : List Monitor) (ws xs : List Word) (n : ℕ) (v : Locks) (l : Lock) (w : Word)
-    → locks_of t ws n ≡ v → AreSound t ws n → object_of call < length v.monitors → xs ≡ ws → l ≡ lock_at xs (object_of call) → w.lock ≡ Fat (length t) → length t < n
+    → locks_of t ws n ≡ v → AreSound t ws n → object_of call < length v.monitors → xs ≡ ws → l ≡ lock_at xs (object_of call)
+    → w.lock ≡ Fat (length t) → length t < n
     → Done ≡ (answered_by call (monitor_of t l)).answer → u ≡ t ++ (answered_by call (monitor_of t l)).after ∷ []
     → inflates call (monitor_of t l) ≡ true → is_count_full_by call (monitor_of t l) ≡ false
     → IsDone Done call v (locks_of u (set ws (object_of call) w) n)
@@ -227,7 +242,8 @@ inflated_done call t u ws xs n v l w e s h same is new room ans after joins few 
     (ap (inflates call) it ∙ joins) (ap (is_count_full_by call) it ∙ few))
 
 pub full_table : (call : Call) (t : List Monitor) (ws xs : List Word) (n : ℕ) (v : Locks) (l : Lock)
-    → locks_of t ws n ≡ v → AreSound t ws n → object_of call < length v.monitors → xs ≡ ws → l ≡ lock_at xs (object_of call) → is_fat_lock l ≡ false
+    → locks_of t ws n ≡ v → AreSound t ws n → object_of call < length v.monitors → xs ≡ ws → l ≡ lock_at xs (object_of call)
+    → is_fat_lock l ≡ false
     → inflates call (monitor_of t l) ≡ true → n ≤ length t → is_table_full call v ≡ true
 full_table call t ws xs n v l e s h same is was joins full =
     let at : lock_at ws (object_of call) ≡ l = lock_is ws xs (object_of call) l same is in
@@ -235,7 +251,8 @@ full_table call t ws xs n v l e s h same is was joins full =
     rw (← e) (table_full call t ws n s (in_range t ws n (object_of call) v e h) (ap is_fat_lock at ∙ was) (ap (inflates call) it ∙ joins) full)
 
 pub inflated_sound : (t u : List Monitor) (ws xs : List Word) (n o : ℕ) (v : Locks) (l : Lock) (w : Word) (m : Monitor)
-    → locks_of t ws n ≡ v → AreSound t ws n → o < length v.monitors → xs ≡ ws → l ≡ lock_at xs o → is_fat_lock l ≡ false → w.lock ≡ Fat (length t) → length t < n
+    → locks_of t ws n ≡ v → AreSound t ws n → o < length v.monitors → xs ≡ ws → l ≡ lock_at xs o → is_fat_lock l ≡ false
+    → w.lock ≡ Fat (length t) → length t < n
     → u ≡ t ++ m ∷ [] → AreSound u (set ws o w) n
 inflated_sound t u ws xs n o v l w m e s h same is was new room after =
     rw after (sound_inflated t ws n o w m s (in_range t ws n o v e h) (ap is_fat_lock (lock_is ws xs o l same is) ∙ was) new room)
@@ -243,7 +260,8 @@ inflated_sound t u ws xs n o v l w m e s h same is was new room after =
 -- what a fat lock's monitor answers to a thread that enters
 pub fat_entered : (r : Result MonitorAnswer Refusal) (o thread : ℕ) (t u : List Monitor) (ws xs : List Word) (n i : ℕ) (v : Locks)
     → locks_of t ws n ≡ v → AreSound t ws n → o < length v.monitors → xs ≡ ws → Fat i ≡ lock_at xs o
-    → IfOk r (λ a. a ≡ (monitor_enter thread (monitor_at t i)).answer) → OnOk r (u ≡ set t i (monitor_enter thread (monitor_at t i)).after) → OnOk r (is_at_most_entries thread (monitor_at t i) ≡ false)
+    → IfOk r (λ a. a ≡ (monitor_enter thread (monitor_at t i)).answer) → OnOk r (u ≡ set t i (monitor_enter thread (monitor_at t i)).after)
+    → OnOk r (is_at_most_entries thread (monitor_at t i) ≡ false)
     → IfErr r (λ e. (e ≡ LockCount) × (is_at_most_entries thread (monitor_at t i) ≡ true) × (u ≡ t))
     → Answers r (Enter o thread) v (locks_of u ws n)
 fat_entered (Ok a) o thread t u ws xs n i v e s h same fat ans after few refused =

@@ -49,7 +49,8 @@ map-remove f (x ∷ xs) zero = refl
 map-remove f (x ∷ xs) (suc p) = ap (λ ys. f x ∷ ys) (map-remove f xs p)
 
 -- a write hides what stood there
-pub set_agree : {X : Type 0} (d : X) (xs ys : List X) (i : ℕ) (y : X) → length xs ≡ length ys → ((j : ℕ) → j < length xs → j ≢ i → get_or xs j d ≡ get_or ys j d) → set xs i y ≡ set ys i y
+pub set_agree : {X : Type 0} (d : X) (xs ys : List X) (i : ℕ) (y : X) → length xs ≡ length ys
+    → ((j : ℕ) → j < length xs → j ≢ i → get_or xs j d ≡ get_or ys j d) → set xs i y ≡ set ys i y
 set_agree d xs ys i y e same =
     ext_get_or d (set xs i y) (set ys i y) (length-set xs i y ∙ e ∙ sym (length-set ys i y)) (λ j h.
     let in_range : j < length xs = rw (length-set xs i y) at h in

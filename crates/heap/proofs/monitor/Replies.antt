@@ -18,20 +18,23 @@ pub done_is : (call : Call) (answer : MonitorAnswer) (old new : Locks) → IsDon
 done_is call answer old new d =
     same_locks new.monitors (answered call old.monitors).after new.fat (fat_after call old) new.limit old.limit d.monitors d.fat d.limit
 
-pub after_is : (result : Result MonitorAnswer Refusal) (call : Call) (old new : Locks) → Answers result call old new → new ≡ locks_after result call old
+pub after_is : (result : Result MonitorAnswer Refusal) (call : Call) (old new : Locks) → Answers result call old new
+    → new ≡ locks_after result call old
 after_is (Ok answer) call old new d = done_is call answer old new d
 after_is (Err Monitors) call old new d = d.1
 after_is (Err LockCount) call old new d = d.1
 after_is (Err Memory) call old new d = d.2
 
-pub first_reply : (call : Call) (reply : Reply) (old mid new : Locks) → mid ≡ old → RepliesTo reply call mid new → AreReplies (call ∷ []) (reply ∷ []) old new
+pub first_reply : (call : Call) (reply : Reply) (old mid new : Locks) → mid ≡ old → RepliesTo reply call mid new
+    → AreReplies (call ∷ []) (reply ∷ []) old new
 first_reply call (Some result) old mid new e r =
     let a : Answers result call old new = subst (λ (s : Locks). Answers result call s new) e r in
     let is : new ≡ locks_after result call old = after_is result call old new a in
     (subst (λ (s : Locks). Answers result call old s) is a, is)
 first_reply call None old mid new e r = (subst (λ (s : Locks). IsAllowed call s → ⊥) e r.0, r.1 ∙ e)
 
-pub one_more : (calls : List Call) (replies : List Reply) (call : Call) (reply : Reply) (old mid new : Locks) → AreReplies calls replies old mid → RepliesTo reply call mid new → AreReplies (calls ++ call ∷ []) (replies ++ reply ∷ []) old new
+pub one_more : (calls : List Call) (replies : List Reply) (call : Call) (reply : Reply) (old mid new : Locks)
+    → AreReplies calls replies old mid → RepliesTo reply call mid new → AreReplies (calls ++ call ∷ []) (replies ++ reply ∷ []) old new
 one_more [] [] call reply old mid new e r = first_reply call reply old mid new e r
 one_more [] (Some y ∷ replies) call reply old mid new e r = absurd e
 one_more [] (None ∷ replies) call reply old mid new e r = absurd e

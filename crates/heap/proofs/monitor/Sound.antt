@@ -18,7 +18,8 @@ blank = record { lock = Unlocked; low_byte = 0 }
 
 -- ---- reads
 
-pub monitor_at-monitors_of : (t : List Monitor) (ws : List Word) (o : ℕ) → o < length ws → monitor_at (monitors_of t ws) o ≡ monitor_of t (lock_at ws o)
+pub monitor_at-monitors_of : (t : List Monitor) (ws : List Word) (o : ℕ) → o < length ws
+    → monitor_at (monitors_of t ws) o ≡ monitor_of t (lock_at ws o)
 monitor_at-monitors_of t ws o h = get_or-map (λ (word : Word). monitor_of t word.lock) ws o blank unlocked h
 
 pub is_fat_at-map : (ws : List Word) (o : ℕ) → o < length ws → get_or (map is_fat_word ws) o false ≡ is_fat_lock (lock_at ws o)
@@ -36,31 +37,37 @@ pub lock_at-set_other : (ws : List Word) (o p : ℕ) (w : Word) → p ≢ o → 
 lock_at-set_other ws o p w h = ap (λ (x : Word). x.lock) (get_or-set_other ws o p w blank h)
 
 -- a fat lock after a write was there before, or is what was written
-pub fat_after_set : (ws : List Word) (o p i : ℕ) (w : Word) → lock_at (set ws o w) p ≡ Fat i → (lock_at ws p ≡ Fat i) ⊎ ((p ≡ o) × (w.lock ≡ Fat i))
+pub fat_after_set : (ws : List Word) (o p i : ℕ) (w : Word) → lock_at (set ws o w) p ≡ Fat i
+    → (lock_at ws p ≡ Fat i) ⊎ ((p ≡ o) × (w.lock ≡ Fat i))
 fat_after_set [] o p i w e = inl e
 fat_after_set (x ∷ ws) zero zero i w e = inr (refl, e)
 fat_after_set (x ∷ ws) zero (suc p) i w e = inl e
 fat_after_set (x ∷ ws) (suc o) zero i w e = inl e
 fat_after_set (x ∷ ws) (suc o) (suc p) i w e = elim (fat_after_set ws o p i w e) [ inl old ↦ inl old | inr new ↦ inr (ap suc new.0, new.1) ]
 
-pub thin_after_set : (ws : List Word) (o p i : ℕ) (w : Word) → is_fat_lock w.lock ≡ false → lock_at (set ws o w) p ≡ Fat i → lock_at ws p ≡ Fat i
+pub thin_after_set : (ws : List Word) (o p i : ℕ) (w : Word) → is_fat_lock w.lock ≡ false → lock_at (set ws o w) p ≡ Fat i
+    → lock_at ws p ≡ Fat i
 thin_after_set ws o p i w thin e = elim (fat_after_set ws o p i w e) [ inl old ↦ old | inr new ↦ absurd (let wrong : is_fat_lock w.lock ≡ true = ap is_fat_lock new.1 in cc) ]
 
-pub counted_after : (ws : List Word) (o : ℕ) (w : Word) → o < length ws → is_fat_lock (lock_at ws o) ≡ false → is_fat_word w ≡ true → count_by is_fat_word (set ws o w) ≡ count_by is_fat_word ws + 1
+pub counted_after : (ws : List Word) (o : ℕ) (w : Word) → o < length ws → is_fat_lock (lock_at ws o) ≡ false → is_fat_word w ≡ true
+    → count_by is_fat_word (set ws o w) ≡ count_by is_fat_word ws + 1
 counted_after ws o w h thin fat =
     let one : count_by is_fat_word (set ws o w) + cond (is_fat_lock (lock_at ws o)) 1 0 ≡ count_by is_fat_word ws + cond (is_fat_word w) 1 0 = sum_by-set (λ (x : Word). cond (is_fat_word x) 1 0) ws o w blank h in
     let two : count_by is_fat_word (set ws o w) + 0 ≡ count_by is_fat_word ws + 1 = rw (thin, fat) at one in
     omega (arith, two)
 
-pub same_fat : (ws : List Word) (o : ℕ) (w : Word) → is_fat_lock (lock_at ws o) ≡ false → is_fat_lock w.lock ≡ false → map is_fat_word (set ws o w) ≡ map is_fat_word ws
+pub same_fat : (ws : List Word) (o : ℕ) (w : Word) → is_fat_lock (lock_at ws o) ≡ false → is_fat_lock w.lock ≡ false
+    → map is_fat_word (set ws o w) ≡ map is_fat_word ws
 same_fat ws o w was is = map-set_same is_fat_word ws o w blank (is ∙ sym was)
 
-pub locks_by : (t u : List Monitor) (ws vs : List Word) (n : ℕ) (ms : List Monitor) (fs : List Bool) → monitors_of u vs ≡ ms → map is_fat_word vs ≡ fs → locks_of u vs n ≡ record { monitors = ms; fat = fs; limit = n }
+pub locks_by : (t u : List Monitor) (ws vs : List Word) (n : ℕ) (ms : List Monitor) (fs : List Bool) → monitors_of u vs ≡ ms
+    → map is_fat_word vs ≡ fs → locks_of u vs n ≡ record { monitors = ms; fat = fs; limit = n }
 locks_by t u ws vs n ms fs e f = cc
 
 -- ---- a thin lock is written
 
-pub sound_thin : (t : List Monitor) (ws : List Word) (n o : ℕ) (w : Word) → AreSound t ws n → is_fat_lock (lock_at ws o) ≡ false → is_fat_lock w.lock ≡ false → AreSound t (set ws o w) n
+pub sound_thin : (t : List Monitor) (ws : List Word) (n o : ℕ) (w : Word) → AreSound t ws n → is_fat_lock (lock_at ws o) ≡ false
+    → is_fat_lock w.lock ≡ false → AreSound t (set ws o w) n
 sound_thin t ws n o w s was is =
     record {
       there = λ p i e. s.there p i (thin_after_set ws o p i w is e);
@@ -70,7 +77,8 @@ sound_thin t ws n o w s was is =
       limit_fits = s.limit_fits;
     }
 
-pub locks_thin : (t : List Monitor) (ws : List Word) (n o : ℕ) (w : Word) → is_fat_lock (lock_at ws o) ≡ false → is_fat_lock w.lock ≡ false → locks_of t (set ws o w) n ≡ record { monitors = set (monitors_of t ws) o (monitor_of t w.lock); fat = map is_fat_word ws; limit = n }
+pub locks_thin : (t : List Monitor) (ws : List Word) (n o : ℕ) (w : Word) → is_fat_lock (lock_at ws o) ≡ false → is_fat_lock w.lock ≡ false
+    → locks_of t (set ws o w) n ≡ record { monitors = set (monitors_of t ws) o (monitor_of t w.lock); fat = map is_fat_word ws; limit = n }
 locks_thin t ws n o w was is =
     locks_by t t ws (set ws o w) n _ _ (map-set (λ (word : Word). monitor_of t word.lock) ws o w) (same_fat ws o w was is)
 
@@ -92,7 +100,8 @@ other_record t i m Unlocked ne = refl
 other_record t i m (Thin owner entries) ne = refl
 other_record t i m (Fat j) ne = get_or-set_other t i j m unlocked (λ e. ne (ap Fat e))
 
-pub record_at : (t : List Monitor) (ws : List Word) (n o i : ℕ) (m : Monitor) → AreSound t ws n → o < length ws → lock_at ws o ≡ Fat i → (k : ℕ) → k < length ws → monitor_of (set t i m) (lock_at ws k) ≡ get_or (set (monitors_of t ws) o m) k unlocked
+pub record_at : (t : List Monitor) (ws : List Word) (n o i : ℕ) (m : Monitor) → AreSound t ws n → o < length ws → lock_at ws o ≡ Fat i
+    → (k : ℕ) → k < length ws → monitor_of (set t i m) (lock_at ws k) ≡ get_or (set (monitors_of t ws) o m) k unlocked
 record_at t ws n o i m s h e k in_range =
     elim (cases_eq k o) [
       | inl same ↦
@@ -102,19 +111,22 @@ record_at t ws n o i m s h e k in_range =
           other_record t i m (lock_at ws k) (λ f. other (s.once k o i f e)) ∙ sym (get_or-set_other (monitors_of t ws) o k m unlocked other ∙ monitor_at-monitors_of t ws k in_range)
     ]
 
-pub monitors_record : (t : List Monitor) (ws : List Word) (n o i : ℕ) (m : Monitor) → AreSound t ws n → o < length ws → lock_at ws o ≡ Fat i → monitors_of (set t i m) ws ≡ set (monitors_of t ws) o m
+pub monitors_record : (t : List Monitor) (ws : List Word) (n o i : ℕ) (m : Monitor) → AreSound t ws n → o < length ws
+    → lock_at ws o ≡ Fat i → monitors_of (set t i m) ws ≡ set (monitors_of t ws) o m
 monitors_record t ws n o i m s h e =
     let long : length (monitors_of (set t i m) ws) ≡ length ws = length-map ws (λ (word : Word). monitor_of (set t i m) word.lock) in
     let long' : length (set (monitors_of t ws) o m) ≡ length ws = length-set (monitors_of t ws) o m ∙ length-map ws (λ (word : Word). monitor_of t word.lock) in
     ext_get_or unlocked (monitors_of (set t i m) ws) (set (monitors_of t ws) o m) (long ∙ sym long')
     (λ k in_range. let within : k < length ws = rw long at in_range in monitor_at-monitors_of (set t i m) ws k within ∙ record_at t ws n o i m s h e k within)
 
-pub locks_record : (t : List Monitor) (ws : List Word) (n o i : ℕ) (m : Monitor) → AreSound t ws n → o < length ws → lock_at ws o ≡ Fat i → locks_of (set t i m) ws n ≡ record { monitors = set (monitors_of t ws) o m; fat = map is_fat_word ws; limit = n }
+pub locks_record : (t : List Monitor) (ws : List Word) (n o i : ℕ) (m : Monitor) → AreSound t ws n → o < length ws → lock_at ws o ≡ Fat i
+    → locks_of (set t i m) ws n ≡ record { monitors = set (monitors_of t ws) o m; fat = map is_fat_word ws; limit = n }
 locks_record t ws n o i m s h e = locks_by t (set t i m) ws ws n _ _ (monitors_record t ws n o i m s h e) refl
 
 -- ---- a lock is inflated
 
-pub same_index : (t : List Monitor) (ws : List Word) (n o p q i : ℕ) (w : Word) → AreSound t ws n → w.lock ≡ Fat (length t) → lock_at (set ws o w) p ≡ Fat i → lock_at (set ws o w) q ≡ Fat i → p ≡ q
+pub same_index : (t : List Monitor) (ws : List Word) (n o p q i : ℕ) (w : Word) → AreSound t ws n → w.lock ≡ Fat (length t)
+    → lock_at (set ws o w) p ≡ Fat i → lock_at (set ws o w) q ≡ Fat i → p ≡ q
 same_index t ws n o p q i w s is e f =
     elim (fat_after_set ws o p i w e) [
       | inl old ↦ elim (fat_after_set ws o q i w f) [
@@ -127,14 +139,16 @@ same_index t ws n o p q i w s is e f =
       ]
     ]
 
-pub index_below : (t : List Monitor) (ws : List Word) (n o p i : ℕ) (w : Word) → AreSound t ws n → w.lock ≡ Fat (length t) → lock_at (set ws o w) p ≡ Fat i → i < length t + 1
+pub index_below : (t : List Monitor) (ws : List Word) (n o p i : ℕ) (w : Word) → AreSound t ws n → w.lock ≡ Fat (length t)
+    → lock_at (set ws o w) p ≡ Fat i → i < length t + 1
 index_below t ws n o p i w s is e =
     elim (fat_after_set ws o p i w e) [
       | inl old ↦ let below : i < length t = s.there p i old in omega arith
       | inr new ↦ let at : i ≡ length t = cc (new.1, is) in omega arith
     ]
 
-pub sound_inflated : (t : List Monitor) (ws : List Word) (n o : ℕ) (w : Word) (m : Monitor) → AreSound t ws n → o < length ws → is_fat_lock (lock_at ws o) ≡ false → w.lock ≡ Fat (length t) → length t < n → AreSound (t ++ m ∷ []) (set ws o w) n
+pub sound_inflated : (t : List Monitor) (ws : List Word) (n o : ℕ) (w : Word) (m : Monitor) → AreSound t ws n → o < length ws
+    → is_fat_lock (lock_at ws o) ≡ false → w.lock ≡ Fat (length t) → length t < n → AreSound (t ++ m ∷ []) (set ws o w) n
 sound_inflated t ws n o w m s h was is room =
     let long : length (t ++ m ∷ []) ≡ length t + 1 = length-append t (m ∷ []) in
     let more : count_by is_fat_word (set ws o w) ≡ count_by is_fat_word ws + 1 = counted_after ws o w h was (ap is_fat_lock is) in
@@ -146,12 +160,14 @@ sound_inflated t ws n o w m s h was is room =
       limit_fits = s.limit_fits;
     }
 
-pub old_record : (t : List Monitor) (m : Monitor) (l : Lock) → ((i : ℕ) → l ≡ Fat i → i < length t) → monitor_of (t ++ m ∷ []) l ≡ monitor_of t l
+pub old_record : (t : List Monitor) (m : Monitor) (l : Lock) → ((i : ℕ) → l ≡ Fat i → i < length t)
+    → monitor_of (t ++ m ∷ []) l ≡ monitor_of t l
 old_record t m Unlocked there = refl
 old_record t m (Thin owner entries) there = refl
 old_record t m (Fat j) there = get_or_append_left t (m ∷ []) unlocked j (there j refl)
 
-pub old_records : (t : List Monitor) (m : Monitor) (ws : List Word) (n : ℕ) → AreSound t ws n → monitors_of (t ++ m ∷ []) ws ≡ monitors_of t ws
+pub old_records : (t : List Monitor) (m : Monitor) (ws : List Word) (n : ℕ) → AreSound t ws n
+    → monitors_of (t ++ m ∷ []) ws ≡ monitors_of t ws
 old_records t m ws n s =
     let long : length (monitors_of (t ++ m ∷ []) ws) ≡ length ws = length-map ws (λ (word : Word). monitor_of (t ++ m ∷ []) word.lock) in
     let long' : length (monitors_of t ws) ≡ length ws = length-map ws (λ (word : Word). monitor_of t word.lock) in
@@ -159,7 +175,9 @@ old_records t m ws n s =
     (λ k in_range. let within : k < length ws = rw long at in_range in
     monitor_at-monitors_of (t ++ m ∷ []) ws k within ∙ old_record t m (lock_at ws k) (s.there k) ∙ sym (monitor_at-monitors_of t ws k within))
 
-pub locks_inflated : (t : List Monitor) (ws : List Word) (n o : ℕ) (w : Word) (m : Monitor) → AreSound t ws n → w.lock ≡ Fat (length t) → locks_of (t ++ m ∷ []) (set ws o w) n ≡ record { monitors = set (monitors_of t ws) o m; fat = set (map is_fat_word ws) o true; limit = n }
+pub locks_inflated : (t : List Monitor) (ws : List Word) (n o : ℕ) (w : Word) (m : Monitor) → AreSound t ws n → w.lock ≡ Fat (length t)
+    → locks_of (t ++ m ∷ []) (set ws o w) n
+    ≡ record { monitors = set (monitors_of t ws) o m; fat = set (map is_fat_word ws) o true; limit = n }
 locks_inflated t ws n o w m s is =
     let new : monitor_of (t ++ m ∷ []) w.lock ≡ m = rw is (get_or_push t m unlocked (length t) refl) in
     let fat : is_fat_word w ≡ true = ap is_fat_lock is in
@@ -175,7 +193,8 @@ fat_before_push [] w (suc p) i thin e = e
 fat_before_push (x ∷ ws) w zero i thin e = e
 fat_before_push (x ∷ ws) w (suc p) i thin e = fat_before_push ws w p i thin e
 
-pub sound_pushed : (t : List Monitor) (ws : List Word) (n : ℕ) (w : Word) → AreSound t ws n → w.lock ≡ Unlocked → AreSound t (ws ++ w ∷ []) n
+pub sound_pushed : (t : List Monitor) (ws : List Word) (n : ℕ) (w : Word) → AreSound t ws n → w.lock ≡ Unlocked
+    → AreSound t (ws ++ w ∷ []) n
 sound_pushed t ws n w s thin =
     let no_more : count_by is_fat_word (ws ++ w ∷ []) ≡ count_by is_fat_word ws + cond (is_fat_lock w.lock) 1 0 = sum_by_push (λ (x : Word). cond (is_fat_word x) 1 0) ws w in
     let same : count_by is_fat_word (ws ++ w ∷ []) ≡ count_by is_fat_word ws + 0 = no_more ∙ ap (λ (b : Bool). count_by is_fat_word ws + cond b 1 0) (ap is_fat_lock thin) in

@@ -20,17 +20,20 @@ below_differ a b h = grind (arith, nat_tests)
 
 -- ---- what an answer of the lock says of its owner and its entries
 
-pub entered_tests : (a b : Bool) → try_enter.Entered ≡ (if a then (if b then try_enter.Entered else try_enter.Full) else try_enter.Held) → (a ≡ true) × (b ≡ true)
+pub entered_tests : (a b : Bool) → try_enter.Entered ≡ (if a then (if b then try_enter.Entered else try_enter.Full) else try_enter.Held)
+    → (a ≡ true) × (b ≡ true)
 entered_tests true true e = (refl, refl)
 entered_tests true false e = cc
 entered_tests false b e = cc
 
-pub full_tests : (a b : Bool) → try_enter.Full ≡ (if a then (if b then try_enter.Entered else try_enter.Full) else try_enter.Held) → (a ≡ true) × (b ≡ false)
+pub full_tests : (a b : Bool) → try_enter.Full ≡ (if a then (if b then try_enter.Entered else try_enter.Full) else try_enter.Held)
+    → (a ≡ true) × (b ≡ false)
 full_tests true true e = cc
 full_tests true false e = (refl, refl)
 full_tests false b e = cc
 
-pub held_test : (a b : Bool) → try_enter.Held ≡ (if a then (if b then try_enter.Entered else try_enter.Full) else try_enter.Held) → a ≡ false
+pub held_test : (a b : Bool) → try_enter.Held ≡ (if a then (if b then try_enter.Entered else try_enter.Full) else try_enter.Held)
+    → a ≡ false
 held_test true true e = cc
 held_test true false e = cc
 held_test false b e = refl
@@ -94,7 +97,8 @@ pub record Overflows (t : List Monitor) (thread : ℕ) (l : Lock) : Type 0 where
   pub last : (owns thread (monitor_of t l).owner && ((monitor_of t l).count == 256)) ≡ true
   pub few : is_at_most_entries thread (monitor_of t l) ≡ false
 
-pub overflows : (t : List Monitor) (thread : ℕ) (l : Lock) → HasRoomFor (lock_entered thread l) → try_enter.Full ≡ entering thread l → Overflows t thread l
+pub overflows : (t : List Monitor) (thread : ℕ) (l : Lock) → HasRoomFor (lock_entered thread l) → try_enter.Full ≡ entering thread l
+    → Overflows t thread l
 overflows t thread Unlocked room e = cc
 overflows t thread (Thin owner entries) room e =
     let tests : ((owner == thread) ≡ true) × (nat_lt entries 256 ≡ false) = full_tests (owner == thread) (nat_lt entries 256) e in
@@ -121,7 +125,8 @@ still_thin false owner left = refl
 pub none_left : (entries : ℕ) → ((entries - 1) == 0) ≡ not (nat_lt 1 entries)
 none_left entries = grind (arith, nat_tests)
 
-pub left_after : (t : List Monitor) (more none : Bool) (owner left : ℕ) → none ≡ not more → monitor_of t (if more then Thin owner left else Unlocked) ≡ (if none then unlocked else owned unlocked owner left)
+pub left_after : (t : List Monitor) (more none : Bool) (owner left : ℕ) → none ≡ not more
+    → monitor_of t (if more then Thin owner left else Unlocked) ≡ (if none then unlocked else owned unlocked owner left)
 left_after t true true owner left e = cc
 left_after t true false owner left e = refl
 left_after t false true owner left e = refl
@@ -140,14 +145,16 @@ leaves t thread (Thin owner entries) e =
 leaves t thread (Fat i) e = cc
 
 -- the thread isn't the owner
-pub owns_not : (t : List Monitor) (thread : ℕ) (l : Lock) → try_exit.NotOwner ≡ leaving thread l → owns thread (monitor_of t l).owner ≡ false
+pub owns_not : (t : List Monitor) (thread : ℕ) (l : Lock) → try_exit.NotOwner ≡ leaving thread l
+    → owns thread (monitor_of t l).owner ≡ false
 owns_not t thread Unlocked e = refl
 owns_not t thread (Thin owner entries) e = not_owner_test (owner == thread) e
 owns_not t thread (Fat i) e = cc
 
 -- ---- a thread enters again
 
-pub relocks : (t : List Monitor) (thread count : ℕ) (l : Lock) → l ≡ Unlocked → owned unlocked thread count ≡ (monitor_relock thread count (monitor_of t l)).after
+pub relocks : (t : List Monitor) (thread count : ℕ) (l : Lock) → l ≡ Unlocked
+    → owned unlocked thread count ≡ (monitor_relock thread count (monitor_of t l)).after
 relocks t thread count l e = rw e refl
 
 -- ---- the lock is fat
@@ -175,10 +182,12 @@ fat_leaving thread i (Fat j) e = let same : i ≡ j = cc in ap Fat same
 
 pub record Waits (t : List Monitor) (thread : ℕ) (l : Lock) (entries : ℕ) : Type 0 where
   pub answer : Done ≡ (monitor_wait thread (monitor_of t l)).answer
-  pub after : record { owner = None; count = 0; waiters = record { thread = thread; count = entries } ∷ [] } ≡ (monitor_wait thread (monitor_of t l)).after
+  pub after : record { owner = None; count = 0; waiters = record { thread = thread; count = entries } ∷ [] }
+      ≡ (monitor_wait thread (monitor_of t l)).after
   pub joins : owns thread (monitor_of t l).owner ≡ true
 
-pub waits : (t : List Monitor) (thread owner entries count : ℕ) → owner ≡ thread → count ≡ entries → Waits t thread (Thin owner entries) count
+pub waits : (t : List Monitor) (thread owner entries count : ℕ) → owner ≡ thread → count ≡ entries
+    → Waits t thread (Thin owner entries) count
 waits t thread owner entries count e f =
     let same : (owner == thread) ≡ true = eq-eqb owner thread e in
     record { answer = rw same refl; after = rw (same, f) refl; joins = same }

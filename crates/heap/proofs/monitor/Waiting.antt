@@ -15,19 +15,23 @@ IsPassed thread waiters at = without thread waiters ≡ take at waiters ++ witho
 pub drop_found : (ws : List Waiter) (at : ℕ) (w : Waiter) → at < length ws → slice_get ws at ≡ Some w → drop at ws ≡ w ∷ drop (at + 1) ws
 drop_found ws at w h e = drop_more ws at w h ∙ ap (λ (x : Waiter). x ∷ drop (at + 1) ws) (get_or_from_slice_get ws at w w e)
 
-pub take_found : (ws : List Waiter) (at : ℕ) (w : Waiter) → at < length ws → slice_get ws at ≡ Some w → take (at + 1) ws ≡ take at ws ++ w ∷ []
+pub take_found : (ws : List Waiter) (at : ℕ) (w : Waiter) → at < length ws → slice_get ws at ≡ Some w
+    → take (at + 1) ws ≡ take at ws ++ w ∷ []
 take_found ws at w h e = take_more ws at w h ∙ ap (λ (x : Waiter). take at ws ++ x ∷ []) (get_or_from_slice_get ws at w w e)
 
-pub push_found : (ws xs ys : List Waiter) (at : ℕ) (w : Waiter) → at < length ws → slice_get ws at ≡ Some w → xs ≡ take at ws → ys ≡ xs ++ w ∷ [] → ys ≡ take (at + 1) ws
+pub push_found : (ws xs ys : List Waiter) (at : ℕ) (w : Waiter) → at < length ws → slice_get ws at ≡ Some w → xs ≡ take at ws
+    → ys ≡ xs ++ w ∷ [] → ys ≡ take (at + 1) ws
 push_found ws xs ys at w h e same more = more ∙ ap (λ (zs : List Waiter). zs ++ w ∷ []) same ∙ sym (take_found ws at w h e)
 
-pub passes : (thread : ℕ) (ws : List Waiter) (at : ℕ) (w : Waiter) → at < length ws → slice_get ws at ≡ Some w → (w.thread == thread) ≡ false → IsPassed thread ws at → IsPassed thread ws (at + 1)
+pub passes : (thread : ℕ) (ws : List Waiter) (at : ℕ) (w : Waiter) → at < length ws → slice_get ws at ≡ Some w
+    → (w.thread == thread) ≡ false → IsPassed thread ws at → IsPassed thread ws (at + 1)
 passes thread ws at w h e other p =
     let rest : without thread (drop at ws) ≡ w ∷ without thread (drop (at + 1) ws) = ap (without thread) (drop_found ws at w h e) ∙ rw other refl in
     p ∙ ap (λ (x : List Waiter). take at ws ++ x) rest ∙ sym (append_assoc (take at ws) (w ∷ []) (without thread (drop (at + 1) ws)))
     ∙ ap (λ (x : List Waiter). x ++ without thread (drop (at + 1) ws)) (sym (take_found ws at w h e))
 
-pub found : (thread : ℕ) (ws : List Waiter) (at : ℕ) (w : Waiter) → at < length ws → slice_get ws at ≡ Some w → (w.thread == thread) ≡ true → IsPassed thread ws at → remove ws at ≡ without thread ws
+pub found : (thread : ℕ) (ws : List Waiter) (at : ℕ) (w : Waiter) → at < length ws → slice_get ws at ≡ Some w → (w.thread == thread) ≡ true
+    → IsPassed thread ws at → remove ws at ≡ without thread ws
 found thread ws at w h e same p =
     let rest : without thread (drop at ws) ≡ drop (at + 1) ws = ap (without thread) (drop_found ws at w h e) ∙ rw same refl in
     sym (p ∙ ap (λ (x : List Waiter). take at ws ++ x) rest ∙ ap (λ (k : ℕ). take at ws ++ drop k ws) (add-one at))
@@ -50,7 +54,8 @@ one_left v r r' i count h some e f =
     ap (λ (ms : List Monitor). monitor_at ms i) e ∙ get_or-set_same v i (record (monitor_at v i) { waiters = take count (monitor_at v i).waiters }) unlocked h in
     rw (f, here, e, remove_last (monitor_at v i).waiters count some) (set-set v i _ _)
 
-pub wait_after : (v r r' : List Monitor) (i thread count : ℕ) → i < length v → owns thread (monitor_at v i).owner ≡ true → count ≡ (monitor_at v i).count
+pub wait_after : (v r r' : List Monitor) (i thread count : ℕ) → i < length v → owns thread (monitor_at v i).owner ≡ true
+    → count ≡ (monitor_at v i).count
     → r ≡ set v i (record (monitor_at v i) { waiters = (monitor_at v i).waiters ++ record { thread = thread; count = count } ∷ [] })
     → r' ≡ set r i (record (monitor_at r i) { owner = None; count = 0 })
     → r' ≡ set v i (monitor_wait thread (monitor_at v i)).after
@@ -59,7 +64,8 @@ wait_after v r r' i thread count h owner was e f =
     ap (λ (ms : List Monitor). monitor_at ms i) e ∙ get_or-set_same v i _ unlocked h in
     rw (f, here, e, owner, was) (set-set v i _ _)
 
-pub notify_past : (v : List Monitor) (i thread pick : ℕ) → owns thread (monitor_at v i).owner ≡ true → length (monitor_at v i).waiters ≤ pick
+pub notify_past : (v : List Monitor) (i thread pick : ℕ) → owns thread (monitor_at v i).owner ≡ true
+    → length (monitor_at v i).waiters ≤ pick
     → v ≡ set v i (monitor_notify thread pick (monitor_at v i)).after
 notify_past v i thread pick owner past = rw (owner, remove_past (monitor_at v i).waiters pick past) (sym (set-get_or v i unlocked))
 

@@ -15,7 +15,8 @@ use Rattle.heap.proofs.monitor_events.Woken.{woken_over}
 
 -- a second write to a place, by what the first wrote
 pub written_twice : (threads : List Thread) (t : ℕ) (first : Thread) (change : Thread → Thread) → t < length threads
-    → slice_set (slice_set threads t first) t (change (slice_index_or (slice_set threads t first) t (new_thread 0))) ≡ slice_set threads t (change first)
+    → slice_set (slice_set threads t first) t (change (slice_index_or (slice_set threads t first) t (new_thread 0)))
+    ≡ slice_set threads t (change first)
 written_twice threads t first change there =
     rw (get_or-set_same threads t first (new_thread 0) there, set-set threads t first (change first)) refl
 

@@ -51,13 +51,15 @@ no_member waiters pick within none = by (sym (slice_get-get_or waiters pick (rec
 -- all are woken, and the monitors are others
 pub woken_over : (object : ℕ) (cause : WakeCause) (world : WorldOf ℕ) (after : List Monitor) (old new : Heap) (from to : ThreadTable)
     → AreWoken object cause old from to → new.locks.monitors ≡ after
-    → shared world new to ≡ all_woken object cause (record world { monitors = after; threads = from.threads }) (monitor_at old.locks.monitors object).waiters
+    → shared world new to ≡ all_woken object
+    cause (record world { monitors = after; threads = from.threads }) (monitor_at old.locks.monitors object).waiters
 woken_over object cause world after old new from to woken_are is =
     woken_are.world (over world new)
     ∙ ap (λ (ms : List Monitor). all_woken object cause (record world { monitors = ms; threads = from.threads }) (monitor_at old.locks.monitors object).waiters) is
 
 -- the member that was picked is woken, and the monitors are others
-pub one_over : (object : ℕ) (world : WorldOf ℕ) (after : List Monitor) (new : Heap) (from to : ThreadTable) (waiter : Waiter) (member : Option Waiter)
+pub one_over : (object : ℕ) (world : WorldOf ℕ) (after : List Monitor) (new : Heap) (from to : ThreadTable) (waiter : Waiter)
+    (member : Option Waiter)
     → IsWoken object Notified waiter from to → new.locks.monitors ≡ after → Some waiter ≡ member
     → shared world new to ≡ notified_one (record world { monitors = after; threads = from.threads }) object member
 one_over object world after new from to waiter member is_woken is there =

@@ -184,7 +184,8 @@ impl Records {
     /// Joins the wait set as last; without memory nothing changes.
     pub fn join(&mut self, index: u32, waiter: Waiter) -> Result<(), AllocError>
         requires { index < length self.old }
-        ensures ok { OnOk result (self.new ≡ slice_set self.old index (record (monitor_at self.old index) { waiters = (monitor_at self.old index).waiters ++ waiter ∷ [] })) }
+        ensures ok { OnOk result (self.new ≡ slice_set self.old
+            index (record (monitor_at self.old index) { waiters = (monitor_at self.old index).waiters ++ waiter ∷ [] })) }
         ensures err { OnErr result (self.new ≡ self.old) }
     {
         self.waiters.reserve(1)?;
@@ -198,7 +199,8 @@ impl Records {
     pub fn leave(&mut self, index: u32, pick: usize)
         requires there { index < length self.old }
         requires member { pick < length (monitor_at self.old index).waiters }
-        ensures { self.new ≡ slice_set self.old index (record (monitor_at self.old index) { waiters = remove (monitor_at self.old index).waiters pick }) }
+        ensures { self.new ≡ slice_set self.old
+            index (record (monitor_at self.old index) { waiters = remove (monitor_at self.old index).waiters pick }) }
     {
         let key = self.listings[index as usize].remove(pick);
         self.waiters.remove(key);

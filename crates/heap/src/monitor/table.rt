@@ -23,7 +23,9 @@ fn is_owner(records: &Records, index: u32, thread: u16) -> bool
 fn position(records: &Records, index: u32, thread: u16) -> Option<usize>
     requires { index < length records.now }
     ensures member { IfSome result (λ at. at < length (monitor_at records.now index).waiters) }
-    ensures value { MatchOption result (without thread (monitor_at records.now index).waiters ≡ (monitor_at records.now index).waiters) (λ at. remove (monitor_at records.now index).waiters at ≡ without thread (monitor_at records.now index).waiters) }
+    ensures value { MatchOption result (without thread (monitor_at records.now index).waiters
+        ≡ (monitor_at records.now index).waiters) (λ at. remove (monitor_at records.now index).waiters at
+        ≡ without thread (monitor_at records.now index).waiters) }
 {
     for at in 0..records.waiter_count(index) {
         if records.member(index, at).thread == thread {
@@ -139,7 +141,8 @@ impl Table {
         ensures answer { IfOk result (λ a. a ≡ (monitor_enter thread (monitor_at self.old index)).answer) }
         ensures after { OnOk result (self.new ≡ slice_set self.old index (monitor_enter thread (monitor_at self.old index)).after) }
         ensures counted { OnOk result (is_at_most_entries thread (monitor_at self.old index) ≡ false) }
-        ensures refused { IfErr result (λ e. (e ≡ Refusal.LockCount) × (is_at_most_entries thread (monitor_at self.old index) ≡ true) × (self.new ≡ self.old)) }
+        ensures refused { IfErr result (λ e. (e ≡ Refusal.LockCount) × (is_at_most_entries thread (monitor_at self.old index) ≡ true)
+            × (self.new ≡ self.old)) }
     {
         match self.records.owner(index) {
             None => {

@@ -47,7 +47,8 @@ pub fn set_interrupted(threads: &mut Threads, thread: u16, interrupted: bool)
 /// (`references_have_room` of `limits_at_words`).
 pub fn interrupt(heap: &mut Heap, threads: &mut Threads, thread: u16)
     requires { IsStatusWithin (length heap.old.locks.monitors) (row_at threads.old.threads thread).status }
-    ensures { BothBecome (λ world. interrupted_in world thread (thread_at world thread).status) heap.old.locks.fat heap.old heap.new threads.old threads.new }
+    ensures { BothBecome (λ world. interrupted_in world thread (thread_at world thread).status) heap.old.locks.fat heap.old heap.new
+        threads.old threads.new }
 {
     match threads.status(thread) {
         ThreadStatus::Running | ThreadStatus::Relock { .. } => {

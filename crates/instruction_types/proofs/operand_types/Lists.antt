@@ -38,7 +38,8 @@ module _ {A B : Type 0} (f : A → B) where
   place_reversed n k xs d = sym (get_or-map f (take n (reverse xs)) k d) ∙ ap (λ l. get_or l k (f d)) (sym (take-map f n (reverse xs)) ∙ ap (take n) (map-reverse xs))
 
   -- the last so many and one more
-  pub one_more : (xs : List A) (i : ℕ) (d : A) → i < length xs → map f (drop (length xs - (i + 1)) xs) ≡ f (get_or xs (length xs - 1 - i) d) ∷ map f (drop (length xs - i) xs)
+  pub one_more : (xs : List A) (i : ℕ) (d : A) → i < length xs
+      → map f (drop (length xs - (i + 1)) xs) ≡ f (get_or xs (length xs - 1 - i) d) ∷ map f (drop (length xs - i) xs)
   one_more xs i d l =
       let at : length xs - (i + 1) ≡ length xs - 1 - i = omega arith in
       let next : suc (length xs - 1 - i) ≡ length xs - i = omega arith in
@@ -52,18 +53,21 @@ onto_reversed xs ys zs y e = reverse-append xs (y ∷ []) ∙ ap (λ l. y ∷ l)
 -- ---- a list that is laid down from its end, on top of others that stand with their last first
 
 module _ {A B W : Type 0} (f : A → B) (g : W → B) where
-  pub laid_none : (ws : List W) (ys : List A) (zs : List B) → reverse (map f ys) ≡ zs → reverse (map f ys) ≡ map g (drop (length ws - 0) ws) ++ zs
+  pub laid_none : (ws : List W) (ys : List A) (zs : List B) → reverse (map f ys) ≡ zs
+      → reverse (map f ys) ≡ map g (drop (length ws - 0) ws) ++ zs
   laid_none ws ys zs e =
       let all : length ws ≤ length ws - 0 = omega arith in
       e ∙ ap (λ l. map g l ++ zs) (sym (drop_of_length-le ws all))
 
-  pub laid_next : (ws : List W) (i : ℕ) (d : W) (ys ys' : List A) (y : A) (zs : List B) → i < length ws → ys' ≡ ys ++ y ∷ [] → f y ≡ g (get_or ws (length ws - 1 - i) d)
+  pub laid_next : (ws : List W) (i : ℕ) (d : W) (ys ys' : List A) (y : A) (zs : List B) → i < length ws → ys' ≡ ys ++ y ∷ []
+      → f y ≡ g (get_or ws (length ws - 1 - i) d)
       → reverse (map f ys) ≡ map g (drop (length ws - i) ws) ++ zs → reverse (map f ys') ≡ map g (drop (length ws - (i + 1)) ws) ++ zs
   laid_next ws i d ys ys' y zs l grown is before =
       ap (λ l. reverse (map f l)) grown ∙ ap reverse (map-append f ys (y ∷ [])) ∙ reverse-append (map f ys) (f y ∷ []) ∙ ap (λ l. f y ∷ l) before
       ∙ ap (λ b. b ∷ (map g (drop (length ws - i) ws) ++ zs)) is ∙ ap (λ l. l ++ zs) (sym (one_more g ws i d l))
 
-  pub laid_all : (ws : List W) (i : ℕ) (ys : List A) (zs : List B) → length ws ≤ i → reverse (map f ys) ≡ map g (drop (length ws - i) ws) ++ zs → reverse (map f ys) ≡ map g ws ++ zs
+  pub laid_all : (ws : List W) (i : ℕ) (ys : List A) (zs : List B) → length ws ≤ i
+      → reverse (map f ys) ≡ map g (drop (length ws - i) ws) ++ zs → reverse (map f ys) ≡ map g ws ++ zs
   laid_all ws i ys zs l e =
       let none : length ws - i ≡ 0 = omega arith in
       e ∙ ap (λ k. map g (drop k ws) ++ zs) none
@@ -82,12 +86,14 @@ counted_one f xs ys k n y all l grown is before =
     ap (λ l. l ++ map f (counting (k + 1) (n - (k + 1)))) grown ∙ append_assoc xs (y ∷ []) _ ∙ ap (λ z. xs ++ (z ∷ map f (counting (k + 1) (n - (k + 1))))) is
     ∙ ap (λ l. xs ++ l) (sym (counted f k n l)) ∙ before
 
-pub counted_none : {A : Type 0} (f : ℕ → A) (xs ys : List A) (y : A) (n : ℕ) → xs ≡ [] → ys ≡ xs ++ y ∷ [] → ys ++ map f (counting 0 (n - 0)) ≡ y ∷ map f (counting 0 n)
+pub counted_none : {A : Type 0} (f : ℕ → A) (xs ys : List A) (y : A) (n : ℕ) → xs ≡ [] → ys ≡ xs ++ y ∷ []
+    → ys ++ map f (counting 0 (n - 0)) ≡ y ∷ map f (counting 0 n)
 counted_none f xs ys y n none grown =
     let all : n - 0 ≡ n = omega arith in
     ap (λ l. l ++ map f (counting 0 (n - 0))) (grown ∙ ap (λ l. l ++ y ∷ []) none) ∙ ap (λ m. y ∷ map f (counting 0 m)) all
 
-pub counted_all : {A : Type 0} (f : ℕ → A) (xs : List A) (k n : ℕ) (all : List A) → n ≤ k → xs ++ map f (counting k (n - k)) ≡ all → xs ≡ all
+pub counted_all : {A : Type 0} (f : ℕ → A) (xs : List A) (k n : ℕ) (all : List A) → n ≤ k → xs ++ map f (counting k (n - k)) ≡ all
+    → xs ≡ all
 counted_all f xs k n all l e =
     let none : n - k ≡ 0 = omega arith in
     sym (append-nil xs) ∙ ap (λ m. xs ++ map f (counting k m)) (sym none) ∙ e

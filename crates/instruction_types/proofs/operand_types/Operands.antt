@@ -23,24 +23,30 @@ module _ (files : Program) (a : Asked) (t : FrameType) where
   abbrev popped : List model.VerificationType
   popped = take (length a.pops.now) (frame_in files t).slots.stack
 
-  found_by : (o : Option LocalRead) → a.reads ≡ o → found ≡ map (λ r. get_or (map (type_in files) t.locals.items) r.0 model.Unusable) (reads_in files o) ++ popped
+  found_by : (o : Option LocalRead) → a.reads ≡ o
+      → found ≡ map (λ r. get_or (map (type_in files) t.locals.items) r.0 model.Unusable) (reads_in files o) ++ popped
   found_by o e =
       ap (λ r. map (λ q. get_or (map (type_in files) t.locals.items) q.0 model.Unusable) (reads_in files r) ++ take (length (map (want_in files) a.pops.now)) (frame_in files t).slots.stack) e
       ∙ ap (λ n. map (λ q. get_or (map (type_in files) t.locals.items) q.0 model.Unusable) (reads_in files o) ++ take n (frame_in files t).slots.stack) (length-map a.pops.now (want_in files))
 
-  popped_at : (k : ℕ) (r : VerificationType) → r ≡ get_or (take (length a.pops.now) (reverse t.stack.items)) k type.Unusable → type_in files r ≡ get_or popped k model.Unusable
+  popped_at : (k : ℕ) (r : VerificationType) → r ≡ get_or (take (length a.pops.now) (reverse t.stack.items)) k type.Unusable
+      → type_in files r ≡ get_or popped k model.Unusable
   popped_at k r e = ap (type_in files) e ∙ place_reversed (type_in files) (length a.pops.now) k t.stack.items type.Unusable
 
-  pub of_popped : (k : ℕ) (r : VerificationType) → a.reads ≡ None → r ≡ get_or (take (length a.pops.now) (reverse t.stack.items)) k type.Unusable → type_in files r ≡ get_or found k model.Unusable
+  pub of_popped : (k : ℕ) (r : VerificationType) → a.reads ≡ None
+      → r ≡ get_or (take (length a.pops.now) (reverse t.stack.items)) k type.Unusable → type_in files r ≡ get_or found k model.Unusable
   of_popped k r none e = popped_at k r e ∙ ap (λ l. get_or l k model.Unusable) (sym (found_by None none))
 
-  pub of_popped_behind : (read : LocalRead) (k : ℕ) (r : VerificationType) → a.reads ≡ Some read → (k ≡ 0 → ⊥) → r ≡ get_or (take (length a.pops.now) (reverse t.stack.items)) (k - 1) type.Unusable → type_in files r ≡ get_or found k model.Unusable
+  pub of_popped_behind : (read : LocalRead) (k : ℕ) (r : VerificationType) → a.reads ≡ Some read → (k ≡ 0 → ⊥)
+      → r ≡ get_or (take (length a.pops.now) (reverse t.stack.items)) (k - 1) type.Unusable
+      → type_in files r ≡ get_or found k model.Unusable
   of_popped_behind read k r some ne e =
       popped_at (k - 1) r e ∙ sym (behind_first (get_or (map (type_in files) t.locals.items) read.local model.Unusable) popped k model.Unusable ne)
       ∙ ap (λ l. get_or l k model.Unusable) (sym (found_by (Some read) some))
 
 -- a frame type by its parts
-pub shown_by : (files : Program) (t : FrameType) (ls ts : List model.VerificationType) (mark : Bool) → map (type_in files) t.locals.items ≡ ls → reverse (map (type_in files) t.stack.items) ≡ ts → t.constructed ≡ mark
+pub shown_by : (files : Program) (t : FrameType) (ls ts : List model.VerificationType) (mark : Bool)
+    → map (type_in files) t.locals.items ≡ ls → reverse (map (type_in files) t.stack.items) ≡ ts → t.constructed ≡ mark
     → frame_in files t ≡ record { slots = record { locals = ls; stack = ts }; constructed = mark }
 shown_by files t ls ts mark l s m =
     ap (λ xs. record { slots = record { locals = xs; stack = reverse (map (type_in files) t.stack.items) }; constructed = t.constructed }) l
@@ -53,7 +59,8 @@ module _ (files : Program) (ws : List Want) (ts : List VerificationType) where
   abbrev pub meets_from : ℕ → Bool
   meets_from i = pops_meet (model.type_meets files) (map (want_in files) (drop i ws)) (drop i (reverse (map (type_in files) ts)))
 
-  more_wanted : (i : ℕ) (d : Want) → i < length ws → map (want_in files) (drop i ws) ≡ want_in files (get_or ws i d) ∷ map (want_in files) (drop (i + 1) ws)
+  more_wanted : (i : ℕ) (d : Want) → i < length ws
+      → map (want_in files) (drop i ws) ≡ want_in files (get_or ws i d) ∷ map (want_in files) (drop (i + 1) ws)
   more_wanted i d l =
       let next : suc i ≡ i + 1 = omega arith in
       ap (map (want_in files)) (drop-cons ws i d l) ∙ ap (λ k. want_in files (get_or ws i d) ∷ map (want_in files) (drop k ws)) next
@@ -66,7 +73,8 @@ module _ (files : Program) (ws : List Want) (ts : List VerificationType) where
       ap (λ xs. pops_meet (model.type_meets files) (map (want_in files) (drop i ws)) xs) none ∙ ap (λ l. pops_meet (model.type_meets files) l []) (more_wanted i d l)
 
   -- where it has one more
-  pub one_popped : (i : ℕ) (d : Want) (t : VerificationType) (r : Bool) → i < length ws → i < length ts → t ≡ get_or (reverse ts) i type.Unusable
+  pub one_popped : (i : ℕ) (d : Want) (t : VerificationType) (r : Bool) → i < length ws → i < length ts
+      → t ≡ get_or (reverse ts) i type.Unusable
       → r ≡ model.type_meets files (want_in files (get_or ws i d)) (type_in files t) → meets_from i ≡ (r && meets_from (i + 1))
   one_popped i d t r l lt at e =
       let x : get_or (reverse (map (type_in files) ts)) i model.Unusable ≡ type_in files t =

@@ -32,11 +32,13 @@ same_out ops (rows.Copy which) = refl
 same_out ops (rows.Number of) = refl
 same_out ops rows.Null = refl
 
-same_pushed : (ops : List VerificationType) (os : List rows.Out) → map (rows.out over_types ops) (map typed_out os) ≡ map (rows.out over_types ops) os
+same_pushed : (ops : List VerificationType) (os : List rows.Out)
+    → map (rows.out over_types ops) (map typed_out os) ≡ map (rows.out over_types ops) os
 same_pushed ops [] = refl
 same_pushed ops (o ∷ os) = ap (λ t. t ∷ map (rows.out over_types ops) (map typed_out os)) (same_out ops o) ∙ ap (λ ts. rows.out over_types ops o ∷ ts) (same_pushed ops os)
 
-same_written : (ops : List VerificationType) (ws : List (ℕ × rows.Out)) (locals : List VerificationType) → written over_types ops (map typed_write ws) locals ≡ written over_types ops ws locals
+same_written : (ops : List VerificationType) (ws : List (ℕ × rows.Out)) (locals : List VerificationType)
+    → written over_types ops (map typed_write ws) locals ≡ written over_types ops ws locals
 same_written ops [] locals = refl
 same_written ops (w ∷ ws) locals = ap (λ t. written over_types ops (map typed_write ws) (slice_set locals w.0 t)) (same_out ops w.1) ∙ same_written ops ws (slice_set locals w.0 (rows.out over_types ops w.1))
 
@@ -61,7 +63,8 @@ module _ (files : Program) (row : TypeRow) (old new : FrameType) where
   kept : row.writes ≡ None → new.locals.items ≡ old.locals.items → map (type_in files) new.locals.items ≡ after.slots.locals
   kept none e = ap (map (type_in files)) e ∙ ap (λ w. written over_types found (writes_in w) (map (type_in files) old.locals.items)) (sym none)
 
-  wrote : (w : LocalWrite) (v : Declared.VerificationType) → row.writes ≡ Some w → new.locals.items ≡ slice_set old.locals.items w.local v → type_in files v ≡ left_in files row old w.out
+  wrote : (w : LocalWrite) (v : Declared.VerificationType) → row.writes ≡ Some w → new.locals.items ≡ slice_set old.locals.items w.local v
+      → type_in files v ≡ left_in files row old w.out
       → map (type_in files) new.locals.items ≡ after.slots.locals
   wrote w v some set is =
       ap (map (type_in files)) set ∙ map-set (type_in files) old.locals.items w.local v
@@ -72,8 +75,10 @@ module _ (files : Program) (row : TypeRow) (old new : FrameType) where
   laid_out [] = refl
   laid_out (o ∷ os) = ap (λ l. left_in files row old o ∷ l) (laid_out os)
 
-  stacked : (left : List Declared.VerificationType) → new.stack.items ≡ take (length old.stack.items - length row.pops.now) old.stack.items ++ left
-      → reverse (map (type_in files) left) ≡ map (left_in files row old) row.pushes.now → reverse (map (type_in files) new.stack.items) ≡ after.slots.stack
+  stacked : (left : List Declared.VerificationType)
+      → new.stack.items ≡ take (length old.stack.items - length row.pops.now) old.stack.items ++ left
+      → reverse (map (type_in files) left) ≡ map (left_in files row old) row.pushes.now
+      → reverse (map (type_in files) new.stack.items) ≡ after.slots.stack
   stacked left e is =
       let under = take (length old.stack.items - length row.pops.now) old.stack.items in
       ap (λ l. reverse (map (type_in files) l)) e ∙ ap reverse (map-append (type_in files) under left) ∙ reverse-append (map (type_in files) under) (map (type_in files) left)
@@ -81,13 +86,18 @@ module _ (files : Program) (row : TypeRow) (old new : FrameType) where
       ∙ ap (λ l. map (rows.out over_types found) (map out_in row.pushes.now) ++ l) (under_reversed (type_in files) (length row.pops.now) old.stack.items)
       ∙ ap (λ n. map (rows.out over_types found) (map out_in row.pushes.now) ++ drop n (frame_in files old).slots.stack) (sym (length-map row.pops.now (want_in files)))
 
-  pub ran_reading : (left : List Declared.VerificationType) → row.writes ≡ None → new.locals.items ≡ old.locals.items → new.stack.items ≡ take (length old.stack.items - length row.pops.now) old.stack.items ++ left
-      → new.constructed ≡ old.constructed → reverse (map (type_in files) left) ≡ map (left_in files row old) row.pushes.now → frame_in files new ≡ after
+  pub ran_reading : (left : List Declared.VerificationType) → row.writes ≡ None → new.locals.items ≡ old.locals.items
+      → new.stack.items ≡ take (length old.stack.items - length row.pops.now) old.stack.items ++ left
+      → new.constructed ≡ old.constructed → reverse (map (type_in files) left) ≡ map (left_in files row old) row.pushes.now
+      → frame_in files new ≡ after
   ran_reading left none locals stack mark is = shown_by files new after.slots.locals after.slots.stack old.constructed (kept none locals) (stacked left stack is) mark
 
-  pub ran_writing : (left : List Declared.VerificationType) (w : LocalWrite) (v : Declared.VerificationType) → row.writes ≡ Some w → new.locals.items ≡ slice_set old.locals.items w.local v
-      → type_in files v ≡ left_in files row old w.out → new.stack.items ≡ take (length old.stack.items - length row.pops.now) old.stack.items ++ left
-      → new.constructed ≡ old.constructed → reverse (map (type_in files) left) ≡ map (left_in files row old) row.pushes.now → frame_in files new ≡ after
+  pub ran_writing : (left : List Declared.VerificationType) (w : LocalWrite) (v : Declared.VerificationType) → row.writes ≡ Some w
+      → new.locals.items ≡ slice_set old.locals.items w.local v
+      → type_in files v ≡ left_in files row old w.out
+      → new.stack.items ≡ take (length old.stack.items - length row.pops.now) old.stack.items ++ left
+      → new.constructed ≡ old.constructed → reverse (map (type_in files) left) ≡ map (left_in files row old) row.pushes.now
+      → frame_in files new ≡ after
   ran_writing left w v some locals at stack mark is = shown_by files new after.slots.locals after.slots.stack old.constructed (wrote w v some locals at) (stacked left stack is) mark
 
 -- ---- what the code's row says of the model's
@@ -104,17 +114,20 @@ module _ (files : Program) (max_stack : ℕ) (old new : frames.FrameType) where
   no_row None e same = same
   no_row (Some r) e same = absurd cc
 
-  pub not_ready : (row : Row) (b : Bool) (o : Option Row) → Some row ≡ option_map typed o → b ≡ row_ready files row max_stack old → b ≡ false → new ≡ old → FlowsLocally files max_stack old new (Ok flow.NotReady) o
+  pub not_ready : (row : Row) (b : Bool) (o : Option Row) → Some row ≡ option_map typed o → b ≡ row_ready files row max_stack old
+      → b ≡ false → new ≡ old → FlowsLocally files max_stack old new (Ok flow.NotReady) o
   not_ready row b None e asked is same = absurd cc
   not_ready row b (Some r) e asked is same = (sym (same_ready row r e) ∙ sym asked ∙ is, same)
 
-  pub no_memory : (row : Row) (b : Bool) (result : Result LocalFlow AllocError) (o : Option Row) → Some row ≡ option_map typed o → b ≡ row_ready files row max_stack old → b ≡ true → IsErr result → new ≡ old
+  pub no_memory : (row : Row) (b : Bool) (result : Result LocalFlow AllocError) (o : Option Row) → Some row ≡ option_map typed o
+      → b ≡ row_ready files row max_stack old → b ≡ true → IsErr result → new ≡ old
       → FlowsLocally files max_stack old new result o
   no_memory row b (Ok x) o e asked is err same = absurd cc
   no_memory row b (Err x) None e asked is err same = absurd cc
   no_memory row b (Err x) (Some r) e asked is err same = (sym (same_ready row r e) ∙ sym asked ∙ is, same)
 
-  pub leads : (row : Row) (b : Bool) (targets : SmallVec ℕ) (o : Option Row) → Some row ≡ option_map typed o → b ≡ row_ready files row max_stack old → b ≡ true
+  pub leads : (row : Row) (b : Bool) (targets : SmallVec ℕ) (o : Option Row) → Some row ≡ option_map typed o
+      → b ≡ row_ready files row max_stack old → b ≡ true
       → new ≡ row_leaves row old → targets.items ≡ row.to ∷ row.others → FlowsLocally files max_stack old new (Ok (flow.Leads targets)) o
   leads row b targets None e asked is left to = absurd cc
   leads row b targets (Some r) e asked is left to = (

@@ -54,7 +54,8 @@ fn out_type(row: &TypeRow, frame: &FrameType, out: Out) -> VerificationType
 
 /// What a row pushes, the top last; the places behind it are not used.
 fn left_by(row: &TypeRow, frame: &FrameType) -> [VerificationType; MOST_PUSHED]
-    ensures { (files : Program) → reverse (map (type_in files) (take (length row.now.pushes.now) result)) ≡ map (left_in files row.now frame.now) row.now.pushes.now }
+    ensures { (files : Program) → reverse (map (type_in files) (take (length row.now.pushes.now) result))
+        ≡ map (left_in files row.now frame.now) row.now.pushes.now }
 {
     let pushes = row.pushes;
     let mut left = [VerificationType::Unusable; MOST_PUSHED];
@@ -92,7 +93,8 @@ fn set_local(locals: &mut Vec<VerificationType>, local: u16, t: VerificationType
 
 /// Runs a row.
 fn run(row: &TypeRow, frame: &mut FrameType) -> Result<(), AllocError>
-    ensures ok { OnOk result ((files : Program) → frame_in files frame.new ≡ row_leaves (row_in files [] 0 row.now) (frame_in files frame.old)) }
+    ensures ok { OnOk result ((files : Program)
+        → frame_in files frame.new ≡ row_leaves (row_in files [] 0 row.now) (frame_in files frame.old)) }
     ensures err { OnErr result ((files : Program) → frame_in files frame.new ≡ frame_in files frame.old) }
 {
     let left = left_by(row, frame);

@@ -23,7 +23,8 @@ const AN_OBJECT: Want = Want::AReference(ReferenceType {
 /// What goes on at the next instruction, and touches no local variable.
 fn plain(pops: &'static [Want], pushes: &'static [Out], next: usize) -> TypeRow
     requires { length pushes.now ≤ 6 }
-    ensures { (files : Program) (code : List ℕ) (offset : ℕ) → row_in files code offset result ≡ rows.plain [] (map (want_in files) pops.now) (map out_in pushes.now) [] next }
+    ensures { (files : Program) (code : List ℕ) (offset : ℕ)
+        → row_in files code offset result ≡ rows.plain [] (map (want_in files) pops.now) (map out_in pushes.now) [] next }
 {
     TypeRow {
         reads: None,
@@ -36,7 +37,8 @@ fn plain(pops: &'static [Want], pushes: &'static [Out], next: usize) -> TypeRow
 
 /// What leads on without what it pops.
 fn popping(pops: &'static [Want], targets: Targets) -> TypeRow
-    ensures { (files : Program) (code : List ℕ) (offset : ℕ) → row_in files code offset result ≡ popping_row files code offset pops.now targets }
+    ensures { (files : Program) (code : List ℕ) (offset : ℕ)
+        → row_in files code offset result ≡ popping_row files code offset pops.now targets }
 {
     TypeRow {
         reads: None,
@@ -80,7 +82,8 @@ fn want_of(kind: Kind) -> Want
 }
 
 fn load_row(kind: Kind, local: u16, next: usize) -> TypeRow
-    ensures { (files : Program) (code : List ℕ) (offset : ℕ) → row_in files code offset result ≡ rows.plain ((local, rows.want_of kind) ∷ []) [] (rows.Copy 0 ∷ []) [] next }
+    ensures { (files : Program) (code : List ℕ) (offset : ℕ)
+        → row_in files code offset result ≡ rows.plain ((local, rows.want_of kind) ∷ []) [] (rows.Copy 0 ∷ []) [] next }
 {
     TypeRow {
         reads: Some(LocalRead {
@@ -96,7 +99,8 @@ fn load_row(kind: Kind, local: u16, next: usize) -> TypeRow
 
 /// What stores what it pops.
 fn storing(pops: &'static [Want], local: u16, next: usize) -> TypeRow
-    ensures { (files : Program) (code : List ℕ) (offset : ℕ) → row_in files code offset result ≡ rows.plain [] (map (want_in files) pops.now) [] ((local, rows.Copy 0) ∷ []) next }
+    ensures { (files : Program) (code : List ℕ) (offset : ℕ)
+        → row_in files code offset result ≡ rows.plain [] (map (want_in files) pops.now) [] ((local, rows.Copy 0) ∷ []) next }
 {
     TypeRow {
         reads: None,
@@ -111,7 +115,8 @@ fn storing(pops: &'static [Want], local: u16, next: usize) -> TypeRow
 }
 
 fn store_row(kind: Kind, local: u16, next: usize) -> TypeRow
-    ensures { (files : Program) (code : List ℕ) (offset : ℕ) → row_in files code offset result ≡ rows.plain [] (rows.want_of kind ∷ []) [] ((local, rows.Copy 0) ∷ []) next }
+    ensures { (files : Program) (code : List ℕ) (offset : ℕ)
+        → row_in files code offset result ≡ rows.plain [] (rows.want_of kind ∷ []) [] ((local, rows.Copy 0) ∷ []) next }
 {
     match kind {
         Kind::Int => storing(&[Want::AnInt], local, next),
@@ -121,7 +126,8 @@ fn store_row(kind: Kind, local: u16, next: usize) -> TypeRow
 
 /// An int in a local variable, and one that is computed from it there.
 fn increment_row(local: u16, next: usize) -> TypeRow
-    ensures { (files : Program) (code : List ℕ) (offset : ℕ) (by : ℤ) → row_in files code offset result ≡ typed (rows.increment_row local by next) }
+    ensures { (files : Program) (code : List ℕ) (offset : ℕ) (by : ℤ)
+        → row_in files code offset result ≡ typed (rows.increment_row local by next) }
 {
     TypeRow {
         reads: Some(LocalRead {
@@ -141,7 +147,8 @@ fn increment_row(local: u16, next: usize) -> TypeRow
 /// The row of a jump or a switch.
 #[tactic(auto, using(types::proofs::Classes::object_at))]
 fn jump_row(site: InstructionSite<'_>) -> Option<TypeRow>
-    ensures { (files : Program) → option_map (row_in files site.entry.code.now site.entry.offset) result ≡ option_map typed (jump_row_at site.entry) }
+    ensures { (files : Program) → option_map (row_in files site.entry.code.now site.entry.offset) result
+        ≡ option_map typed (jump_row_at site.entry) }
 {
     let next = site.next;
     match site.instr {
@@ -180,7 +187,8 @@ fn jump_row(site: InstructionSite<'_>) -> Option<TypeRow>
 
 /// The row of an instruction, if it is local.
 pub(crate) fn row_of(site: InstructionSite<'_>) -> Option<TypeRow>
-    ensures { (files : Program) → option_map (row_in files site.entry.code.now site.entry.offset) result ≡ option_map typed (row_at site.entry) }
+    ensures { (files : Program) → option_map (row_in files site.entry.code.now site.entry.offset) result
+        ≡ option_map typed (row_at site.entry) }
 {
     let next = site.next;
     match site.instr {

@@ -28,7 +28,8 @@ declared_by files m found h = by (option_map_or any_method (method_of files m) f
     by false h = absurd cc
 
 -- the method at the place is the one that the class declares
-pub declared_at : (files : Program) (m : Member) (p : MemberPlace) (file : FileTree) → stands files DuplicateClass ≡ false → method_in_class files any_method m m.class ≡ Some (member_in files m p) → IsMethodAt files m p → class_at files p.class ≡ Some file
+pub declared_at : (files : Program) (m : Member) (p : MemberPlace) (file : FileTree) → stands files DuplicateClass ≡ false
+    → method_in_class files any_method m m.class ≡ Some (member_in files m p) → IsMethodAt files m p → class_at files p.class ≡ Some file
     → slice_get file.methods p.member ≡ method_of files m
 declared_at files m p file differ declared at class =
     method_there files m p file differ class at ∙ ap (method_of files) (declared_by files m (member_in files m p) declared)

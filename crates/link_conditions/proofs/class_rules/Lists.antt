@@ -31,5 +31,6 @@ module _ {A : Type 0} (p : A → Bool) where
 
 module _ {V A : Type 0} (p : A → Bool) (f : V → A) where
   -- one more
-  pub none_more : (vs : List V) (i : ℕ) (v : V) → i < length vs → v ≡ get_or vs i v → p (f v) ≡ false → list_any (λ w. p (f w)) (take i vs) ≡ false → list_any (λ w. p (f w)) (take (i + 1) vs) ≡ false
+  pub none_more : (vs : List V) (i : ℕ) (v : V) → i < length vs → v ≡ get_or vs i v → p (f v) ≡ false
+      → list_any (λ w. p (f w)) (take i vs) ≡ false → list_any (λ w. p (f w)) (take (i + 1) vs) ≡ false
   none_more vs i v lt is here before = list_any_more (λ w. p (f w)) vs i v lt ∙ or_from _ _ before (ap (λ w. p (f w)) (sym is) ∙ here)

@@ -30,23 +30,32 @@ zero_add n = omega arith
 
 -- ---- steps after steps
 
-after_add : (files : Program) (m n : ℕ) (c : Name) → superclass_after files (m + n) c ≡ option_and_then (superclass_after files n) (superclass_after files m c)
+after_add : (files : Program) (m n : ℕ) (c : Name)
+    → superclass_after files (m + n) c ≡ option_and_then (superclass_after files n) (superclass_after files m c)
 after_add files zero n c = ap (λ k. superclass_after files k c) (zero_add n)
 after_add files (suc m) n c = ap (λ k. superclass_after files k c) (suc_add m n) ∙ by (λ s. after_add files m n s) (superclass_of files c)
   where
-    by : ((s : Name) → superclass_after files (m + n) s ≡ option_and_then (superclass_after files n) (superclass_after files m s)) → (o : Option Name) → option_and_then (superclass_after files (m + n)) o ≡ option_and_then (superclass_after files n) (option_and_then (superclass_after files m) o)
+    by : ((s : Name) → superclass_after files (m + n) s ≡ option_and_then (superclass_after files n) (superclass_after files m s))
+        → (o : Option Name) → option_and_then (superclass_after files (m + n)) o
+        ≡ option_and_then (superclass_after files n) (option_and_then (superclass_after files m) o)
     by rest None = refl
     by rest (Some s) = rest s
 
-lineage_add : (files : Program) (m n : ℕ) (c : Name) → lineage_of files (m + n) c ≡ lineage_of files m c ++ option_map_or (lineage_of files n) (superclass_after files m c) []
+lineage_add : (files : Program) (m n : ℕ) (c : Name)
+    → lineage_of files (m + n) c ≡ lineage_of files m c ++ option_map_or (lineage_of files n) (superclass_after files m c) []
 lineage_add files zero n c = ap (λ k. lineage_of files k c) (zero_add n)
 lineage_add files (suc m) n c = ap (λ k. lineage_of files k c) (suc_add m n) ∙ ap (λ l. c ∷ l) (by (λ s. lineage_add files m n s) (superclass_of files c))
   where
-    by : ((s : Name) → lineage_of files (m + n) s ≡ lineage_of files m s ++ option_map_or (lineage_of files n) (superclass_after files m s) []) → (o : Option Name) → option_map_or (λ s. lineage_of files (m + n) s) o [] ≡ option_map_or (λ s. lineage_of files m s) o [] ++ option_map_or (lineage_of files n) (option_and_then (superclass_after files m) o) []
+    by : ((s : Name) → lineage_of files (m + n) s
+        ≡ lineage_of files m s ++ option_map_or (lineage_of files n) (superclass_after files m s) []) → (o : Option Name)
+        → option_map_or (λ s. lineage_of files (m + n) s) o []
+        ≡ option_map_or (λ s. lineage_of files m s) o []
+        ++ option_map_or (lineage_of files n) (option_and_then (superclass_after files m) o) []
     by rest None = refl
     by rest (Some s) = rest s
 
-fields_add : (files : Program) (m n : ℕ) (c : Name) (o : Option Name) → superclass_after files m c ≡ o → fields_within files (m + n) c ≡ fields_within files m c + option_map_or (fields_within files n) o 0
+fields_add : (files : Program) (m n : ℕ) (c : Name) (o : Option Name) → superclass_after files m c ≡ o
+    → fields_within files (m + n) c ≡ fields_within files m c + option_map_or (fields_within files n) o 0
 fields_add files m n c o e =
     ap (λ l. length (flat_map own l)) (lineage_add files m n c ∙ ap (λ (x : Option Name). lineage_of files m c ++ option_map_or (lineage_of files n) x []) e)
     ∙ ap length (flat_map-append own (lineage_of files m c) (option_map_or (lineage_of files n) o []))
@@ -62,7 +71,8 @@ fields_add files m n c o e =
 
 -- ---- a class that is not there
 
-after_none : (files : Program) (n : ℕ) (s : Name) → class_of files s ≡ None → place_of files s ≡ None → option_and_then (place_of files) (superclass_after files n s) ≡ None
+after_none : (files : Program) (n : ℕ) (s : Name) → class_of files s ≡ None → place_of files s ≡ None
+    → option_and_then (place_of files) (superclass_after files n s) ≡ None
 after_none files zero s h p = p
 after_none files (suc n) s h p = rw h refl
 
@@ -88,12 +98,15 @@ whole files m n c o = record { next = option_and_then (place_of files) (option_a
 abbrev front : Program → ℕ → Name → Option ℕ → Climb
 front files m c next = record { next = next; fields = capped (fields_within files m c) }
 
-same_climb : (a b : Option ℕ) (x y : ℕ) → a ≡ b → x ≡ y → ◌≡◌ {A = Climb} (record { next = a; fields = x }) (record { next = b; fields = y })
+same_climb : (a b : Option ℕ) (x y : ℕ) → a ≡ b → x ≡ y
+    → ◌≡◌ {A = Climb} (record { next = a; fields = x }) (record { next = b; fields = y })
 same_climb a b x y h k = cc
 
 -- from the class at a place on
-from_place : (files : Program) (m n : ℕ) (c s : Name) (k : ℕ) (o : Option FileTree) → place_of files s ≡ Some k → slice_get (classes_of files) k ≡ o
-    → option_map_or (after (front files m c (Some k))) (slice_get (climbs files n) k) (front files m c (Some k)) ≡ whole files m n c (Some s)
+from_place : (files : Program) (m n : ℕ) (c s : Name) (k : ℕ) (o : Option FileTree) → place_of files s ≡ Some k
+    → slice_get (classes_of files) k ≡ o
+    → option_map_or (after (front files m c (Some k))) (slice_get (climbs files n) k) (front files m c (Some k))
+    ≡ whole files m n c (Some s)
 unfolding climbs
 from_place files m n c s k None g t = absurd (no_item (classes_of files) k (position_within (is_named s) (classes_of files) k g) t)
 from_place files m n c s k (Some file) g t =
@@ -101,13 +114,15 @@ from_place files m n c s k (Some file) g t =
     ap (λ (r : Option Climb). option_map_or (after (front files m c (Some k))) r (front files m c (Some k))) (get_map (λ (f : FileTree). climb files n (name_of f)) (classes_of files) k file t ∙ ap (λ x. Some (climb files n x)) name)
     ∙ same_climb _ _ _ _ refl (capped_add (fields_within files m c) (fields_within files n s))
 
-from_class : (files : Program) (m n : ℕ) (c s : Name) (o : Option ℕ) → place_of files s ≡ o → onward (climbs files n) (front files m c o) ≡ whole files m n c (Some s)
+from_class : (files : Program) (m n : ℕ) (c s : Name) (o : Option ℕ) → place_of files s ≡ o
+    → onward (climbs files n) (front files m c o) ≡ whole files m n c (Some s)
 from_class files m n c s None g =
     let missing = no_class files s g in
     same_climb _ _ _ _ (sym (after_none files n s missing g)) (capped_none (fields_within files m c) ∙ ap (λ k. capped (fields_within files m c + k)) (sym (fields_none files n s missing)))
 from_class files m n c s (Some k) g = from_place files m n c s k (slice_get (classes_of files) k) g refl
 
-from_all : (files : Program) (m n : ℕ) (c : Name) (o : Option Name) → onward (climbs files n) (front files m c (option_and_then (place_of files) o)) ≡ whole files m n c o
+from_all : (files : Program) (m n : ℕ) (c : Name) (o : Option Name)
+    → onward (climbs files n) (front files m c (option_and_then (place_of files) o)) ≡ whole files m n c o
 from_all files m n c None = same_climb _ _ _ _ refl (capped_none (fields_within files m c))
 from_all files m n c (Some s) = from_class files m n c s (place_of files s) refl
 
@@ -144,7 +159,8 @@ above_cap n = ⊎_elim
     (λ h. let cut : capped n ≡ 65536 = omega arith in ap (nat_lt 65535) cut ∙ sym (over n h))
     (cases_lt n 65536)
 
-pub is_too_many : (files : Program) (file : FileTree) → nat_lt 65535 (climb files (length (classes_of files)) (name_of file)).fields ≡ too_many_fields files file
+pub is_too_many : (files : Program) (file : FileTree)
+    → nat_lt 65535 (climb files (length (classes_of files)) (name_of file)).fields ≡ too_many_fields files file
 is_too_many files file =
     let c = name_of file in
     above_cap (fields_within files (length (classes_of files)) c) ∙ ap (nat_lt 65535) (sym (sum_reverse (own_instance_fields files) (lineage files c)))
@@ -153,7 +169,8 @@ files_after : (files : Program) → drop 30 (classes_of files) ≡ files
 unfolding built_in_classes
 files_after files = refl
 
-pub too_many_at : (files : Program) → position (λ (row : Climb). nat_lt 65535 row.fields) (drop 30 (climbs files (length (classes_of files)))) ≡ position (too_many_fields files) files
+pub too_many_at : (files : Program) → position (λ (row : Climb). nat_lt 65535 row.fields)
+    (drop 30 (climbs files (length (classes_of files)))) ≡ position (too_many_fields files) files
 unfolding climbs
 too_many_at files =
     let f : FileTree → Climb = λ file. climb files (length (classes_of files)) (name_of file) in
@@ -164,11 +181,13 @@ too_many_at files =
 
 -- ---- twice as many steps
 
-pub twice : (files : Program) (n m : ℕ) (half first second rows : List Climb) → half ≡ climbs files n → first ≡ half → second ≡ half → rows ≡ map (onward second) first → n + n ≡ m → rows ≡ climbs files m
+pub twice : (files : Program) (n m : ℕ) (half first second rows : List Climb) → half ≡ climbs files n → first ≡ half → second ≡ half
+    → rows ≡ map (onward second) first → n + n ≡ m → rows ≡ climbs files m
 twice files n m half first second rows is one two made count =
     made ∙ ap (λ l. map (onward l) first) (two ∙ is) ∙ ap (map (onward (climbs files n))) (one ∙ is) ∙ climbs_add files n n ∙ ap (climbs files) count
 
-pub one_more : (files : Program) (n m : ℕ) (first one rows : List Climb) → first ≡ climbs files n → one ≡ climbs files 1 → rows ≡ map (onward one) first → n + 1 ≡ m → rows ≡ climbs files m
+pub one_more : (files : Program) (n m : ℕ) (first one rows : List Climb) → first ≡ climbs files n → one ≡ climbs files 1
+    → rows ≡ map (onward one) first → n + 1 ≡ m → rows ≡ climbs files m
 one_more files n m first one rows is single made count =
     made ∙ ap (λ l. map (onward l) first) single ∙ ap (map (onward (climbs files 1))) is ∙ climbs_add files n 1 ∙ ap (climbs files) count
 

@@ -25,7 +25,8 @@ no_first (file ∷ files) e = absurd (no (sym (at_first (file ∷ files)) ∙ e)
     no : Some file ≡ None → ⊥
     no h = cc
 
-pub of_first : (files : Program) (first : FileTree) (class : Option FileTree) → slice_get (classes_of files) 30 ≡ Some first → class_of files (name_of first) ≡ class → not (main_in class) ≡ stands files NoMain
+pub of_first : (files : Program) (first : FileTree) (class : Option FileTree) → slice_get (classes_of files) 30 ≡ Some first
+    → class_of files (name_of first) ≡ class → not (main_in class) ≡ stands files NoMain
 of_first [] first class e h = absurd (no (sym (at_first []) ∙ e))
   where
     no : None ≡ Some first → ⊥

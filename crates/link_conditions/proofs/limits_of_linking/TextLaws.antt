@@ -20,7 +20,8 @@ use Rattle.hierarchy.proofs.RowLaws.{any_map}
 -- ---- keys of a set
 
 -- one text more among keys
-pub pushed : {K : Type 0} (items : K → Name) (keys : List K) (key : K) (texts : List Name) (text : Name) → map items keys ≡ texts → items key ≡ text → list_any (name_eq text) texts ≡ false
+pub pushed : {K : Type 0} (items : K → Name) (keys : List K) (key : K) (texts : List Name) (text : Name) → map items keys ≡ texts
+    → items key ≡ text → list_any (name_eq text) texts ≡ false
     → map items (cond (list_any (λ k. name_eq (items key) (items k)) keys) keys (keys ++ key ∷ [])) ≡ with_text texts text
 pushed items keys key texts text view is new =
     let out : list_any (λ k. name_eq (items key) (items k)) keys ≡ false = any_map items (name_eq (items key)) keys ∙ ap (list_any (name_eq (items key))) view ∙ ap (λ n. list_any (name_eq n) texts) is ∙ new in
@@ -36,11 +37,14 @@ pub with_texts-append : (acc xs ys : List Name) → with_texts acc (xs ++ ys) �
 with_texts-append acc [] ys = refl
 with_texts-append acc (x ∷ xs) ys = with_texts-append (with_text acc x) xs ys
 
-any_filter : (t x : Name) (ds : List Name) → name_eq t x ≡ false → list_any (name_eq t) (filter (is_other_text x) ds) ≡ list_any (name_eq t) ds
+any_filter : (t x : Name) (ds : List Name) → name_eq t x ≡ false
+    → list_any (name_eq t) (filter (is_other_text x) ds) ≡ list_any (name_eq t) ds
 any_filter t x [] h = refl
 any_filter t x (d ∷ ds) h = by (any_filter t x ds h) (name_eq x d) refl
   where
-    by : list_any (name_eq t) (filter (is_other_text x) ds) ≡ list_any (name_eq t) ds → (b : Bool) → name_eq x d ≡ b → list_any (name_eq t) (cond (not b) (d ∷ filter (is_other_text x) ds) (filter (is_other_text x) ds)) ≡ (name_eq t d || list_any (name_eq t) ds)
+    by : list_any (name_eq t) (filter (is_other_text x) ds) ≡ list_any (name_eq t) ds → (b : Bool) → name_eq x d ≡ b
+        → list_any (name_eq t) (cond (not b) (d ∷ filter (is_other_text x) ds) (filter (is_other_text x) ds))
+        ≡ (name_eq t d || list_any (name_eq t) ds)
     by rest true e = let same : name_eq t d ≡ false = ap (name_eq t) (sym (same_name x d e)) ∙ h in rw same rest
     by rest false e = ap (λ b. name_eq t d || b) rest
 
@@ -48,7 +52,8 @@ filter-append : (p : Name → Bool) (xs ys : List Name) → filter p (xs ++ ys) 
 filter-append p [] ys = refl
 filter-append p (x ∷ xs) ys = by (filter-append p xs ys) (p x)
   where
-    by : filter p (xs ++ ys) ≡ filter p xs ++ filter p ys → (b : Bool) → cond b (x ∷ filter p (xs ++ ys)) (filter p (xs ++ ys)) ≡ cond b (x ∷ filter p xs) (filter p xs) ++ filter p ys
+    by : filter p (xs ++ ys) ≡ filter p xs ++ filter p ys → (b : Bool)
+        → cond b (x ∷ filter p (xs ++ ys)) (filter p (xs ++ ys)) ≡ cond b (x ∷ filter p xs) (filter p xs) ++ filter p ys
     by rest true = ap (λ l. x ∷ l) rest
     by rest false = rest
 
@@ -79,17 +84,20 @@ distinct-append xs (y ∷ ys) =
     ap distinct (sym (append_assoc xs (y ∷ []) ys)) ∙ distinct-append (xs ++ y ∷ []) ys ∙ ap (λ l. with_texts l ys) (distinct_push xs y)
 
 -- those of one file more
-pub string_texts_more : (done : Program) (file : FileTree) → string_texts (done ++ file ∷ []) ≡ with_texts (string_texts done) (texts_in file)
+pub string_texts_more : (done : Program) (file : FileTree)
+    → string_texts (done ++ file ∷ []) ≡ with_texts (string_texts done) (texts_in file)
 string_texts_more done file =
     ap distinct (flat_map-append texts_in done (file ∷ []) ∙ ap (λ (l : List Name). flat_map texts_in done ++ l) (append-nil (texts_in file)))
     ∙ distinct-append (flat_map texts_in done) (texts_in file)
 
 -- the text of one entry more
-pub text_added : (pool : List Entry) (acc row : List Name) (e : Entry) (rest : List Entry) (all : List Name) → row ≡ with_texts acc (option_to_list (string_of pool e))
+pub text_added : (pool : List Entry) (acc row : List Name) (e : Entry) (rest : List Entry) (all : List Name)
+    → row ≡ with_texts acc (option_to_list (string_of pool e))
     → with_texts acc (filter_map (string_of pool) (e ∷ rest)) ≡ all → with_texts row (filter_map (string_of pool) rest) ≡ all
 text_added pool acc row e rest all is h = ap (λ l. with_texts l (filter_map (string_of pool) rest)) is ∙ by (string_of pool e) ∙ h
   where
-    by : (o : Option Name) → with_texts (with_texts acc (option_to_list o)) (filter_map (string_of pool) rest) ≡ with_texts acc (cons_option o (filter_map (string_of pool) rest))
+    by : (o : Option Name) → with_texts (with_texts acc (option_to_list o)) (filter_map (string_of pool) rest)
+        ≡ with_texts acc (cons_option o (filter_map (string_of pool) rest))
     by None = refl
     by (Some t) = refl
 
@@ -104,7 +112,8 @@ length-filter_map-le {A} {B} f (x ∷ xs) = by (f x) (length-filter_map-le f xs)
     by (Some y) h = omega arith
 
 -- a file has no more texts than entries in its constant pool
-pub texts_more : (done : Program) (file : FileTree) → length (flat_map texts_in (done ++ file ∷ [])) ≤ length (flat_map texts_in done) + length file.pool
+pub texts_more : (done : Program) (file : FileTree)
+    → length (flat_map texts_in (done ++ file ∷ [])) ≤ length (flat_map texts_in done) + length file.pool
 texts_more done file =
     let one : flat_map texts_in (done ++ file ∷ []) ≡ flat_map texts_in done ++ texts_in file = flat_map-append texts_in done (file ∷ []) ∙ ap (λ (l : List Name). flat_map texts_in done ++ l) (append-nil (texts_in file)) in
     let all : length (flat_map texts_in (done ++ file ∷ [])) ≡ length (flat_map texts_in done) + length (texts_in file) = ap length one ∙ length-append (flat_map texts_in done) (texts_in file) in

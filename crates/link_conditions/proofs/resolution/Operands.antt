@@ -48,7 +48,9 @@ module _ (files : Program) (file : FileTree) (k : ℕ) where
   pub class_asked : unresolved_instruction files file (instrs.CheckCast k) ≡ needs (class_name_at file.pool k)
   class_asked = ap (λ (names : List Name). list_any (is_missing files) names || false) (append-nil _) ∙ or-false _
 
-  pub new_asked : unresolved_instruction files file (instrs.New k) ≡ (needs (class_name_at file.pool k) || option_map_or is_uninstantiable (option_and_then (class_of files) (class_name_at file.pool k)) false)
+  pub new_asked : unresolved_instruction files file (instrs.New k)
+      ≡ (needs (class_name_at file.pool k) || option_map_or
+      is_uninstantiable (option_and_then (class_of files) (class_name_at file.pool k)) false)
   new_asked =
       ap (λ (names : List Name). list_any (is_missing files) names || (option_map_or is_uninstantiable (option_and_then (class_of files) (class_name_at file.pool k)) false || false)) (append-nil _)
       ∙ ap (λ (b : Bool). needs (class_name_at file.pool k) || b) (or-false _)
@@ -73,19 +75,24 @@ module _ (files : Program) where
   abbrev may_not : Bool → (Member → Bool) → Member → Bool
   may_not wants put g = is_other_field wants (Some g) || (put g || is_hidden g)
 
-  found_so : (wants : Bool) (put : Member → Bool) (puts : Option Member → Bool) → ((g : Member) → puts (Some g) ≡ put g) → (f : Option Member)
-      → (is_none f || (is_other_field wants f || (puts f || (option_map_or is_hidden f false || false)))) ≡ option_map_or (may_not wants put) f true
+  found_so : (wants : Bool) (put : Member → Bool) (puts : Option Member → Bool) → ((g : Member) → puts (Some g) ≡ put g)
+      → (f : Option Member)
+      → (is_none f || (is_other_field wants f || (puts f || (option_map_or is_hidden f false || false))))
+      ≡ option_map_or (may_not wants put) f true
   found_so wants put puts same None = refl
   found_so wants put puts same (Some g) = rw (same g, or-false (is_hidden g)) refl
 
-  named_so : (wants : Bool) (put : Member → Bool) (puts : Option Member → Bool) → ((g : Member) → puts (Some g) ≡ put g) → puts None ≡ false → (o : Option Member)
-      → asked_of_field wants puts o ≡ option_map_or (λ m. member_lacks_class files m || option_map_or (may_not wants put) (find_field files m) true) o false
+  named_so : (wants : Bool) (put : Member → Bool) (puts : Option Member → Bool) → ((g : Member) → puts (Some g) ≡ put g)
+      → puts None ≡ false → (o : Option Member)
+      → asked_of_field wants puts o ≡ option_map_or
+      (λ m. member_lacks_class files m || option_map_or (may_not wants put) (find_field files m) true) o false
   named_so wants put puts same none None = rw none refl
   named_so wants put puts same none (Some m) =
       ap (λ (names : List Name). list_any (is_missing files) names || (is_none (find_field files m) || (is_other_field wants (find_field files m) || (puts (find_field files m) || (option_map_or is_hidden (find_field files m) false || false))))) (append-nil (member_classes (Some m)))
       ∙ ap (λ (b : Bool). member_lacks_class files m || b) (found_so wants put puts same (find_field files m))
 
-  pub field_asked : (file : FileTree) (k : ℕ) (how : FieldAccess) → unresolved_instruction files file (instrs.Field how k) ≡ option_map_or (field_fails files how) (field_at file.pool k) false
+  pub field_asked : (file : FileTree) (k : ℕ) (how : FieldAccess)
+      → unresolved_instruction files file (instrs.Field how k) ≡ option_map_or (field_fails files how) (field_at file.pool k) false
   field_asked file k access.GetStatic = named_so true (λ g. false) (λ f. false) (λ g. refl) refl (field_at file.pool k)
   field_asked file k access.PutStatic = named_so true (λ g. member_eq system_out g) (λ f. option_map_or (member_eq system_out) f false) (λ g. refl) refl (field_at file.pool k)
   field_asked file k access.GetField = named_so false (λ g. false) (λ f. false) (λ g. refl) refl (field_at file.pool k)
@@ -109,7 +116,8 @@ module _ (files : Program) (found : Member → Option Member) (wants_static want
 
   both : (c : Option FileTree) (f : Option Member) (more : Bool)
       → ((is_none c || more) || (is_none f || (is_other_method f || is_other_class c)))
-      ≡ ((is_none c || more) || (differs wants_interface (option_map_or is_interface_class c false) || option_map_or (method_fails files wants_static) f true))
+      ≡ ((is_none c || more) || (differs wants_interface (option_map_or is_interface_class c false) ||
+      option_map_or (method_fails files wants_static) f true))
   both None f more = refl
   both (Some c) None more = rw (or-true (differs wants_interface (is_interface_class c))) refl
   both (Some c) (Some g) more = ap (λ (b : Bool). more || b) (or_comm (is_other_method (Some g)) (is_other_class (Some c)))
@@ -124,10 +132,12 @@ is_static_call invocation.Special = false
 is_static_call invocation.Static = true
 
 module _ (files : Program) (file : FileTree) (k : ℕ) where
-  pub method_asked : (how : Invocation) → unresolved_instruction files file (instrs.Invoke how k) ≡ option_map_or (call_fails files (found_in_class files) (is_static_call how) false) (method_at file.pool k) false
+  pub method_asked : (how : Invocation) → unresolved_instruction files file (instrs.Invoke how k)
+      ≡ option_map_or (call_fails files (found_in_class files) (is_static_call how) false) (method_at file.pool k) false
   method_asked invocation.Virtual = call_so files (found_in_class files) false false (method_at file.pool k)
   method_asked invocation.Special = call_so files (found_in_class files) false false (method_at file.pool k)
   method_asked invocation.Static = call_so files (found_in_class files) true false (method_at file.pool k)
 
-  pub interface_method_asked : unresolved_instruction files file (instrs.InvokeInterface k 0 0) ≡ option_map_or (call_fails files (find_interface_method files) false true) (interface_method_at file.pool k) false
+  pub interface_method_asked : unresolved_instruction files file (instrs.InvokeInterface k 0 0)
+      ≡ option_map_or (call_fails files (find_interface_method files) false true) (interface_method_at file.pool k) false
   interface_method_asked = call_so files (find_interface_method files) false true (interface_method_at file.pool k)

@@ -20,14 +20,16 @@ module _ (files : Program) (file : FileTree) where
   Told rows n = (k : ℕ) → k < n → get_or rows k nothing ≡ row_of files file k
 
   -- one row more
-  pub one_more : (rows : List Row) (n : ℕ) (row : Row) → length rows ≡ n → Told rows n → row ≡ row_of files file n → Told (rows ++ row ∷ []) (n + 1)
+  pub one_more : (rows : List Row) (n : ℕ) (row : Row) → length rows ≡ n → Told rows n → row ≡ row_of files file n
+      → Told (rows ++ row ∷ []) (n + 1)
   one_more rows n row count said is_so =
       let last : get_or (rows ++ row ∷ []) n nothing ≡ row = ap (λ (j : ℕ). get_or (rows ++ row ∷ []) j nothing) (omega (arith, count)) ∙ get_or-append-add rows (row ∷ []) 0 nothing in
       below_more (λ (k : ℕ). get_or (rows ++ row ∷ []) k nothing ≡ row_of files file k) n
       (λ k below. get_or_append_left rows (row ∷ []) nothing k (omega (arith, below, count)) ∙ said k below) (last ∙ is_so)
 
   -- those of all entries
-  pub all_told : (rows : List Row) (n : ℕ) → length rows ≡ n → Told rows n → (k : ℕ) → (n ≤ k → length file.pool + 1 ≤ k) → get_or rows k nothing ≡ row_of files file k
+  pub all_told : (rows : List Row) (n : ℕ) → length rows ≡ n → Told rows n → (k : ℕ) → (n ≤ k → length file.pool + 1 ≤ k)
+      → get_or rows k nothing ≡ row_of files file k
   all_told rows n count said k past = elim (cases_lt k n) [
     | inl below ↦ said k below
     | inr above ↦ get_or_past rows k nothing (omega (arith, count, above)) ∙ sym (past_end files file k (past above))

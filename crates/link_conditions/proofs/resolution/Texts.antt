@@ -21,7 +21,8 @@ use Rattle.link_conditions.specs.resolution.Unresolved.{lacks_class}
 use Rattle.link_conditions.specs.resolution.Rows.{names_missing, descriptor_lacks_class, lacking_texts}
 use Rattle.link_conditions.proofs.resolution.Operands.{class_asked}
 
-any_of_mapped : {A B : Type 0} (p : B → Bool) (f : A → Option B) (xs : List A) → list_any p (filter_map f xs) ≡ list_any (λ x. option_map_or p (f x) false) xs
+any_of_mapped : {A B : Type 0} (p : B → Bool) (f : A → Option B) (xs : List A)
+    → list_any p (filter_map f xs) ≡ list_any (λ x. option_map_or p (f x) false) xs
 any_of_mapped p f [] = refl
 any_of_mapped {A} {B} p f (x ∷ xs) = by (f x) (any_of_mapped p f xs)
   where
@@ -40,7 +41,8 @@ unfolding element_at scanned_at field_type method_type
 nothing_lacks files = refl
 
 -- what the row of an index says
-pub text_said : (files : Program) (pool : List Entry) (rows : List Bool) (index : ℕ) → rows ≡ lacking_texts files pool → get_or rows index false ≡ lacks_class files (text_at pool index)
+pub text_said : (files : Program) (pool : List Entry) (rows : List Bool) (index : ℕ) → rows ≡ lacking_texts files pool
+    → get_or rows index false ≡ lacks_class files (text_at pool index)
 text_said files pool rows index are =
     ap (λ (rs : List Bool). get_or rs index false) are
     ∙ ap (λ (b : Bool). get_or (lacking_texts files pool) index b) (sym (nothing_lacks files))
@@ -56,17 +58,20 @@ pub text_there : (pool : List Entry) (index : ℕ) (t : Name) → utf8_at pool i
 text_there pool index t h = text_is (entry_at pool index) t h
 
 -- the descriptor of a NameAndType
-pub descriptor_said : (files : Program) (pool : List Entry) (index name descriptor : ℕ) → entry_at pool index ≡ NameAndType name descriptor → is_some (utf8_at pool name) ≡ true → is_some (utf8_at pool descriptor) ≡ true
+pub descriptor_said : (files : Program) (pool : List Entry) (index name descriptor : ℕ) → entry_at pool index ≡ NameAndType name descriptor
+    → is_some (utf8_at pool name) ≡ true → is_some (utf8_at pool descriptor) ≡ true
     → lacks_class files (text_at pool descriptor) ≡ descriptor_lacks_class files (name_and_type_at pool index)
 descriptor_said files pool index name descriptor at n d = rw at (by (utf8_at pool name) (utf8_at pool descriptor) (text_there pool descriptor) n d)
   where
-    by : (o p : Option Name) → ((t : Name) → p ≡ Some t → text_at pool descriptor ≡ t) → is_some o ≡ true → is_some p ≡ true → lacks_class files (text_at pool descriptor) ≡ descriptor_lacks_class files (name_and_descriptor o p)
+    by : (o p : Option Name) → ((t : Name) → p ≡ Some t → text_at pool descriptor ≡ t) → is_some o ≡ true → is_some p ≡ true
+        → lacks_class files (text_at pool descriptor) ≡ descriptor_lacks_class files (name_and_descriptor o p)
     by None p said h k = absurd cc
     by (Some n) None said h k = absurd cc
     by (Some n) (Some t) said h k = ap (lacks_class files) (said t refl)
 
 -- the class of an array's elements
-pub array_said : (files : Program) (file : FileTree) (k name : ℕ) (text : Name) → entry_at file.pool k ≡ Class name → utf8_at file.pool name ≡ Some text → is_array_class text ≡ true
+pub array_said : (files : Program) (file : FileTree) (k name : ℕ) (text : Name) → entry_at file.pool k ≡ Class name
+    → utf8_at file.pool name ≡ Some text → is_array_class text ≡ true
     → lacks_class files (text_at file.pool name) ≡ unresolved_instruction files file (instrs.CheckCast k)
 array_said files file k name text at said array =
     let named : class_name_at file.pool k ≡ Some text = ap (class_name_of file.pool) at ∙ said in

@@ -22,7 +22,8 @@ use Rattle.constant_pool.proofs.Passing.{any_map, any_at}
 
 -- ---- elements of lists
 
-list_any-flat_map : {A B : Type 0} (p : B → Bool) (f : A → List B) (xs : List A) → list_any p (flat_map f xs) ≡ list_any (λ x. list_any p (f x)) xs
+list_any-flat_map : {A B : Type 0} (p : B → Bool) (f : A → List B) (xs : List A)
+    → list_any p (flat_map f xs) ≡ list_any (λ x. list_any p (f x)) xs
 list_any-flat_map p f [] = refl
 list_any-flat_map p f (x ∷ xs) = list_any-append p (f x) (flat_map f xs) ∙ ap (λ b. list_any p (f x) || b) (list_any-flat_map p f xs)
 
@@ -39,7 +40,8 @@ module _ (files : Program) (file : FileTree) where
   exceptions_stand c = list_any (exception_stands files file) c.exceptions
 
   -- the declared descriptors are those of the fields and of the methods
-  declared_parts : declared_class_missing files file ≡ (list_any (field_stands files file) file.fields || list_any (declaration_stands files file) file.methods)
+  declared_parts : declared_class_missing files file
+      ≡ (list_any (field_stands files file) file.fields || list_any (declaration_stands files file) file.methods)
   declared_parts =
       list_any-flat_map (is_missing files) classes_in (declared_descriptors file)
       ∙ list_any-append (lacks_class files) (map (λ (f : FieldTree). text_at file.pool f.descriptor) file.fields) (map (λ (m : MethodTree). text_at file.pool m.descriptor) file.methods)
@@ -54,7 +56,8 @@ module _ (files : Program) (file : FileTree) where
   no_code (Some c) h = ((or_parts (instructions_stand c) _ h).1, (or_parts (instructions_stand c) _ h).0)
 
   no_method : (ms : List MethodTree) → list_any (is_method_unresolved files file) ms ≡ false
-      → (list_any (of_codes exceptions_stand) ms ≡ false) × ((list_any (declaration_stands files file) ms ≡ false) × (list_any (of_codes instructions_stand) ms ≡ false))
+      → (list_any (of_codes exceptions_stand) ms ≡ false)
+      × ((list_any (declaration_stands files file) ms ≡ false) × (list_any (of_codes instructions_stand) ms ≡ false))
   no_method [] h = (refl, (refl, refl))
   no_method (m ∷ ms) h =
       let first : is_method_unresolved files file m ≡ false = (or_parts (is_method_unresolved files file m) _ h).0 in
@@ -62,7 +65,8 @@ module _ (files : Program) (file : FileTree) where
       let codes = no_code (code_in m.parts) (or_parts (declaration_stands files file m) _ first).1 in
       (or_from _ _ codes.0 rest.0, (or_from _ _ (or_parts (declaration_stands files file m) _ first).0 rest.1.0, or_from _ _ codes.1 rest.1.1))
 
-  pub all_found : class_stands files file ≡ false → list_any (field_stands files file) file.fields ≡ false → list_any (is_method_unresolved files file) file.methods ≡ false → is_unresolved files file ≡ false
+  pub all_found : class_stands files file ≡ false → list_any (field_stands files file) file.fields ≡ false
+      → list_any (is_method_unresolved files file) file.methods ≡ false → is_unresolved files file ≡ false
   all_found class fields methods =
       let parts = no_method file.methods methods in
       or_from _ _ (or_parts (superclass_missing files file) _ class).0
@@ -87,20 +91,24 @@ module _ (files : Program) (file : FileTree) where
   by_instruction : list_any (of_codes instructions_stand) file.methods ≡ true → is_unresolved files file ≡ true
   by_instruction h = or_right (superclass_missing files file) _ (or_right (interface_missing files file) _ (or_right (catch_type_missing files file) _ (or_right (declared_class_missing files file) _ h)))
 
-  by_class : (super interface : Bool) → superclass_missing files file ≡ super → interface_missing files file ≡ interface → (super || interface) ≡ true → is_unresolved files file ≡ true
+  by_class : (super interface : Bool) → superclass_missing files file ≡ super → interface_missing files file ≡ interface
+      → (super || interface) ≡ true → is_unresolved files file ≡ true
   by_class true interface p q h = by_superclass p
   by_class false true p q h = by_interface q
   by_class false false p q h = absurd cc
 
-  an_instruction : (pc : ℕ) (o : Option CodeTree) → option_map_or (code_stands files file (Instruction pc)) o false ≡ true → option_map_or instructions_stand o false ≡ true
+  an_instruction : (pc : ℕ) (o : Option CodeTree) → option_map_or (code_stands files file (Instruction pc)) o false ≡ true
+      → option_map_or instructions_stand o false ≡ true
   an_instruction pc None h = absurd cc
   an_instruction pc (Some c) h = any_of_starts (instruction_stands files file c) c.code pc (and_parts (is_start c.code pc) _ h).0 (and_parts (is_start c.code pc) _ h).1
 
-  an_exception : (entry : ℕ) (o : Option CodeTree) → option_map_or (code_stands files file (Exception entry)) o false ≡ true → option_map_or exceptions_stand o false ≡ true
+  an_exception : (entry : ℕ) (o : Option CodeTree) → option_map_or (code_stands files file (Exception entry)) o false ≡ true
+      → option_map_or exceptions_stand o false ≡ true
   an_exception entry None h = absurd cc
   an_exception entry (Some c) h = any_at (exception_stands files file) c.exceptions entry h
 
-  of_method : (p q : MethodTree → Bool) → ((m : MethodTree) → p m ≡ true → q m ≡ true) → (o : Option MethodTree) → option_map_or p o false ≡ true → option_map_or q o false ≡ true
+  of_method : (p q : MethodTree → Bool) → ((m : MethodTree) → p m ≡ true → q m ≡ true) → (o : Option MethodTree)
+      → option_map_or p o false ≡ true → option_map_or q o false ≡ true
   of_method p q follows None h = absurd cc
   of_method p q follows (Some m) h = follows m h
 
@@ -116,13 +124,15 @@ module _ (files : Program) (file : FileTree) where
       (of_method (method_stands files file (Exception entry)) (of_codes exceptions_stand) (λ m. an_exception entry (code_in m.parts)) (slice_get file.methods k) h))
 
   -- a spot of a method is a place of the file
-  pub spot_stands : (k : ℕ) (spot : Spot) → option_map_or (method_stands files file spot) (slice_get file.methods k) false ≡ true → stands_at files file (place_in k spot) ≡ true
+  pub spot_stands : (k : ℕ) (spot : Spot) → option_map_or (method_stands files file spot) (slice_get file.methods k) false ≡ true
+      → stands_at files file (place_in k spot) ≡ true
   spot_stands k Declaration h = h
   spot_stands k (Instruction pc) h = h
   spot_stands k (Exception entry) h = h
 
   -- a spot of its code is one of a method
-  pub code_in_method : (m : MethodTree) (spot : Spot) (c : CodeTree) → code_in m.parts ≡ Some c → code_stands files file spot c ≡ true → method_stands files file spot m ≡ true
+  pub code_in_method : (m : MethodTree) (spot : Spot) (c : CodeTree) → code_in m.parts ≡ Some c → code_stands files file spot c ≡ true
+      → method_stands files file spot m ≡ true
   code_in_method m Declaration c e h = absurd cc
   code_in_method m (Instruction pc) c e h = rw e h
   code_in_method m (Exception entry) c e h = rw e h
@@ -130,13 +140,15 @@ module _ (files : Program) (file : FileTree) where
   -- ---- what the walk finds
 
   -- what is found is exactly whether a condition stands
-  pub exactly : {E : Type 0} (r : Result (Option UnresolvedPlace) E) → class_stands files file ≡ false → list_any (field_stands files file) file.fields ≡ false → IfOk r (FindsInMethods files file)
+  pub exactly : {E : Type 0} (r : Result (Option UnresolvedPlace) E) → class_stands files file ≡ false
+      → list_any (field_stands files file) file.fields ≡ false → IfOk r (FindsInMethods files file)
       → IfOk r (λ found. is_some found ≡ is_unresolved files file)
   exactly (Ok None) class fields h = sym (all_found class fields h)
   exactly (Ok (Some place)) class fields h = sym (one_stands place h)
   exactly (Err e) class fields h = tt
 
-  pub somewhere : {E : Type 0} (r : Result (Option UnresolvedPlace) E) → IfOk r (FindsInMethods files file) → IfOk r (λ found. IfSome found (λ place. IsTrue (stands_at files file place)))
+  pub somewhere : {E : Type 0} (r : Result (Option UnresolvedPlace) E) → IfOk r (FindsInMethods files file)
+      → IfOk r (λ found. IfSome found (λ place. IsTrue (stands_at files file place)))
   somewhere (Ok None) h = tt
   somewhere (Ok (Some place)) h = h
   somewhere (Err e) h = tt

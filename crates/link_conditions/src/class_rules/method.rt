@@ -88,7 +88,8 @@ fn redeclares_in(set: &ClassSet, file: &ClassFile, again: &Method, superclass: &
 /// Whether a method of a class redeclares one of a superclass, or of one above that, as it must not.
 fn redeclares_above(set: &ClassSet, file: &ClassFile, again: &Method, superclass: &[u8]) -> bool
     requires { IsFalse (stands set.now DuplicateClass) }
-    ensures { result ≡ list_any (redeclares_in is_bad_redeclaration set.now (file_of file.now) (method_of again.now)) (lineage set.now superclass.now) }
+    ensures { result ≡ list_any (redeclares_in is_bad_redeclaration set.now (file_of file.now) (method_of again.now))
+        (lineage set.now superclass.now) }
 {
     let mut class = superclass;
     for _step in 0..set.count() {

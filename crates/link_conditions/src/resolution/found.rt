@@ -17,7 +17,8 @@ use model::Instr;
 /// The field that the Fieldref of an index names (JVMS 5.4.3.2), by its place. `None` where the index has no Fieldref, and
 /// where the field is not found.
 pub fn found_field(hierarchy: &Hierarchy, file: &ClassFile, index: u16) -> Option<MemberPlace>
-    ensures { FindsField hierarchy.now (field_at file.now.pool index) (option_and_then (find_field hierarchy.now) (field_at file.now.pool index)) result }
+    ensures { FindsField hierarchy.now (field_at file.now.pool index)
+        (option_and_then (find_field hierarchy.now) (field_at file.now.pool index)) result }
 {
     match file.field_reference(index) {
         Some(field) => hierarchy.find_field(field),
@@ -27,7 +28,8 @@ pub fn found_field(hierarchy: &Hierarchy, file: &ClassFile, index: u16) -> Optio
 
 /// The method that a Methodref names: a constructor in the class that is named itself.
 pub(crate) fn found_in_class(hierarchy: &Hierarchy, method: Reference<'_>) -> Option<MemberPlace>
-    ensures found { option_map (λ p. member_in hierarchy.now (reference_of method.entry) p) result ≡ found_in_class hierarchy.now (reference_of method.entry) }
+    ensures found { option_map (λ p. member_in hierarchy.now (reference_of method.entry) p) result
+        ≡ found_in_class hierarchy.now (reference_of method.entry) }
     ensures place { IfSome result (IsMethodAt hierarchy.now (reference_of method.entry)) }
 {
     if method.name == b"<init>".as_slice() {
@@ -45,7 +47,8 @@ pub fn found_method(
     file: &ClassFile,
     instruction: &Instr,
 ) -> Option<MemberPlace>
-    ensures { FindsMethod hierarchy.now (method_operand file.now.pool instruction.now) (found_method hierarchy.now file.now.pool instruction.now) result }
+    ensures { FindsMethod hierarchy.now (method_operand file.now.pool instruction.now)
+        (found_method hierarchy.now file.now.pool instruction.now) result }
 {
     match *instruction {
         Instr::Invoke { index, .. } => match file.method_reference(index) {

@@ -41,7 +41,8 @@ pub(crate) fn is_field_of_other_kind(
 ) -> bool
     requires differ { IsFalse (stands set.now DuplicateClass) }
     requires at { IsFieldAt set.now (reference_of field) place }
-    ensures { result ≡ option_map_or (λ (f : FieldTree). differs wants_static (is_static_field f)) (field_of set.now (member_in set.now (reference_of field.entry) place)) false }
+    ensures { result ≡ option_map_or (λ (f : FieldTree). differs wants_static (is_static_field f))
+        (field_of set.now (member_in set.now (reference_of field.entry) place)) false }
 {
     let Some(class) = set.class_at(place.class) else {
         return false;
@@ -61,7 +62,8 @@ pub(crate) fn is_method_of_other_kind(
 ) -> bool
     requires differ { IsFalse (stands set.now DuplicateClass) }
     requires at { IsMethodAt set.now (reference_of method) place }
-    ensures { result ≡ option_map_or (λ (m : MethodTree). differs wants_static (is_static_method m)) (method_of set.now (member_in set.now (reference_of method.entry) place)) false }
+    ensures { result ≡ option_map_or (λ (m : MethodTree). differs wants_static (is_static_method m))
+        (method_of set.now (member_in set.now (reference_of method.entry) place)) false }
 {
     let Some(class) = set.class_at(place.class) else {
         return false;

@@ -25,7 +25,8 @@ module _ (files : Program) (linked : IsLinked files) (class : ℕ) (file : FileT
   its_class : class_of files (name_of file) ≡ Some file
   its_class = class_is files linked class file at
 
-  body_by : (o : Option MethodTree) → declared_in file named.name named.descriptor ≡ o → body_of files named ≡ option_map (with_pool file.pool) (option_and_then (λ (m : MethodTree). code_in m.parts) o)
+  body_by : (o : Option MethodTree) → declared_in file named.name named.descriptor ≡ o
+      → body_of files named ≡ option_map (with_pool file.pool) (option_and_then (λ (m : MethodTree). code_in m.parts) o)
   body_by o d =
       ap (option_and_then (body_in named.name named.descriptor)) its_class
       ∙ ap (λ o. option_map (with_pool file.pool) (option_and_then (λ (m : MethodTree). code_in m.parts) o)) d
@@ -56,7 +57,8 @@ module _ (files : Program) (linked : IsLinked files) (class : ℕ) (file : FileT
     class_is_its : class_at files place.class ≡ Some file
     class_is_its = by (class_at files place.class) refl stands is_named
       where
-        by : (o : Option FileTree) → class_at files place.class ≡ o → option_and_then (λ (f : FileTree). position (is_method f.pool named.name named.descriptor) f.methods) o ≡ Some place.member
+        by : (o : Option FileTree) → class_at files place.class ≡ o
+            → option_and_then (λ (f : FileTree). position (is_method f.pool named.name named.descriptor) f.methods) o ≡ Some place.member
             → in_class (option_map_or name_of o []) named ≡ named → class_at files place.class ≡ Some file
         by None c p n = absurd cc
         by (Some f) c p n =
@@ -66,13 +68,15 @@ module _ (files : Program) (linked : IsLinked files) (class : ℕ) (file : FileT
     position_is : position (is_method file.pool named.name named.descriptor) file.methods ≡ Some place.member
     position_is = ap (option_and_then (λ (f : FileTree). position (is_method f.pool named.name named.descriptor) f.methods)) (sym class_is_its) ∙ stands
 
-    body_is : body_of files named ≡ option_map (with_pool file.pool) (option_and_then (λ (m : MethodTree). code_in m.parts) (slice_get file.methods place.member))
+    body_is : body_of files named ≡ option_map (with_pool file.pool)
+        (option_and_then (λ (m : MethodTree). code_in m.parts) (slice_get file.methods place.member))
     body_is = body_by (slice_get file.methods place.member) (find_by_position (is_method file.pool named.name named.descriptor) file.methods ∙ ap (option_and_then (slice_get file.methods)) position_is)
 
     abbrev coded : Option MethodTree → Bool
     coded o = option_map_or (λ (m : MethodTree). is_some (code_in m.parts)) o false
 
-    same_code : (o : Option MethodTree) → is_some (option_map (with_pool file.pool) (option_and_then (λ (m : MethodTree). code_in m.parts) o)) ≡ coded o
+    same_code : (o : Option MethodTree) → is_some
+        (option_map (with_pool file.pool) (option_and_then (λ (m : MethodTree). code_in m.parts) o)) ≡ coded o
     same_code None = refl
     same_code (Some m) = by (code_in m.parts)
       where
@@ -90,6 +94,7 @@ module _ (files : Program) (linked : IsLinked files) (class : ℕ) (file : FileT
         by None e = refl
         by (Some b) e = absurd (true≢false e)
 
-    pub initialised : (number : Option ℕ) → IsSomeAnd number (λ n. IsMethodAt files n named) → coded (slice_get file.methods place.member) ≡ true → IsInitialiser files (name_of file) number
+    pub initialised : (number : Option ℕ) → IsSomeAnd number (λ n. IsMethodAt files n named)
+        → coded (slice_get file.methods place.member) ≡ true → IsInitialiser files (name_of file) number
     initialised None n h = absurd n
     initialised (Some number) n h = (has_body ∙ h, n)

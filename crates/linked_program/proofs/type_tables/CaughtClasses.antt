@@ -33,10 +33,12 @@ same_class class = grind (arith, nat_tests)
 
 -- ---- among those that are tested
 
-pub fewer : (files : Program) (tested more : List ℕ) (table : Subclasses) → HaveColumns files (tested ++ more) table → HaveColumns files tested table
+pub fewer : (files : Program) (tested more : List ℕ) (table : Subclasses) → HaveColumns files (tested ++ more) table
+    → HaveColumns files tested table
 fewer files tested more table columns class within fits h = columns class within fits (list_any-append (λ c. c == class) tested more ∙ or_left _ _ h)
 
-pub later : (files : Program) (tested more : List ℕ) (table : Subclasses) → HaveColumns files (tested ++ more) table → HaveColumns files more table
+pub later : (files : Program) (tested more : List ℕ) (table : Subclasses) → HaveColumns files (tested ++ more) table
+    → HaveColumns files more table
 later files tested more table columns class within fits h = columns class within fits (list_any-append (λ c. c == class) tested more ∙ or_right (is_tested tested class) _ h)
 
 among_row : (row : List (Option ℕ)) (index class : ℕ) → slice_index_or row index None ≡ Some class → is_tested (caught_in row) class ≡ true
@@ -44,7 +46,8 @@ among_row [] index class e = absurd cc
 among_row (x ∷ row) zero class e = subst (λ (o : Option ℕ). is_tested (option_to_list o ++ caught_in row) class ≡ true) (sym e) (or_left _ _ (same_class class))
 among_row (x ∷ row) (suc index) class e = list_any-append (λ c. c == class) (option_to_list x) (caught_in row) ∙ or_right (is_tested (option_to_list x) class) _ (among_row row index class e)
 
-among_rows : (rows : List (List (Option ℕ))) (k index class : ℕ) → slice_index_or (rows_of rows k) index None ≡ Some class → is_tested (flat_map caught_in rows) class ≡ true
+among_rows : (rows : List (List (Option ℕ))) (k index class : ℕ) → slice_index_or (rows_of rows k) index None ≡ Some class
+    → is_tested (flat_map caught_in rows) class ≡ true
 among_rows [] k index class e = absurd cc
 among_rows (row ∷ rows) zero index class e = list_any-append (λ c. c == class) (caught_in row) (flat_map caught_in rows) ∙ or_left _ _ (among_row row index class e)
 among_rows (row ∷ rows) (suc k) index class e = list_any-append (λ c. c == class) (caught_in row) (flat_map caught_in rows) ∙ or_right (is_tested (caught_in row) class) _ (among_rows rows k index class e)
@@ -64,7 +67,8 @@ not_first pool (suc index) name e = grind (arith, nat_tests)
 
 module _ (files : Program) (linked : IsLinked files) (tables : TypeTables) (p : LinkedProgram) (has : HasTables p tables) where
   pub types_named : (rows stored : List (List (Option LinkedType))) → stored ≡ rows → AreRows files (AreTypesIn files) rows
-      → ((class : ℕ) (row : List (Option LinkedType)) → slice_get stored class ≡ Some row → EachRow row (λ index t. (type : ReferenceType) → IsType files t type → IsTested tables.subclasses t))
+      → ((class : ℕ) (row : List (Option LinkedType)) → slice_get stored class ≡ Some row
+      → EachRow row (λ index t. (type : ReferenceType) → IsType files t type → IsTested tables.subclasses t))
       → AreRows files (AreNamedTypes files p) rows
   types_named rows stored same are tested =
       record {
@@ -84,7 +88,8 @@ module _ (files : Program) (linked : IsLinked files) (tables : TypeTables) (p : 
             );
       }
 
-  pub components_named : (rows : List (List (Option ℕ))) → AreRows files (AreComponentsIn files tables.component_types.items) rows → AreRows files (AreComponentTypes files p) rows
+  pub components_named : (rows : List (List (Option ℕ))) → AreRows files (AreComponentsIn files tables.component_types.items) rows
+      → AreRows files (AreComponentTypes files p) rows
   components_named rows are =
       record {
         count = are.count;
@@ -97,7 +102,8 @@ module _ (files : Program) (linked : IsLinked files) (tables : TypeTables) (p : 
             );
       }
 
-  pub catches_taken : (rows : List (List (Option ℕ))) → AreRows files (AreCatchesIn files) rows → HaveColumns files (flat_map caught_in rows) tables.subclasses → AreRows files (AreTaken files p) rows
+  pub catches_taken : (rows : List (List (Option ℕ))) → AreRows files (AreCatchesIn files) rows
+      → HaveColumns files (flat_map caught_in rows) tables.subclasses → AreRows files (AreTaken files p) rows
   catches_taken rows are columns =
       record {
         count = are.count;
@@ -118,5 +124,6 @@ module _ (files : Program) (linked : IsLinked files) (tables : TypeTables) (p : 
             );
       }
 
-  pub component_tested : (t : LinkedType) → ((type : ReferenceType) × IsType files t type) → ((type : ReferenceType) → IsType files t type → IsTested tables.subclasses t) → IsComponent files p t
+  pub component_tested : (t : LinkedType) → ((type : ReferenceType) × IsType files t type)
+      → ((type : ReferenceType) → IsType files t type → IsTested tables.subclasses t) → IsComponent files p t
   component_tested t is tested = record { type = is.0; is = is.1; tested = subst (λ (table : Subclasses). IsTested table t) (sym has.subclasses) (tested is.0 is.1) }

@@ -21,7 +21,8 @@ module _ {A : Type 0} (files : Program) (Is : FileTree → List A → Type 0) wh
   pub none_before : (rows : List (Vec A Global)) → rows ≡ [] → Before (items_of rows) 0
   none_before rows is = (ap (λ l. length (items_of l)) is, λ k below. absurd (omega (arith, below)))
 
-  pub more_before : (rows new : List (Vec A Global)) (n : ℕ) (row : Vec A Global) → Before (items_of rows) n → new ≡ rows ++ row ∷ [] → ((file : FileTree) → class_at files n ≡ Some file → Is file row.items) → Before (items_of new) (n + 1)
+  pub more_before : (rows new : List (Vec A Global)) (n : ℕ) (row : Vec A Global) → Before (items_of rows) n → new ≡ rows ++ row ∷ []
+      → ((file : FileTree) → class_at files n ≡ Some file → Is file row.items) → Before (items_of new) (n + 1)
   more_before rows new n row before pushed is =
       let count = before.0 in
       let all = items_of rows in
@@ -33,7 +34,8 @@ module _ {A : Type 0} (files : Program) (Is : FileTree → List A → Type 0) wh
             (subst (λ (l : List A). IsAt n l) (sym last) is),
       )
 
-  pub all_rows : (rows : List (Vec A Global)) (n : ℕ) → n ≡ length (classes_of files) → Before (items_of rows) n → AreRows files Is (items_of rows)
+  pub all_rows : (rows : List (Vec A Global)) (n : ℕ) → n ≡ length (classes_of files) → Before (items_of rows) n
+      → AreRows files Is (items_of rows)
   all_rows rows n whole before =
       record {
         count = before.0 ∙ whole;

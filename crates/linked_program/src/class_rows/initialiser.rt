@@ -40,7 +40,8 @@ fn has_code(file: &ClassFile, member: usize) -> bool
 
 /// Where a class declares its initialiser, with code or without.
 fn declared_initialiser(set: &ClassSet, file: &ClassFile) -> Option<MemberPlace>
-    ensures found { option_map (λ p. member_in set.now (initialiser_of (name_of (file_of file.now))) p) result ≡ method_in_class set.now any_method (initialiser_of (name_of (file_of file.now))) (name_of (file_of file.now)) }
+    ensures found { option_map (λ p. member_in set.now (initialiser_of (name_of (file_of file.now))) p) result
+        ≡ method_in_class set.now any_method (initialiser_of (name_of (file_of file.now))) (name_of (file_of file.now)) }
     ensures place { IfSome result (IsMethodAt set.now (initialiser_of (name_of (file_of file.now)))) }
 {
     set.declared_method(Reference {

@@ -111,7 +111,8 @@ fn is_declared(declared: &Declared, method: Reference<'_>) -> bool
 
 /// The first among some that is declared as a method is.
 fn declared_among(all: &[Declared], method: Reference<'_>) -> Option<BuiltInMethod>
-    ensures { option_map built_in_of result ≡ option_map (λ row. row.1) (find (is_row_of (reference_of method.entry)) (map entry_of all.now)) }
+    ensures { option_map built_in_of result
+        ≡ option_map (λ row. row.1) (find (is_row_of (reference_of method.entry)) (map entry_of all.now)) }
 {
     for declared in all {
         if is_declared(declared, method) {

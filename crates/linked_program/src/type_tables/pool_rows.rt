@@ -31,7 +31,8 @@ pub(crate) fn component_rows(
     components: &Components,
 ) -> Result<Vec<Vec<Option<u32>>>, AllocError>
     requires components { AreComponents linked.now components.now }
-    ensures { IfOk result (λ rows. AreRows linked.now (AreComponentsIn linked.now components.now.types.items) (map (λ row. row.items) rows.items)) }
+    ensures { IfOk result (λ rows. AreRows linked.now (AreComponentsIn linked.now components.now.types.items)
+        (map (λ row. row.items) rows.items)) }
 {
     let mut rows = Vec::new(alloc);
     for class in 0..linked.set().count() {

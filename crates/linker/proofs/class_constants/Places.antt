@@ -31,11 +31,14 @@ module _ (class : Name) (pool : List Entry) where
   self : (f : FieldTree) → member_eq (field_member class pool f) (field_member class pool f) ≡ true
   self f = and_from _ _ (name_self class) (and_from _ _ (name_self (text_at pool f.name)) (name_self (text_at pool f.descriptor)))
 
-  other : (x f : FieldTree) → is_same (text_of_field x) (text_of_field f) ≡ false → member_eq (field_member class pool x) (field_member class pool f) ≡ false
+  other : (x f : FieldTree) → is_same (text_of_field x) (text_of_field f) ≡ false
+      → member_eq (field_member class pool x) (field_member class pool f) ≡ false
   other x f h = ap (λ b. b && is_same (text_of_field x) (text_of_field f)) (name_self class) ∙ h
 
-  pub place_in_class : (fs : List FieldTree) (j : ℕ) (f : FieldTree) → differ (map text_of_field fs) ≡ true → slice_get fs j ≡ Some f → is_static_field f ≡ true
-      → position (λ (g : Member). member_eq g (field_member class pool f)) (map (field_member class pool) (filter is_static_field fs)) ≡ Some (length (filter is_static_field (take j fs)))
+  pub place_in_class : (fs : List FieldTree) (j : ℕ) (f : FieldTree) → differ (map text_of_field fs) ≡ true → slice_get fs j ≡ Some f
+      → is_static_field f ≡ true
+      → position (λ (g : Member). member_eq g (field_member class pool f)) (map (field_member class pool) (filter is_static_field fs))
+      ≡ Some (length (filter is_static_field (take j fs)))
   place_in_class [] j f apart at static = absurd cc
   place_in_class (x ∷ fs) zero f apart at static =
       let same : x ≡ f = cc in
@@ -51,8 +54,10 @@ module _ (class : Name) (pool : List Entry) where
       test g = member_eq g (field_member class pool f)
 
       by : member_eq (field_member class pool x) (field_member class pool f) ≡ false
-          → position (λ (g : Member). member_eq g (field_member class pool f)) (map (field_member class pool) (filter is_static_field fs)) ≡ Some (length (filter is_static_field (take j fs)))
-          → (b : Bool) → position (λ (g : Member). member_eq g (field_member class pool f)) (map (field_member class pool) (cond b (x ∷ filter is_static_field fs) (filter is_static_field fs)))
+          → position (λ (g : Member). member_eq g (field_member class pool f)) (map (field_member class pool) (filter is_static_field fs))
+          ≡ Some (length (filter is_static_field (take j fs)))
+          → (b : Bool) → position (λ (g : Member). member_eq g (field_member class pool f)) (map (field_member class pool) (cond b (x
+          ∷ filter is_static_field fs) (filter is_static_field fs)))
           ≡ Some (length (cond b (x ∷ filter is_static_field (take j fs)) (filter is_static_field (take j fs))))
       by differs rest true =
           step_over (λ (g : Member). member_eq g (field_member class pool f)) (field_member class pool x) (map (field_member class pool) (filter is_static_field fs)) differs
@@ -61,7 +66,8 @@ module _ (class : Name) (pool : List Entry) where
 
 -- ---- among all files
 
-end_is : (n : ℕ) (files : Program) (i : ℕ) (file : FileTree) (end : ℕ) → slice_get files i ≡ Some file → slice_get (static_ends n files) i ≡ Some end
+end_is : (n : ℕ) (files : Program) (i : ℕ) (file : FileTree) (end : ℕ) → slice_get files i ≡ Some file
+    → slice_get (static_ends n files) i ≡ Some end
     → end ≡ (n + length (static_fields (take i files))) + length (static_fields_in file)
 end_is n [] i file end at e = absurd cc
 end_is n (x ∷ files) zero file end at e =
@@ -71,8 +77,10 @@ end_is n (x ∷ files) zero file end at e =
 end_is n (x ∷ files) (suc i) file end at e =
     omega (arith, end_is (n + length (static_fields_in x)) files i file end at e, length-append (static_fields_in x) (static_fields (take i files)))
 
-pub place_among : (files : Program) (i : ℕ) (file : FileTree) (field : Member) (k : ℕ) → two_of_one_name files ≡ false → slice_get files i ≡ Some file → field.class ≡ name_of file
-    → position (λ (g : Member). member_eq g field) (static_fields_in file) ≡ Some k → position (λ (g : Member). member_eq g field) (static_fields files) ≡ Some (length (static_fields (take i files)) + k)
+pub place_among : (files : Program) (i : ℕ) (file : FileTree) (field : Member) (k : ℕ) → two_of_one_name files ≡ false
+    → slice_get files i ≡ Some file → field.class ≡ name_of file
+    → position (λ (g : Member). member_eq g field) (static_fields_in file) ≡ Some k
+    → position (λ (g : Member). member_eq g field) (static_fields files) ≡ Some (length (static_fields (take i files)) + k)
 place_among files i file field k apart at is e =
     let s = static_slot 0 files i file field k apart at is e in
     let end = end_is 0 files i file s.1 at s.3 in

@@ -32,14 +32,16 @@ use Rattle.linker.specs.class_constants.Constants.{word_in, slots_before, consta
 use Rattle.linker.proofs.class_constants.Places.{place_in_class, place_among}
 use Rattle.linker.proofs.class_constants.StaticConstants.{HasStaticConstants, HasNoConstants, static_constants, no_built_in_constants}
 
-one_more : (files : Program) (cs : List (Member × ℕ)) (ls : List LinkedConstant) (c : Member × ℕ) (l : LinkedConstant) → AreConstants files cs ls
+one_more : (files : Program) (cs : List (Member × ℕ)) (ls : List LinkedConstant) (c : Member × ℕ) (l : LinkedConstant)
+    → AreConstants files cs ls
     → slot_in (static_fields files) c.0 ≡ Some l.slot → l.word ≡ c.1 → AreConstants files (cs ++ c ∷ []) (ls ++ l ∷ [])
 one_more files [] [] c l h s w = (s, w, tt)
 one_more files [] (x ∷ ls) c l h s w = absurd h
 one_more files (x ∷ cs) [] c l h s w = absurd h
 one_more files (x ∷ cs) (y ∷ ls) c l h s w = (h.0, h.1, one_more files cs ls c l h.2 s w)
 
-module _ (files : Program) (linked : IsLinked files) (class : ℕ) (file : FileTree) (at : slice_get (classes_of files) class ≡ Some file) (i : ℕ) (f : FieldTree) (here : slice_get file.fields i ≡ Some f) where
+module _ (files : Program) (linked : IsLinked files) (class : ℕ) (file : FileTree) (at : slice_get (classes_of files) class ≡ Some file)
+    (i : ℕ) (f : FieldTree) (here : slice_get file.fields i ≡ Some f) where
   abbrev named : Member
   named = field_member (name_of file) file.pool f
 
@@ -53,7 +55,8 @@ module _ (files : Program) (linked : IsLinked files) (class : ℕ) (file : FileT
       none None e = refl
       none (Some n) e = absurd (true≢false e)
 
-  slot_of_file : (number : ℕ) → class ≡ 30 + number → (index : ℕ) → constant_in f.parts ≡ Some index → slot_in (static_fields files) named ≡ Some (slots_before files class + length (filter is_static_field (take i file.fields)))
+  slot_of_file : (number : ℕ) → class ≡ 30 + number → (index : ℕ) → constant_in f.parts ≡ Some index
+      → slot_in (static_fields files) named ≡ Some (slots_before files class + length (filter is_static_field (take i file.fields)))
   slot_of_file number is index has =
       let there : slice_get files number ≡ Some file = sym (file_behind files number) ∙ ap (slice_get (classes_of files)) (sym is) ∙ at in
       let quiet = every_at (λ (f : FieldTree). is_static_field f ≡ false → constant_in f.parts ≡ None) file.fields i f (every_at HasStaticConstants files number file (static_constants linked.0 files linked.1.spelled) there) here in
@@ -64,20 +67,23 @@ module _ (files : Program) (linked : IsLinked files) (class : ℕ) (file : FileT
       place_among files number file named (length (filter is_static_field (take i file.fields))) (files_differ files linked) there refl own
       ∙ ap (λ n. Some (length (static_fields (take n files)) + length (filter is_static_field (take i file.fields)))) (sym same)
 
-  slot_is : (index : ℕ) → constant_in f.parts ≡ Some index → slot_in (static_fields files) named ≡ Some (slots_before files class + length (filter is_static_field (take i file.fields)))
+  slot_is : (index : ℕ) → constant_in f.parts ≡ Some index
+      → slot_in (static_fields files) named ≡ Some (slots_before files class + length (filter is_static_field (take i file.fields)))
   slot_is index has = ⊎_elim
       (λ less. absurd (let none : None ≡ Some index = sym (built_in_none less) ∙ has in cc))
       (λ more. slot_of_file (class - 30) (omega (arith, more)) index has)
       (cases_lt class 30)
 
-  index_of : (o : Option ℕ) (value : ℕ) → option_and_then (λ (index : ℕ). constant_of words files file.pool (entry_at file.pool index)) o ≡ Some value → (index : ℕ) × (o ≡ Some index)
+  index_of : (o : Option ℕ) (value : ℕ) → option_and_then (λ (index : ℕ). constant_of words files file.pool (entry_at file.pool index)) o
+      ≡ Some value → (index : ℕ) × (o ≡ Some index)
   index_of None value e = absurd cc
   index_of (Some index) value e = (index, refl)
 
   abbrev kept_of : ℕ → ℕ
   kept_of value = put_value words named value
 
-  pub constants_more : (done new : List LinkedConstant) (slot : ℕ) (word : Option ℕ) → slot ≡ slots_before files class + length (filter is_static_field (take i file.fields))
+  pub constants_more : (done new : List LinkedConstant) (slot : ℕ) (word : Option ℕ)
+      → slot ≡ slots_before files class + length (filter is_static_field (take i file.fields))
       → word ≡ word_in files file f → new ≡ done ++ constant_at slot word
       → AreConstants files (filter_map (rows.constant_in files (name_of file) file.pool) (take i file.fields)) done
       → AreConstants files (filter_map (rows.constant_in files (name_of file) file.pool) (take (i + 1) file.fields)) new
@@ -89,11 +95,13 @@ module _ (files : Program) (linked : IsLinked files) (class : ℕ) (file : FileT
       earlier : List (Member × ℕ)
       earlier = filter_map (rows.constant_in files (name_of file) file.pool) (take i file.fields)
 
-      longer : filter_map (rows.constant_in files (name_of file) file.pool) (take (i + 1) file.fields) ≡ earlier ++ filter_map (rows.constant_in files (name_of file) file.pool) (f ∷ [])
+      longer : filter_map (rows.constant_in files (name_of file) file.pool) (take (i + 1) file.fields)
+          ≡ earlier ++ filter_map (rows.constant_in files (name_of file) file.pool) (f ∷ [])
       longer = ap (filter_map (rows.constant_in files (name_of file) file.pool)) (take_one_more file.fields i f here) ∙ filter_map-append (rows.constant_in files (name_of file) file.pool) (take i file.fields) (f ∷ [])
 
       by : (o : Option ℕ) → constant_value words files file.pool f ≡ o
-          → AreConstants files (earlier ++ filter_map (rows.constant_in files (name_of file) file.pool) (f ∷ [])) (done ++ constant_at slot (word_in files file f))
+          → AreConstants files (earlier ++ filter_map (rows.constant_in files (name_of file) file.pool) (f ∷ [])) (done
+          ++ constant_at slot (word_in files file f))
       by None e =
           subst (λ o. AreConstants files (earlier ++ cons_option (option_map (λ (value : ℕ). (named, kept_of value)) o) []) (done ++ constant_at slot (option_map kept_of o))) (sym e)
           (subst (λ l. AreConstants files l (done ++ [])) (sym (append-nil earlier)) (subst (λ l. AreConstants files earlier l) (sym (append-nil done)) before))
@@ -111,7 +119,8 @@ behind : (n : ℕ) (b : Bool) → slot_behind n b ≡ n + one_if b
 behind n true = omega arith
 behind n false = omega arith
 
-pub slot_more : (before slot : ℕ) (fs : List FieldTree) (i : ℕ) (f : FieldTree) → slice_get fs i ≡ Some f → slot ≡ before + length (filter is_static_field (take i fs))
+pub slot_more : (before slot : ℕ) (fs : List FieldTree) (i : ℕ) (f : FieldTree) → slice_get fs i ≡ Some f
+    → slot ≡ before + length (filter is_static_field (take i fs))
     → slot_behind slot (is_static_field f) ≡ before + length (filter is_static_field (take (i + 1) fs))
 slot_more before slot fs i f here is =
     let one = length-filter_more is_static_field fs i f (slice_get_within fs i f here) in

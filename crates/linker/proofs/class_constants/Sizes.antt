@@ -75,7 +75,8 @@ module _ (files : Program) (linked : IsLinked files) where
       (few_fields linked.0 files linked.1.spelled))
       at
 
-  pub slots_fit : (class : ℕ) (file : FileTree) → slice_get (classes_of files) class ≡ Some file → (slots_before files class + length file.fields) + 1 < 2 ^ 32
+  pub slots_fit : (class : ℕ) (file : FileTree) → slice_get (classes_of files) class ≡ Some file
+      → (slots_before files class + length file.fields) + 1 < 2 ^ 32
   slots_fit class file at =
       let before = statics_before files (class - 30) (few_fields linked.0 files linked.1.spelled) in
       omega (arith, before, few_files, count_behind files, slice_get_within (classes_of files) class file at, fields_of_class class file at)
@@ -86,6 +87,7 @@ filter_take_le p [] (suc i) = omega arith
 filter_take_le p (x ∷ xs) zero = omega arith
 filter_take_le p (x ∷ xs) (suc i) = by (p x) (filter_take_le p xs i)
   where
-    by : (b : Bool) → length (filter p (take i xs)) ≤ length xs → length (cond b (x ∷ filter p (take i xs)) (filter p (take i xs))) ≤ length (x ∷ xs)
+    by : (b : Bool) → length (filter p (take i xs)) ≤ length xs
+        → length (cond b (x ∷ filter p (take i xs)) (filter p (take i xs))) ≤ length (x ∷ xs)
     by true h = omega arith
     by false h = omega arith

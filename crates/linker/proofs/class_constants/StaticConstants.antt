@@ -14,7 +14,8 @@ use Rattle.model.specs.ClassInitialisation.{constant_in}
 use Rattle.run_laws.proofs.laws.Lists.{every_weaken}
 use Rattle.run_laws.proofs.laws.Found.{every_all}
 
-no_part : (flags : ℕ) (places : List Entry) (parts : List FieldPart) → AllByRecursion (FieldPartFits flags places) parts → is_static flags ≡ false → constant_in parts ≡ None
+no_part : (flags : ℕ) (places : List Entry) (parts : List FieldPart) → AllByRecursion (FieldPartFits flags places) parts
+    → is_static flags ≡ false → constant_in parts ≡ None
 no_part flags places [] h e = refl
 no_part flags places (ConstantOf name index ∷ parts) h e =
     absurd (subst (λ b. MatchBool (b && is_constant_value 8 places name) (IsConstant (ConstantOf name index)) (IsSkippedOfField (ConstantOf name index))) e h.0.kind)
@@ -33,7 +34,8 @@ static_constants (b ∷ bytes) (file ∷ files) h =
 abbrev pub HasNoConstants : FileTree → Type 0
 HasNoConstants file = AllByRecursion (λ (f : FieldTree). is_some (constant_in f.parts) ≡ false) file.fields
 
-built_in_plain : list_all (λ (file : FileTree). list_all (λ (f : FieldTree). not (is_some (constant_in f.parts))) file.fields) built_in_classes ≡ true
+built_in_plain : list_all (λ (file : FileTree). list_all (λ (f : FieldTree). not (is_some (constant_in f.parts))) file.fields)
+    built_in_classes ≡ true
 unfolding built_in_classes
 built_in_plain = refl
 

@@ -37,7 +37,8 @@ module _ (files : Program) (linked : IsLinked files) where
   unfolding built_in_classes
   built_in_few = refl
 
-  pub instances_fit : (k : ℕ) (file : FileTree) → slice_get (classes_of files) k ≡ Some file → length (instance_fields files (name_of file)) ≤ 65535
+  pub instances_fit : (k : ℕ) (file : FileTree) → slice_get (classes_of files) k ≡ Some file
+      → length (instance_fields files (name_of file)) ≤ 65535
   instances_fit k file at =
       every_at (λ (file : FileTree). length (instance_fields files (name_of file)) ≤ 65535) (classes_of files) k file
       (every_append (λ (file : FileTree). length (instance_fields files (name_of file)) ≤ 65535) built_in_classes files

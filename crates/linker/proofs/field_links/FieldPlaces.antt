@@ -36,7 +36,8 @@ lower m n h = grind (arith, nat_tests)
 higher : (m n : ℕ) → n ≤ m → nat_lt m n ≡ false
 higher m n h = grind (arith, nat_tests)
 
-module _ (files : Program) (linked : IsLinked files) (ends : Ends) (are : AreEnds files ends) (m : Member) (k j : ℕ) (file : FileTree) (f : FieldTree)
+module _ (files : Program) (linked : IsLinked files) (ends : Ends) (are : AreEnds files ends) (m : Member) (k j : ℕ) (file : FileTree)
+    (f : FieldTree)
     (at : slice_get (classes_of files) k ≡ Some file) (here : slice_get file.fields j ≡ Some f) (stands : position (is_field file.pool m.name m.descriptor) file.fields ≡ Some j) where
   abbrev named : Member
   named = in_class (name_of file) m
@@ -50,7 +51,8 @@ module _ (files : Program) (linked : IsLinked files) (ends : Ends) (are : AreEnd
 
   -- ---- a static field
 
-  static_behind : (i : ℕ) → k ≡ 30 + i → is_static_field f ≡ true → static_slot ends k (drop j file.fields) ≡ slot_in (static_fields files) named
+  static_behind : (i : ℕ) → k ≡ 30 + i → is_static_field f ≡ true
+      → static_slot ends k (drop j file.fields) ≡ slot_in (static_fields files) named
   static_behind i is h =
       let a = among is_static_field h in
       let there : slice_get files i ≡ Some file = sym (file_behind files i) ∙ ap (slice_get (classes_of files)) (sym is) ∙ at in
@@ -82,10 +84,13 @@ module _ (files : Program) (linked : IsLinked files) (ends : Ends) (are : AreEnd
   IsSlot : ℕ → Type 0
   IsSlot slot = (slot_in (instance_fields files (name_of file)) named ≡ Some slot) × (slot + behind is_instance_field ≡ length (instance_fields files (name_of file)))
 
-  slot_is : is_instance_field f ≡ true → (slot : ℕ) × (slot_in (instance_fields files (name_of file)) named ≡ Some slot) × (slot + behind is_instance_field ≡ length (instance_fields files (name_of file)))
+  slot_is : is_instance_field f ≡ true → (slot : ℕ) × (slot_in (instance_fields files (name_of file)) named ≡ Some slot)
+      × (slot + behind is_instance_field ≡ length (instance_fields files (name_of file)))
   slot_is h = by (superclass_of files (name_of file)) refl
     where
-      by : (o : Option Name) → superclass_of files (name_of file) ≡ o → (slot : ℕ) × (slot_in (instance_fields files (name_of file)) named ≡ Some slot) × (slot + behind is_instance_field ≡ length (instance_fields files (name_of file)))
+      by : (o : Option Name) → superclass_of files (name_of file) ≡ o
+          → (slot : ℕ) × (slot_in (instance_fields files (name_of file)) named ≡ Some slot)
+          × (slot + behind is_instance_field ≡ length (instance_fields files (name_of file)))
       by None q =
           let a = among is_instance_field h in
           let fields = fields_top files (unrefused files linked) (name_of file) q in
@@ -99,7 +104,8 @@ module _ (files : Program) (linked : IsLinked files) (ends : Ends) (are : AreEnd
             omega (arith, a.2, ap length fields, length-append (instance_fields files s) (own_instance_fields files (name_of file)), own_length),
           )
 
-  instance_is : is_instance_field f ≡ true → instance_slot ends k (drop j file.fields) ≡ slot_in (instance_fields files (name_of file)) named
+  instance_is : is_instance_field f ≡ true
+      → instance_slot ends k (drop j file.fields) ≡ slot_in (instance_fields files (name_of file)) named
   unfolding sizes
   instance_is h =
       let s = slot_is h in
@@ -133,10 +139,13 @@ module _ (files : Program) (linked : IsLinked files) (ends : Ends) (are : AreEnd
       ∙ ap (λ (o : Option ℕ). option_and_then (λ (class : ℕ). link_in files named class) o) (sym (place_is files linked k file at))
 
 -- a field stands in a class
-stands_in : (files : Program) (m : Member) (place : MemberPlace) (file : FileTree) → class_at files place.class ≡ Some file → IsFieldAt files m place → position (is_field file.pool m.name m.descriptor) file.fields ≡ Some place.member
+stands_in : (files : Program) (m : Member) (place : MemberPlace) (file : FileTree) → class_at files place.class ≡ Some file
+    → IsFieldAt files m place → position (is_field file.pool m.name m.descriptor) file.fields ≡ Some place.member
 stands_in files m place file at h = ap (λ (o : Option FileTree). option_and_then (λ (file : FileTree). position (is_field file.pool m.name m.descriptor) file.fields) o) (sym at) ∙ h
 
-pub link_is : (files : Program) (linked : IsLinked files) (ends : Ends) (are : AreEnds files ends) (m : Member) (place : MemberPlace) (file : FileTree) (f : FieldTree) → class_at files place.class ≡ Some file → slice_get file.fields place.member ≡ Some f → IsFieldAt files m place
+pub link_is : (files : Program) (linked : IsLinked files) (ends : Ends) (are : AreEnds files ends) (m : Member) (place : MemberPlace)
+    (file : FileTree) (f : FieldTree) → class_at files place.class ≡ Some file → slice_get file.fields place.member ≡ Some f
+    → IsFieldAt files m place
     → link_from ends place.class f (drop place.member file.fields) ≡ link_of files (member_in files m place)
 link_is files linked ends are m place file f at here h =
     named_is files linked ends are m place.class place.member file f at here (stands_in files m place file at h)
@@ -148,6 +157,7 @@ no_class_there files m place at h =
     let is_so : ◌≡◌ {A = Option ℕ} None (Some place.member) = ap (λ (o : Option FileTree). option_and_then (λ (file : FileTree). position (is_field file.pool m.name m.descriptor) file.fields) o) (sym at) ∙ h in
     cc
 
-pub no_field_there : (files : Program) (m : Member) (place : MemberPlace) (file : FileTree) → class_at files place.class ≡ Some file → slice_get file.fields place.member ≡ None → IsFieldAt files m place → ⊥
+pub no_field_there : (files : Program) (m : Member) (place : MemberPlace) (file : FileTree) → class_at files place.class ≡ Some file
+    → slice_get file.fields place.member ≡ None → IsFieldAt files m place → ⊥
 no_field_there files m place file at none h =
     no_item file.fields place.member (position_within (is_field file.pool m.name m.descriptor) file.fields place.member (stands_in files m place file at h)) none

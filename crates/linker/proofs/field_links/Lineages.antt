@@ -23,7 +23,8 @@ use Rattle.run_laws.proofs.laws.Lists.{every_append}
 
 -- ---- lists
 
-pub every_flat : {A B : Type 0} (P : A → Type 0) (Q : B → Type 0) (f : A → List B) → ((x : A) → P x → AllByRecursion Q (f x)) → (xs : List A) → AllByRecursion P xs → AllByRecursion Q (flat_map f xs)
+pub every_flat : {A B : Type 0} (P : A → Type 0) (Q : B → Type 0) (f : A → List B) → ((x : A) → P x → AllByRecursion Q (f x))
+    → (xs : List A) → AllByRecursion P xs → AllByRecursion Q (flat_map f xs)
 every_flat P Q f h [] k = tt
 every_flat P Q f h (x ∷ xs) k = every_append Q (f x) (flat_map f xs) (h x k.0) (every_flat P Q f h xs k.1)
 
@@ -62,7 +63,8 @@ module _ (files : Program) where
   -- ---- who is above
 
   -- no superclass leads back
-  no_way_back : (k : ℕ) (d : Name) → ends files k d ≡ true → (m : ℕ) (s : Name) → superclass_of files d ≡ Some s → is_within files m s d ≡ true → ⊥
+  no_way_back : (k : ℕ) (d : Name) → ends files k d ≡ true → (m : ℕ) (s : Name) → superclass_of files d ≡ Some s
+      → is_within files m s d ≡ true → ⊥
   no_way_back zero d e m s q w = false≢true e
   no_way_back (suc k) d e m s q w = no_way_back k d (within_ends files m k s d w (ends_above files k d s q e)) m s q w
 
@@ -74,7 +76,8 @@ module _ (files : Program) where
     top_none : (c : Name) → superclass_of files c ≡ None → own c ≡ []
     top_none c q = by (class_of files c) refl
       where
-        is_top : (file : FileTree) → class_of files c ≡ Some file → (name_eq (name_of file) java_lang_object || is_some (super_name_of file)) ≡ true → own c ≡ []
+        is_top : (file : FileTree) → class_of files c ≡ Some file
+            → (name_eq (name_of file) java_lang_object || is_some (super_name_of file)) ≡ true → own c ≡ []
         is_top file e t = ⊎_elim
             (λ h. ap own (sym (class_named files c file e) ∙ names_same (name_of file) java_lang_object h) ∙ object_fields)
             (λ h. absurd (some_none (super_name_of file) h (sym (ap (λ (o : Option FileTree). option_and_then super_name_of o) e) ∙ q)))
@@ -97,7 +100,8 @@ module _ (files : Program) where
         by (Some s) q h = absurd (false≢true h)
     enough (suc n) c e = by (λ s h. enough n s h) (superclass_of files c) refl
       where
-        by : ((s : Name) → ends files (suc n) s ≡ true → fields_to n s ≡ fields_to (suc n) s) → (o : Option Name) → superclass_of files c ≡ o → fields_to (suc n) c ≡ fields_to (suc (suc n)) c
+        by : ((s : Name) → ends files (suc n) s ≡ true → fields_to n s ≡ fields_to (suc n) s) → (o : Option Name)
+            → superclass_of files c ≡ o → fields_to (suc n) c ≡ fields_to (suc (suc n)) c
         by more None q = top_fields n c q ∙ sym (top_fields (suc n) c q)
         by more (Some s) q = next_fields n c s q ∙ ap (λ (l : List Member). l ++ own c) (more s (ends_above files (suc n) c s q e)) ∙ sym (next_fields (suc n) c s q)
 
@@ -117,7 +121,8 @@ module _ (files : Program) where
 
     -- ---- a field of a class stands at the same place in its subclasses
 
-    kept_within : (p : Member → Bool) (n : ℕ) (c d : Name) (k : ℕ) → is_within files n c d ≡ true → position p (instance_fields files d) ≡ Some k → position p (instance_fields files c) ≡ Some k
+    kept_within : (p : Member → Bool) (n : ℕ) (c d : Name) (k : ℕ) → is_within files n c d ≡ true
+        → position p (instance_fields files d) ≡ Some k → position p (instance_fields files c) ≡ Some k
     kept_within p zero c d k w e = ap (λ x. position p (instance_fields files x)) (names_same c d w) ∙ e
     kept_within p (suc n) c d k w e =
         ⊎_elim (λ h. ap (λ x. position p (instance_fields files x)) (names_same c d h) ∙ e)
@@ -126,7 +131,8 @@ module _ (files : Program) where
         (superclass_of files c) refl h)
         (or_cases (name_eq c d) _ w)
 
-    pub kept : (p : Member → Bool) (c d : Name) (k : ℕ) → is_subclass files c d ≡ true → position p (instance_fields files d) ≡ Some k → position p (instance_fields files c) ≡ Some k
+    pub kept : (p : Member → Bool) (c d : Name) (k : ℕ) → is_subclass files c d ≡ true → position p (instance_fields files d) ≡ Some k
+        → position p (instance_fields files c) ≡ Some k
     kept p c d k w e = kept_within p (length (classes_of files)) c d k w e
 
     -- ---- no superclass has a field of the class
@@ -134,11 +140,13 @@ module _ (files : Program) where
     own_class : (c : Name) → AllByRecursion (λ (f : Member). f.class ≡ c) (own c)
     own_class c = by (class_of files c)
       where
-        by : (o : Option FileTree) → AllByRecursion (λ (f : Member). f.class ≡ c) (option_map_or (λ (file : FileTree). map (field_member c file.pool) (filter is_instance_field file.fields)) o [])
+        by : (o : Option FileTree) → AllByRecursion (λ (f : Member). f.class
+            ≡ c) (option_map_or (λ (file : FileTree). map (field_member c file.pool) (filter is_instance_field file.fields)) o [])
         by None = tt
         by (Some file) = every_map (λ (f : Member). f.class ≡ c) (field_member c file.pool) (λ f. refl) (filter is_instance_field file.fields)
 
-    pub none_above : (c s : Name) (field : Member) → superclass_of files c ≡ Some s → field.class ≡ c → AllByRecursion (λ (f : Member). member_eq f field ≡ false) (instance_fields files s)
+    pub none_above : (c s : Name) (field : Member) → superclass_of files c ≡ Some s → field.class ≡ c
+        → AllByRecursion (λ (f : Member). member_eq f field ≡ false) (instance_fields files s)
     none_above c s field q is =
         let n = length (classes_of files) in
         every_flat (λ x. name_eq x c ≡ false) (λ (f : Member). member_eq f field ≡ false) own
@@ -155,7 +163,8 @@ module _ (files : Program) where
         differs f x named other = ap (λ b. b && (name_eq f.name field.name && name_eq f.descriptor field.descriptor)) (ap (λ y. name_eq y field.class) named ∙ ap (name_eq x) is ∙ other)
 
     -- the place of a field among those of its class
-    pub slot_below : (c s : Name) (field : Member) (k : ℕ) → superclass_of files c ≡ Some s → field.class ≡ c → position (λ (f : Member). member_eq f field) (own c) ≡ Some k
+    pub slot_below : (c s : Name) (field : Member) (k : ℕ) → superclass_of files c ≡ Some s → field.class ≡ c
+        → position (λ (f : Member). member_eq f field) (own c) ≡ Some k
         → position (λ (f : Member). member_eq f field) (instance_fields files c) ≡ Some (length (instance_fields files s) + k)
     slot_below c s field k q is e =
         ap (position (λ (f : Member). member_eq f field)) (fields_below c s q)

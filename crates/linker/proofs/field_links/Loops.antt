@@ -30,7 +30,8 @@ static_length : (file : FileTree) → length (static_fields_in file) ≡ length 
 static_length file = length-map (filter is_static_field file.fields) (field_member (name_of file) file.pool)
 
 module _ (files : Program) (i : ℕ) (file : FileTree) (at : slice_get files i ≡ Some file) where
-  pub end_pushed : (done new all : List ℕ) (end after : ℕ) → after ≡ end + length (filter is_static_field file.fields) → new ≡ done ++ after ∷ [] → done ++ static_ends end (drop i files) ≡ all → new ++ static_ends after (drop (i + 1) files) ≡ all
+  pub end_pushed : (done new all : List ℕ) (end after : ℕ) → after ≡ end + length (filter is_static_field file.fields)
+      → new ≡ done ++ after ∷ [] → done ++ static_ends end (drop i files) ≡ all → new ++ static_ends after (drop (i + 1) files) ≡ all
   end_pushed done new all end after is pushed e =
       let so : end + length (static_fields_in file) ≡ after = omega (arith, is, static_length file) in
       ap (λ (l : List ℕ). l ++ static_ends after (drop (i + 1) files)) pushed
@@ -39,7 +40,8 @@ module _ (files : Program) (i : ℕ) (file : FileTree) (at : slice_get files i �
       ∙ ap (λ (l : List FileTree). done ++ static_ends end l) (sym (drop_at files i file at))
       ∙ e
 
-  pub end_within : (end all : ℕ) → end + length (flat_map static_fields_in (drop i files)) ≡ all → (end + length (filter is_static_field file.fields)) + length (flat_map static_fields_in (drop (i + 1) files)) ≡ all
+  pub end_within : (end all : ℕ) → end + length (flat_map static_fields_in (drop i files)) ≡ all
+      → (end + length (filter is_static_field file.fields)) + length (flat_map static_fields_in (drop (i + 1) files)) ≡ all
   end_within end all e =
       omega (arith, e, ap (λ (l : List FileTree). length (flat_map static_fields_in l)) (drop_at files i file at), length-append (static_fields_in file) (flat_map static_fields_in (drop (i + 1) files)), static_length file)
 
@@ -49,17 +51,20 @@ shapes_length : (files : Program) → length (shapes files) ≡ length (classes_
 unfolding shapes
 shapes_length files = length-map (classes_of files) (shape_of files)
 
-pub size_is : (files : Program) (linked : IsLinked files) (rows : List Shape) (k : ℕ) (file : FileTree) → rows ≡ shapes files → slice_get (classes_of files) k ≡ Some file
+pub size_is : (files : Program) (linked : IsLinked files) (rows : List Shape) (k : ℕ) (file : FileTree) → rows ≡ shapes files
+    → slice_get (classes_of files) k ≡ Some file
     → chain_sum rows (length rows) k ≡ length (instance_fields files (name_of file))
 size_is files linked rows k file is at =
     ap (λ (l : List Shape). chain_sum l (length l) k) is
     ∙ ap (λ n. chain_sum (shapes files) n k) (shapes_length files)
     ∙ sum_of files (class_is files linked) (class_at_place files) (no_class files) (length (classes_of files)) k (Some file) at
 
-pub size_fits : (files : Program) (linked : IsLinked files) (rows : List Shape) (k : ℕ) (file : FileTree) → rows ≡ shapes files → slice_get (classes_of files) k ≡ Some file → chain_sum rows (length rows) k < 2 ^ 64
+pub size_fits : (files : Program) (linked : IsLinked files) (rows : List Shape) (k : ℕ) (file : FileTree) → rows ≡ shapes files
+    → slice_get (classes_of files) k ≡ Some file → chain_sum rows (length rows) k < 2 ^ 64
 size_fits files linked rows k file is at = omega (arith, size_is files linked rows k file is at, instances_fit files linked k file at)
 
-pub class_below : (files : Program) (rows : List Shape) (k : ℕ) → rows ≡ shapes files → k < length rows → (file : FileTree) × (slice_get (classes_of files) k ≡ Some file)
+pub class_below : (files : Program) (rows : List Shape) (k : ℕ) → rows ≡ shapes files → k < length rows
+    → (file : FileTree) × (slice_get (classes_of files) k ≡ Some file)
 class_below files rows k is lt = item_at (classes_of files) k (omega (arith, lt, ap length is, shapes_length files))
 
 pub all_classes : (files : Program) (rows : List Shape) (k : ℕ) → rows ≡ shapes files → length rows ≤ k → drop k (classes_of files) ≡ []

@@ -71,7 +71,8 @@ module _ (files : Program) (ok : Unrefused files) where
       (every_weaken IsWhole HaveTexts files file_texts ok.whole)
 
 -- a field by its name, and by the texts of its indices
-same_field : (class : Name) (pool : List Entry) (field : Member) (f : FieldTree) → field.class ≡ class → has_texts pool f ≡ true → member_eq (field_member class pool f) field ≡ is_field pool field.name field.descriptor f
+same_field : (class : Name) (pool : List Entry) (field : Member) (f : FieldTree) → field.class ≡ class → has_texts pool f ≡ true
+    → member_eq (field_member class pool f) field ≡ is_field pool field.name field.descriptor f
 same_field class pool field f is h =
     let texts = and_parts (names_utf8 pool f.name) _ h in
     ap (λ b. b && (name_eq (text_at pool f.name) field.name && name_eq (text_at pool f.descriptor) field.descriptor)) (ap (name_eq class) is ∙ name_self class)
@@ -92,8 +93,10 @@ IsAmong kind class file field i =
     (k : ℕ) × (position (λ (f : Member). member_eq f field) (map (field_member class file.pool) (filter kind file.fields)) ≡ Some k)
     × (k + length (filter kind (drop i file.fields)) ≡ length (filter kind file.fields))
 
-pub stands_among : (kind : FieldTree → Bool) (class : Name) (file : FileTree) (field : Member) (i : ℕ) (f : FieldTree) → HaveTexts file → field.class ≡ class
-    → position (is_field file.pool field.name field.descriptor) file.fields ≡ Some i → slice_get file.fields i ≡ Some f → kind f ≡ true → IsAmong kind class file field i
+pub stands_among : (kind : FieldTree → Bool) (class : Name) (file : FileTree) (field : Member) (i : ℕ) (f : FieldTree) → HaveTexts file
+    → field.class ≡ class
+    → position (is_field file.pool field.name field.descriptor) file.fields ≡ Some i → slice_get file.fields i ≡ Some f → kind f ≡ true
+    → IsAmong kind class file field i
 stands_among kind class file field i f texts is e at h =
     let k = position_kept (is_field file.pool field.name field.descriptor) kind file.fields i f e at h in
     let same : position (λ (f : Member). member_eq f field) (map (field_member class file.pool) (filter kind file.fields)) ≡ position (is_field file.pool field.name field.descriptor) (filter kind file.fields) =

@@ -27,18 +27,21 @@ module _ (files : Program) (says : FileTree → ℕ → Option ℕ) where
   pub none_said : (rows : List Row) → rows ≡ [] → SaidBefore 0 rows
   none_said rows is = subst (λ (l : List Row). Pairs Says [] (items_of l)) (sym is) tt
 
-  pub more_said : (rows new : List Row) (row : Row) (i : ℕ) (file : FileTree) → slice_get (classes_of files) i ≡ Some file → SaidBefore i rows → Says file row.items → new ≡ rows ++ row ∷ [] → SaidBefore (i + 1) new
+  pub more_said : (rows new : List Row) (row : Row) (i : ℕ) (file : FileTree) → slice_get (classes_of files) i ≡ Some file
+      → SaidBefore i rows → Says file row.items → new ≡ rows ++ row ∷ [] → SaidBefore (i + 1) new
   more_said rows new row i file at h r pushed =
       pair_pushed Says (classes_of files) i (items_of rows) (items_of new) file row.items at h r (ap items_of pushed ∙ map-append (λ (row : Row). row.items) rows (row ∷ []))
 
   pub all_said : (rows : List Row) (i : ℕ) → slice_get (classes_of files) i ≡ None → SaidBefore i rows
-      → (class index : ℕ) → index < 2 ^ 16 → number_at (items_of rows) class index ≡ option_and_then (λ (file : FileTree). says file index) (slice_get (classes_of files) class)
+      → (class index : ℕ) → index < 2 ^ 16 → number_at (items_of rows) class index
+      ≡ option_and_then (λ (file : FileTree). says file index) (slice_get (classes_of files) class)
   all_said rows i past h class index fits = by (slice_get (classes_of files) class) refl
     where
       all : Pairs Says (classes_of files) (items_of rows)
       all = all_paired Says (classes_of files) i (items_of rows) past h
 
-      by : (o : Option FileTree) → slice_get (classes_of files) class ≡ o → number_at (items_of rows) class index ≡ option_and_then (λ (file : FileTree). says file index) o
+      by : (o : Option FileTree) → slice_get (classes_of files) class ≡ o
+          → number_at (items_of rows) class index ≡ option_and_then (λ (file : FileTree). says file index) o
       by None at = ap (λ (o : Option (List (Option ℕ))). option_and_then (λ row. number_in row index) o) (no_pair Says (classes_of files) (items_of rows) class all at)
       by (Some file) at =
           let row = pair_at Says (classes_of files) (items_of rows) class file all at in

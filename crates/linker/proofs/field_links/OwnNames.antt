@@ -17,7 +17,8 @@ use Rattle.hierarchy.proofs.Finding.{none_at}
 
 -- ---- no two classes have one name
 
-first_place : (xs : List FileTree) (k : ℕ) (file : FileTree) → two_of_one_name xs ≡ false → slice_get xs k ≡ Some file → position (is_named (name_of file)) xs ≡ Some k
+first_place : (xs : List FileTree) (k : ℕ) (file : FileTree) → two_of_one_name xs ≡ false → slice_get xs k ≡ Some file
+    → position (is_named (name_of file)) xs ≡ Some k
 first_place [] k file h e = absurd cc
 first_place (x ∷ xs) zero file h e =
     let same : x ≡ file = cc in
@@ -45,7 +46,8 @@ module _ (files : Program) (linked : IsLinked files) where
   pub no_built_in_name : list_any has_built_in_name files ≡ false
   no_built_in_name = (or_parts (two_of_one_name files) _ names_apart).1
 
-  pub place_is : (k : ℕ) (file : FileTree) → slice_get (classes_of files) k ≡ Some file → position (is_named (name_of file)) (classes_of files) ≡ Some k
+  pub place_is : (k : ℕ) (file : FileTree) → slice_get (classes_of files) k ≡ Some file
+      → position (is_named (name_of file)) (classes_of files) ≡ Some k
   place_is k file at = first_place (classes_of files) k file (all_differ files names_apart) at
 
   pub class_is : (k : ℕ) (file : FileTree) → slice_get (classes_of files) k ≡ Some file → class_of files (name_of file) ≡ Some file

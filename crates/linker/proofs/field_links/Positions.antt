@@ -10,10 +10,12 @@ lt_step a n = grind (arith, nat_tests)
 zero_lt : (n : ℕ) → ltb 0 (suc n) ≡ true
 zero_lt n = grind (arith, nat_tests)
 
-pub step_over : {A : Type 0} (p : A → Bool) (x : A) (xs : List A) → p x ≡ false → position p (x ∷ xs) ≡ option_map (λ (k : ℕ). suc k) (position p xs)
+pub step_over : {A : Type 0} (p : A → Bool) (x : A) (xs : List A) → p x ≡ false
+    → position p (x ∷ xs) ≡ option_map (λ (k : ℕ). suc k) (position p xs)
 step_over p x xs h = rw (h, lt_step (position_or_len p xs) (length xs)) (by (ltb (position_or_len p xs) (length xs)))
   where
-    by : (b : Bool) → cond b (Some (1 + position_or_len p xs)) None ≡ option_map (λ (k : ℕ). suc k) (cond b (Some (position_or_len p xs)) None)
+    by : (b : Bool) → cond b (Some (1 + position_or_len p xs)) None
+        ≡ option_map (λ (k : ℕ). suc k) (cond b (Some (position_or_len p xs)) None)
     by true = ap (λ (k : ℕ). Some k) (omega arith)
     by false = refl
 
@@ -26,7 +28,8 @@ next_of None k q = absurd cc
 next_of (Some j) k q = (j, refl, cc)
 
 -- behind items that fail the test
-pub position_behind : {A : Type 0} (p : A → Bool) (xs ys : List A) (k : ℕ) → AllByRecursion (λ x. p x ≡ false) xs → position p ys ≡ Some k → position p (xs ++ ys) ≡ Some (length xs + k)
+pub position_behind : {A : Type 0} (p : A → Bool) (xs ys : List A) (k : ℕ) → AllByRecursion (λ x. p x ≡ false) xs → position p ys ≡ Some k
+    → position p (xs ++ ys) ≡ Some (length xs + k)
 position_behind p [] ys k none e = e ∙ ap (λ (j : ℕ). Some j) (omega arith)
 position_behind p (x ∷ xs) ys k none e =
     step_over p x (xs ++ ys) none.0 ∙ ap (option_map (λ (j : ℕ). suc j)) (position_behind p xs ys k none.1 e) ∙ ap (λ (j : ℕ). Some j) (omega arith)
@@ -51,19 +54,22 @@ position_nowhere p (x ∷ xs) none = step_over p x xs none.0 ∙ ap (option_map 
 abbrev pub IsKept : {A : Type 0} → (A → Bool) → (A → Bool) → List A → ℕ → Type 0
 IsKept p q xs i = (k : ℕ) × (position p (filter q xs) ≡ Some k) × (k + length (filter q (drop i xs)) ≡ length (filter q xs))
 
-kept_first : {A : Type 0} (p q : A → Bool) (y : A) (xs : List A) (i : ℕ) → q y ≡ true → p y ≡ true → position p (y ∷ xs) ≡ Some i → IsKept p q (y ∷ xs) i
+kept_first : {A : Type 0} (p q : A → Bool) (y : A) (xs : List A) (i : ℕ) → q y ≡ true → p y ≡ true → position p (y ∷ xs) ≡ Some i
+    → IsKept p q (y ∷ xs) i
 kept_first p q y xs i h t e =
     let z : zero ≡ i = let s : Some zero ≡ Some i = sym (stop_at p y xs t) ∙ e in cc in
     subst (λ n. IsKept p q (y ∷ xs) n) z (0, rw h (stop_at p y (filter q xs) t), omega arith)
 
-kept_later : {A : Type 0} (p q : A → Bool) (y : A) (xs : List A) (i j : ℕ) → p y ≡ false → suc j ≡ i → IsKept p q xs j → IsKept p q (y ∷ xs) i
+kept_later : {A : Type 0} (p q : A → Bool) (y : A) (xs : List A) (i j : ℕ) → p y ≡ false → suc j ≡ i → IsKept p q xs j
+    → IsKept p q (y ∷ xs) i
 kept_later p q y xs i j t s rest = subst (λ n. IsKept p q (y ∷ xs) n) s (by (q y) refl)
   where
     by : (b : Bool) → q y ≡ b → IsKept p q (y ∷ xs) (suc j)
     by true w = (suc rest.0, rw w (step_over p y (filter q xs) t ∙ ap (option_map (λ (n : ℕ). suc n)) rest.1), rw w (omega (arith, rest.2)))
     by false w = (rest.0, rw w rest.1, rw w rest.2)
 
-pub position_kept : {A : Type 0} (p q : A → Bool) (xs : List A) (i : ℕ) (x : A) → position p xs ≡ Some i → slice_get xs i ≡ Some x → q x ≡ true → IsKept p q xs i
+pub position_kept : {A : Type 0} (p q : A → Bool) (xs : List A) (i : ℕ) (x : A) → position p xs ≡ Some i → slice_get xs i ≡ Some x
+    → q x ≡ true → IsKept p q xs i
 position_kept p q [] i x e at h = absurd cc
 position_kept p q (y ∷ xs) i x e at h = by (λ j u v. position_kept p q xs j x u v h) (p y) refl
   where
@@ -84,7 +90,8 @@ position_kept p q (y ∷ xs) i x e at h = by (λ j u v. position_kept p q xs j x
         kept_later p q y xs i more.0 t more.2 (rest more.0 more.1 (there i more.0 more.2 at))
 
 -- among what is made of items, where the tests agree
-pub position_matches : {A B : Type 0} (p : B → Bool) (f : A → B) (q : A → Bool) (xs : List A) → AllByRecursion (λ x. p (f x) ≡ q x) xs → position p (map f xs) ≡ position q xs
+pub position_matches : {A B : Type 0} (p : B → Bool) (f : A → B) (q : A → Bool) (xs : List A) → AllByRecursion (λ x. p (f x) ≡ q x) xs
+    → position p (map f xs) ≡ position q xs
 position_matches p f q [] h = refl
 position_matches p f q (x ∷ xs) h = by (position_matches p f q xs h.1) (q x) refl
   where

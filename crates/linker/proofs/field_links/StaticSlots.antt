@@ -20,7 +20,8 @@ use Rattle.linker.proofs.field_links.Lineages.{every_flat, every_map}
 use Rattle.hierarchy.proofs.Finding.{none_at}
 
 -- the fields of another class differ
-others : (field : Member) (file : FileTree) → name_eq (name_of file) field.class ≡ false → AllByRecursion (λ (f : Member). member_eq f field ≡ false) (static_fields_in file)
+others : (field : Member) (file : FileTree) → name_eq (name_of file) field.class ≡ false
+    → AllByRecursion (λ (f : Member). member_eq f field ≡ false) (static_fields_in file)
 others field file h =
     every_map (λ (f : Member). member_eq f field ≡ false) (field_member (name_of file) file.pool) (λ f. ap (λ b. b && (name_eq (field_member (name_of file) file.pool f).name field.name && name_eq (field_member (name_of file) file.pool f).descriptor field.descriptor)) h)
     (filter is_static_field file.fields)
@@ -34,7 +35,8 @@ IsStaticSlot n files i file field k =
     (slot end : ℕ) × (position (λ (f : Member). member_eq f field) (flat_map static_fields_in files) ≡ Some slot)
     × (slice_get (static_ends n files) i ≡ Some end) × ((n + slot) + length (static_fields_in file) ≡ end + k)
 
-pub static_slot : (n : ℕ) (files : List FileTree) (i : ℕ) (file : FileTree) (field : Member) (k : ℕ) → two_of_one_name files ≡ false → slice_get files i ≡ Some file → field.class ≡ name_of file
+pub static_slot : (n : ℕ) (files : List FileTree) (i : ℕ) (file : FileTree) (field : Member) (k : ℕ) → two_of_one_name files ≡ false
+    → slice_get files i ≡ Some file → field.class ≡ name_of file
     → position (λ (f : Member). member_eq f field) (static_fields_in file) ≡ Some k → IsStaticSlot n files i file field k
 static_slot n [] i file field k differ at is e = absurd cc
 static_slot n (x ∷ files) zero file field k differ at is e =
@@ -52,18 +54,21 @@ static_slot n (x ∷ files) (suc i) file field k differ at is e =
     (length (static_fields_in x) + rest.0, rest.1, position_behind (λ (f : Member). member_eq f field) (static_fields_in x) (flat_map static_fields_in files) rest.0 (others field x other) rest.2, rest.3, omega (arith, rest.4))
 
 -- a built-in class has none among them
-pub no_static_slot : (files : List FileTree) (i : ℕ) (file : FileTree) (field : Member) → list_any has_built_in_name files ≡ false → slice_get built_in_classes i ≡ Some file → field.class ≡ name_of file
+pub no_static_slot : (files : List FileTree) (i : ℕ) (file : FileTree) (field : Member) → list_any has_built_in_name files ≡ false
+    → slice_get built_in_classes i ≡ Some file → field.class ≡ name_of file
     → position (λ (f : Member). member_eq f field) (static_fields files) ≡ None
 no_static_slot files i file field none at is =
     position_nowhere (λ (f : Member). member_eq f field) (static_fields files)
     (every_flat (λ (x : FileTree). has_built_in_name x ≡ false) (λ (f : Member). member_eq f field ≡ false) static_fields_in
     (λ x h. others field x (ap (name_eq (name_of x)) is ∙ turned_false (name_of file) (name_of x) (among (is_named (name_of x)) built_in_classes i h at))) files (none_any has_built_in_name files none))
   where
-    among : (test : FileTree → Bool) (xs : List FileTree) (i : ℕ) → is_some (find test xs) ≡ false → slice_get xs i ≡ Some file → test file ≡ false
+    among : (test : FileTree → Bool) (xs : List FileTree) (i : ℕ) → is_some (find test xs) ≡ false → slice_get xs i ≡ Some file
+        → test file ≡ false
     among test [] i h e = absurd cc
     among test (x ∷ xs) i h e = by i (test x) refl (λ j k. among test xs j k) h e
       where
-        by : (i : ℕ) (b : Bool) → test x ≡ b → ((j : ℕ) → is_some (find test xs) ≡ false → slice_get xs j ≡ Some file → test file ≡ false) → is_some (cond b (Some x) (find test xs)) ≡ false → slice_get (x ∷ xs) i ≡ Some file → test file ≡ false
+        by : (i : ℕ) (b : Bool) → test x ≡ b → ((j : ℕ) → is_some (find test xs) ≡ false → slice_get xs j ≡ Some file → test file ≡ false)
+            → is_some (cond b (Some x) (find test xs)) ≡ false → slice_get (x ∷ xs) i ≡ Some file → test file ≡ false
         by i true t rest h e = absurd (false≢true (sym h))
         by zero false t rest h e = let same : x ≡ file = cc in ap test (sym same) ∙ t
         by (suc i) false t rest h e = rest i h e

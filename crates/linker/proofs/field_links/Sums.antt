@@ -33,11 +33,13 @@ module _ (files : Program)
     no_fields zero s e = refl
     no_fields (suc n) s e = top_fields files n s (ap (λ (o : Option FileTree). option_and_then super_name_of o) e) ∙ no_own s e
 
-    own_length : (name : Name) (file : FileTree) → class_of files name ≡ Some file → length (own_instance_fields files name) ≡ length (filter is_instance_field file.fields)
+    own_length : (name : Name) (file : FileTree) → class_of files name ≡ Some file
+        → length (own_instance_fields files name) ≡ length (filter is_instance_field file.fields)
     own_length name file e =
         ap (λ (o : Option FileTree). length (option_map_or (λ (file : FileTree). map (field_member name file.pool) (filter is_instance_field file.fields)) o [])) e ∙ length-map (filter is_instance_field file.fields) (field_member name file.pool)
 
-    pub sum_of : (n : ℕ) (k : ℕ) (o : Option FileTree) → slice_get (classes_of files) k ≡ o → chain_sum (shapes files) n k ≡ option_map_or (λ (file : FileTree). length (fields_to files n (name_of file))) o 0
+    pub sum_of : (n : ℕ) (k : ℕ) (o : Option FileTree) → slice_get (classes_of files) k ≡ o
+        → chain_sum (shapes files) n k ≡ option_map_or (λ (file : FileTree). length (fields_to files n (name_of file))) o 0
     unfolding shapes
     sum_of zero k None e = refl
     sum_of zero k (Some file) e = refl
@@ -49,18 +51,23 @@ module _ (files : Program)
         above : (o : Option Name) → super_name_of file ≡ o → superclass_of files (name_of file) ≡ o
         above o q = ap (λ (o : Option FileTree). option_and_then super_name_of o) (at_own_name k file e) ∙ q
 
-        to : (j : ℕ) (s : Name) (o : Option FileTree) → class_of files s ≡ o → option_map_or (λ (file : FileTree). length (fields_to files n (name_of file))) o 0 ≡ length (fields_to files n s)
+        to : (j : ℕ) (s : Name) (o : Option FileTree) → class_of files s ≡ o
+            → option_map_or (λ (file : FileTree). length (fields_to files n (name_of file))) o 0 ≡ length (fields_to files n s)
         to j s None c = sym (ap length (no_fields n s c))
         to j s (Some f) c = ap (λ x. length (fields_to files n x)) (class_named files s f c)
 
-        sum_above : ((j : ℕ) (o : Option FileTree) → slice_get (classes_of files) j ≡ o → chain_sum (shapes files) n j ≡ option_map_or (λ (file : FileTree). length (fields_to files n (name_of file))) o 0)
-            → (s : Name) (o : Option ℕ) → position (is_named s) (classes_of files) ≡ o → option_map_or (λ (above : ℕ). chain_sum (shapes files) n above) o 0 ≡ length (fields_to files n s)
+        sum_above : ((j : ℕ) (o : Option FileTree) → slice_get (classes_of files) j ≡ o
+            → chain_sum (shapes files) n j ≡ option_map_or (λ (file : FileTree). length (fields_to files n (name_of file))) o 0)
+            → (s : Name) (o : Option ℕ) → position (is_named s) (classes_of files) ≡ o
+            → option_map_or (λ (above : ℕ). chain_sum (shapes files) n above) o 0 ≡ length (fields_to files n s)
         sum_above rest s None p = sym (ap length (no_fields n s (nowhere s p)))
         sum_above rest s (Some j) p = rest j (slice_get (classes_of files) j) refl ∙ to j s (slice_get (classes_of files) j) (at_place s j p)
 
-        by : ((j : ℕ) (o : Option FileTree) → slice_get (classes_of files) j ≡ o → chain_sum (shapes files) n j ≡ option_map_or (λ (file : FileTree). length (fields_to files n (name_of file))) o 0)
+        by : ((j : ℕ) (o : Option FileTree) → slice_get (classes_of files) j ≡ o
+            → chain_sum (shapes files) n j ≡ option_map_or (λ (file : FileTree). length (fields_to files n (name_of file))) o 0)
             → (o : Option Name) → super_name_of file ≡ o
-            → length (filter is_instance_field file.fields) + option_map_or (λ (above : ℕ). chain_sum (shapes files) n above) (option_and_then (λ s. position (is_named s) (classes_of files)) o) 0 ≡ length (fields_to files (suc n) (name_of file))
+            → length (filter is_instance_field file.fields) + option_map_or (λ (above : ℕ). chain_sum (shapes files) n above)
+            (option_and_then (λ s. position (is_named s) (classes_of files)) o) 0 ≡ length (fields_to files (suc n) (name_of file))
         by rest None q = omega (arith, own_length (name_of file) file (at_own_name k file e), ap length (top_fields files n (name_of file) (above None q)))
         by rest (Some s) q =
             omega (arith, own_length (name_of file) file (at_own_name k file e), sum_above rest s (position (is_named s) (classes_of files)) refl, ap length (next_fields files n (name_of file) s (above (Some s) q)), length-append (fields_to files n s) (own_instance_fields files (name_of file)))
@@ -68,7 +75,9 @@ module _ (files : Program)
 -- ---- a step up
 
 pub chain_step : (rows : List Shape) (n i place : ℕ) → i < n
-    → chain_sum rows (n - i) place ≡ option_map_or (λ (row : Shape). row.fields + option_map_or (λ (above : ℕ). chain_sum rows (n - (i + 1)) above) row.superclass 0) (slice_get rows place) 0
+    → chain_sum rows (n - i) place ≡ option_map_or
+    (λ (row : Shape). row.fields + option_map_or (λ (above : ℕ). chain_sum rows (n - (i + 1)) above) row.superclass 0)
+    (slice_get rows place) 0
 chain_step rows n i place h = ap (λ k. chain_sum rows k place) (one_less n i h)
   where
     one_less : (n i : ℕ) → i < n → n - i ≡ suc (n - (i + 1))
@@ -77,8 +86,10 @@ chain_step rows n i place h = ap (λ k. chain_sum rows k place) (one_less n i h)
 pub step_nowhere : (rows : List Shape) (n i place : ℕ) → i < n → slice_get rows place ≡ None → chain_sum rows (n - i) place ≡ 0
 step_nowhere rows n i place h at = rw (chain_step rows n i place h, at) refl
 
-pub step_last : (rows : List Shape) (n i place : ℕ) (row : Shape) → i < n → slice_get rows place ≡ Some row → row.superclass ≡ None → chain_sum rows (n - i) place ≡ row.fields
+pub step_last : (rows : List Shape) (n i place : ℕ) (row : Shape) → i < n → slice_get rows place ≡ Some row → row.superclass ≡ None
+    → chain_sum rows (n - i) place ≡ row.fields
 step_last rows n i place row h at top = rw (chain_step rows n i place h, at, top) (omega arith)
 
-pub step_on : (rows : List Shape) (n i place : ℕ) (row : Shape) (above : ℕ) → i < n → slice_get rows place ≡ Some row → row.superclass ≡ Some above → chain_sum rows (n - i) place ≡ row.fields + chain_sum rows (n - (i + 1)) above
+pub step_on : (rows : List Shape) (n i place : ℕ) (row : Shape) (above : ℕ) → i < n → slice_get rows place ≡ Some row
+    → row.superclass ≡ Some above → chain_sum rows (n - i) place ≡ row.fields + chain_sum rows (n - (i + 1)) above
 step_on rows n i place row above h at on = rw (chain_step rows n i place h, at, on) refl

@@ -23,7 +23,8 @@ use Rattle.run_laws.proofs.laws.Lists.{get_map}
 pub rows_say : (files : Program) (rows : List (List (Option FieldLink))) → Pairs (IsRow files) (classes_of files) rows → AreRows files rows
 rows_say files rows h class index fits = by (slice_get (classes_of files) class) refl
   where
-    by : (o : Option FileTree) → slice_get (classes_of files) class ≡ o → in_rows rows class index ≡ option_and_then (λ (file : FileTree). option_and_then (named_link files) (field_at file.pool index)) o
+    by : (o : Option FileTree) → slice_get (classes_of files) class ≡ o
+        → in_rows rows class index ≡ option_and_then (λ (file : FileTree). option_and_then (named_link files) (field_at file.pool index)) o
     by None at = ap (λ (o : Option (List (Option FieldLink))). option_and_then (λ row. in_row row index) o) (no_pair (IsRow files) (classes_of files) rows class h at)
     by (Some file) at =
         let row = pair_at (IsRow files) (classes_of files) rows class file h at in
@@ -33,7 +34,9 @@ pub sizes_say : (files : Program) (rows : List ℕ) → rows ≡ sizes files →
 unfolding sizes
 sizes_say files rows is class = ap (λ l. slice_get l class) is ∙ by (slice_get (classes_of files) class) refl
   where
-    by : (o : Option FileTree) → slice_get (classes_of files) class ≡ o → slice_get (map (λ (file : FileTree). length (instance_fields files (name_of file))) (classes_of files)) class ≡ option_map (λ (file : FileTree). length (instance_fields files (name_of file))) o
+    by : (o : Option FileTree) → slice_get (classes_of files) class ≡ o
+        → slice_get (map (λ (file : FileTree). length (instance_fields files (name_of file))) (classes_of files)) class
+        ≡ option_map (λ (file : FileTree). length (instance_fields files (name_of file))) o
     by None at = get_no_map (λ (file : FileTree). length (instance_fields files (name_of file))) (classes_of files) class at
     by (Some file) at = get_map (λ (file : FileTree). length (instance_fields files (name_of file))) (classes_of files) class file at
 
@@ -51,12 +54,14 @@ items_of rows = map (λ (row : Row). row.items) rows
 pub first_rows : (files : Program) (rows : List Row) → rows ≡ [] → Pairs (IsRow files) (take 0 (classes_of files)) (items_of rows)
 first_rows files rows is = subst (λ (l : List Row). Pairs (IsRow files) [] (items_of l)) (sym is) tt
 
-pub more_rows : (files : Program) (rows new : List Row) (row : Row) (i : ℕ) (file : FileTree) → slice_get (classes_of files) i ≡ Some file → Pairs (IsRow files) (take i (classes_of files)) (items_of rows) → IsRow files file row.items → new ≡ rows ++ row ∷ []
+pub more_rows : (files : Program) (rows new : List Row) (row : Row) (i : ℕ) (file : FileTree) → slice_get (classes_of files) i ≡ Some file
+    → Pairs (IsRow files) (take i (classes_of files)) (items_of rows) → IsRow files file row.items → new ≡ rows ++ row ∷ []
     → Pairs (IsRow files) (take (i + 1) (classes_of files)) (items_of new)
 more_rows files rows new row i file at h r pushed =
     pair_pushed (IsRow files) (classes_of files) i (items_of rows) (items_of new) file row.items at h r (ap items_of pushed ∙ map-append (λ (row : Row). row.items) rows (row ∷ []))
 
-pub all_rows : (files : Program) (rows : List Row) (i : ℕ) → slice_get (classes_of files) i ≡ None → Pairs (IsRow files) (take i (classes_of files)) (items_of rows) → AreRows files (items_of rows)
+pub all_rows : (files : Program) (rows : List Row) (i : ℕ) → slice_get (classes_of files) i ≡ None
+    → Pairs (IsRow files) (take i (classes_of files)) (items_of rows) → AreRows files (items_of rows)
 all_rows files rows i past h = rows_say files (items_of rows) (all_paired (IsRow files) (classes_of files) i (items_of rows) past h)
 
 pub classes_past : (files : Program) (i : ℕ) → length (classes_of files) ≤ i → slice_get (classes_of files) i ≡ None

@@ -72,14 +72,16 @@ once_pushed (n ∷ names) last h absent =
 pub only_same : (components : Components) (Is : Name → Type 0) → AddsOnly components components Is
 only_same components Is name h = inl h
 
-pub only_then : (old middle new : Components) (First Then Is : Name → Type 0) → AddsOnly old middle First → AddsOnly middle new Then → ((name : Name) → First name → Is name) → ((name : Name) → Then name → Is name) → AddsOnly old new Is
+pub only_then : (old middle new : Components) (First Then Is : Name → Type 0) → AddsOnly old middle First → AddsOnly middle new Then
+    → ((name : Name) → First name → Is name) → ((name : Name) → Then name → Is name) → AddsOnly old new Is
 only_then old middle new First Then Is before after first then name h =
     ⊎_elim (λ there. ⊎_elim (λ older. inl older) (λ is. inr (first name is)) (before name there)) (λ is. inr (then name is)) (after name h)
 
 module _ (files : Program) where
   -- ---- types of names
 
-  types_pushed : (names : List Name) (types : List LinkedType) (name : Name) (t : LinkedType) → AreTypesOf files names types → IsType files t (type_named name) → AreTypesOf files (names ++ name ∷ []) (types ++ t ∷ [])
+  types_pushed : (names : List Name) (types : List LinkedType) (name : Name) (t : LinkedType) → AreTypesOf files names types
+      → IsType files t (type_named name) → AreTypesOf files (names ++ name ∷ []) (types ++ t ∷ [])
   types_pushed [] [] name t h is = (is, tt)
   types_pushed [] (x ∷ types) name t h is = absurd h
   types_pushed (n ∷ names) [] name t h is = absurd h
@@ -91,19 +93,22 @@ module _ (files : Program) where
   same_count (n ∷ names) [] h = absurd h
   same_count (n ∷ names) (x ∷ types) h = ap suc (same_count names types h.1)
 
-  pub type_at : (names : List Name) (types : List LinkedType) (k : ℕ) (name : Name) → AreTypesOf files names types → slice_get names k ≡ Some name → IsTypeAt files types k (type_named name)
+  pub type_at : (names : List Name) (types : List LinkedType) (k : ℕ) (name : Name) → AreTypesOf files names types
+      → slice_get names k ≡ Some name → IsTypeAt files types k (type_named name)
   type_at [] types k name h e = absurd cc
   type_at (n ∷ names) [] k name h e = absurd h
   type_at (n ∷ names) (t ∷ types) zero name h e = let same : n ≡ name = cc in (t, refl, subst (λ (x : Name). IsType files t (type_named x)) same h.0)
   type_at (n ∷ names) (t ∷ types) (suc k) name h e = type_at names types k name h.1 e
 
-  pub each_type : (names : List Name) (types : List LinkedType) (k : ℕ) (t : LinkedType) → AreTypesOf files names types → slice_get types k ≡ Some t → (type : ReferenceType) × IsType files t type
+  pub each_type : (names : List Name) (types : List LinkedType) (k : ℕ) (t : LinkedType) → AreTypesOf files names types
+      → slice_get types k ≡ Some t → (type : ReferenceType) × IsType files t type
   each_type names [] k t h e = absurd cc
   each_type [] (x ∷ types) k t h e = absurd h
   each_type (n ∷ names) (x ∷ types) zero t h e = let same : x ≡ t = cc in (type_named n, subst (λ (y : LinkedType). IsType files y (type_named n)) same h.0)
   each_type (n ∷ names) (x ∷ types) (suc k) t h e = each_type names types k t h.1 e
 
-  pub number_fits : (components : Components) → AreComponents files components → (name : Name) (k : ℕ) → position (name_eq name) components.names ≡ Some k → k < 2 ^ 32
+  pub number_fits : (components : Components) → AreComponents files components → (name : Name) (k : ℕ)
+      → position (name_eq name) components.names ≡ Some k → k < 2 ^ 32
   number_fits components are name k e =
       omega (arith, are.few, same_count components.names components.types.items are.types, position_within (name_eq name) components.names k e)
 
@@ -116,7 +121,8 @@ module _ (files : Program) where
     pub grows_more : (most more : ℕ) → most ≤ more → Grows files old new most → Grows files old new more
     grows_more most more l g = record { types = g.types; once = g.once; kept = g.kept; first = g.first; few = omega (arith, l, g.few) }
 
-    pub grows_then : (middle : Components) (most more : ℕ) → Grows files old middle most → Grows files middle new more → Grows files old new (most + more)
+    pub grows_then : (middle : Components) (most more : ℕ) → Grows files old middle most → Grows files middle new more
+        → Grows files old new (most + more)
     grows_then middle most more g then = record {
       types = λ h. then.types (g.types h);
       once = λ h. then.once (g.once h);
@@ -139,7 +145,8 @@ module _ (files : Program) where
           (λ last. ⊎_elim (λ is. inr (same_name n name is)) (λ none. absurd (false≢true none)) (or_cases (name_eq n name) false last))
           (or_cases (is_among n old.names) (name_eq n name || false) (sym (list_any-append (name_eq n) old.names (name ∷ [])) ∙ sym (ap (is_among n) added) ∙ h))
 
-      pub grows_pushed : (t : LinkedType) → IsType files t (type_named name) → new.types.items ≡ old.types.items ++ t ∷ [] → Grows files old new 1
+      pub grows_pushed : (t : LinkedType) → IsType files t (type_named name) → new.types.items ≡ old.types.items ++ t ∷ []
+          → Grows files old new 1
       grows_pushed t is typed = record {
         types = λ h. subst (λ (names : List Name). AreTypesOf files names new.types.items) (sym added)
             (subst (λ (types : List LinkedType). AreTypesOf files (old.names ++ name ∷ []) types) (sym typed) (types_pushed old.names old.types.items name t h is));
@@ -154,17 +161,20 @@ module _ (files : Program) where
   abbrev pub NamedBefore : FileTree → ℕ → Components → Type 0
   NamedBefore file count components = (index : ℕ) → index < count → HasNamed files file index components
 
-  pub named_kept : (file : FileTree) (index : ℕ) (old new : Components) (most : ℕ) → Grows files old new most → HasNamed files file index old → HasNamed files file index new
+  pub named_kept : (file : FileTree) (index : ℕ) (old new : Components) (most : ℕ) → Grows files old new most
+      → HasNamed files file index old → HasNamed files file index new
   named_kept file index old new most g h name named found = g.kept name (h name named found)
 
-  pub named_more : (file : FileTree) (count : ℕ) (old new : Components) (most : ℕ) → Grows files old new most → NamedBefore file count old → HasNamed files file count new → NamedBefore file (count + 1) new
+  pub named_more : (file : FileTree) (count : ℕ) (old new : Components) (most : ℕ) → Grows files old new most → NamedBefore file count old
+      → HasNamed files file count new → NamedBefore file (count + 1) new
   named_more file count old new most g before here index l =
       ⊎_elim
       (λ less. named_kept file index old new most g (before index less))
       (λ past. let same : count ≡ index = omega (arith, past, l) in subst (λ (k : ℕ). HasNamed files file k new) same here)
       (cases_lt index count)
 
-  pub named_all : (file : FileTree) (count : ℕ) (components : Components) → NamedBefore file count components → ((index : ℕ) → count ≤ index → index < 2 ^ 16 → length file.pool + 1 ≤ index)
+  pub named_all : (file : FileTree) (count : ℕ) (components : Components) → NamedBefore file count components
+      → ((index : ℕ) → count ≤ index → index < 2 ^ 16 → length file.pool + 1 ≤ index)
       → (index : ℕ) → index < 2 ^ 16 → HasNamed files file index components
   named_all file count components before behind index l =
       ⊎_elim (λ less. before index less) (λ past. nothing (behind index past l)) (cases_lt index count)
@@ -179,7 +189,8 @@ module _ (files : Program) where
   abbrev pub AllBefore : ℕ → Components → Type 0
   AllBefore count components = (class index : ℕ) (file : FileTree) → class < count → index < 2 ^ 16 → class_at files class ≡ Some file → HasNamed files file index components
 
-  pub all_more : (count : ℕ) (file : FileTree) (old new : Components) (most : ℕ) → class_at files count ≡ Some file → Grows files old new most → AllBefore count old → NamedBefore file 0x10000 new → AllBefore (count + 1) new
+  pub all_more : (count : ℕ) (file : FileTree) (old new : Components) (most : ℕ) → class_at files count ≡ Some file
+      → Grows files old new most → AllBefore count old → NamedBefore file 0x10000 new → AllBefore (count + 1) new
   all_more count file old new most at g before here class index other l few there =
       ⊎_elim
       (λ less. named_kept other index old new most g (before class index other less few there))
@@ -197,8 +208,10 @@ module _ (files : Program) where
 
   -- ---- all of them
 
-  pub are_components : IsLinked files → (empty first all : Components) → empty.names ≡ [] → empty.types.items ≡ [] → Grows files empty first 1 → is_among java_lang_string first.names ≡ true
-      → Grows files first all (length (classes_of files) * 0x10000) → ((class index : ℕ) (file : FileTree) → index < 2 ^ 16 → class_at files class ≡ Some file → HasNamed files file index all)
+  pub are_components : IsLinked files → (empty first all : Components) → empty.names ≡ [] → empty.types.items ≡ []
+      → Grows files empty first 1 → is_among java_lang_string first.names ≡ true
+      → Grows files first all (length (classes_of files) * 0x10000)
+      → ((class index : ℕ) (file : FileTree) → index < 2 ^ 16 → class_at files class ≡ Some file → HasNamed files file index all)
       → AddsOnly empty first (λ name. name ≡ java_lang_string) → AddsOnly first all (IsInProgram files) → AreComponents files all
   are_components linked empty first all names types one string more named only others =
       let none : AreTypesOf files empty.names empty.types.items = subst (λ (n : List Name). AreTypesOf files n empty.types.items) (sym names) (subst (λ (t : List LinkedType). AreTypesOf files [] t) (sym types) tt) in

@@ -53,7 +53,8 @@ module _ (files : Program) (name : Name) where
   -- ---- descriptors
 
   module _ (n : ℕ) (e x : declared_element.Element) (result : Option LinkedType) (is : e ≡ x) where
-    pub class_described : (class : Name) → element_of x ≡ Object class → IsNumbered files (arrays n (ClassType class)) result → IsNumbered files (reference_declared name (declared_with n (element_of e))) result
+    pub class_described : (class : Name) → element_of x ≡ Object class → IsNumbered files (arrays n (ClassType class)) result
+        → IsNumbered files (reference_declared name (declared_with n (element_of e))) result
     class_described class named h =
         let same : declared_with n (element_of e) ≡ DeclaredReference (arrays n (ClassType class)) = ap (λ e. declared_with n (element_of e)) is ∙ ap (declared_with n) named ∙ declared_class n class in
         subst (λ d. IsNumbered files (reference_declared name d) result) (sym same) h

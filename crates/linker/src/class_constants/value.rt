@@ -34,7 +34,8 @@ fn constant_index(attributes: &[FieldAttribute]) -> Option<u16>
 
 /// The number of the text of the String of an index, or how many there are.
 fn number_or_count(texts: &StringNumbers, class: usize, index: u16) -> usize
-    ensures { (files : Program) → AreStringNumbers files texts.now → result ≡ option_map_or (λ n. n) (string_number files class index) (length (string_texts files)) }
+    ensures { (files : Program) → AreStringNumbers files texts.now
+        → result ≡ option_map_or (λ n. n) (string_number files class index) (length (string_texts files)) }
 {
     match texts.string(class, index) {
         Some(number) => number,

@@ -100,7 +100,8 @@ fn add_pool(
 fn add_pools(components: &mut Components, alloc: Global, set: &ClassSet) -> Result<(), AllocError>
     requires linked { IsLinked set.now }
     ensures grows { OnOk result (Grows set.now components.old components.new (length (classes_of set.now) * 0x10000)) }
-    ensures there { OnOk result ((class index : ℕ) (file : FileTree) → index < 2 ^ 16 → class_at set.now class ≡ Some file → HasNamed set.now file index components.new) }
+    ensures there { OnOk result ((class index : ℕ) (file : FileTree) → index < 2 ^ 16 → class_at set.now class ≡ Some file
+        → HasNamed set.now file index components.new) }
     ensures only { OnOk result (AddsOnly components.old components.new (IsInProgram set.now)) }
 {
     for place in 0..set.count() {
@@ -132,8 +133,10 @@ impl Components {
     /// in the program.
     pub fn component(&self, linked: &Linked, class: usize, index: u16) -> Option<u32>
         requires components { AreComponents linked.now self.now }
-        ensures right { (file : FileTree) → class_at linked.now class ≡ Some file → IfSome result (IsComponentOperand linked.now self.now.types.items file.pool index) }
-        ensures there { (file : FileTree) (name : Name) → class_at linked.now class ≡ Some file → class_name_at file.pool index ≡ Some name → type_missing linked.now (type_named name) ≡ false → is_some result ≡ true }
+        ensures right { (file : FileTree) → class_at linked.now class ≡ Some file
+            → IfSome result (IsComponentOperand linked.now self.now.types.items file.pool index) }
+        ensures there { (file : FileTree) (name : Name) → class_at linked.now class ≡ Some file → class_name_at file.pool index ≡ Some name
+            → type_missing linked.now (type_named name) ≡ false → is_some result ≡ true }
     {
         let file = linked.set().class_at(class)?;
         let name = file.class_name(index)?;
@@ -143,7 +146,8 @@ impl Components {
 
     /// The number of String.
     pub fn string_component(&self) -> u32
-        ensures { (files : Program) → AreComponents files self.now → IsTypeAt files self.now.types.items result (ClassType java_lang_string) }
+        ensures { (files : Program) → AreComponents files self.now
+            → IsTypeAt files self.now.types.items result (ClassType java_lang_string) }
     {
         STRING
     }
@@ -151,7 +155,8 @@ impl Components {
     /// The types by their numbers.
     pub fn into_types(self) -> Vec<LinkedType>
         ensures same { result ≡ self.types }
-        ensures each { (files : Program) → AreComponents files self → (number : ℕ) (t : LinkedType) → slice_get result.items number ≡ Some t → (type : ReferenceType) × IsType files t type }
+        ensures each { (files : Program) → AreComponents files self → (number : ℕ) (t : LinkedType)
+            → slice_get result.items number ≡ Some t → (type : ReferenceType) × IsType files t type }
     {
         self.types
     }

@@ -18,7 +18,8 @@ use linked_code::LinkedType;
 /// memory.
 pub fn type_operand(linked: &Linked, class: usize, index: u16) -> Option<LinkedType>
     ensures right { (file : FileTree) → class_at linked.now class ≡ Some file → IfSome result (IsTypeOperand linked.now file.pool index) }
-    ensures there { (file : FileTree) (name : Name) → class_at linked.now class ≡ Some file → class_name_at file.pool index ≡ Some name → type_missing linked.now (type_named name) ≡ false → is_some result ≡ true }
+    ensures there { (file : FileTree) (name : Name) → class_at linked.now class ≡ Some file → class_name_at file.pool index ≡ Some name
+        → type_missing linked.now (type_named name) ≡ false → is_some result ≡ true }
 {
     let set = linked.set();
     let file = set.class_at(class)?;

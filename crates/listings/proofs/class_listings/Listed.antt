@@ -15,14 +15,16 @@ use Rattle.model.specs.Classes.{Program}
 use Rattle.model.specs.Linkable.{AreSpelled}
 use Rattle.listings.specs.class_listings.Listings.{IsFirstMalformed, IsMalformed, malformed, no_memory}
 
-spelled_push : (files : List (List ℕ)) (trees : Program) (bytes : List ℕ) (tree : FileTree) → AreSpelled files trees → Spells bytes tree → AreSpelled (files ++ bytes ∷ []) (trees ++ tree ∷ [])
+spelled_push : (files : List (List ℕ)) (trees : Program) (bytes : List ℕ) (tree : FileTree) → AreSpelled files trees → Spells bytes tree
+    → AreSpelled (files ++ bytes ∷ []) (trees ++ tree ∷ [])
 spelled_push [] [] bytes tree h s = (s, tt)
 spelled_push [] (t ∷ trees) bytes tree h s = absurd h
 spelled_push (f ∷ files) [] bytes tree h s = absurd h
 spelled_push (f ∷ files) (t ∷ trees) bytes tree h s = (h.0, spelled_push files trees bytes tree h.1 s)
 
 -- one file more is decoded
-pub spelled_next : (files : List (Vec ℕ Global)) (i : ℕ) (file : Vec ℕ Global) (bytes : List ℕ) (trees all : List ClassFile) (tree : ClassFile) → i < length files → file ≡ get_or files i file → bytes ≡ file.items
+pub spelled_next : (files : List (Vec ℕ Global)) (i : ℕ) (file : Vec ℕ Global) (bytes : List ℕ) (trees all : List ClassFile)
+    (tree : ClassFile) → i < length files → file ≡ get_or files i file → bytes ≡ file.items
     → AreSpelled (map vec_items (take i files)) (map file_of trees) → Spells bytes (file_of tree) → all ≡ trees ++ tree ∷ []
     → AreSpelled (map vec_items (take (i + 1) files)) (map file_of all)
 spelled_next files i file bytes trees all tree lt at e so_far spelled pushed =
@@ -40,7 +42,8 @@ get_map f (y ∷ xs) (suc i) x e = get_map f xs i x e
 abbrev Refuses : List (Vec ℕ Global) → Refusal → Type 0
 Refuses files refusal = ((number : ℕ) × (number < length files) × (refusal ≡ no_memory number)) ⊎ IsFirstMalformed (map vec_items files) refusal
 
-pub refused_at : (files : List (Vec ℕ Global)) (i : ℕ) (file : Vec ℕ Global) (bytes : List ℕ) (trees : Program) (refusal : Refusal) → i < length files → file ≡ get_or files i file → bytes ≡ file.items
+pub refused_at : (files : List (Vec ℕ Global)) (i : ℕ) (file : Vec ℕ Global) (bytes : List ℕ) (trees : Program) (refusal : Refusal)
+    → i < length files → file ≡ get_or files i file → bytes ≡ file.items
     → AreSpelled (map vec_items (take i files)) trees → (refusal ≡ no_memory i) ⊎ IsMalformed bytes i refusal → Refuses files refusal
 refused_at files i file bytes trees refusal lt at e so_far (inl memory) = inl (i, lt, memory)
 refused_at files i file bytes trees refusal lt at e so_far (inr none) =
@@ -54,8 +57,11 @@ refused_at files i file bytes trees refusal lt at e so_far (inr none) =
     })
 
 -- bytes that aren't decoded are refused so
-pub refused_so : (bytes : List ℕ) (number : ℕ) (fault : Malformed) (refusal : Refusal) → (fault.cause ≡ causes.OutOfMemory → refusal ≡ no_memory number) → ((fault.cause ≡ causes.OutOfMemory → ⊥) → refusal ≡ malformed number fault.cause fault.offset)
-    → ((tree : FileTree) → Spells bytes tree → fault.cause ≡ causes.OutOfMemory) → IsFaultOf bytes fault → (refusal ≡ no_memory number) ⊎ IsMalformed bytes number refusal
+pub refused_so : (bytes : List ℕ) (number : ℕ) (fault : Malformed) (refusal : Refusal)
+    → (fault.cause ≡ causes.OutOfMemory → refusal ≡ no_memory number)
+    → ((fault.cause ≡ causes.OutOfMemory → ⊥) → refusal ≡ malformed number fault.cause fault.offset)
+    → ((tree : FileTree) → Spells bytes tree → fault.cause ≡ causes.OutOfMemory) → IsFaultOf bytes fault
+    → (refusal ≡ no_memory number) ⊎ IsMalformed bytes number refusal
 refused_so bytes number fault refusal memory named only (inl is) = inl (memory (ap (λ (f : Malformed). f.cause) is))
 refused_so bytes number fault refusal memory named only (inr stands) =
     let other : fault.cause ≡ causes.OutOfMemory → ⊥ = λ is. subst (λ cause. StandsAt bytes cause fault.offset) is stands in

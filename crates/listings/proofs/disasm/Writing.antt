@@ -36,31 +36,37 @@ then_fails old mid new xs ys first h = (
   appends_on old mid new xs h.0 first h.3,
 )
 
-pub then_writes : {A : Type 0} (r : Result A DeviceFault) (old mid new : Held) (xs ys : List ℕ) → Appends old mid xs → Writes r ys mid new → Writes r (xs ++ ys) old new
+pub then_writes : {A : Type 0} (r : Result A DeviceFault) (old mid new : Held) (xs ys : List ℕ) → Appends old mid xs → Writes r ys mid new
+    → Writes r (xs ++ ys) old new
 then_writes (Ok value) old mid new xs ys first second = appends_on old mid new xs ys first second
 then_writes (Err fault) old mid new xs ys first second = then_fails old mid new xs ys first second
 
-pub then_pushed : {A E : Type 0} (r : Result A E) (old mid new xs ys : List ℕ) → mid ≡ old ++ xs → OnOk r (new ≡ mid ++ ys) → OnOk r (new ≡ old ++ (xs ++ ys))
+pub then_pushed : {A E : Type 0} (r : Result A E) (old mid new xs ys : List ℕ) → mid ≡ old ++ xs → OnOk r (new ≡ mid ++ ys)
+    → OnOk r (new ≡ old ++ (xs ++ ys))
 then_pushed (Ok value) old mid new xs ys first second = second ∙ ap (λ (l : List ℕ). l ++ ys) first ∙ append_assoc old xs ys
 then_pushed (Err fault) old mid new xs ys first second = tt
 
 -- ---- the texts of the elements of a list
 
-pub flat_map_parts : {X : Type 0} (f : X → List ℕ) (xs : List X) (k : ℕ) (d : X) → k < length xs → flat_map f xs ≡ flat_map f (take k xs) ++ (f (get_or xs k d) ++ flat_map f (drop (suc k) xs))
+pub flat_map_parts : {X : Type 0} (f : X → List ℕ) (xs : List X) (k : ℕ) (d : X) → k < length xs
+    → flat_map f xs ≡ flat_map f (take k xs) ++ (f (get_or xs k d) ++ flat_map f (drop (suc k) xs))
 flat_map_parts {X = X} f xs k d lt =
     ap (λ (l : List X). flat_map f l) (sym (take-append-drop k xs)) ∙ flat_map-append f (take k xs) (drop k xs) ∙ ap (λ (l : List X). flat_map f (take k xs) ++ flat_map f l) (drop-cons xs k d lt)
 
-pub flat_map_more : {X : Type 0} (f : X → List ℕ) (xs : List X) (k : ℕ) (d : X) → k < length xs → flat_map f (take (k + 1) xs) ≡ flat_map f (take k xs) ++ f (get_or xs k d)
+pub flat_map_more : {X : Type 0} (f : X → List ℕ) (xs : List X) (k : ℕ) (d : X) → k < length xs
+    → flat_map f (take (k + 1) xs) ≡ flat_map f (take k xs) ++ f (get_or xs k d)
 flat_map_more {X = X} f xs k d lt =
     ap (λ (l : List X). flat_map f l) (take_more xs k d lt) ∙ flat_map-append f (take k xs) (get_or xs k d ∷ []) ∙ ap (λ (l : List ℕ). flat_map f (take k xs) ++ l) (append-nil (f (get_or xs k d)))
 
-pub element_fails : {X : Type 0} (f : X → List ℕ) (xs : List X) (k : ℕ) (x d : X) (old mid new : Held) → k < length xs → x ≡ get_or xs k d → Appends old mid (flat_map f (take k xs)) → AppendsFront mid new (f x) → AppendsFront old new (flat_map f xs)
+pub element_fails : {X : Type 0} (f : X → List ℕ) (xs : List X) (k : ℕ) (x d : X) (old mid new : Held) → k < length xs → x ≡ get_or xs k d
+    → Appends old mid (flat_map f (take k xs)) → AppendsFront mid new (f x) → AppendsFront old new (flat_map f xs)
 element_fails f xs k x d old mid new lt is before h =
     let parts = flat_map_parts f xs k d lt in
     let here : AppendsFront mid new (f (get_or xs k d)) = subst (λ y. AppendsFront mid new (f y)) is h in
     subst (AppendsFront old new) (sym parts) (then_fails old mid new (flat_map f (take k xs)) (f (get_or xs k d) ++ flat_map f (drop (suc k) xs)) before (first_fails mid new (f (get_or xs k d)) (flat_map f (drop (suc k) xs)) here))
 
-pub element_written : {X : Type 0} (f : X → List ℕ) (xs : List X) (k : ℕ) (x d : X) (old mid new : Held) → k < length xs → x ≡ get_or xs k d → Appends old mid (flat_map f (take k xs)) → Appends mid new (f x) → Appends old new (flat_map f (take (k + 1) xs))
+pub element_written : {X : Type 0} (f : X → List ℕ) (xs : List X) (k : ℕ) (x d : X) (old mid new : Held) → k < length xs
+    → x ≡ get_or xs k d → Appends old mid (flat_map f (take k xs)) → Appends mid new (f x) → Appends old new (flat_map f (take (k + 1) xs))
 element_written f xs k x d old mid new lt is before h =
     let here : Appends mid new (f (get_or xs k d)) = subst (λ y. Appends mid new (f y)) is h in
     subst (Appends old new) (sym (flat_map_more f xs k d lt)) (appends_on old mid new (flat_map f (take k xs)) (f (get_or xs k d)) before here)
@@ -74,11 +80,13 @@ flat_map_over f g (x ∷ xs) = ap (λ (l : List ℕ). f (g x) ++ l) (flat_map_ov
 pub each_more : (said : ℕ → List ℕ) (k : ℕ) → each_below said (k + 1) ≡ each_below said k ++ said k
 each_more said k = rw add-one refl
 
-pub more_said : (said : ℕ → List ℕ) (old : List ℕ) (k : ℕ) (mid new : List ℕ) → mid ≡ old ++ each_below said k → new ≡ mid ++ said k → new ≡ old ++ each_below said (k + 1)
+pub more_said : (said : ℕ → List ℕ) (old : List ℕ) (k : ℕ) (mid new : List ℕ) → mid ≡ old ++ each_below said k → new ≡ mid ++ said k
+    → new ≡ old ++ each_below said (k + 1)
 more_said said old k mid new before h =
     h ∙ ap (λ (l : List ℕ). l ++ said k) before ∙ append_assoc old (each_below said k) (said k) ∙ ap (λ (l : List ℕ). old ++ l) (sym (each_more said k))
 
-each_parts_from : (said : ℕ → List ℕ) (k more n : ℕ) → n ≡ more + (k + 1) → (rest : List ℕ) × (each_below said n ≡ each_below said k ++ (said k ++ rest))
+each_parts_from : (said : ℕ → List ℕ) (k more n : ℕ) → n ≡ more + (k + 1)
+    → (rest : List ℕ) × (each_below said n ≡ each_below said k ++ (said k ++ rest))
 each_parts_from said k zero n is =
     let here : n ≡ suc k = omega arith in
     ([], ap (each_below said) here ∙ ap (λ (l : List ℕ). each_below said k ++ l) (sym (append-nil (said k))))
@@ -88,10 +96,12 @@ each_parts_from said k (suc more) n is =
     let h = each_parts_from said k more m refl in
     (h.0 ++ said m, ap (each_below said) here ∙ ap (λ (l : List ℕ). l ++ said m) h.1 ∙ append_assoc (each_below said k) (said k ++ h.0) (said m) ∙ ap (λ (l : List ℕ). each_below said k ++ l) (append_assoc (said k) h.0 (said m)))
 
-pub number_fails : (said : ℕ → List ℕ) (n k : ℕ) (old mid new : Held) → k < n → Appends old mid (each_below said k) → AppendsFront mid new (said k) → AppendsFront old new (each_below said n)
+pub number_fails : (said : ℕ → List ℕ) (n k : ℕ) (old mid new : Held) → k < n → Appends old mid (each_below said k)
+    → AppendsFront mid new (said k) → AppendsFront old new (each_below said n)
 number_fails said n k old mid new lt before h =
     let p = each_parts_from said k (n - (k + 1)) n (omega arith) in
     subst (AppendsFront old new) (sym p.1) (then_fails old mid new (each_below said k) (said k ++ p.0) before (first_fails mid new (said k) p.0 h))
 
-pub number_written : (said : ℕ → List ℕ) (k : ℕ) (old mid new : Held) → Appends old mid (each_below said k) → Appends mid new (said k) → Appends old new (each_below said (k + 1))
+pub number_written : (said : ℕ → List ℕ) (k : ℕ) (old mid new : Held) → Appends old mid (each_below said k) → Appends mid new (said k)
+    → Appends old new (each_below said (k + 1))
 number_written said k old mid new before h = subst (Appends old new) (sym (each_more said k)) (appends_on old mid new (each_below said k) (said k) before h)

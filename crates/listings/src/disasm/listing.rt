@@ -16,7 +16,8 @@ use std::alloc::{AllocError, Global};
 
 /// Writes a line, if there was memory for it.
 fn write_line<W: Sink>(line: Result<Vec<u8>, AllocError>, writer: &mut W) -> Result<(), DeviceFault>
-    ensures written { (text : List ℕ) → IfOk line (λ l. l.items ≡ text) → Writes result text (W.contents writer.old) (W.contents writer.new) }
+    ensures written { (text : List ℕ) → IfOk line (λ l. l.items ≡ text)
+        → Writes result text (W.contents writer.old) (W.contents writer.new) }
     ensures counted { Counts result (W.failures writer.old) (W.failures writer.new) }
 {
     match line {
@@ -35,7 +36,8 @@ fn list_at<W: Sink>(
     writer: &mut W,
 ) -> Result<(), DeviceFault>
     requires { pc < length code.now }
-    ensures written { Writes result (if begins then instruction_line file.now.pool code.now pc else []) (W.contents writer.old) (W.contents writer.new) }
+    ensures written { Writes result (if begins then instruction_line file.now.pool code.now pc else []) (W.contents writer.old)
+        (W.contents writer.new) }
     ensures counted { Counts result (W.failures writer.old) (W.failures writer.new) }
 {
     if !begins {
@@ -131,7 +133,8 @@ fn list_methods<W: Sink>(
     methods: &[Method],
     writer: &mut W,
 ) -> Result<(), DeviceFault>
-    ensures written { Writes result (flat_map (λ m. method_lines file.now.pool (method_of m)) methods.now) (W.contents writer.old) (W.contents writer.new) }
+    ensures written { Writes result (flat_map (λ m. method_lines file.now.pool (method_of m)) methods.now) (W.contents writer.old)
+        (W.contents writer.new) }
     ensures counted { Counts result (W.failures writer.old) (W.failures writer.new) }
 {
     'methods: for method in methods {
@@ -146,7 +149,8 @@ fn list_fields<W: Sink>(
     fields: &[Field],
     writer: &mut W,
 ) -> Result<(), DeviceFault>
-    ensures written { Writes result (flat_map (λ f. field_line file.now.pool (field_of f)) fields.now) (W.contents writer.old) (W.contents writer.new) }
+    ensures written { Writes result (flat_map (λ f. field_line file.now.pool (field_of f)) fields.now) (W.contents writer.old)
+        (W.contents writer.new) }
     ensures counted { Counts result (W.failures writer.old) (W.failures writer.new) }
 {
     'fields: for field in fields {

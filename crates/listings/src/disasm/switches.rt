@@ -95,7 +95,8 @@ pub(crate) fn push_table(
     high: i32,
     at: usize,
 ) -> Result<(), AllocError>
-    ensures { OnOk result (text.new.items ≡ text.old.items ++ (default_case pc default ++ each_below (table_case code.now pc low at) (jump_count low high))) }
+    ensures { OnOk result (text.new.items ≡ text.old.items
+        ++ (default_case pc default ++ each_below (table_case code.now pc low at) (jump_count low high))) }
 {
     push_default(text, pc, default)?;
     push_table_cases(text, code, pc, low, high, at)

@@ -44,7 +44,8 @@ module _ (trees : Program) (frames : ℕ) (s : StateOf ℕ) where
 
 module _ (trees : Program) (p : LinkedProgram) (shared : Shared) (frames : ℕ) where
   -- one more
-  pub tell_more : (k : ℕ) (ends : List EndState) (standing : Standing) (end : EndState) → k < length shared.threads.threads → TellFirst trees p shared frames k ends → StandsSo p shared k frames standing
+  pub tell_more : (k : ℕ) (ends : List EndState) (standing : Standing) (end : EndState) → k < length shared.threads.threads
+      → TellFirst trees p shared frames k ends → StandsSo p shared k frames standing
       → IsTold trees standing end → TellFirst trees p shared frames (k + 1) (ends ++ end ∷ [])
   tell_more k ends standing end lt first stands told bounds inflated s program shown =
       let are : shared.threads.threads ≡ s.world.threads = shown.represents.world_is.threads in
@@ -62,13 +63,15 @@ module _ (trees : Program) (p : LinkedProgram) (shared : Shared) (frames : ℕ) 
       ∙ sym (take_more (thread_ends_of words trees frames s) k Ended inside)
 
   -- all of them
-  pub tell_all : (k : ℕ) (ends : List EndState) → length shared.threads.threads ≤ k → TellFirst trees p shared frames k ends → TellEnds trees p shared frames ends
+  pub tell_all : (k : ℕ) (ends : List EndState) → length shared.threads.threads ≤ k → TellFirst trees p shared frames k ends
+      → TellEnds trees p shared frames ends
   tell_all k ends le first bounds inflated s program shown =
       let are : length shared.threads.threads ≡ length s.world.threads = ap length shown.represents.world_is.threads in
       let all : length (thread_ends_of words trees frames s) ≤ k = omega (arith, le, are, ends_length trees frames s 0 s.world.threads) in
       first bounds inflated s program shown ∙ take_all k (thread_ends_of words trees frames s) all
 
   -- the report of them
-  pub reported : (events : ℕ) (r : Report) → r.printed.items ≡ shared.printed.items → TellEnds trees p shared frames r.threads.items → r.events ≡ events → Reports trees p shared frames events r
+  pub reported : (events : ℕ) (r : Report) → r.printed.items ≡ shared.printed.items → TellEnds trees p shared frames r.threads.items
+      → r.events ≡ events → Reports trees p shared frames events r
   reported events r printed told count bounds inflated s program shown =
       record { printed = printed ∙ shown.represents.world_is.printed; threads = told bounds inflated s program shown; count = count }

@@ -37,7 +37,8 @@ module _ (files : Program) (world : WorldOf ℕ) (t : ℕ) where
   abbrev event : Event
   event = record { thread = t; pick = 0 }
 
-  meaning_held : (frame : FrameOf ℕ) (site : Site) (o : Option (MeaningOf ℕ)) → is_runnable (option_map_or (instruction_end_of words world t frame site) o Blocked) ≡ false
+  meaning_held : (frame : FrameOf ℕ) (site : Site) (o : Option (MeaningOf ℕ))
+      → is_runnable (option_map_or (instruction_end_of words world t frame site) o Blocked) ≡ false
   meaning_held frame site None = refl
   meaning_held frame site (Some meant) =
       either_held (is_held (look_at t world meant.looks)) Initialising _ refl
@@ -69,7 +70,8 @@ ended_held world (Some exception) = refl
 module _ (files : Program) (frames : ℕ) (s : StateOf ℕ) (t : ℕ) where
   -- a thread that never goes on by its status may not step
   none_steps : (status : ThreadStatus) → (thread_at s.world t).status ≡ status
-      → ((stack : StackOf ℕ) → thread_event words files frames (event files s.world t) s.world stack status ≡ NotEnabled) → may_step_of words files frames s t ≡ false
+      → ((stack : StackOf ℕ) → thread_event words files frames (event files s.world t) s.world stack status ≡ NotEnabled)
+      → may_step_of words files frames s t ≡ false
   none_steps status is never = by (slice_get s.stacks t)
     where
       by : (o : Option (StackOf ℕ)) → is_enabled_by (event_of words files frames s (event files s.world t) o) ≡ false
@@ -95,8 +97,10 @@ not_either true b = refl
 not_either false b = refl
 
 module _ (files : Program) (frames : ℕ) (s : StateOf ℕ) where
-  quiet_from : (t : ℕ) (threads : List Thread) → ((k : ℕ) (thread : Thread) → slice_get threads k ≡ Some thread → slice_get s.world.threads (t + k) ≡ Some thread)
-      → list_all (λ t. not (may_step_of words files frames s t)) (counting t (length threads)) ≡ are_quiet (ends_from_of words files frames s t threads)
+  quiet_from : (t : ℕ) (threads : List Thread)
+      → ((k : ℕ) (thread : Thread) → slice_get threads k ≡ Some thread → slice_get s.world.threads (t + k) ≡ Some thread)
+      → list_all (λ t. not (may_step_of words files frames s t)) (counting t (length threads))
+      ≡ are_quiet (ends_from_of words files frames s t threads)
   quiet_from t [] h = refl
   quiet_from t (thread ∷ threads) h =
       let here : slice_get s.world.threads t ≡ Some thread = subst (λ n. slice_get s.world.threads n ≡ Some thread) (omega arith) (h 0 thread refl) in
@@ -111,7 +115,8 @@ any_of : (ends : List EndState) → list_any (λ thread. is_runnable (end_state_
 any_of [] = refl
 any_of (end ∷ ends) = ap (λ b. is_runnable (end_state_of end) || b) (any_of ends)
 
-pub quiet_told : (ends : List EndState) (b : Bool) → b ≡ list_any (λ thread. is_runnable (end_state_of thread)) ends → not b ≡ are_quiet (map end_state_of ends)
+pub quiet_told : (ends : List EndState) (b : Bool) → b ≡ list_any (λ thread. is_runnable (end_state_of thread)) ends
+    → not b ≡ are_quiet (map end_state_of ends)
 quiet_told ends b e = ap not (e ∙ any_of ends)
 
 pub quiet_at : (ends : List EndState) (b : Bool) → b ≡ are_quiet (map end_state_of ends) → AreQuietAt ends b

@@ -15,12 +15,14 @@ use Rattle.machine.specs.schedule_runs.Done.{HasDone, OfNext, EndsBy, HasGone, G
 -- so far all events were done
 pub record IsPassed (schedule : List Event) (n : ℕ) (old new : MachineOf) : Type 0 where
   pub same : new ≡ record old { shared = new.shared }
-  pub done : (files : List (List ℕ)) (trees : Program) (before : List Event) → HasDone old files trees before → (n ≡ length schedule) × HasDone new files trees (before ++ schedule)
+  pub done : (files : List (List ℕ)) (trees : Program) (before : List Event) → HasDone old files trees before
+      → (n ≡ length schedule) × HasDone new files trees (before ++ schedule)
 
 pub begins : (m : MachineOf) → IsPassed [] 0 m m
 begins m = record { same = refl; done = λ files trees before done. (refl, subst (HasDone m files trees) (sym (append-nil before)) done) }
 
-still_same : (old between new : MachineOf) → between ≡ record old { shared = between.shared } → new ≡ record between { shared = new.shared } → new ≡ record old { shared = new.shared }
+still_same : (old between new : MachineOf) → between ≡ record old { shared = between.shared }
+    → new ≡ record between { shared = new.shared } → new ≡ record old { shared = new.shared }
 still_same old between new s t = t ∙ ap (λ (m : MachineOf). record m { shared = new.shared }) s
 
 -- an end of some left is one of more
@@ -33,12 +35,14 @@ abbrev pub Ended : MachineOf → List (List ℕ) → Program → Stopped → (le
 Ended m files trees why left done = (h : HasDone m files trees done) × EndsBy why trees (bounds_of m.limits) h.run.lead.state done left
 
 -- where none was done so often as was asked for, more may be left
-ends_more : (m : MachineOf) (files : List (List ℕ)) (trees : Program) (why : Stopped) → (why ≡ stopped.Most → ⊥) → (left rest done : List Event) → Ended m files trees why left done → Ended m files trees why (left ++ rest) done
+ends_more : (m : MachineOf) (files : List (List ℕ)) (trees : Program) (why : Stopped) → (why ≡ stopped.Most → ⊥)
+    → (left rest done : List Event) → Ended m files trees why left done → Ended m files trees why (left ++ rest) done
 ends_more m files trees stopped.Most not_most left rest done e = absurd (not_most refl)
 ends_more m files trees stopped.NotEnabled not_most left rest done e = (e.0, of_more _ left rest e.1)
 ends_more m files trees (stopped.Refused told) not_most left rest done e = (e.0, of_more _ left rest e.1)
 
-module _ (schedule : List Event) (n : ℕ) (old between new : MachineOf) (passed : IsPassed schedule n old between) (more : List Event) (k : ℕ) where
+module _ (schedule : List Event) (n : ℕ) (old between new : MachineOf) (passed : IsPassed schedule n old between) (more : List Event)
+    (k : ℕ) where
   -- all of some more were done
   pub goes_on : GoesThrough (k, stopped.Most) more between new → IsPassed (schedule ++ more) (n + k) old new
   goes_on h =
@@ -54,7 +58,8 @@ module _ (schedule : List Event) (n : ℕ) (old between new : MachineOf) (passed
       }
 
   -- or some of them, and no more of all
-  pub stops : (why : Stopped) → (why ≡ stopped.Most → ⊥) → GoesThrough (k, why) more between new → (all rest : List Event) → all ≡ schedule ++ (more ++ rest) → GoesThrough (n + k, why) all old new
+  pub stops : (why : Stopped) → (why ≡ stopped.Most → ⊥) → GoesThrough (k, why) more between new → (all rest : List Event)
+      → all ≡ schedule ++ (more ++ rest) → GoesThrough (n + k, why) all old new
   stops why not_most h all rest e = (
     still_same old between new passed.same h.0,
     λ files trees before done.
@@ -73,7 +78,8 @@ module _ (schedule : List Event) (n : ℕ) (old between new : MachineOf) (passed
         },
   )
 
-pub all_done : (schedule : List Event) (n : ℕ) (old new : MachineOf) → IsPassed schedule n old new → GoesThrough (n, stopped.Most) schedule old new
+pub all_done : (schedule : List Event) (n : ℕ) (old new : MachineOf) → IsPassed schedule n old new
+    → GoesThrough (n, stopped.Most) schedule old new
 all_done schedule n old new passed = (
   passed.same,
   λ files trees before done.
@@ -95,6 +101,7 @@ around entries i d lt =
     ∙ ap (λ es. events_of (take i entries) ++ es) (ap events_of (drop-cons entries i d lt))
 
 -- those of one entry more
-pub one_more : (entries : List ScheduleEntry) (i : ℕ) (d : ScheduleEntry) → i < length entries → events_of (take (i + 1) entries) ≡ events_of (take i entries) ++ of_entry (get_or entries i d)
+pub one_more : (entries : List ScheduleEntry) (i : ℕ) (d : ScheduleEntry) → i < length entries
+    → events_of (take (i + 1) entries) ≡ events_of (take i entries) ++ of_entry (get_or entries i d)
 one_more entries i d lt =
     ap events_of (take_more entries i d lt) ∙ flat_map-append of_entry (take i entries) (get_or entries i d ∷ []) ∙ ap (λ l. events_of (take i entries) ++ l) (append-nil (of_entry (get_or entries i d)))

@@ -25,7 +25,8 @@ snoc before n e =
 
 -- ---- what isn't shown
 
-module _ (files : List (List ℕ)) (trees : Program) (accepted : IsAccepted files trees) (bounds : Bounds) (before : List Event) (event : Event) where
+module _ (files : List (List ℕ)) (trees : Program) (accepted : IsAccepted files trees) (bounds : Bounds) (before : List Event)
+    (event : Event) where
   pub record IsLed (n : ℕ) (locks : List ℕ) (next : StateOf ℕ) : Type 0 where
     pub lead : LeadTo trees bounds (before ++ replicate n event) next
     pub locks_are : locks ≡ inflated trees bounds.frames (before ++ replicate n event)
@@ -52,8 +53,10 @@ next_is : (P : Event → Type 0) (event : Event) (k : ℕ) → 0 < k → P event
 next_is P event zero more holds = absurd (omega (arith, more))
 next_is P event (suc k) more holds = holds
 
-module _ (m : MachineOf) (files : List (List ℕ)) (trees : Program) (accepted : IsAccepted files trees) (before : List Event) (event : Event) (n most : ℕ) (within : n ≤ most) where
-  ends : (why : Stopped) (locks : List ℕ) (at : StateOf ℕ) (lead : LeadTo trees (bounds_of m.limits) (before ++ replicate n event) at) → locks ≡ inflated trees m.limits.frames (before ++ replicate n event)
+module _ (m : MachineOf) (files : List (List ℕ)) (trees : Program) (accepted : IsAccepted files trees) (before : List Event)
+    (event : Event) (n most : ℕ) (within : n ≤ most) where
+  ends : (why : Stopped) (locks : List ℕ) (at : StateOf ℕ) (lead : LeadTo trees (bounds_of m.limits) (before ++ replicate n event) at)
+      → locks ≡ inflated trees m.limits.frames (before ++ replicate n event)
       → StopsBy why trees (bounds_of m.limits) event n most locks at
       → EndsBy why trees (bounds_of m.limits) lead.state (before ++ replicate n event) (replicate (most - n) event)
   ends stopped.Most locks at lead are e =
@@ -69,7 +72,8 @@ module _ (m : MachineOf) (files : List (List ℕ)) (trees : Program) (accepted :
             (subst (λ l. MayBeRefused trees (bounds_of m.limits) l at.world r.1.cost told) are r.1.may),
       )
 
-  pub gone : (why : Stopped) (at : StateOf ℕ) → LeadTo trees (bounds_of m.limits) before at → HasRepeated m files trees event n most why (inflated trees m.limits.frames before) at
+  pub gone : (why : Stopped) (at : StateOf ℕ) → LeadTo trees (bounds_of m.limits) before at
+      → HasRepeated m files trees event n most why (inflated trees m.limits.frames before) at
       → HasGone m files trees before (replicate most event) n why
   gone why at lead r =
       record {
@@ -93,7 +97,8 @@ module _ (m : MachineOf) (files : List (List ℕ)) (trees : Program) (accepted :
 
 -- ---- the events of an entry
 
-pub entry_gone : (result : ℕ × Stopped) (event : Event) (most : ℕ) (old new : MachineOf) → Repeats result event most old new → GoesThrough result (replicate most event) old new
+pub entry_gone : (result : ℕ × Stopped) (event : Event) (most : ℕ) (old new : MachineOf) → Repeats result event most old new
+    → GoesThrough result (replicate most event) old new
 entry_gone result event most old new r = (
   r.1,
   λ files trees before done.

@@ -30,10 +30,12 @@ use Rattle.machine_threads.specs.waiting_instructions.Waits.{IsEnd}
 
 -- ---- what an enabled event says
 
-pub ends_on : (trees : Program) (x : SteppedOf (PartOf ℕ)) (w : ThreadEnd) → is_enabled_by x ≡ true → IsEnd trees standing.Runnable (end_by x w)
+pub ends_on : (trees : Program) (x : SteppedOf (PartOf ℕ)) (w : ThreadEnd) → is_enabled_by x ≡ true
+    → IsEnd trees standing.Runnable (end_by x w)
 ends_on trees x w e = ap (λ b. if b then report.Runnable else w) e
 
-pub ends_off : (trees : Program) (result : Standing) (x : SteppedOf (PartOf ℕ)) (w : ThreadEnd) → is_enabled_by x ≡ false → IsEnd trees result w → IsEnd trees result (end_by x w)
+pub ends_off : (trees : Program) (result : Standing) (x : SteppedOf (PartOf ℕ)) (w : ThreadEnd) → is_enabled_by x ≡ false
+    → IsEnd trees result w → IsEnd trees result (end_by x w)
 ends_off trees result x w e h = subst (λ b. IsEnd trees result (if b then report.Runnable else w)) (sym e) h
 
 pub ends_waiting : (trees : Program) (x : SteppedOf (PartOf ℕ)) (w : ThreadEnd) → is_enabled_by x ≡ false → end_by x w ≡ w
@@ -52,7 +54,8 @@ part_same state t WrongKind = refl
 part_same state t (Next cost next) = refl
 
 pub may_is : (trees : Program) (frames : ℕ) (state : StateOf ℕ) (t : ℕ) (own : StackOf ℕ) → slice_get state.stacks t ≡ Some own
-    → may_step_of words trees frames state t ≡ is_enabled_by (thread_event words trees frames (event_of t) state.world own (thread_at state.world t).status)
+    → may_step_of words trees frames state t
+    ≡ is_enabled_by (thread_event words trees frames (event_of t) state.world own (thread_at state.world t).status)
 may_is trees frames state t own e =
     ap (λ (o : Option (StackOf ℕ)). is_enabled_by (step.event_of words trees frames state (event_of t) o)) e
     ∙ part_same state t (settled t (thread_event words trees frames (event_of t) state.world own (thread_at state.world t).status))
@@ -66,31 +69,37 @@ enabled_next false cost next = refl
 
 -- ---- classes
 
-needed : (trees : Program) (t : ℕ) (class : Name) (l : Look) (world : WorldOf ℕ) (stack : StackOf ℕ) (rest : SteppedOf (PartOf ℕ)) → is_enabled_by rest ≡ true
+needed : (trees : Program) (t : ℕ) (class : Name) (l : Look) (world : WorldOf ℕ) (stack : StackOf ℕ) (rest : SteppedOf (PartOf ℕ))
+    → is_enabled_by rest ≡ true
     → is_enabled_by (needing words trees t class l world stack rest) ≡ not (is_held l)
 needed trees t class IsReady world stack rest e = e
 needed trees t class IsNew world stack rest e = refl
 needed trees t class IsHeld world stack rest e = refl
 needed trees t class HasFailed world stack rest e = refl
 
-needed_class : (trees : Program) (t : ℕ) (o : Option Name) (world : WorldOf ℕ) (stack : StackOf ℕ) (rest : SteppedOf (PartOf ℕ)) → is_enabled_by rest ≡ true
+needed_class : (trees : Program) (t : ℕ) (o : Option Name) (world : WorldOf ℕ) (stack : StackOf ℕ) (rest : SteppedOf (PartOf ℕ))
+    → is_enabled_by rest ≡ true
     → is_enabled_by (needing_class words trees t o world stack rest) ≡ not (is_held (look_at t world o))
 needed_class trees t None world stack rest e = e
 needed_class trees t (Some class) world stack rest e = needed trees t class (look_by t (status_of world class)) world stack rest e
 
 -- the initialiser enters no monitor
-unentered : (frames t : ℕ) (world : WorldOf ℕ) (stack : StackOf ℕ) (frame : FrameOf ℕ) → frame.entered ≡ None → is_enabled_by (pushed frames t world world stack stack frame) ≡ true
+unentered : (frames t : ℕ) (world : WorldOf ℕ) (stack : StackOf ℕ) (frame : FrameOf ℕ) → frame.entered ≡ None
+    → is_enabled_by (pushed frames t world world stack stack frame) ≡ true
 unentered frames t world stack frame none = by (nat_lt (frame_count stack) frames)
   where
-    by : (b : Bool) → is_enabled_by (if b then entering t world stack frame frame.entered else step.raised t StackOverflow world stack) ≡ true
+    by : (b : Bool) → is_enabled_by (if b then entering t world stack frame frame.entered else step.raised t StackOverflow world stack)
+        ≡ true
     by true = ap (λ (o : Option ℕ). is_enabled_by (entering t world stack frame o)) none
     by false = refl
 
-initialiser_enabled : (trees : Program) (frames t : ℕ) (class : Name) (world : WorldOf ℕ) (stack : StackOf ℕ) (o : Option Body) → is_enabled_by (initialiser_event words frames t (initialiser_of class) world stack o) ≡ true
+initialiser_enabled : (trees : Program) (frames t : ℕ) (class : Name) (world : WorldOf ℕ) (stack : StackOf ℕ) (o : Option Body)
+    → is_enabled_by (initialiser_event words frames t (initialiser_of class) world stack o) ≡ true
 initialiser_enabled trees frames t class world stack None = refl
 initialiser_enabled trees frames t class world stack (Some body) = unentered frames t world stack _ refl
 
-pub super_enabled : (trees : Program) (frames t : ℕ) (class : Name) (world : WorldOf ℕ) (rest : StackOf ℕ) (o : Option Name) → before trees class ≡ o
+pub super_enabled : (trees : Program) (frames t : ℕ) (class : Name) (world : WorldOf ℕ) (rest : StackOf ℕ) (o : Option Name)
+    → before trees class ≡ o
     → is_enabled_by (initialisation_event words trees frames t class Super world rest) ≡ not (is_held (look_at t world o))
 super_enabled trees frames t class world rest o e =
     needed_class trees t (before trees class) world (Initialisation class Super ∷ rest) _
@@ -122,11 +131,13 @@ left : (t : ℕ) (o : Option ℕ) (world : WorldOf ℕ) (rest stack : StackOf �
 left t None world rest stack = refl
 left t (Some object) world rest stack = by (is_owner world t object)
   where
-    by : (b : Bool) → is_enabled_by (if b then step.on_to (with_exit world t object) rest else step.raised t IllegalMonitorState world stack) ≡ true
+    by : (b : Bool) → is_enabled_by (if b then step.on_to (with_exit world t object) rest else step.raised t IllegalMonitorState world
+        stack) ≡ true
     by true = refl
     by false = refl
 
-unwinds : (t exception : ℕ) (world : WorldOf ℕ) (frame : FrameOf ℕ) (stack : StackOf ℕ) (o : Option ExceptionEntry) → is_enabled_by (unwound words t exception world frame stack o) ≡ true
+unwinds : (t exception : ℕ) (world : WorldOf ℕ) (frame : FrameOf ℕ) (stack : StackOf ℕ) (o : Option ExceptionEntry)
+    → is_enabled_by (unwound words t exception world frame stack o) ≡ true
 unwinds t exception world frame stack None = left t frame.entered world stack stack
 unwinds t exception world frame stack (Some entry) = refl
 
@@ -134,7 +145,8 @@ fails : (t : ℕ) (b : Bool) (world : WorldOf ℕ) (stack : StackOf ℕ) → is_
 fails t true world stack = refl
 fails t false world stack = refl
 
-pub pending_enabled : (trees : Program) (t exception : ℕ) (thrown : Option ReferenceType) (world : WorldOf ℕ) (entry : StackEntryOf ℕ) (stack : StackOf ℕ)
+pub pending_enabled : (trees : Program) (t exception : ℕ) (thrown : Option ReferenceType) (world : WorldOf ℕ) (entry : StackEntryOf ℕ)
+    (stack : StackOf ℕ)
     → is_enabled_by (pending_event words trees t exception thrown world (entry ∷ stack)) ≡ true
 pending_enabled trees t exception thrown world (Invocation frame) stack =
     unwinds t exception world frame stack (option_and_then (handler_in trees frame.place.offset thrown) (body_of trees frame.method))
@@ -143,12 +155,14 @@ pending_enabled trees t exception thrown world (Initialisation class phase) stac
 
 -- ---- a thread that has left a wait set
 
-goes_on : (trees : Program) (t : ℕ) (cause : WakeCause) (b : Bool) (world : WorldOf ℕ) (stack : StackOf ℕ) → is_enabled_by (enabled_if b (after_wait trees t cause world stack)) ≡ b
+goes_on : (trees : Program) (t : ℕ) (cause : WakeCause) (b : Bool) (world : WorldOf ℕ) (stack : StackOf ℕ)
+    → is_enabled_by (enabled_if b (after_wait trees t cause world stack)) ≡ b
 goes_on trees t Notified true world stack = refl
 goes_on trees t Interrupted true world stack = refl
 goes_on trees t cause false world stack = refl
 
-pub relock_enabled : (trees : Program) (t object count : ℕ) (cause : WakeCause) (world : WorldOf ℕ) (stack : StackOf ℕ) (locks : List Monitor) → locks ≡ world.monitors
+pub relock_enabled : (trees : Program) (t object count : ℕ) (cause : WakeCause) (world : WorldOf ℕ) (stack : StackOf ℕ)
+    (locks : List Monitor) → locks ≡ world.monitors
     → is_done (monitors.relock object t count locks).answer ≡ is_enabled_by (relock_event trees t object count cause world stack)
 relock_enabled trees t object count cause world stack locks e =
     ap (λ (ms : List Monitor). is_done (monitors.relock object t count ms).answer) e

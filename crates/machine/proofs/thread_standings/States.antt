@@ -38,16 +38,19 @@ use Rattle.machine_threads.specs.waiting_instructions.Waits.{IsEnd}
 
 -- ---- stacks
 
-none_at : (trees : Program) (p : LinkedProgram) (ss : List (List ShownEntry)) (ms : List (StackOf ℕ)) → ShowsStacks trees p ss ms → (t : ℕ) → None ≡ slice_get ss t → slice_get ms t ≡ None
+none_at : (trees : Program) (p : LinkedProgram) (ss : List (List ShownEntry)) (ms : List (StackOf ℕ)) → ShowsStacks trees p ss ms → (t : ℕ)
+    → None ≡ slice_get ss t → slice_get ms t ≡ None
 none_at trees p [] [] h t e = refl
 none_at trees p [] (m ∷ ms) h t e = absurd h
 none_at trees p (s ∷ ss) [] h t e = absurd h
 none_at trees p (s ∷ ss) (m ∷ ms) h zero e = absurd cc
 none_at trees p (s ∷ ss) (m ∷ ms) h (suc t) e = none_at trees p ss ms h.1 t e
 
-module _ (trees : Program) (p : LinkedProgram) (bounds : Bounds) (inflated : List ℕ) (shared : Shared) (state : StateOf ℕ) (h : IsShown trees p bounds inflated shared state) (t : ℕ) where
+module _ (trees : Program) (p : LinkedProgram) (bounds : Bounds) (inflated : List ℕ) (shared : Shared) (state : StateOf ℕ)
+    (h : IsShown trees p bounds inflated shared state) (t : ℕ) where
   -- its own stack shows what is there
-  pub lent_of : (from : List ShownEntry) → Some from ≡ slice_get shared.stacks.items t → (own : StackOf ℕ) × IsLent trees p bounds inflated t shared from state own
+  pub lent_of : (from : List ShownEntry) → Some from ≡ slice_get shared.stacks.items t
+      → (own : StackOf ℕ) × IsLent trees p bounds inflated t shared from state own
   lent_of from e =
       let own = own_at trees p shared.stacks.items state.stacks h.stacks t from (sym e) in (
         own.own,
@@ -69,7 +72,8 @@ module _ (trees : Program) (p : LinkedProgram) (bounds : Bounds) (inflated : Lis
 
 -- ---- how it stands
 
-pub stands_so : (p : LinkedProgram) (shared : Shared) (t frames : ℕ) (from : List ShownEntry) (result : Standing) → Some from ≡ slice_get shared.stacks.items t
+pub stands_so : (p : LinkedProgram) (shared : Shared) (t frames : ℕ) (from : List ShownEntry) (result : Standing)
+    → Some from ≡ slice_get shared.stacks.items t
     → StandsThere p shared from t frames result → StandsSo p shared t frames result
 stands_so p shared t frames from result e stands trees bounds inflated state program shown thread there =
     let own = lent_of trees p bounds inflated shared state shown t from e in
@@ -87,7 +91,8 @@ is_runnable report.Joining = false
 is_runnable report.Initialising = false
 is_runnable report.Runnable = true
 
-runnable_same : (trees : Program) (result : Standing) (end : ThreadEnd) → IsEnd trees result end → is_runnable_standing result ≡ is_runnable end
+runnable_same : (trees : Program) (result : Standing) (end : ThreadEnd) → IsEnd trees result end
+    → is_runnable_standing result ≡ is_runnable end
 runnable_same trees standing.Ended end h = ap is_runnable (sym h)
 runnable_same trees (standing.Threw class) end h = ap is_runnable (sym h.2)
 runnable_same trees standing.Blocked end h = ap is_runnable (sym h)
@@ -106,7 +111,8 @@ waits_at instr.MonitorEnter = refl
 waits_at other = refl
 
 module _ (trees : Program) (world : WorldOf ℕ) (t : ℕ) where
-  instruction_waits : (frame : FrameOf ℕ) (site : Site) (o : Option (MeaningOf ℕ)) → is_runnable (option_map_or (instruction_end_of words world t frame site) o report.Blocked) ≡ false
+  instruction_waits : (frame : FrameOf ℕ) (site : Site) (o : Option (MeaningOf ℕ))
+      → is_runnable (option_map_or (instruction_end_of words world t frame site) o report.Blocked) ≡ false
   instruction_waits frame site None = refl
   instruction_waits frame site (Some meant) =
       by_test (is_held (look_at t world meant.looks)) report.Initialising _ refl
@@ -130,22 +136,26 @@ by_may true x e = refl
 by_may false x e = e
 
 module _ (trees : Program) (frames t : ℕ) (state : StateOf ℕ) (own : StackOf ℕ) (is : slice_get state.stacks t ≡ Some own) where
-  may_by : (status : ThreadStatus) → (thread_at state.world t).status ≡ status → may_step_of words trees frames state t ≡ is_enabled_by (thread_event words trees frames (event_of t) state.world own status)
+  may_by : (status : ThreadStatus) → (thread_at state.world t).status ≡ status
+      → may_step_of words trees frames state t ≡ is_enabled_by (thread_event words trees frames (event_of t) state.world own status)
   may_by status e = may_is trees frames state t own is ∙ ap (λ (s : ThreadStatus). is_enabled_by (thread_event words trees frames (event_of t) state.world own s)) e
 
   ended : (world : WorldOf ℕ) (exception : Option ℕ) → is_runnable (ended_by world exception) ≡ false
   ended world None = refl
   ended world (Some thrown) = refl
 
-  end_may : (status : ThreadStatus) → (thread_at state.world t).status ≡ status → is_runnable (thread_end_of words trees frames state t status) ≡ may_step_of words trees frames state t
+  end_may : (status : ThreadStatus) → (thread_at state.world t).status ≡ status
+      → is_runnable (thread_end_of words trees frames state t status) ≡ may_step_of words trees frames state t
   end_may model.Running e = by_may (may_step_of words trees frames state t) _ (held_waits trees state.world t (slice_index_or state.stacks t []))
   end_may (model.Waiting object count) e = sym (may_by (model.Waiting object count) e)
   end_may (model.Relock object count cause) e = by_may (may_step_of words trees frames state t) report.Blocked refl
   end_may (model.Ended exception) e = ended state.world exception ∙ sym (may_by (model.Ended exception) e)
 
-pub may_so : (p : LinkedProgram) (shared : Shared) (t frames : ℕ) (from : List ShownEntry) (result : Standing) (answer : Bool) → Some from ≡ slice_get shared.stacks.items t
+pub may_so : (p : LinkedProgram) (shared : Shared) (t frames : ℕ) (from : List ShownEntry) (result : Standing) (answer : Bool)
+    → Some from ≡ slice_get shared.stacks.items t
     → StandsSo p shared t frames result → answer ≡ is_runnable_standing result
-    → (trees : Program) (bounds : Bounds) (inflated : List ℕ) (state : StateOf ℕ) → IsProgram trees p → IsShown trees p bounds inflated shared state → answer ≡ may_step_of words trees frames state t
+    → (trees : Program) (bounds : Bounds) (inflated : List ℕ) (state : StateOf ℕ) → IsProgram trees p
+    → IsShown trees p bounds inflated shared state → answer ≡ may_step_of words trees frames state t
 may_so p shared t frames from result answer e stands says trees bounds inflated state program shown =
     let own = lent_of trees p bounds inflated shared state shown t from e in
     let there = thread_there trees p bounds inflated t shared from state own.0 own.1 in

@@ -40,7 +40,8 @@ use Rattle.machine_threads.specs.waiting_instructions.Waits.{IsEnd}
 
 -- ---- a thread that has ended
 
-module _ (trees : Program) (components : List LinkedType) (objects : List Object) (world : WorldOf ℕ) (shows : ShowsObjects trees components objects world.heap) (thrown : ℕ)
+module _ (trees : Program) (components : List LinkedType) (objects : List Object) (world : WorldOf ℕ)
+    (shows : ShowsObjects trees components objects world.heap) (thrown : ℕ)
     (instance : IsInstance trees world.heap java_lang_throwable thrown) where
   abbrev m : ObjectOf ℕ
   m = slice_index_or world.heap thrown no_object
@@ -74,7 +75,8 @@ module _ (trees : Program) (components : List LinkedType) (objects : List Object
 
 -- ---- the thread is there
 
-module _ (trees : Program) (p : LinkedProgram) (bounds : Bounds) (inflated : List ℕ) (t : ℕ) (shared : Shared) (stack : List ShownEntry) (state : StateOf ℕ) (own : StackOf ℕ)
+module _ (trees : Program) (p : LinkedProgram) (bounds : Bounds) (inflated : List ℕ) (t : ℕ) (shared : Shared) (stack : List ShownEntry)
+    (state : StateOf ℕ) (own : StackOf ℕ)
     (lent : IsLent trees p bounds inflated t shared stack state own) where
   pub thread_there : slice_get state.world.threads t ≡ Some (thread_at state.world t)
   thread_there = slice_get-get_or state.world.threads t no_thread (subst (λ n. t < n) (tables_counted trees state lent.typed).stacks (slice_get_within state.stacks t own lent.is_own))
@@ -88,7 +90,8 @@ module _ (trees : Program) (frames t : ℕ) (state : StateOf ℕ) (own : StackOf
   held_is : held_end_of words trees state.world t (slice_index_or state.stacks t []) ≡ held_end_of words trees state.world t own
   held_is = ap (held_end_of words trees state.world t) (get_or_from_slice_get state.stacks t own [] is)
 
-  whole : (status : ThreadStatus) → (thread_at state.world t).status ≡ status → end_of trees frames t state.world own status ≡ thread_end_of words trees frames state t status
+  whole : (status : ThreadStatus) → (thread_at state.world t).status ≡ status
+      → end_of trees frames t state.world own status ≡ thread_end_of words trees frames state t status
   whole model.Running e =
       (λ i. if may (sym e i) then report.Runnable else sym held_is i)
       ∙ ap (λ b. if b then report.Runnable else held_end_of words trees state.world t (slice_index_or state.stacks t [])) (sym (may_is trees frames state t own is))
@@ -98,7 +101,8 @@ module _ (trees : Program) (frames t : ℕ) (state : StateOf ℕ) (own : StackOf
       ∙ ap (λ b. if b then report.Runnable else report.Blocked) (sym (may_is trees frames state t own is))
   whole (model.Ended exception) e = refl
 
-  pub whole_is : (thread : Thread) → slice_get state.world.threads t ≡ Some thread → end_of trees frames t state.world own (thread_at state.world t).status ≡ thread_end_of words trees frames state t thread.status
+  pub whole_is : (thread : Thread) → slice_get state.world.threads t ≡ Some thread
+      → end_of trees frames t state.world own (thread_at state.world t).status ≡ thread_end_of words trees frames state t thread.status
   whole_is thread there =
       let same : thread_at state.world t ≡ thread = get_or_from_slice_get state.world.threads t thread no_thread there in
       ap (λ (th : Thread). end_of trees frames t state.world own th.status) same ∙ whole thread.status (ap (λ (th : Thread). th.status) same)

@@ -32,7 +32,8 @@ EndsBy (stopped.Refused told) trees bounds state done left =
     OfNext left (λ event. IsTrue (is_enabled trees bounds.frames state event) × IsRefusedAfter trees bounds done event told)
 
 -- so many events of a schedule were done, after those before it: a front of it
-pub record HasGone (m : MachineOf) (files : List (List ℕ)) (trees : Program) (before schedule : List Event) (n : ℕ) (why : Stopped) : Type 0 where
+pub record HasGone (m : MachineOf) (files : List (List ℕ)) (trees : Program) (before schedule : List Event) (n : ℕ)
+    (why : Stopped) : Type 0 where
   pub front : List Event
   pub left : List Event
   pub schedule_is : schedule ≡ front ++ left
@@ -44,4 +45,5 @@ pub record HasGone (m : MachineOf) (files : List (List ℕ)) (trees : Program) (
 abbrev pub GoesThrough : (result : ℕ × Stopped) → (schedule : List Event) → (old new : MachineOf) → Type 0
 GoesThrough result schedule old new =
     (new ≡ record old { shared = new.shared })
-    × ((files : List (List ℕ)) (trees : Program) (before : List Event) → HasDone old files trees before → HasGone new files trees before schedule result.0 result.1)
+    × ((files : List (List ℕ)) (trees : Program) (before : List Event) → HasDone old files trees before
+    → HasGone new files trees before schedule result.0 result.1)

@@ -70,7 +70,8 @@ abbrev pub StandsInitialising : LinkedProgram → Shared → (t number : ℕ) �
 StandsInitialising p shared t number phase result =
     (trees : Program) (bounds : Bounds) (world : WorldOf ℕ) → IsProgram trees p → Represents trees p bounds shared world
     → (class : Name) (rest : StackOf ℕ) → IsClassAt trees number class
-    → (frames : ℕ) → IsEnd trees result (end_by (initialisation_event words trees frames t class (phase_of phase) world rest) report.Initialising)
+    → (frames : ℕ) → IsEnd trees result (end_by (initialisation_event words trees frames t class (phase_of phase) world rest)
+    report.Initialising)
 
 -- ---- the main thread
 
@@ -83,7 +84,8 @@ IsInitialIf p (Some number) = IsInitialClass p number
 abbrev pub SaysCallsMain : LinkedProgram → Shared → (frames : ℕ) → Bool → Type 0
 SaysCallsMain p shared frames result =
     (trees : Program) (bounds : Bounds) (world : WorldOf ℕ) → IsProgram trees p → Represents trees p bounds shared world
-    → result ≡ is_enabled_by (main_frame words trees frames world (main_of (initial_class trees)) (body_of trees (main_of (initial_class trees))))
+    → result ≡ is_enabled_by (main_frame words trees frames
+    world (main_of (initial_class trees)) (body_of trees (main_of (initial_class trees))))
 
 abbrev pub SaysMainMayBegin : LinkedProgram → Shared → (frames : ℕ) → Bool → Type 0
 SaysMainMayBegin p shared frames result =
@@ -129,14 +131,16 @@ StandsBeginning p shared t frames result =
 abbrev pub StandsPending : LinkedProgram → Shared → List ShownEntry → (t : ℕ) → Standing → Type 0
 StandsPending p shared stack t result =
     (exception : ℕ) (thrown : Option ReferenceType)
-    → StandsIn p shared stack t (λ trees state own. end_by (pending_event words trees t exception thrown state.world own) (held_end_of words trees state.world t own)) result
+    → StandsIn p shared stack t (λ trees state
+    own. end_by (pending_event words trees t exception thrown state.world own) (held_end_of words trees state.world t own)) result
 
 -- no exception is pending, and a frame is on top
 abbrev pub StandsAtFrame : LinkedProgram → Shared → List ShownEntry → (t frames : ℕ) → Standing → Type 0
 StandsAtFrame p shared stack t frames result =
     (trees : Program) (bounds : Bounds) (inflated : List ℕ) (state : StateOf ℕ) (frame : FrameOf ℕ) (rest : StackOf ℕ) → IsProgram trees p
     → IsLent trees p bounds inflated t shared stack state (model.Invocation frame ∷ rest) → IsOnTop state t frame
-    → IsEnd trees result (end_by (bytecode_event words trees frames (event_of t) state.world frame rest) (frame_end_of words trees state.world t frame (body_of trees frame.method)))
+    → IsEnd trees result (end_by (bytecode_event words trees frames (event_of t) state.world frame rest)
+    (frame_end_of words trees state.world t frame (body_of trees frame.method)))
 
 -- no exception is pending
 abbrev pub StandsGoing : LinkedProgram → Shared → List ShownEntry → (t frames : ℕ) → Standing → Type 0

@@ -16,7 +16,8 @@ use Rattle.machine_threads.specs.waiting_instructions.Waits.{IsEnd}
 abbrev pub StandsSo : LinkedProgram → Shared → (t frames : ℕ) → Standing → Type 0
 StandsSo p shared t frames result =
     (trees : Program) (bounds : Bounds) (inflated : List ℕ) (state : StateOf ℕ) → IsProgram trees p → IsShown trees p bounds inflated shared state
-    → (thread : Thread) → slice_get state.world.threads t ≡ Some thread → IsEnd trees result (thread_end_of words trees frames state t thread.status)
+    → (thread : Thread) → slice_get state.world.threads t ≡ Some thread
+    → IsEnd trees result (thread_end_of words trees frames state t thread.status)
 
 -- there it has an event that is enabled, or has none
 abbrev pub MaySo : LinkedProgram → Shared → (t frames : ℕ) → Bool → Type 0

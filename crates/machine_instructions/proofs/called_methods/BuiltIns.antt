@@ -35,7 +35,8 @@ known method is e = by (find (is_row_of method) built_in_methods) refl e
     of_row row None p q t = absurd cc
     of_row row (Some m) p q t = members_same row.0 m (sym (ap (λ x. option_map_or (λ (y : Member). member_eq row.0 y) x true) p) ∙ t) ∙ same_Some m is q
 
-    by : (o : Option (Member × BuiltInMethod)) → find (is_row_of method) built_in_methods ≡ o → member_for (unwrap_or (option_map (λ (row : Member × BuiltInMethod). row.1) o) Construct) ≡ Some is → method ≡ is
+    by : (o : Option (Member × BuiltInMethod)) → find (is_row_of method) built_in_methods ≡ o
+        → member_for (unwrap_or (option_map (λ (row : Member × BuiltInMethod). row.1) o) Construct) ≡ Some is → method ≡ is
     by None f q = absurd cc
     by (Some row) f q =
         sym (members_same row.0 method (found_passes (is_row_of method) built_in_methods row f))

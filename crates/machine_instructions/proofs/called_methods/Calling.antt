@@ -92,9 +92,11 @@ there_of heap test (suc q) r e h = by (slice_get heap q) refl h
 
 -- ---- the operands of a built-in method that has a receiver under so many parameters
 
-module _ (trees : Program) (heap : List (ObjectOf ℕ)) (stack : List ℕ) (n r : ℕ) (word : slice_get (take (n + 1) stack) n ≡ Some (suc r)) (object : ObjectOf ℕ) (there : slice_get heap r ≡ Some object)
+module _ (trees : Program) (heap : List (ObjectOf ℕ)) (stack : List ℕ) (n r : ℕ) (word : slice_get (take (n + 1) stack) n ≡ Some (suc r))
+    (object : ObjectOf ℕ) (there : slice_get heap r ≡ Some object)
     (m : Member) (same_count : parameter_count m ≡ n) (target : m ≡ target_constructor → has_class_below trees java_lang_thread object ≡ true) where
-  refers : (of : BuiltInMethod) → built_in_of of ≡ built_in_method m → (k : ℕ) → receiver_place (built_in_of of) ≡ Some k → (test : ObjectOf ℕ → Bool) → test object ≡ true → RefersTo heap (take (n + 1) stack) k test
+  refers : (of : BuiltInMethod) → built_in_of of ≡ built_in_method m → (k : ℕ) → receiver_place (built_in_of of) ≡ Some k
+      → (test : ObjectOf ℕ → Bool) → test object ≡ true → RefersTo heap (take (n + 1) stack) k test
   refers of e k place test fits =
       let p = placed trees m k (ap receiver_place (sym e) ∙ place) in
       record {
@@ -123,7 +125,9 @@ module _ (trees : Program) (heap : List (ObjectOf ℕ)) (stack : List ℕ) (n r 
 
 -- ---- an instruction where a thread runs
 
-module _ (trees : Program) (p : LinkedProgram) (bounds : Bounds) (inflated : List ℕ) (t : ℕ) (old : Shared) (from : List ShownEntry) (state : StateOf ℕ) (frame : FrameOf ℕ) (rest : StackOf ℕ) (code : LinkedCode) (site : Site) (meaning : MeaningOf ℕ) (instruction : LinkedInstruction)
+module _ (trees : Program) (p : LinkedProgram) (bounds : Bounds) (inflated : List ℕ) (t : ℕ) (old : Shared) (from : List ShownEntry)
+    (state : StateOf ℕ) (frame : FrameOf ℕ) (rest : StackOf ℕ) (code : LinkedCode) (site : Site) (meaning : MeaningOf ℕ)
+    (instruction : LinkedInstruction)
     (is : IsRunning trees p bounds inflated t old from state frame rest code site meaning instruction) where
   abbrev pub world : WorldOf ℕ
   world = state.world
@@ -140,7 +144,8 @@ module _ (trees : Program) (p : LinkedProgram) (bounds : Bounds) (inflated : Lis
       let small = items.small in
       omega arith
 
-  pub next_offset : (next : ℕ) → next ≡ offset_in code.starts.items (is.shown.place + 1) → offset_at p is.shown.method (is.shown.place + 1) ≡ next
+  pub next_offset : (next : ℕ) → next ≡ offset_in code.starts.items (is.shown.place + 1)
+      → offset_at p is.shown.method (is.shown.place + 1) ≡ next
   next_offset next e = offset_is trees p bounds inflated t old from state frame rest code site meaning instruction is (is.shown.place + 1) ∙ sym e
 
   pub under_is : (k : ℕ) → object_under k from ≡ word_reference (slice_index_or stack k 0)
@@ -148,7 +153,8 @@ module _ (trees : Program) (p : LinkedProgram) (bounds : Bounds) (inflated : Lis
       ap (object_under k) is.is_stack
       ∙ ap (λ (s : List ℕ). word_reference (slice_index_or s k 0)) (sym (top_shown trees p bounds inflated t old from state frame rest code site meaning instruction is).top.operands)
 
-  pub met : (m : MeaningOf ℕ) → meaning_of words trees site ≡ Some m → pops_meet (word_meets trees (types_of world.heap)) m.wants.pops stack ≡ true
+  pub met : (m : MeaningOf ℕ) → meaning_of words trees site ≡ Some m
+      → pops_meet (word_meets trees (types_of world.heap)) m.wants.pops stack ≡ true
   met m e =
       let f = finds trees p bounds inflated t old from state frame rest code site meaning instruction is in
       subst (λ (x : MeaningOf ℕ). pops_meet (word_meets trees (types_of world.heap)) x.wants.pops stack ≡ true) (meaning_is trees p bounds inflated t old from state frame rest code site meaning instruction is m e)
@@ -179,7 +185,8 @@ module _ (trees : Program) (p : LinkedProgram) (bounds : Bounds) (inflated : Lis
         (λ i. word_reference (slice_index_or (take (next i) stack) (sym counted i) 0))
         ∙ ap word_reference (at_last parameters stack) ∙ sym (under_is parameters)
 
-    pub event_is_call : (frames pick : ℕ) → instruction_event trees frames (record { thread = t; pick = pick }) world frame rest meaning ≡ event_with frames pick (object_under parameters from) (parameters + 1)
+    pub event_is_call : (frames pick : ℕ) → instruction_event trees frames (record { thread = t; pick = pick }) world frame rest meaning
+        ≡ event_with frames pick (object_under parameters from) (parameters + 1)
     event_is_call frames pick =
         event_is trees p bounds inflated t old from state frame rest code site meaning instruction is frames (record { thread = t; pick = pick }) (call_on words trees site callee (want ∷ []) leads choose) means
         ∙ ap (λ n. event_with frames pick (word_reference (slice_index_or (take n stack) (parameter_count callee) 0)) n) count_is
@@ -187,14 +194,16 @@ module _ (trees : Program) (p : LinkedProgram) (bounds : Bounds) (inflated : Lis
 
     -- null
     pub null_raises : None ≡ object_under parameters from → (frames pick : ℕ) (told : Effect) → told ≡ raised_by pick exception.NullPointer
-        → Does trees p bounds inflated t world (model.Invocation frame ∷ rest) (instruction_event trees frames (record { thread = t; pick = pick }) world frame rest meaning) (Ok told) old old from from
+        → Does trees p bounds inflated t world (model.Invocation frame
+        ∷ rest) (instruction_event trees frames (record { thread = t; pick = pick }) world frame rest meaning) (Ok told) old old from from
     null_raises none frames pick told is_told =
         subst (λ (s : SteppedOf (PartOf ℕ)). Does trees p bounds inflated t world (model.Invocation frame ∷ rest) s (Ok told) old old from from)
         (sym (event_is_call frames pick ∙ ap (λ o. event_with frames pick o (parameters + 1)) (sym none)))
         (raises trees p bounds inflated t pick world (model.Invocation frame ∷ rest) exception.NullPointer told is_told old from)
 
     module _ (r : ℕ) (found : Some r ≡ object_under parameters from) where
-      pub calls_event : (operands : ℕ) → operands ≡ parameters + 1 → (frames pick : ℕ) → instruction_event trees frames (record { thread = t; pick = pick }) world frame rest meaning
+      pub calls_event : (operands : ℕ) → operands ≡ parameters + 1 → (frames pick : ℕ)
+          → instruction_event trees frames (record { thread = t; pick = pick }) world frame rest meaning
           ≡ invoked_event trees frames (record { thread = t; pick = pick }) world frame rest site r operands (choose world r)
       calls_event operands e frames pick =
           event_is_call frames pick ∙ ap (λ o. event_with frames pick o (parameters + 1)) (sym found)
@@ -203,13 +212,16 @@ module _ (trees : Program) (p : LinkedProgram) (bounds : Bounds) (inflated : Lis
       word_is : slice_index_or stack parameters 0 ≡ suc r
       word_is = word_of _ r (sym (under_is parameters) ∙ sym found)
 
-      received_at : (test : ObjectOf ℕ → Bool) → ((n : ℕ) → word_meets trees (types_of world.heap) want n ≡ true → is_null_or world.heap test n ≡ true) → IsReceived world.heap stack (receiver parameters test)
+      received_at : (test : ObjectOf ℕ → Bool)
+          → ((n : ℕ) → word_meets trees (types_of world.heap) want n ≡ true → is_null_or world.heap test n ≡ true)
+          → IsReceived world.heap stack (receiver parameters test)
       received_at test each =
           received world.heap trees stack (argument_wants trees callee (want ∷ [])) parameters want test (met (call_on words trees site callee (want ∷ []) leads choose) means)
           (subst (λ n. slice_get (front ++ want ∷ []) n ≡ Some want) front_count (get_end front want)) each
 
       -- it is there, and as is wanted
-      pub there : (test : ObjectOf ℕ → Bool) → ((n : ℕ) → word_meets trees (types_of world.heap) want n ≡ true → is_null_or world.heap test n ≡ true) → There world.heap test r
+      pub there : (test : ObjectOf ℕ → Bool) → ((n : ℕ) → word_meets trees (types_of world.heap) want n ≡ true
+          → is_null_or world.heap test n ≡ true) → There world.heap test r
       there test each = there_of world.heap test (slice_index_or stack parameters 0) r word_is (received_at test each).fits
 
       module _ (test : ObjectOf ℕ → Bool) (each : (n : ℕ) → word_meets trees (types_of world.heap) want n ≡ true → is_null_or world.heap test n ≡ true) where
@@ -218,10 +230,14 @@ module _ (trees : Program) (p : LinkedProgram) (bounds : Bounds) (inflated : Lis
             let next : parameters + 1 ≡ suc parameters = omega arith in
             ap (λ n. slice_get (take n stack) parameters) next ∙ get_last_taken parameters stack (received_at test each).there ∙ ap (λ w. Some w) word_is
 
-        pub invoking : (number : ℕ) → IsChosenAt trees number (choose world r) → site.next ≡ offset_in code.starts.items (is.shown.place + 1)
-            → ((m : Member) → choose world r ≡ Runs m → (parameter_count m ≡ parameter_count callee) × (m ≡ target_constructor → has_class_below trees java_lang_thread (there test each).object ≡ true))
+        pub invoking : (number : ℕ) → IsChosenAt trees number (choose world r)
+            → site.next ≡ offset_in code.starts.items (is.shown.place + 1)
+            → ((m : Member) → choose world r ≡ Runs m
+            → (parameter_count m ≡ parameter_count callee)
+            × (m ≡ target_constructor → has_class_below trees java_lang_thread (there test each).object ≡ true))
             → (operands : ℕ) → operands ≡ parameters + 1
-            → IsInvoking trees p bounds inflated t old from state frame rest site (record { method = number; object = r; operands = operands }) (choose world r)
+            → IsInvoking trees p bounds inflated t old from state frame rest
+            site (record { method = number; object = r; operands = operands }) (choose world r)
         invoking number chosen next fits operands e =
             let o = there test each in
             subst (λ n. IsInvoking trees p bounds inflated t old from state frame rest site (record { method = number; object = r; operands = n }) (choose world r)) (sym e)

@@ -28,12 +28,14 @@ front (x ∷ xs) ys (suc k) h = front xs ys k (omega arith)
 
 -- where one alone passes, it is the first
 module _ {A : Type 0} where
-  only_at : (test : A → Bool) (xs : List A) (k : ℕ) (x : A) → slice_get xs k ≡ Some x → test x ≡ true → ((j : ℕ) (y : A) → slice_get xs j ≡ Some y → test y ≡ true → j ≡ k) → position_or_len test xs ≡ k
+  only_at : (test : A → Bool) (xs : List A) (k : ℕ) (x : A) → slice_get xs k ≡ Some x → test x ≡ true
+      → ((j : ℕ) (y : A) → slice_get xs j ≡ Some y → test y ≡ true → j ≡ k) → position_or_len test xs ≡ k
   only_at test [] k x at passes only = absurd cc
   only_at test (y ∷ ys) zero x at passes only = let same : y ≡ x = cc in rw (same, passes) refl
   only_at test (y ∷ ys) (suc k) x at passes only = by (λ u. only_at test ys k x at passes u) (test y) refl
     where
-      by : (((j : ℕ) (z : A) → slice_get ys j ≡ Some z → test z ≡ true → j ≡ k) → position_or_len test ys ≡ k) → (b : Bool) → test y ≡ b → position_or_len test (y ∷ ys) ≡ suc k
+      by : (((j : ℕ) (z : A) → slice_get ys j ≡ Some z → test z ≡ true → j ≡ k) → position_or_len test ys ≡ k) → (b : Bool) → test y ≡ b
+          → position_or_len test (y ∷ ys) ≡ suc k
       by rest true e = let first = only 0 y refl e in absurd (omega (arith, first))
       by rest false e =
           let later = rest (λ j z q h. let s = only (suc j) z q h in omega (arith, s)) in
@@ -50,7 +52,8 @@ unfolding built_in_classes
 built_in_count = refl
 
 module _ (trees : Program) (linkable : some_stands trees ≡ false) where
-  one_number : (k j : ℕ) (f g : FileTree) → slice_get (classes_of trees) k ≡ Some f → slice_get (classes_of trees) j ≡ Some g → name_of f ≡ name_of g → j ≡ k
+  one_number : (k j : ℕ) (f g : FileTree) → slice_get (classes_of trees) k ≡ Some f → slice_get (classes_of trees) j ≡ Some g
+      → name_of f ≡ name_of g → j ≡ k
   one_number k j f g at there same = by (nat_lt k 30) (nat_lt j 30) refl refl
     where
       apart : {P : Type 0} → is_built_in (name_of f) ≡ true → is_built_in (name_of g) ≡ false → P
@@ -62,7 +65,8 @@ module _ (trees : Program) (linkable : some_stands trees ≡ false) where
       behind : (n : ℕ) → 30 ≤ n → n ≡ 30 + (n - 30)
       behind n h = omega (arith, h)
 
-      at_behind : (n : ℕ) (file : FileTree) → 30 ≤ n → slice_get (classes_of trees) n ≡ Some file → slice_get (classes_of trees) (30 + (n - 30)) ≡ Some file
+      at_behind : (n : ℕ) (file : FileTree) → 30 ≤ n → slice_get (classes_of trees) n ≡ Some file
+          → slice_get (classes_of trees) (30 + (n - 30)) ≡ Some file
       at_behind n file h e = subst (λ m. slice_get (classes_of trees) m ≡ Some file) (behind n h) e
 
       by : (b c : Bool) → nat_lt k 30 ≡ b → nat_lt j 30 ≡ c → j ≡ k
@@ -89,14 +93,16 @@ module _ (trees : Program) (linkable : some_stands trees ≡ false) where
 
 -- ---- a method
 
-module _ (read : AreMethodsRead) (trees : Program) (p : LinkedProgram) (program : IsProgram trees p) (number : ℕ) (callee : Member) (at : IsMethodAt trees number callee) where
+module _ (read : AreMethodsRead) (trees : Program) (p : LinkedProgram) (program : IsProgram trees p) (number : ℕ) (callee : Member)
+    (at : IsMethodAt trees number callee) where
   has : HasMethod trees p number callee
   has = read trees p program.linked number callee at
 
   pub missing : slice_get p.methods.items number ≡ None → ⊥
   missing none = let e = sym has.is ∙ none in cc
 
-  pub class_object_is : (row : LinkedMethod) → slice_get p.methods.items number ≡ Some row → (object : ℕ) → object ≡ 3 + row.class → object ≡ class_reference trees callee.class
+  pub class_object_is : (row : LinkedMethod) → slice_get p.methods.items number ≡ Some row → (object : ℕ) → object ≡ 3 + row.class
+      → object ≡ class_reference trees callee.class
   class_object_is row is_row object e =
       let linked = subst (IsLinkedMethod trees p callee) (same_Some _ _ (sym has.is ∙ is_row)) has.linked in
       e ∙ reference_is trees program.linkable.no_refusal row.class callee.class linked.class

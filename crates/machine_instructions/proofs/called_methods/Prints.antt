@@ -42,7 +42,8 @@ some_of : (o : Option ℕ) → is_some o ≡ true → (r : ℕ) × (o ≡ Some r
 some_of None h = absurd cc
 some_of (Some r) h = (r, refl)
 
-module _ (trees : Program) (p : LinkedProgram) (bounds : Bounds) (inflated : List ℕ) (t : ℕ) (old : Shared) (from : List ShownEntry) (state : StateOf ℕ) (frame : FrameOf ℕ) (rest : StackOf ℕ) (code : LinkedCode) (site : Site) (meaning : MeaningOf ℕ)
+module _ (trees : Program) (p : LinkedProgram) (bounds : Bounds) (inflated : List ℕ) (t : ℕ) (old : Shared) (from : List ShownEntry)
+    (state : StateOf ℕ) (frame : FrameOf ℕ) (rest : StackOf ℕ) (code : LinkedCode) (site : Site) (meaning : MeaningOf ℕ)
     (is : IsRunning trees p bounds inflated t old from state frame rest code site meaning linked.Println) where
   abbrev pub behind : ℕ
   behind = offset_in code.starts.items (is.shown.place + 1)
@@ -53,7 +54,8 @@ module _ (trees : Program) (p : LinkedProgram) (bounds : Bounds) (inflated : Lis
   next_is : (next : ℕ) → IsPlaceBehind from next → next ≡ is.shown.place + 1
   next_is next h = subst (λ s. IsPlaceBehind s next) is.is_stack h (place_within trees p bounds inflated t old from state frame rest code site meaning linked.Println is)
 
-  pub calling : (next : ℕ) → IsPlaceBehind from next → IsCalling trees p bounds inflated t old from state frame rest method.PrintStreamPrintln 2 next behind
+  pub calling : (next : ℕ) → IsPlaceBehind from next
+      → IsCalling trees p bounds inflated t old from state frame rest method.PrintStreamPrintln 2 next behind
   calling next h =
       record {
         program = is.program;
@@ -73,7 +75,8 @@ module _ (trees : Program) (p : LinkedProgram) (bounds : Bounds) (inflated : Lis
       (become trees frames t state.world frame rest
       (not_null o (λ r. pushing behind [] (with_printed state.world (int_operand words (take 2 stack) 0)) frame.place.slots (drop 2 stack))))
 
-  printing_event : (frames pick : ℕ) → instruction_event trees frames (record { thread = t; pick = pick }) state.world frame rest meaning ≡ event_with frames pick (object_under 1 from)
+  printing_event : (frames pick : ℕ) → instruction_event trees frames (record { thread = t; pick = pick }) state.world frame rest meaning
+      ≡ event_with frames pick (object_under 1 from)
   printing_event frames pick =
       event_is trees p bounds inflated t old from state frame rest code site meaning linked.Println is frames (record { thread = t; pick = pick }) (println_meaning words behind) is.stands.linked
       ∙ ap (event_with frames pick) (ap word_reference (second_taken stack) ∙ sym (under_is trees p bounds inflated t old from state frame rest code site meaning linked.Println is 1))
@@ -86,7 +89,9 @@ module _ (trees : Program) (p : LinkedProgram) (bounds : Bounds) (inflated : Lis
       printing_event frames pick ∙ ap (event_with frames pick) (sym e ∙ r.1)
 
   pub null_prints : (frames pick : ℕ) → None ≡ object_under 1 from → (told : Effect) → told ≡ raised_by pick exception.NullPointer
-      → Does trees p bounds inflated t state.world (model.Invocation frame ∷ rest) (instruction_event trees frames (record { thread = t; pick = pick }) state.world frame rest meaning) (Ok told) old old from from
+      → Does trees p bounds inflated t state.world (model.Invocation frame
+      ∷ rest) (instruction_event trees frames (record { thread = t; pick = pick }) state.world frame rest meaning) (Ok told) old old from
+      from
   null_prints frames pick none told is_told =
       subst (λ (s : SteppedOf (PartOf ℕ)). Does trees p bounds inflated t state.world (model.Invocation frame ∷ rest) s (Ok told) old old from from)
       (sym (printing_event frames pick ∙ ap (event_with frames pick) (sym none)))

@@ -46,12 +46,17 @@ use Rattle.machine_instructions.specs.called_methods.Frames.{IsPlaceBehind, rais
 use Rattle.machine_instructions.specs.called_methods.Invoked.{IsInvoking, invoked_event}
 
 -- an exception is raised by an event that picks nothing
-pub raises : (trees : Program) (p : LinkedProgram) (bounds : Bounds) (inflated : List ℕ) (t pick : ℕ) (world : WorldOf ℕ) (own : StackOf ℕ) (fault : MachineException) (told : Effect) → told ≡ raised_by pick fault
-    → (old : Shared) (from : List ShownEntry) → Does trees p bounds inflated t world own (enabled_if (pick == 0) (raised t (shown_exception fault) world own)) (Ok told) old old from from
+pub raises : (trees : Program) (p : LinkedProgram) (bounds : Bounds) (inflated : List ℕ) (t pick : ℕ) (world : WorldOf ℕ) (own : StackOf ℕ)
+    (fault : MachineException) (told : Effect) → told ≡ raised_by pick fault
+    → (old : Shared) (from : List ShownEntry)
+    → Does trees p bounds inflated t world own (enabled_if (pick == 0) (raised t (shown_exception fault) world own)) (Ok told) old old from
+    from
 raises trees p bounds inflated t pick world own fault told e old from =
     subst (λ (x : Effect). Does trees p bounds inflated t world own (enabled_if (pick == 0) (raised t (shown_exception fault) world own)) (Ok x) old old from from) (sym e) (by (pick == 0))
   where
-    by : (b : Bool) → Does trees p bounds inflated t world own (enabled_if b (raised t (shown_exception fault) world own)) (Ok (if b then effect.Raises fault else effect.NotEnabled)) old old from from
+    by : (b : Bool) → Does trees p bounds inflated t world
+        own (enabled_if b (raised t (shown_exception fault) world own)) (Ok (if b then effect.Raises fault else effect.NotEnabled)) old old
+        from from
     by true = (refl, record { shared = refl; stack = refl })
     by false = (refl, record { shared = refl; stack = refl })
 
@@ -65,7 +70,8 @@ picked pick h stepped = ap (λ b. enabled_if b stepped) (by (pick == 0) refl)
 pub unpicked : {S : Type 0} (pick : ℕ) → pick ≡ 0 → (stepped : SteppedOf S) → enabled_if (pick == 0) stepped ≡ stepped
 unpicked pick e stepped = ap (λ (n : ℕ). enabled_if (n == 0) stepped) e
 
-module _ (run : AreMethodsRun) (trees : Program) (p : LinkedProgram) (bounds : Bounds) (inflated : List ℕ) (t : ℕ) (old : Shared) (from : List ShownEntry) (state : StateOf ℕ) (frame : FrameOf ℕ) (rest : StackOf ℕ) (site : Site) (call : Call) (chosen : Chosen)
+module _ (run : AreMethodsRun) (trees : Program) (p : LinkedProgram) (bounds : Bounds) (inflated : List ℕ) (t : ℕ) (old : Shared)
+    (from : List ShownEntry) (state : StateOf ℕ) (frame : FrameOf ℕ) (rest : StackOf ℕ) (site : Site) (call : Call) (chosen : Chosen)
     (is : IsInvoking trees p bounds inflated t old from state frame rest site call chosen) where
   pub found : IsRun trees p call.method chosen
   found = run trees p is.program.linked call.method chosen is.chooses
@@ -89,7 +95,8 @@ module _ (run : AreMethodsRun) (trees : Program) (p : LinkedProgram) (bounds : B
     -- ---- an abstract method
 
     pub fails : row.body ≡ body.Abstract → (frames pick : ℕ) (told : Effect) → told ≡ raised_by pick exception.AbstractMethod
-        → Does trees p bounds inflated t state.world (model.Invocation frame ∷ rest) (event_of frames pick chosen) (Ok told) old old from from
+        → Does trees p bounds inflated t state.world (model.Invocation frame
+        ∷ rest) (event_of frames pick chosen) (Ok told) old old from from
     fails e frames pick told is_told =
         subst (λ (s : SteppedOf (PartOf ℕ)). Does trees p bounds inflated t state.world (model.Invocation frame ∷ rest) s (Ok told) old old from from)
         (sym (ap (event_of frames pick) (runs_body body.Abstract e)))
@@ -101,7 +108,8 @@ module _ (run : AreMethodsRun) (trees : Program) (p : LinkedProgram) (bounds : B
       next_is : (next : ℕ) → IsPlaceBehind from next → next ≡ is.shown.place + 1
       next_is next behind = subst (λ s. IsPlaceBehind s next) is.is_stack behind is.small
 
-      pub calling : (next : ℕ) → IsPlaceBehind from next → IsCalling trees p bounds inflated t old from state frame rest of call.operands next site.next
+      pub calling : (next : ℕ) → IsPlaceBehind from next
+          → IsCalling trees p bounds inflated t old from state frame rest of call.operands next site.next
       calling next behind =
           let h = runs_body (body.BuiltIn of) e in
           record {
@@ -114,7 +122,8 @@ module _ (run : AreMethodsRun) (trees : Program) (p : LinkedProgram) (bounds : B
             arguments = is.arguments found.method of h.0 h.2;
           }
 
-      pub built_in_done : (frames pick : ℕ) → call_event trees frames (record { thread = t; pick = pick }) state.world frame rest of call.operands site.next ≡ event_of frames pick chosen
+      pub built_in_done : (frames pick : ℕ) → call_event trees frames (record { thread = t; pick = pick }) state.world frame rest of
+          call.operands site.next ≡ event_of frames pick chosen
       built_in_done frames pick =
           let h = runs_body (body.BuiltIn of) e in
           let event : Event = record { thread = t; pick = pick } in
@@ -134,7 +143,8 @@ module _ (run : AreMethodsRun) (trees : Program) (p : LinkedProgram) (bounds : B
       numbered : IsMethodAt trees call.method found.method
       numbered = subst (λ (m : Member). IsMethodAt trees call.method m) (by (is_one is_abstract_method trees is.chooses.method) (sym is.chooses.is ∙ (runs_body (body.Code code) e).0)) is.chooses.numbered
         where
-          by : (a : Bool) → (if a then Fails AbstractMethod else Runs is.chooses.method) ≡ Runs found.method → is.chooses.method ≡ found.method
+          by : (a : Bool) → (if a then Fails AbstractMethod else Runs is.chooses.method) ≡ Runs found.method
+              → is.chooses.method ≡ found.method
           by true q = absurd cc
           by false q = cc
 

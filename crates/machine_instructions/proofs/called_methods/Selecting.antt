@@ -31,7 +31,8 @@ module _ (p : LinkedProgram) (objects : List Object) (object : ℕ) where
     pub missing : None ≡ option_map kind_of (slice_get objects object) → ⊥
     missing none = let e = none ∙ ap (option_map kind_of) shown.1 in cc
 
-    class_is : (kind : ObjectKind) → Some kind ≡ option_map kind_of (slice_get objects object) → (class : ℕ) → IsReceiverClass kind class → IsClassAt trees class (receiver_class (type_of receiver))
+    class_is : (kind : ObjectKind) → Some kind ≡ option_map kind_of (slice_get objects object) → (class : ℕ) → IsReceiverClass kind class
+        → IsClassAt trees class (receiver_class (type_of receiver))
     class_is kind is class of =
         let same : kind ≡ shown.0.kind = same_Some kind shown.0.kind (is ∙ ap (option_map kind_of) shown.1) in
         of trees p.components.items receiver (subst (λ (k : ObjectKind). IsKindOf trees p.components.items k receiver) (sym same) shown.2.kind)
@@ -42,7 +43,8 @@ module _ (p : LinkedProgram) (objects : List Object) (object : ℕ) where
         subst (λ name. IsChosenBy trees found (selected trees name callee)) (class_same receiver)
         (selects trees named callee selection (type_of receiver) assignable (class_is trees heap shows receiver there kind is class of))
 
-    pub interface : (selector : ℕ) (found : Option ℕ) → SelectsInterface p class selector found → ChoosesInterface p objects object selector found
+    pub interface : (selector : ℕ) (found : Option ℕ) → SelectsInterface p class selector found
+        → ChoosesInterface p objects object selector found
     interface selector found selects trees program heap shows named callee selection receiver there =
         subst (λ name. IsChosenOr trees found (if_implements (is_subtype trees (type_of receiver) (ClassType named)) (selected trees name callee))) (class_same receiver)
         (selects trees program.linked named callee selection (type_of receiver) (class_is trees heap shows receiver there kind is class of))

@@ -49,7 +49,8 @@ instance_of (Instance c fields) class e = let is : c ≡ class = cc in (fields, 
 instance_of (Primitives of elements) class e = absurd cc
 instance_of (References of elements) class e = absurd cc
 
-module _ (trees : Program) (p : LinkedProgram) (bounds : Bounds) (inflated : List ℕ) (t : ℕ) (old : Shared) (stack : List ShownEntry) (state : StateOf ℕ) (frame : FrameOf ℕ) (rest : StackOf ℕ) (code : LinkedCode) (site : Site) (meaning : MeaningOf ℕ) where
+module _ (trees : Program) (p : LinkedProgram) (bounds : Bounds) (inflated : List ℕ) (t : ℕ) (old : Shared) (stack : List ShownEntry)
+    (state : StateOf ℕ) (frame : FrameOf ℕ) (rest : StackOf ℕ) (code : LinkedCode) (site : Site) (meaning : MeaningOf ℕ) where
   -- the instance that a word refers to, with the slot of a field
   record Held (field : Member) (n r : ℕ) : Type 0 where
     pub class : Name
@@ -58,7 +59,8 @@ module _ (trees : Program) (p : LinkedProgram) (bounds : Bounds) (inflated : Lis
     pub field_is : IsField trees p.components.items old.heap.objects state.world.heap r n field class fields
 
   module _ (instruction : LinkedInstruction) (is : IsRunning trees p bounds inflated t old stack state frame rest code site meaning instruction) where
-    held : (type : ReferenceType) (field : Member) (n r : ℕ) → HaveSlot trees type field n → is_word_with (types_of state.world.heap) (λ t. is_assignable trees t type) (suc r) ≡ true → Held field n r
+    held : (type : ReferenceType) (field : Member) (n r : ℕ) → HaveSlot trees type field n
+        → is_word_with (types_of state.world.heap) (λ t. is_assignable trees t type) (suc r) ≡ true → Held field n r
     held type field n r slots e =
         let m = referred state.world.heap (λ t. is_assignable trees t type) r e in
         let c = slots (type_of m.object) m.passes in
@@ -91,7 +93,9 @@ module _ (trees : Program) (p : LinkedProgram) (bounds : Bounds) (inflated : Lis
         (not_null (word_reference x) (λ r. pushing (offset_in code.starts.items (is.shown.place + 1)) (value_in (first_of words l.field) l.field (fields_of (object_at state.world r)) ∷ []) state.world frame.place.slots (drop 1 frame.place.slots.stack))))
         (operand_is trees p bounds inflated t old stack state frame rest code site meaning (linked.GetField slot) is found lent 1 0 w (omega arith) e)
 
-    pub get_field_of_null : slice_index_or found.operands 0 0 ≡ 0 → instruction_event trees frames (event_of t) state.world frame rest meaning ≡ raised t NullPointer state.world (model.Invocation frame ∷ rest)
+    pub get_field_of_null : slice_index_or found.operands 0 0 ≡ 0
+        → instruction_event trees frames (event_of t) state.world frame rest meaning
+        ≡ raised t NullPointer state.world (model.Invocation frame ∷ rest)
     get_field_of_null e = event_by 0 e
 
     meets : (w : ℕ) → slice_index_or found.operands 0 0 ≡ w → word_meets trees (types_of state.world.heap) (of_class trees l.named) w ≡ true
@@ -103,7 +107,8 @@ module _ (trees : Program) (p : LinkedProgram) (bounds : Bounds) (inflated : Lis
 
     pub get_field_done : (r word : ℕ) → slice_index_or found.operands 0 0 ≡ suc r → word ≡ word_at old.heap.objects r slot
         → (left : ShownFrame) (result : Result Effect Refusal) → Leaves result 1 (word ∷ []) found left
-        → Does trees p bounds inflated t state.world (model.Invocation frame ∷ rest) (instruction_event trees frames (event_of t) state.world frame rest meaning) result old old stack (with_top left stack)
+        → Does trees p bounds inflated t state.world (model.Invocation frame
+        ∷ rest) (instruction_event trees frames (event_of t) state.world frame rest meaning) result old old stack (with_top left stack)
     get_field_done r word is_r is_word left result leaves =
         let h = held (linked.GetField slot) is (made_type trees (ClassType l.named)) l.field slot r l.slots (meets (suc r) is_r) in
         let first = first_of words l.field in
@@ -115,7 +120,9 @@ module _ (trees : Program) (p : LinkedProgram) (bounds : Bounds) (inflated : Lis
 
   -- ---- putfield
 
-  linked_put : (at : ℕ → ℕ) (place slot : ℕ) (of : Primitive) → IsLinked trees p at code.instructions.items site place (puts.put_field_instruction of slot) → IsPutField trees site (at (place + 1)) slot (primitive_of of)
+  linked_put : (at : ℕ → ℕ) (place slot : ℕ) (of : Primitive)
+      → IsLinked trees p at code.instructions.items site place (puts.put_field_instruction of slot)
+      → IsPutField trees site (at (place + 1)) slot (primitive_of of)
   linked_put at place slot primitive.Boolean l = l
   linked_put at place slot primitive.Char l = l
   linked_put at place slot primitive.Byte l = l
@@ -135,30 +142,38 @@ module _ (trees : Program) (p : LinkedProgram) (bounds : Bounds) (inflated : Lis
         become trees frames t state.world frame rest
         (not_null (word_reference w) (λ r. pushing (offset_in code.starts.items (is.shown.place + 1)) [] (with_object state.world r (with_field put.field (put_value words put.field v) (object_at state.world r))) frame.place.slots (drop 2 frame.place.slots.stack)))
 
-    put_by : (w v : ℕ) → slice_index_or found.operands 1 0 ≡ w → slice_index_or found.operands 0 0 ≡ v → instruction_event trees frames (event_of t) state.world frame rest meaning ≡ put_with w v
+    put_by : (w v : ℕ) → slice_index_or found.operands 1 0 ≡ w → slice_index_or found.operands 0 0 ≡ v
+        → instruction_event trees frames (event_of t) state.world frame rest meaning ≡ put_with w v
     put_by w v is_w is_v =
         event_is trees p bounds inflated t old stack state frame rest code site meaning (puts.put_field_instruction of slot) is frames (event_of t) puts_it put.is
         ∙ ap (λ x. put_with x (slice_index_or (take 2 frame.place.slots.stack) 0 0)) (operand_is trees p bounds inflated t old stack state frame rest code site meaning (puts.put_field_instruction of slot) is found lent 2 1 w (omega arith) is_w)
         ∙ ap (λ x. put_with w x) (operand_is trees p bounds inflated t old stack state frame rest code site meaning (puts.put_field_instruction of slot) is found lent 2 0 v (omega arith) is_v)
 
-    pub put_field_of_null : slice_index_or found.operands 1 0 ≡ 0 → instruction_event trees frames (event_of t) state.world frame rest meaning ≡ raised t NullPointer state.world (model.Invocation frame ∷ rest)
+    pub put_field_of_null : slice_index_or found.operands 1 0 ≡ 0
+        → instruction_event trees frames (event_of t) state.world frame rest meaning
+        ≡ raised t NullPointer state.world (model.Invocation frame ∷ rest)
     put_field_of_null e = put_by 0 (slice_index_or found.operands 0 0) e refl
 
-    meets_owner : (w : ℕ) → slice_index_or found.operands 1 0 ≡ w → word_meets trees (types_of state.world.heap) (owner_want trees put.named put.field) w ≡ true
+    meets_owner : (w : ℕ) → slice_index_or found.operands 1 0 ≡ w
+        → word_meets trees (types_of state.world.heap) (owner_want trees put.named put.field) w ≡ true
     meets_owner w e =
         let same = lent_shows trees p bounds inflated t old stack state frame rest code site meaning (puts.put_field_instruction of slot) is found lent in
         subst (λ x. word_meets trees (types_of state.world.heap) (owner_want trees put.named put.field) x ≡ true) (ap (λ (f : ShownFrame). slice_index_or f.operands 1 0) (sym same) ∙ e)
         (meets_second (word_meets trees (types_of state.world.heap)) (declared_want trees (field_declared put.field.descriptor)) (owner_want trees put.named put.field) [] is.shown.operands
         (pops_met trees p bounds inflated t old stack state frame rest code site meaning (puts.put_field_instruction of slot) is puts_it put.is))
 
-    owned : (r : ℕ) (b : Bool) → word_meets trees (types_of state.world.heap) (if b then AnOwner put.named else of_class trees put.named) (suc r) ≡ true → Held put.field slot r
+    owned : (r : ℕ) (b : Bool) → word_meets
+        trees (types_of state.world.heap) (if b then AnOwner put.named else of_class trees put.named) (suc r) ≡ true → Held put.field slot r
     owned r true e = held (puts.put_field_instruction of slot) is (ClassType put.named) put.field slot r put.own e
     owned r false e = held (puts.put_field_instruction of slot) is (made_type trees (ClassType put.named)) put.field slot r put.slots e
 
-    pub put_field_done : (r v word : ℕ) → slice_index_or found.operands 1 0 ≡ suc r → slice_index_or found.operands 0 0 ≡ v → word ≡ kept (primitive_of of) v
+    pub put_field_done : (r v word : ℕ) → slice_index_or found.operands 1 0 ≡ suc r → slice_index_or found.operands 0 0 ≡ v
+        → word ≡ kept (primitive_of of) v
         → (heap : Heap) → heap ≡ record old.heap { objects = put_field old.heap.objects r slot word }
         → (left : ShownFrame) (answer : Effect) → Leaves (Ok answer) 2 [] found left
-        → Does trees p bounds inflated t state.world (model.Invocation frame ∷ rest) (instruction_event trees frames (event_of t) state.world frame rest meaning) (Ok answer) old (record old { heap = heap }) stack (with_top left stack)
+        → Does trees p bounds inflated t state.world (model.Invocation frame
+        ∷ rest) (instruction_event trees frames (event_of t) state.world frame rest meaning) (Ok answer) old (record old { heap = heap })
+        stack (with_top left stack)
     put_field_done r v word is_r is_v is_word heap is_heap left answer leaves =
         let h = owned r (name_eq put.named put.field.class) (meets_owner (suc r) is_r) in
         let object = with_field put.field word (Instance h.class h.fields) in

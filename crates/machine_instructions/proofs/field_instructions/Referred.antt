@@ -21,15 +21,18 @@ use Rattle.machine_state.specs.Shown.{Represents}
 -- ---- operands
 
 -- the first, the second and the third are as they are wanted
-pub meets_first : (accepts : Want → ℕ → Bool) (a : Want) (ws : List Want) (stack : List ℕ) → pops_meet accepts (a ∷ ws) stack ≡ true → accepts a (slice_index_or stack 0 0) ≡ true
+pub meets_first : (accepts : Want → ℕ → Bool) (a : Want) (ws : List Want) (stack : List ℕ) → pops_meet accepts (a ∷ ws) stack ≡ true
+    → accepts a (slice_index_or stack 0 0) ≡ true
 meets_first accepts a ws [] e = absurd (false≢true e)
 meets_first accepts a ws (x ∷ stack) e = (and_parts _ _ e).0
 
-pub meets_second : (accepts : Want → ℕ → Bool) (a b : Want) (ws : List Want) (stack : List ℕ) → pops_meet accepts (a ∷ b ∷ ws) stack ≡ true → accepts b (slice_index_or stack 1 0) ≡ true
+pub meets_second : (accepts : Want → ℕ → Bool) (a b : Want) (ws : List Want) (stack : List ℕ) → pops_meet accepts (a ∷ b ∷ ws) stack ≡ true
+    → accepts b (slice_index_or stack 1 0) ≡ true
 meets_second accepts a b ws [] e = absurd (false≢true e)
 meets_second accepts a b ws (x ∷ stack) e = meets_first accepts b ws stack (and_parts _ _ e).1
 
-pub meets_third : (accepts : Want → ℕ → Bool) (a b c : Want) (ws : List Want) (stack : List ℕ) → pops_meet accepts (a ∷ b ∷ c ∷ ws) stack ≡ true → accepts c (slice_index_or stack 2 0) ≡ true
+pub meets_third : (accepts : Want → ℕ → Bool) (a b c : Want) (ws : List Want) (stack : List ℕ)
+    → pops_meet accepts (a ∷ b ∷ c ∷ ws) stack ≡ true → accepts c (slice_index_or stack 2 0) ≡ true
 meets_third accepts a b c ws [] e = absurd (false≢true e)
 meets_third accepts a b c ws (x ∷ stack) e = meets_second accepts b c ws stack (and_parts _ _ e).1
 
@@ -56,7 +59,8 @@ pub record Referred (heap : List (ObjectOf ℕ)) (test : ReferenceType → Bool)
   pub there : slice_get heap r ≡ Some object
   pub passes : test (type_of object) ≡ true
 
-pub referred : (heap : List (ObjectOf ℕ)) (test : ReferenceType → Bool) (r : ℕ) → is_word_with (types_of heap) test (suc r) ≡ true → Referred heap test r
+pub referred : (heap : List (ObjectOf ℕ)) (test : ReferenceType → Bool) (r : ℕ) → is_word_with (types_of heap) test (suc r) ≡ true
+    → Referred heap test r
 referred heap test r e = by (slice_get heap r) refl (subst (λ o. option_map_or test o false ≡ true) (slice_get-map type_of heap r) e)
   where
     by : (o : Option (ObjectOf ℕ)) → slice_get heap r ≡ o → option_map_or test (option_map type_of o) false ≡ true → Referred heap test r
@@ -65,7 +69,8 @@ referred heap test r e = by (slice_get heap r) refl (subst (λ o. option_map_or 
 
 -- ---- what is shown after a change
 
-module _ (trees : Program) (p : LinkedProgram) (bounds : Bounds) (old : Shared) (world : WorldOf ℕ) (r : Represents trees p bounds old world) where
+module _ (trees : Program) (p : LinkedProgram) (bounds : Bounds) (old : Shared) (world : WorldOf ℕ)
+    (r : Represents trees p bounds old world) where
   -- of objects
   pub with_objects : (objects : List Object) (heap : List (ObjectOf ℕ)) → ShowsObjects trees p.components.items objects heap
       → Represents trees p bounds (record old { heap = record old.heap { objects = objects } }) (record world { heap = heap })

@@ -32,12 +32,14 @@ use Rattle.machine_instructions.specs.field_instructions.Puts as puts
 use Rattle.machine_instructions.proofs.field_instructions.OnTop.{operand_is, goes_on, IsShownAfter, done, done_or_refused}
 use Rattle.machine_instructions.proofs.field_instructions.Referred.{with_slots}
 
-module _ (trees : Program) (p : LinkedProgram) (bounds : Bounds) (inflated : List ℕ) (t : ℕ) (old : Shared) (stack : List ShownEntry) (state : StateOf ℕ) (frame : FrameOf ℕ) (rest : StackOf ℕ) (code : LinkedCode) (site : Site) (meaning : MeaningOf ℕ) where
+module _ (trees : Program) (p : LinkedProgram) (bounds : Bounds) (inflated : List ℕ) (t : ℕ) (old : Shared) (stack : List ShownEntry)
+    (state : StateOf ℕ) (frame : FrameOf ℕ) (rest : StackOf ℕ) (code : LinkedCode) (site : Site) (meaning : MeaningOf ℕ) where
   -- ---- System.out
 
   module _ (is : IsRunning trees p bounds inflated t old stack state frame rest code site meaning linked.GetSystemOut) (found : ShownFrame) (lent : IsTopFrame stack (Some found)) (frames : ℕ) where
     pub get_system_out_done : (left : ShownFrame) (result : Result Effect Refusal) → Leaves result 0 (1 ∷ []) found left
-        → Does trees p bounds inflated t state.world (model.Invocation frame ∷ rest) (instruction_event trees frames (event_of t) state.world frame rest meaning) result old old stack (with_top left stack)
+        → Does trees p bounds inflated t state.world (model.Invocation frame
+        ∷ rest) (instruction_event trees frames (event_of t) state.world frame rest meaning) result old old stack (with_top left stack)
     get_system_out_done left result leaves =
         subst (λ s. Does trees p bounds inflated t state.world (model.Invocation frame ∷ rest) s result old old stack (with_top left stack))
         (sym (event_is trees p bounds inflated t old stack state frame rest code site meaning linked.GetSystemOut is frames (event_of t) (system_out_meaning words (offset_in code.starts.items (is.shown.place + 1))) is.stands.linked))
@@ -51,7 +53,8 @@ module _ (trees : Program) (p : LinkedProgram) (bounds : Bounds) (inflated : Lis
 
     pub get_static_done : (word : ℕ) → word ≡ slice_index old.statics.items slot
         → (left : ShownFrame) (result : Result Effect Refusal) → Leaves result 0 (word ∷ []) found left
-        → Does trees p bounds inflated t state.world (model.Invocation frame ∷ rest) (instruction_event trees frames (event_of t) state.world frame rest meaning) result old old stack (with_top left stack)
+        → Does trees p bounds inflated t state.world (model.Invocation frame
+        ∷ rest) (instruction_event trees frames (event_of t) state.world frame rest meaning) result old old stack (with_top left stack)
     get_static_done word is_word left result leaves =
         let first = first_of words l.field in
         let static = are_statics trees old.statics.items state.world.statics is.lent.represents.world_is.statics l.field slot l.slots in
@@ -63,7 +66,9 @@ module _ (trees : Program) (p : LinkedProgram) (bounds : Bounds) (inflated : Lis
 
   -- ---- putstatic
 
-  linked_put : (at : ℕ → ℕ) (place class slot : ℕ) (of : Primitive) → IsLinked trees p at code.instructions.items site place (puts.put_static_instruction of class slot) → IsPutStatic trees site (at (place + 1)) class slot (primitive_of of)
+  linked_put : (at : ℕ → ℕ) (place class slot : ℕ) (of : Primitive)
+      → IsLinked trees p at code.instructions.items site place (puts.put_static_instruction of class slot)
+      → IsPutStatic trees site (at (place + 1)) class slot (primitive_of of)
   linked_put at place class slot primitive.Boolean l = l
   linked_put at place class slot primitive.Char l = l
   linked_put at place class slot primitive.Byte l = l
@@ -77,7 +82,9 @@ module _ (trees : Program) (p : LinkedProgram) (bounds : Bounds) (inflated : Lis
     pub put_static_done : (v word : ℕ) → slice_index_or found.operands 0 0 ≡ v → word ≡ kept (primitive_of of) v
         → (statics : Vec ℕ Global) → statics.items ≡ slice_set old.statics.items slot word
         → (left : ShownFrame) (answer : Effect) → Leaves (Ok answer) 1 [] found left
-        → Does trees p bounds inflated t state.world (model.Invocation frame ∷ rest) (instruction_event trees frames (event_of t) state.world frame rest meaning) (Ok answer) old (record old { statics = statics }) stack (with_top left stack)
+        → Does trees p bounds inflated t state.world (model.Invocation frame
+        ∷ rest) (instruction_event trees frames (event_of t) state.world frame rest meaning) (Ok answer)
+        old (record old { statics = statics }) stack (with_top left stack)
     put_static_done v word is_v is_word statics is_statics left answer leaves =
         let next = goes_on trees p bounds inflated t old stack state frame rest code site meaning (puts.put_static_instruction of class slot) is in
         let static = are_statics trees old.statics.items state.world.statics is.lent.represents.world_is.statics put.field slot put.slots in

@@ -61,11 +61,14 @@ object_there trees heap (suc q ∷ stack) r e h =
     subst (λ n. n < length heap) (sym (same_Some r q e))
     (subst (λ n. q < n) (length-map heap model.type_of) (by (slice_get (types_of heap) q) refl (and_parts _ _ h).0))
   where
-    by : (found : Option ReferenceType) → slice_get (types_of heap) q ≡ found → option_map_or (λ (type : ReferenceType). is_assignable trees type any_object) found false ≡ true → q < length (types_of heap)
+    by : (found : Option ReferenceType) → slice_get (types_of heap) q ≡ found
+        → option_map_or (λ (type : ReferenceType). is_assignable trees type any_object) found false ≡ true → q < length (types_of heap)
     by None is h = absurd (false≢true h)
     by (Some type) is h = slice_get_within (types_of heap) q type is
 
-module _ (trees : Program) (p : LinkedProgram) (bounds : Bounds) (inflated : List ℕ) (t : ℕ) (old : Shared) (from : List ShownEntry) (state : StateOf ℕ) (frame : FrameOf ℕ) (rest : StackOf ℕ) (code : LinkedCode) (site : Site) (meaning : MeaningOf ℕ) (instruction : LinkedInstruction)
+module _ (trees : Program) (p : LinkedProgram) (bounds : Bounds) (inflated : List ℕ) (t : ℕ) (old : Shared) (from : List ShownEntry)
+    (state : StateOf ℕ) (frame : FrameOf ℕ) (rest : StackOf ℕ) (code : LinkedCode) (site : Site) (meaning : MeaningOf ℕ)
+    (instruction : LinkedInstruction)
     (is : IsRunning trees p bounds inflated t old from state frame rest code site meaning instruction) where
   abbrev pub world : WorldOf ℕ
   world = state.world
@@ -87,7 +90,8 @@ module _ (trees : Program) (p : LinkedProgram) (bounds : Bounds) (inflated : Lis
       ∙ sym (ap object_on is.is_stack)
 
   -- where the meaning wants an object, it has a monitor
-  pub there : (m : MeaningOf ℕ) → meaning_of words trees site ≡ Some m → m.wants ≡ wants_of (AReference any_object ∷ []) 0 → (r : ℕ) → Some r ≡ object_on from → r < length old.heap.locks.monitors
+  pub there : (m : MeaningOf ℕ) → meaning_of words trees site ≡ Some m → m.wants ≡ wants_of (AReference any_object ∷ []) 0 → (r : ℕ)
+      → Some r ≡ object_on from → r < length old.heap.locks.monitors
   there m e wants r found =
       let f = finds trees p bounds inflated t old from state frame rest code site meaning instruction is in
       let is_m = meaning_is trees p bounds inflated t old from state frame rest code site meaning instruction is m e in
@@ -109,7 +113,8 @@ module _ (trees : Program) (p : LinkedProgram) (bounds : Bounds) (inflated : Lis
       let small = items.small in
       omega arith
 
-  pub went : site.next ≡ offset_in code.starts.items (is.shown.place + 1) → (to : List ShownEntry) → GoesOn from to → ShowsStack trees p to gone_on
+  pub went : site.next ≡ offset_in code.starts.items (is.shown.place + 1) → (to : List ShownEntry) → GoesOn from to
+      → ShowsStack trees p to gone_on
   went next to goes =
       let to_is : to ≡ Invocation (at_place (is.shown.place + 1) (replaced 1 [] is.shown)) ∷ is.others = subst (λ s. GoesOn s to) is.is_stack goes place_within in
       subst (λ s. ShowsStack trees p s gone_on) (sym to_is)
@@ -146,7 +151,8 @@ module _ (trees : Program) (p : LinkedProgram) (bounds : Bounds) (inflated : Lis
 
   -- ---- a refusal changes nothing
 
-  pub refused : (new : Shared) (stepped : SteppedOf (PartOf ℕ)) (cost : Cost) (after : PartOf ℕ) → stepped ≡ Next cost after → (told : Refusal) → MayBeRefused trees bounds inflated world cost told → new ≡ old
+  pub refused : (new : Shared) (stepped : SteppedOf (PartOf ℕ)) (cost : Cost) (after : PartOf ℕ) → stepped ≡ Next cost after
+      → (told : Refusal) → MayBeRefused trees bounds inflated world cost told → new ≡ old
       → (result : Result Effect Refusal) → IsErrAnd result (λ e. e ≡ told)
       → Does trees p bounds inflated t world (model.Invocation frame ∷ rest) stepped result old new from from
   refused new stepped cost after e told may unchanged (Ok other) h = absurd h
@@ -158,7 +164,8 @@ module _ (trees : Program) (p : LinkedProgram) (bounds : Bounds) (inflated : Lis
 not_owner_stays : (t : ℕ) (m after : Monitor) → owns t m.owner ≡ false → (as_owner t m after).after ≡ m
 not_owner_stays t m after e = ap (λ b. (if b then answers_done after else record { answer = NotOwner; after = m }).after) e
 
-pub exit_stays : (world : WorldOf ℕ) (t object : ℕ) (old new : Heap) → is_owner (over world old) t object ≡ false → MonitorsBecome (λ w. with_exit w t object) old.locks.fat old new → new ≡ old
+pub exit_stays : (world : WorldOf ℕ) (t object : ℕ) (old new : Heap) → is_owner (over world old) t object ≡ false
+    → MonitorsBecome (λ w. with_exit w t object) old.locks.fat old new → new ≡ old
 exit_stays world t object old new e becomes =
     let m = monitor_at old.locks.monitors object in
     let monitors : new.locks.monitors ≡ old.locks.monitors =

@@ -34,7 +34,8 @@ use Rattle.machine_instructions.specs.returns.Places.{code_in, code_at, GoesOnAt
 
 -- ---- the row of a method
 
-method_row : (files : Program) (p : LinkedProgram) (ms : List Member) (ls : List LinkedMethod) → AreMethods files p ms ls → (n : ℕ) (method : Member) → slice_get ms n ≡ Some method
+method_row : (files : Program) (p : LinkedProgram) (ms : List Member) (ls : List LinkedMethod) → AreMethods files p ms ls → (n : ℕ)
+    (method : Member) → slice_get ms n ≡ Some method
     → (l : LinkedMethod) × (slice_get ls n ≡ Some l) × IsLinkedMethod files p method l
 method_row files p [] ls h n method e = absurd cc
 method_row files p (m ∷ ms) [] h n method e = absurd h
@@ -46,7 +47,8 @@ pub record HasCode (files : Program) (p : LinkedProgram) (m : Member) (b : Body)
   pub runs : linked ≡ body.Code code
   pub is : IsCode files p m b code
 
-code_of : (files : Program) (p : LinkedProgram) (m : Member) (b : Body) (linked : MethodBody) → IsMethodBody files p m (Some b) linked → HasCode files p m b linked
+code_of : (files : Program) (p : LinkedProgram) (m : Member) (b : Body) (linked : MethodBody) → IsMethodBody files p m (Some b) linked
+    → HasCode files p m b linked
 code_of files p m b (body.Code code) h = record { code = code; runs = refl; is = h.1 }
 code_of files p m b body.Abstract h = absurd h
 code_of files p m b (body.BuiltIn of) h = absurd h
@@ -58,7 +60,8 @@ sized_some None h = absurd (false≢true h)
 sized_some (Some z) h = (z, refl)
 
 -- a place at whose offset an instruction begins inside the code is one of the code's
-module _ (files : Program) (p : LinkedProgram) (m : Member) (b : Body) (starts : List ℕ) (instructions : List LinkedInstruction) (l : AreLinked files p m b starts instructions) (k : ℕ) (site : Site)
+module _ (files : Program) (p : LinkedProgram) (m : Member) (b : Body) (starts : List ℕ) (instructions : List LinkedInstruction)
+    (l : AreLinked files p m b starts instructions) (k : ℕ) (site : Site)
     (inside : offset_in starts k < length b.code.code) (is : site_at m b (offset_in starts k) ≡ Some site) where
   at_end : k ≡ length instructions → ⊥
   at_end e =
@@ -86,7 +89,8 @@ module _ (files : Program) (p : LinkedProgram) (m : Member) (b : Body) (starts :
               let more : length starts ≤ k = grind (arith, nat_tests) in
               absurd (past more)
 
-module _ (trees : Program) (p : LinkedProgram) (program : IsProgram trees p) (shown : ShownFrame) (frame : FrameOf ℕ) (shows : ShowsFrame trees p shown frame) (stands : StandsInCode trees frame) where
+module _ (trees : Program) (p : LinkedProgram) (program : IsProgram trees p) (shown : ShownFrame) (frame : FrameOf ℕ)
+    (shows : ShowsFrame trees p shown frame) (stands : StandsInCode trees frame) where
   row : (l : LinkedMethod) × (slice_get p.methods.items shown.method ≡ Some l) × IsLinkedMethod trees p frame.method l
   row = method_row trees p (methods_of trees) p.methods.items program.linked.methods shown.method frame.method shows.method
 
@@ -127,7 +131,8 @@ module _ (trees : Program) (p : LinkedProgram) (program : IsProgram trees p) (sh
       at (next_place has.code.instructions.items shown.place) ∙ l.goes_on shown.place site within site_is ∙ sym next_is
 
 -- so in code that is found, and there is code
-pub next_goes : (p : LinkedProgram) (shown : ShownFrame) (code : LinkedCode) → Some code ≡ code_at p shown.method → GoesOnAt p shown (next_place code.instructions.items shown.place)
+pub next_goes : (p : LinkedProgram) (shown : ShownFrame) (code : LinkedCode) → Some code ≡ code_at p shown.method
+    → GoesOnAt p shown (next_place code.instructions.items shown.place)
 next_goes p shown code found trees program frame shows stands =
     let same : (has trees p program shown frame shows stands).code ≡ code = same_Some _ code (sym (code_is trees p program shown frame shows stands) ∙ sym found) in
     subst (λ (c : LinkedCode). offset_at p shown.method (next_place c.instructions.items shown.place) ≡ next_of trees frame) same (goes trees p program shown frame shows stands)
@@ -137,7 +142,8 @@ none_goes p shown place found trees program frame shows stands = let there = cod
 
 -- ---- the frame on top
 
-pub next_top : (p : LinkedProgram) (stack : List ShownEntry) (found : Option ShownFrame) → IsTopFrame stack found → (place : ℕ) → ((f : ShownFrame) → found ≡ Some f → GoesOnAt p f place)
+pub next_top : (p : LinkedProgram) (stack : List ShownEntry) (found : Option ShownFrame) → IsTopFrame stack found → (place : ℕ)
+    → ((f : ShownFrame) → found ≡ Some f → GoesOnAt p f place)
     → IsNextOfTop p stack place
 next_top p [] found top place each trees program own shows stands = tt
 next_top p (Initialisation class phase ∷ others) found top place each trees program own shows stands = tt

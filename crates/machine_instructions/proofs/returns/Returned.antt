@@ -52,7 +52,8 @@ pub record Returning (trees : Program) (site : Site) (value : Bool) : Type 0 whe
   pub nothing : is_nothing kind ≡ not value
   pub is : meaning_of words trees site ≡ Some (return_of words trees site.method.descriptor kind)
 
-meant : (trees : Program) (p : LinkedProgram) (at : ℕ → ℕ) (code : List LinkedInstruction) (site : Site) (k : ℕ) (value : Bool) → IsLinked trees p at code site k (returning value) → Returning trees site value
+meant : (trees : Program) (p : LinkedProgram) (at : ℕ → ℕ) (code : List LinkedInstruction) (site : Site) (k : ℕ) (value : Bool)
+    → IsLinked trees p at code site k (returning value) → Returning trees site value
 meant trees p at code site k true linked = record { kind = linked.kind; nothing = linked.value; is = linked.is }
 meant trees p at code site k false linked = record { kind = returned.Nothing; nothing = refl; is = linked }
 
@@ -73,7 +74,8 @@ module _ (trees : Program) (t : ℕ) (world : WorldOf ℕ) (frame : FrameOf ℕ)
 
 module _ (trees : Program) (frames t : ℕ) (world : WorldOf ℕ) (frame : FrameOf ℕ) (rest : StackOf ℕ) (descriptor : Name) where
   by_kind : (value : Bool) (kind : Returned) → is_nothing kind ≡ not value → (return_of words trees descriptor kind).wants.allowed ≡ true
-      → instruction_event trees frames (event_of t) world frame rest (return_of words trees descriptor kind) ≡ returns_to trees t world frame rest (if value then Some (slice_index_or frame.place.slots.stack 0 0) else None)
+      → instruction_event trees frames (event_of t) world frame rest (return_of words trees descriptor kind)
+      ≡ returns_to trees t world frame rest (if value then Some (slice_index_or frame.place.slots.stack 0 0) else None)
   by_kind false returned.Nothing nothing allowed = refl
   by_kind false returned.Int nothing allowed = absurd (false≢true nothing)
   by_kind false returned.Reference nothing allowed = absurd (false≢true nothing)
@@ -88,7 +90,9 @@ shown_result false stack shown others is = ap (result_in false) is
 
 -- ---- a thread that runs
 
-module _ (trees : Program) (p : LinkedProgram) (bounds : Bounds) (inflated : List ℕ) (t : ℕ) (shared : Shared) (stack : List ShownEntry) (state : StateOf ℕ) (frame : FrameOf ℕ) (rest : StackOf ℕ) (code : LinkedCode) (site : Site) (meaning : MeaningOf ℕ) (value : Bool) (is : IsRunning trees p bounds inflated t shared stack state frame rest code site meaning (returning value)) where
+module _ (trees : Program) (p : LinkedProgram) (bounds : Bounds) (inflated : List ℕ) (t : ℕ) (shared : Shared) (stack : List ShownEntry)
+    (state : StateOf ℕ) (frame : FrameOf ℕ) (rest : StackOf ℕ) (code : LinkedCode) (site : Site) (meaning : MeaningOf ℕ) (value : Bool)
+    (is : IsRunning trees p bounds inflated t shared stack state frame rest code site meaning (returning value)) where
   here : Returning trees site value
   here = meant trees p (offset_in code.starts.items) code.instructions.items site is.shown.place value is.stands.linked
 
@@ -101,7 +105,8 @@ module _ (trees : Program) (p : LinkedProgram) (bounds : Bounds) (inflated : Lis
       ∙ (and_parts meaning.wants.allowed _ (finds trees p bounds inflated t shared stack state frame rest code site meaning (returning value) is).ready).0
 
   -- what becomes of its event
-  pub event_returns : (frames : ℕ) → instruction_event trees frames (event_of t) state.world frame rest meaning ≡ returns_to trees t state.world frame rest (result_in value stack)
+  pub event_returns : (frames : ℕ) → instruction_event trees frames (event_of t) state.world frame rest meaning
+      ≡ returns_to trees t state.world frame rest (result_in value stack)
   event_returns frames =
       event_is trees p bounds inflated t shared stack state frame rest code site meaning (returning value) is frames (event_of t) m here.is
       ∙ by_kind trees frames t state.world frame rest site.method.descriptor value here.kind here.nothing allowed
@@ -141,7 +146,9 @@ module _ (trees : Program) (p : LinkedProgram) (bounds : Bounds) (inflated : Lis
         event_returns frames
         ∙ ap (λ o. leaving t o state.world (step.returned trees results rest) (model.Invocation frame ∷ rest)) (entered_is trees p stack frame rest is.lent.shows_stack entered has)
 
-    pub not_owner : SaysMayLeave false t entered shared.heap → Does trees p bounds inflated t state.world (model.Invocation frame ∷ rest) stepped (Ok (effect.Raises exception.IllegalMonitorState)) shared shared stack stack
+    pub not_owner : SaysMayLeave false t entered shared.heap
+        → Does trees p bounds inflated t state.world (model.Invocation frame
+        ∷ rest) stepped (Ok (effect.Raises exception.IllegalMonitorState)) shared shared stack stack
     not_owner says = (
       stepped_is ∙ not_owned trees p bounds inflated state.world shared is.lent.represents t entered (step.returned trees results rest) (model.Invocation frame ∷ rest) says,
       record { shared = refl; stack = refl },
@@ -161,7 +168,8 @@ module _ (trees : Program) (p : LinkedProgram) (bounds : Bounds) (inflated : Lis
       )
 
       pub returns : (next : ℕ) → IsNextOfTop p (drop 1 stack) next → (new : Shared) → Leaves t entered shared new
-          → (to : List ShownEntry) → to ≡ returned_to next results (drop 1 stack) → IsDone trees p bounds inflated state.world stepped shared new to
+          → (to : List ShownEntry) → to ≡ returned_to next results (drop 1 stack)
+          → IsDone trees p bounds inflated state.world stepped shared new to
       returns next at new l to same =
           let under = under_shown trees p stack (model.Invocation frame) rest is.lent.shows_stack in
           subst (λ s. IsDone trees p bounds inflated state.world s shared new to) (sym stepped_is)
@@ -174,7 +182,8 @@ module _ (trees : Program) (p : LinkedProgram) (bounds : Bounds) (inflated : Lis
 leaves_none : (t : ℕ) (shared : Shared) → Leaves t None shared shared
 leaves_none t shared = record { represents = λ trees p bounds world r. r; flags = refl; rest = refl }
 
-pub returns_alone : (p : LinkedProgram) (value : Bool) (stack : List ShownEntry) → HasEntered stack None → (next : ℕ) → IsNextOfTop p (drop 1 stack) next
+pub returns_alone : (p : LinkedProgram) (value : Bool) (stack : List ShownEntry) → HasEntered stack None → (next : ℕ)
+    → IsNextOfTop p (drop 1 stack) next
     → (to : List ShownEntry) → to ≡ returned_to next (option_to_list (result_in value stack)) (drop 1 stack) → (t : ℕ) (shared : Shared)
     → DoesOwn p (returning value) t (Ok effect.Done) shared shared stack to
 returns_alone p value stack has next at to same t shared = λ frames trees bounds inflated state frame rest code site meaning is.

@@ -39,12 +39,14 @@ taken (suc count) (x ∷ words) zero w e = e
 taken (suc count) (x ∷ words) (suc k) w e = taken count words k w e
 
 -- the one on top is there where any is taken
-pub first_taken : (count : ℕ) (words : List ℕ) → 0 < length (take count words) → slice_index_or (take count words) 0 0 ≡ slice_index_or words 0 0
+pub first_taken : (count : ℕ) (words : List ℕ) → 0 < length (take count words)
+    → slice_index_or (take count words) 0 0 ≡ slice_index_or words 0 0
 first_taken zero words h = absurd (omega (arith, h))
 first_taken (suc count) [] h = refl
 first_taken (suc count) (x ∷ words) h = refl
 
-module _ (trees : Program) (p : LinkedProgram) (bounds : Bounds) (inflated : List ℕ) (t : ℕ) (old : Shared) (from : List ShownEntry) (state : StateOf ℕ) (frame : FrameOf ℕ) (rest : StackOf ℕ) (called : BuiltInMethod) (count next offset : ℕ)
+module _ (trees : Program) (p : LinkedProgram) (bounds : Bounds) (inflated : List ℕ) (t : ℕ) (old : Shared) (from : List ShownEntry)
+    (state : StateOf ℕ) (frame : FrameOf ℕ) (rest : StackOf ℕ) (called : BuiltInMethod) (count next offset : ℕ)
     (is : IsCalling trees p bounds inflated t old from state frame rest called count next offset) where
   abbrev pub world : WorldOf ℕ
   world = state.world
@@ -68,7 +70,8 @@ module _ (trees : Program) (p : LinkedProgram) (bounds : Bounds) (inflated : Lis
         ap (λ w. w - 1) (operand_is k ∙ get_or_from_slice_get frame.place.slots.stack k (suc refers.reference) 0 (taken count frame.place.slots.stack k (suc refers.reference) refers.word))
         ∙ omega arith
 
-    pub same_object : (object : ℕ) → object ≡ operand_of k from - 1 → unwrap_or (word_reference (slice_index_or (take count frame.place.slots.stack) k 0)) 0 ≡ object
+    pub same_object : (object : ℕ) → object ≡ operand_of k from - 1
+        → unwrap_or (word_reference (slice_index_or (take count frame.place.slots.stack) k 0)) 0 ≡ object
     same_object object e = object_read ∙ sym (e ∙ object_is)
 
   -- ---- the stack after it
@@ -90,7 +93,8 @@ module _ (trees : Program) (p : LinkedProgram) (bounds : Bounds) (inflated : Lis
         shows.1,
       )
 
-  pub stayed : ShowsStack trees p (on_top (without count) from) (model.Invocation (at_call frame (drop count frame.place.slots.stack)) ∷ rest)
+  pub stayed : ShowsStack trees p (on_top (without count) from) (model.Invocation (at_call frame (drop count frame.place.slots.stack))
+      ∷ rest)
   stayed =
       subst (λ s. ShowsStack trees p (on_top (without count) s) (model.Invocation (at_call frame (drop count frame.place.slots.stack)) ∷ rest)) (sym is.is_stack) (
         record {
@@ -107,7 +111,8 @@ module _ (trees : Program) (p : LinkedProgram) (bounds : Bounds) (inflated : Lis
 
   -- it is done where it takes nothing, no lock is made fat, and no thread is new
   pub free : (after : WorldOf ℕ) (new : Shared) → Represents trees p bounds new after
-      → new.heap.locks.fat ≡ old.heap.locks.fat → new.stacks.items ≡ old.stacks.items → length new.threads.threads ≡ length old.threads.threads
+      → new.heap.locks.fat ≡ old.heap.locks.fat → new.stacks.items ≡ old.stacks.items
+      → length new.threads.threads ≡ length old.threads.threads
       → (to : List ShownEntry) (results : List ℕ) → to ≡ on_top (went_on count results next) from
       → IsDone trees p bounds inflated world (Next Free (part after (gone_on results))) old new to
   free after new r fat stacks threads to results is_to =
@@ -132,7 +137,8 @@ module _ (trees : Program) (p : LinkedProgram) (bounds : Bounds) (inflated : Lis
 
   -- it has a result, or there is no memory for it
   with_result : (result : Result Effect Refusal) (word : ℕ) (to : List ShownEntry) → Answers result count word next from to
-      → Does trees p bounds inflated t world (model.Invocation frame ∷ rest) (Next Free (part world (gone_on (word ∷ [])))) result old old from to
+      → Does trees p bounds inflated t world (model.Invocation frame
+      ∷ rest) (Next Free (part world (gone_on (word ∷ [])))) result old old from to
   with_result (Ok effect.Done) word to e = same to (word ∷ []) e
   with_result (Ok (effect.Raises fault)) word to e = absurd e
   with_result (Ok (effect.Throws thrown)) word to e = absurd e
@@ -145,8 +151,10 @@ module _ (trees : Program) (p : LinkedProgram) (bounds : Bounds) (inflated : Lis
   with_result (Err refusal.LockCount) word to e = absurd e
   with_result (Err refusal.Memory) word to e = (record { cost = Free; next = part world (gone_on (word ∷ [])); is = refl; may = tt }, record { shared = refl; stack = e })
 
-  pub answered : (word value : ℕ) → word ≡ value → (result : Result Effect Refusal) (to : List ShownEntry) → Answers result count word next from to
-      → Does trees p bounds inflated t world (model.Invocation frame ∷ rest) (Next Free (part world (gone_on (value ∷ [])))) result old old from to
+  pub answered : (word value : ℕ) → word ≡ value → (result : Result Effect Refusal) (to : List ShownEntry)
+      → Answers result count word next from to
+      → Does trees p bounds inflated t world (model.Invocation frame
+      ∷ rest) (Next Free (part world (gone_on (value ∷ [])))) result old old from to
   answered word value e result to h =
       subst (λ v. Does trees p bounds inflated t world (model.Invocation frame ∷ rest) (Next Free (part world (gone_on (v ∷ [])))) result old old from to) e
       (with_result result word to h)
@@ -154,8 +162,10 @@ module _ (trees : Program) (p : LinkedProgram) (bounds : Bounds) (inflated : Lis
   -- it has a result, and shared state has changed after that
   pub passed : (done : Effect) (word value : ℕ) → word ≡ value → (to : List ShownEntry) → Answers (Ok done) count word next from to
       → (after : WorldOf ℕ) (new : Shared) → Represents trees p bounds new after
-      → new.heap.locks.fat ≡ old.heap.locks.fat → new.stacks.items ≡ old.stacks.items → length new.threads.threads ≡ length old.threads.threads
-      → Does trees p bounds inflated t world (model.Invocation frame ∷ rest) (Next Free (part after (gone_on (value ∷ [])))) (Ok done) old new from to
+      → new.heap.locks.fat ≡ old.heap.locks.fat → new.stacks.items ≡ old.stacks.items
+      → length new.threads.threads ≡ length old.threads.threads
+      → Does trees p bounds inflated t world (model.Invocation frame
+      ∷ rest) (Next Free (part after (gone_on (value ∷ [])))) (Ok done) old new from to
   passed effect.Done word value e to h after new r fat stacks threads = free after new r fat stacks threads to (value ∷ []) (h ∙ ap (λ w. on_top (went_on count (w ∷ []) next) from) e)
   passed (effect.Raises fault) word value e to h after new r fat stacks threads = absurd h
   passed (effect.Throws thrown) word value e to h after new r fat stacks threads = absurd h
@@ -181,20 +191,24 @@ module _ (trees : Program) (p : LinkedProgram) (bounds : Bounds) (inflated : Lis
     answers_in other e ask flag h = h ∙ (λ i. ask (e i) (sym (same_object 0 test refers object is_object) i))
 
     -- by the table of threads, and by the heap
-    pub says : {B : Type 0} (ask : WorldOf ℕ → ℕ → B) (flag : B) → flag ≡ ask (among world old.threads) object → flag ≡ ask world (object_of words (take count frame.place.slots.stack) 0)
+    pub says : {B : Type 0} (ask : WorldOf ℕ → ℕ → B) (flag : B) → flag ≡ ask (among world old.threads) object
+        → flag ≡ ask world (object_of words (take count frame.place.slots.stack) 0)
     says = answers_in (among world old.threads) among_is
 
-    pub says_over : {B : Type 0} (ask : WorldOf ℕ → ℕ → B) (flag : B) → flag ≡ ask (over world old.heap) object → flag ≡ ask world (object_of words (take count frame.place.slots.stack) 0)
+    pub says_over : {B : Type 0} (ask : WorldOf ℕ → ℕ → B) (flag : B) → flag ≡ ask (over world old.heap) object
+        → flag ≡ ask world (object_of words (take count frame.place.slots.stack) 0)
     says_over = answers_in (over world old.heap) over_is
 
   -- ---- after it
 
   -- there are as many threads, where the worlds have as many
-  pub as_many : (after : WorldOf ℕ) (new : Shared) → Represents trees p bounds new after → length after.threads ≡ length world.threads → length new.threads.threads ≡ length old.threads.threads
+  pub as_many : (after : WorldOf ℕ) (new : Shared) → Represents trees p bounds new after → length after.threads ≡ length world.threads
+      → length new.threads.threads ≡ length old.threads.threads
   as_many after new r e = ap (λ (threads : List Thread). length threads) r.world_is.threads ∙ e ∙ ap (λ (threads : List Thread). length threads) (sym represented.world_is.threads)
 
   -- a refusal changes nothing
-  pub refused : (new : Shared) (stepped : SteppedOf (PartOf ℕ)) (cost : Cost) (after : PartOf ℕ) → stepped ≡ Next cost after → (told : Refusal) → MayBeRefused trees bounds inflated world cost told → new ≡ old
+  pub refused : (new : Shared) (stepped : SteppedOf (PartOf ℕ)) (cost : Cost) (after : PartOf ℕ) → stepped ≡ Next cost after
+      → (told : Refusal) → MayBeRefused trees bounds inflated world cost told → new ≡ old
       → (result : Result Effect Refusal) → IsErrAnd result (λ e. e ≡ told)
       → Does trees p bounds inflated t world (model.Invocation frame ∷ rest) stepped result old new from from
   refused new stepped cost after e told may unchanged (Ok other) h = absurd h

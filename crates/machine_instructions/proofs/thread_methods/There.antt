@@ -32,19 +32,22 @@ module _ (files : Program) (heap : List (ObjectOf Value)) where
   object_there : (class : Name) (r : ℕ) → is_object_in files (types_of heap) class r ≡ true → r < length heap
   object_there class r h = ltb-true r (length heap) (are_objects files heap (OfType (ClassType class)) (value.Reference r) refl h)
 
-  status_there : (pending : Option ℕ) (stack : StackOf Value) (status : ThreadStatus) → IsStackTyped files (types_of heap) pending stack status → IsStatusWithin (length heap) status
+  status_there : (pending : Option ℕ) (stack : StackOf Value) (status : ThreadStatus)
+      → IsStackTyped files (types_of heap) pending stack status → IsStatusWithin (length heap) status
   status_there pending stack Running h = tt
   status_there pending stack (Waiting object count) h = object_there _ object h.1.0
   status_there pending stack (Relock object count cause) h = tt
   status_there pending stack (Ended thrown) h = tt
 
-  statuses_there : (threads : List Thread) (stacks : List (StackOf Value)) → AreThreadsTyped files (types_of heap) threads stacks → (t : ℕ) → IsStatusWithin (length heap) (row_at threads t).status
+  statuses_there : (threads : List Thread) (stacks : List (StackOf Value)) → AreThreadsTyped files (types_of heap) threads stacks → (t : ℕ)
+      → IsStatusWithin (length heap) (row_at threads t).status
   statuses_there [] stacks h t = tt
   statuses_there (thread ∷ threads) [] h t = absurd h
   statuses_there (thread ∷ threads) (stack ∷ stacks) h zero = status_there thread.pending stack thread.status h.0.stack_typed
   statuses_there (thread ∷ threads) (stack ∷ stacks) h (suc t) = statuses_there threads stacks h.1 t
 
-  own_there : (threads : List Thread) (stacks : List (StackOf Value)) → AreThreadsTyped files (types_of heap) threads stacks → (t : ℕ) → t < length stacks
+  own_there : (threads : List Thread) (stacks : List (StackOf Value)) → AreThreadsTyped files (types_of heap) threads stacks → (t : ℕ)
+      → t < length stacks
       → (t < length threads) × ((row_at threads t).object < length heap)
   own_there [] [] h t l = absurd (omega (arith, l))
   own_there [] (stack ∷ stacks) h t l = absurd h
@@ -54,7 +57,8 @@ module _ (files : Program) (heap : List (ObjectOf Value)) where
 
 -- ---- a call
 
-module _ (trees : Program) (p : LinkedProgram) (bounds : Bounds) (inflated : List ℕ) (t : ℕ) (old : Shared) (from : List ShownEntry) (state : StateOf ℕ) (frame : FrameOf ℕ) (rest : StackOf ℕ) (called : BuiltInMethod) (count next offset : ℕ)
+module _ (trees : Program) (p : LinkedProgram) (bounds : Bounds) (inflated : List ℕ) (t : ℕ) (old : Shared) (from : List ShownEntry)
+    (state : StateOf ℕ) (frame : FrameOf ℕ) (rest : StackOf ℕ) (called : BuiltInMethod) (count next offset : ℕ)
     (is : IsCalling trees p bounds inflated t old from state frame rest called count next offset) where
   -- the objects of the state, each with a monitor
   objects_are : length old.heap.objects ≡ length state.world.heap
@@ -66,7 +70,8 @@ module _ (trees : Program) (p : LinkedProgram) (bounds : Bounds) (inflated : Lis
       ∙ subst (λ (s : StateOf ℕ). length s.world.monitors ≡ length s.world.heap) (sym is.lent.typed.1.are)
       (is.lent.typed.1.typed.monitors ∙ sym (length-map is.lent.typed.0.world.heap (map_object word_of)))
 
-  pub receiver_there : (test : ObjectOf ℕ → Bool) → RefersTo state.world.heap (take count frame.place.slots.stack) 0 test → operand_of 0 from - 1 < length old.heap.locks.monitors
+  pub receiver_there : (test : ObjectOf ℕ → Bool) → RefersTo state.world.heap (take count frame.place.slots.stack) 0 test
+      → operand_of 0 from - 1 < length old.heap.locks.monitors
   receiver_there test refers =
       subst (λ n. operand_of 0 from - 1 < n) (sym monitors_are)
       (subst (λ n. n < length state.world.heap) (sym (object_is trees p bounds inflated t old from state frame rest called count next offset is 0 test refers))

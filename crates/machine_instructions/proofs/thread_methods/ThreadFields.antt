@@ -74,7 +74,8 @@ module _ (files : Program) where
       (λ s q v. before n c s q (begins k n s (ends_above files (suc n) c s q e) v)) (superclass_of files c) refl h)
       (or_cases (name_eq c java_lang_thread) _ w)
 
-  pub target_slot : Rooted files → (class : Name) → is_subclass files class java_lang_thread ≡ true → slot_in (instance_fields files class) thread_target ≡ Some 0
+  pub target_slot : Rooted files → (class : Name) → is_subclass files class java_lang_thread ≡ true
+      → slot_in (instance_fields files class) thread_target ≡ Some 0
   target_slot rooted class below =
       let b = begins (length (classes_of files)) (length (classes_of files)) class (rooted class) below in
       ap (λ (fields : List Member). slot_in fields thread_target) b.1 ∙ first (λ (f : Member). member_eq f thread_target) thread_target b.0 refl
@@ -86,7 +87,8 @@ module _ (files : Program) where
 
   -- the instance that a Thread is
   pub instance : (object : ObjectOf ℕ) → has_class_below files java_lang_thread object ≡ true
-      → (class : Name) × ((fields : List (Member × ℕ)) × (object ≡ Instance class fields) × (is_subclass files class java_lang_thread ≡ true))
+      → (class : Name) × ((fields : List (Member × ℕ)) × (object ≡ Instance class fields)
+      × (is_subclass files class java_lang_thread ≡ true))
   instance (Instance class fields) h = (class, (fields, refl, h))
   instance (Primitives of elements) h = absurd (false≢true (sym object_below ∙ h))
   instance (References of elements) h = absurd (false≢true (sym object_below ∙ h))

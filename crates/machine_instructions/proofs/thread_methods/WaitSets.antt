@@ -13,7 +13,8 @@ pub one_woken : (object : ℕ) (world : WorldOf ℕ) (waiter : Option Waiter) �
 one_woken object world None = refl
 one_woken object world (Some waiter) = length-set world.threads waiter.thread _
 
-pub all_are_woken : (object : ℕ) (cause : WakeCause) (waiters : List Waiter) (world : WorldOf ℕ) → count (all_woken object cause world waiters) ≡ count world
+pub all_are_woken : (object : ℕ) (cause : WakeCause) (waiters : List Waiter) (world : WorldOf ℕ)
+    → count (all_woken object cause world waiters) ≡ count world
 all_are_woken object cause [] world = refl
 all_are_woken object cause (waiter ∷ waiters) world = all_are_woken object cause waiters (woken object cause world waiter) ∙ length-set world.threads waiter.thread _
 

@@ -45,7 +45,10 @@ pub top_and_rest : (ss : List ℕ) → 1 ≤ length ss → slice_index_or ss 0 0
 top_and_rest [] le = absurd (omega arith)
 top_and_rest (x ∷ ss) le = refl
 
-module _ {trees : Program} {p : LinkedProgram} {bounds : Bounds} {inflated : List ℕ} {t : ℕ} {shared : Shared} {stack : List ShownEntry} {state : StateOf ℕ} {frame : FrameOf ℕ} {rest : StackOf ℕ} {code : LinkedCode} {site : Site} {meaning : MeaningOf ℕ} {instruction : LinkedInstruction} (is : IsRunning trees p bounds inflated t shared stack state frame rest code site meaning instruction) where
+module _ {trees : Program} {p : LinkedProgram} {bounds : Bounds} {inflated : List ℕ} {t : ℕ} {shared : Shared} {stack : List
+    ShownEntry} {state : StateOf ℕ} {frame : FrameOf ℕ} {rest : StackOf ℕ} {code : LinkedCode} {site : Site} {meaning : MeaningOf
+    ℕ} {instruction : LinkedInstruction} (is : IsRunning trees p bounds inflated t shared stack state frame rest code site meaning
+    instruction) where
   -- ---- the frame on top
 
   -- its place is one of a list in memory
@@ -68,7 +71,8 @@ module _ {trees : Program} {p : LinkedProgram} {bounds : Bounds} {inflated : Lis
   operands_are = (top_shown trees p bounds inflated t shared stack state frame rest code site meaning instruction is).top.operands
 
   -- an operand that is popped is the one that was read
-  pub operand_is : (f : ShownFrame) → f ≡ is.shown → (n k : ℕ) → k < n → (w : ℕ) → w ≡ slice_index_or f.operands k 0 → slice_index_or (take n frame.place.slots.stack) k 0 ≡ w
+  pub operand_is : (f : ShownFrame) → f ≡ is.shown → (n k : ℕ) → k < n → (w : ℕ) → w ≡ slice_index_or f.operands k 0
+      → slice_index_or (take n frame.place.slots.stack) k 0 ≡ w
   operand_is f top n k lt w e =
       popped n k frame.place.slots.stack lt ∙ ap (λ ss. slice_index_or ss k 0) (operands_are ∙ ap (λ (g : ShownFrame). g.operands) (sym top)) ∙ sym e
 
@@ -85,8 +89,10 @@ module _ {trees : Program} {p : LinkedProgram} {bounds : Bounds} {inflated : Lis
   -- ---- the event
 
   -- it is what becomes of the state by what the meaning does
-  pub event_by : (frames : ℕ) (m : MeaningOf ℕ) → meaning_of words trees site ≡ Some m → m.may (event_of t) state.world (ops_of words m frame.place.slots) ≡ true
-      → (outcome : OutcomeOf ℕ) → m.does (event_of t) state.world frame.place.slots (ops_of words m frame.place.slots) (under m.wants frame.place.slots) ≡ outcome
+  pub event_by : (frames : ℕ) (m : MeaningOf ℕ) → meaning_of words trees site ≡ Some m
+      → m.may (event_of t) state.world (ops_of words m frame.place.slots) ≡ true
+      → (outcome : OutcomeOf ℕ) → m.does (event_of t) state.world
+      frame.place.slots (ops_of words m frame.place.slots) (under m.wants frame.place.slots) ≡ outcome
       → instruction_event trees frames (event_of t) state.world frame rest meaning ≡ become trees frames t state.world frame rest outcome
   event_by frames m e may outcome does =
       event_is trees p bounds inflated t shared stack state frame rest code site meaning instruction is frames (event_of t) m e
@@ -101,12 +107,15 @@ module _ {trees : Program} {p : LinkedProgram} {bounds : Bounds} {inflated : Lis
   own_after count results = model.Invocation (at_offset frame (offset_in code.starts.items (is.shown.place + 1)) (slots_after count results)) ∷ rest
 
   -- it goes on at the next place
-  pub goes_on : (frames : ℕ) (cost : Cost) (after : WorldOf ℕ) (count : ℕ) (results : List ℕ) → site.next ≡ offset_in code.starts.items (is.shown.place + 1)
-      → become trees frames t state.world frame rest (Goes cost after (slots_after count results) site.next) ≡ Next cost (part after (own_after count results))
+  pub goes_on : (frames : ℕ) (cost : Cost) (after : WorldOf ℕ) (count : ℕ) (results : List ℕ)
+      → site.next ≡ offset_in code.starts.items (is.shown.place + 1)
+      → become trees frames t state.world frame rest (Goes cost after (slots_after count results) site.next)
+      ≡ Next cost (part after (own_after count results))
   goes_on frames cost after count results next = ap (λ o. Next cost (part after (model.Invocation (at_offset frame o (slots_after count results)) ∷ rest))) next
 
   -- the stack after it
-  pub shows_after : (count : ℕ) (results : List ℕ) (from to : ShownFrame) → from ≡ is.shown → to ≡ gone_on count results from → ShowsStack trees p (with_top to stack) (own_after count results)
+  pub shows_after : (count : ℕ) (results : List ℕ) (from to : ShownFrame) → from ≡ is.shown → to ≡ gone_on count results from
+      → ShowsStack trees p (with_top to stack) (own_after count results)
   shows_after count results from to top left =
       subst (λ s. ShowsStack trees p s (own_after count results))
       (sym (ap (λ f. with_top f stack) (left ∙ ap (gone_on count results) top) ∙ with_top_is trees p bounds inflated t shared stack state frame rest code site meaning instruction is (gone_on count results is.shown)))
@@ -122,9 +131,11 @@ module _ {trees : Program} {p : LinkedProgram} {bounds : Bounds} {inflated : Lis
       Does trees p bounds inflated t state.world (model.Invocation frame ∷ rest) (instruction_event trees frames (event_of t) state.world frame rest meaning) result shared new stack to
 
   -- it is done, in a world that is shown after it
-  pub done_free : (frames : ℕ) (after : WorldOf ℕ) (new : Shared) (count : ℕ) (results : List ℕ) (from to : ShownFrame) (told : Effect) → Leaves (Ok told) count results from to → from ≡ is.shown
+  pub done_free : (frames : ℕ) (after : WorldOf ℕ) (new : Shared) (count : ℕ) (results : List ℕ) (from to : ShownFrame) (told : Effect)
+      → Leaves (Ok told) count results from to → from ≡ is.shown
       → IsEvent frames (Next Free (part after (own_after count results)))
-      → Represents trees p bounds new after → new.heap.locks.fat ≡ shared.heap.locks.fat → new.stacks ≡ shared.stacks → new.threads ≡ shared.threads
+      → Represents trees p bounds new after → new.heap.locks.fat ≡ shared.heap.locks.fat → new.stacks ≡ shared.stacks
+      → new.threads ≡ shared.threads
       → DoesSo frames (Ok told) new (with_top to stack)
   done_free frames after new count results from to effect.Done left top event shows fat stacks threads =
       let small : from.place < 2 ^ 63 = subst (λ (f : ShownFrame). f.place < 2 ^ 63) (sym top) place_small in
@@ -137,7 +148,8 @@ module _ {trees : Program} {p : LinkedProgram} {bounds : Bounds} {inflated : Lis
   done_free frames after new count results from to effect.NotEnabled left top event shows fat stacks threads = absurd left
 
   -- it changes no more than its frame
-  pub does_own : (frames : ℕ) (count : ℕ) (results : List ℕ) (from to : ShownFrame) (result : Result Effect Refusal) → Leaves result count results from to → from ≡ is.shown
+  pub does_own : (frames : ℕ) (count : ℕ) (results : List ℕ) (from to : ShownFrame) (result : Result Effect Refusal)
+      → Leaves result count results from to → from ≡ is.shown
       → IsEvent frames (Next Free (part state.world (own_after count results))) → DoesSo frames result shared (with_top to stack)
   does_own frames count results from to (Ok told) left top event =
       done_free frames state.world shared count results from to told left top event is.lent.represents refl refl refl

@@ -65,12 +65,16 @@ first_words (f ∷ fields) = ap (λ l. 0 ∷ l) (first_words fields) ∙ ap (λ 
 
 -- ---- a refusal of the heap
 
-unmade_by : (why : AllocRefusal) (told : Refusal) → told ≡ of_heap why → (of : ObjectKind) (cells : ℕ) (old new : Heap) → Allocates (Err why) of cells old new → IsUnmade told of cells old new
+unmade_by : (why : AllocRefusal) (told : Refusal) → told ≡ of_heap why → (of : ObjectKind) (cells : ℕ) (old new : Heap)
+    → Allocates (Err why) of cells old new → IsUnmade told of cells old new
 unmade_by heap.Objects told is of cells old new told_so = subst (λ r. IsUnmade r of cells old new) (sym is) (heap.Objects, refl, told_so)
 unmade_by heap.Cells told is of cells old new told_so = subst (λ r. IsUnmade r of cells old new) (sym is) (heap.Cells, refl, told_so)
 unmade_by heap.Memory told is of cells old new told_so = subst (λ r. IsUnmade r of cells old new) (sym is) told_so.2
 
-module _ {trees : Program} {p : LinkedProgram} {bounds : Bounds} {inflated : List ℕ} {t : ℕ} {shared : Shared} {stack : List ShownEntry} {state : StateOf ℕ} {frame : FrameOf ℕ} {rest : StackOf ℕ} {code : LinkedCode} {site : Site} {meaning : MeaningOf ℕ} {instruction : LinkedInstruction} (is : IsRunning trees p bounds inflated t shared stack state frame rest code site meaning instruction) where
+module _ {trees : Program} {p : LinkedProgram} {bounds : Bounds} {inflated : List ℕ} {t : ℕ} {shared : Shared} {stack : List
+    ShownEntry} {state : StateOf ℕ} {frame : FrameOf ℕ} {rest : StackOf ℕ} {code : LinkedCode} {site : Site} {meaning : MeaningOf
+    ℕ} {instruction : LinkedInstruction} (is : IsRunning trees p bounds inflated t shared stack state frame rest code site meaning
+    instruction) where
   abbrev with_heap : Heap → Shared
   with_heap after = record shared { heap = after }
 
@@ -79,14 +83,16 @@ module _ {trees : Program} {p : LinkedProgram} {bounds : Bounds} {inflated : Lis
   module _ (frames : ℕ) (of : ObjectKind) (cells count : ℕ) (object : ObjectOf ℕ) (shows : ShowsObject trees p.components.items (fresh of cells) object)
       (event : IsEvent is frames (Next (Makes cells) (part (allocated state.world object) (own_after is count (suc (length state.world.heap) ∷ [])))))
       (after : Heap) (from to : ShownFrame) (top : from ≡ is.shown) where
-    not_made : (told : Refusal) (why : AllocRefusal) → told ≡ of_heap why → Allocates (Err why) of cells shared.heap after → to ≡ from → DoesSo is frames (Err told) (with_heap after) (with_top to stack)
+    not_made : (told : Refusal) (why : AllocRefusal) → told ≡ of_heap why → Allocates (Err why) of cells shared.heap after → to ≡ from
+        → DoesSo is frames (Err told) (with_heap after) (with_top to stack)
     not_made told why is_told told_so same =
         let both : MayBeRefused trees bounds inflated state.world (Makes cells) (of_heap why) × (after ≡ shared.heap) = refused trees p bounds inflated state.world shared (with_heap after) is.lent.represents of cells why told_so in (
           record { cost = Makes cells; next = _; is = event; may = subst (MayBeRefused trees bounds inflated state.world (Makes cells)) (sym is_told) both.0 },
           record { shared = ap with_heap both.1; stack = unchanged is to (same ∙ top) },
         )
 
-    pub makes : (result : Result Effect Refusal) → LeavesNew result of cells count shared.heap after from to → count ≤ length is.shown.operands → DoesSo is frames result (with_heap after) (with_top to stack)
+    pub makes : (result : Result Effect Refusal) → LeavesNew result of cells count shared.heap after from to
+        → count ≤ length is.shown.operands → DoesSo is frames result (with_heap after) (with_top to stack)
     makes (Ok effect.Done) left there =
         let reference = left.0 in
         let m : IsMade trees p bounds inflated state.world object reference cells shared (with_heap after) =
@@ -123,7 +129,8 @@ module _ {trees : Program} {p : LinkedProgram} {bounds : Bounds} {inflated : Lis
 
   pub makes_object : (class fields : ℕ) → IsNew trees site (offset_in code.starts.items (is.shown.place + 1)) class fields
       → (frames : ℕ) (after : Heap) (from to : ShownFrame) → from ≡ is.shown
-      → (result : Result Effect Refusal) → LeavesNew result (kind.Instance class) fields 0 shared.heap after from to → DoesSo is frames result (with_heap after) (with_top to stack)
+      → (result : Result Effect Refusal) → LeavesNew result (kind.Instance class) fields 0 shared.heap after from to
+      → DoesSo is frames result (with_heap after) (with_top to stack)
   makes_object class fields new frames after from to top result left =
       let object = new_instance words trees new.named in
       let members = instance_fields trees new.named in
@@ -144,7 +151,8 @@ module _ {trees : Program} {p : LinkedProgram} {bounds : Bounds} {inflated : Lis
       (w : ℕ) (from : ShownFrame) (top : from ≡ is.shown) (read : w ≡ slice_index_or from.operands 0 0) where
     -- by the word of the count
     array_event : (negative : Bool) → is_negative w ≡ negative
-        → IsEvent is frames (become trees frames t state.world frame rest (made_array words negative site.next w array 0 state.world frame.place.slots (drop 1 frame.place.slots.stack)))
+        → IsEvent is frames (become trees frames t state.world frame
+        rest (made_array words negative site.next w array 0 state.world frame.place.slots (drop 1 frame.place.slots.stack)))
     array_event negative e =
         event_by is frames (array_meaning words trees site type array 0) means refl _
         (ap (λ n. made_array words (is_negative n) site.next n array 0 state.world frame.place.slots (drop 1 frame.place.slots.stack)) (operand_is is from top 1 0 (omega arith) w read)
@@ -153,8 +161,10 @@ module _ {trees : Program} {p : LinkedProgram} {bounds : Bounds} {inflated : Lis
     pub below_zero : 2 ^ 31 ≤ w → DoesSo is frames (Ok (effect.Raises exception.NegativeArraySize)) shared (with_top from stack)
     below_zero le = (array_event true (le-leb (2 ^ 31) w le), stays is from top)
 
-    pub makes_array : w < 2 ^ 31 → site.next ≡ offset_in code.starts.items (is.shown.place + 1) → (of : ObjectKind) → AreArrays trees p of array
-        → (after : Heap) (to : ShownFrame) (result : Result Effect Refusal) → LeavesNew result of w 1 shared.heap after from to → DoesSo is frames result (with_heap after) (with_top to stack)
+    pub makes_array : w < 2 ^ 31 → site.next ≡ offset_in code.starts.items (is.shown.place + 1) → (of : ObjectKind)
+        → AreArrays trees p of array
+        → (after : Heap) (to : ShownFrame) (result : Result Effect Refusal) → LeavesNew result of w 1 shared.heap after from to
+        → DoesSo is frames result (with_heap after) (with_top to stack)
     makes_array lt next of shows after to result left =
         makes frames of w 1 (array (replicate w 0)) (shows w)
         (array_event false (lt-leb (2 ^ 31) w lt) ∙ goes_on is frames (Makes w) (allocated state.world (array (replicate w 0))) 1 (suc (length state.world.heap) ∷ []) next)
@@ -162,7 +172,8 @@ module _ {trees : Program} {p : LinkedProgram} {bounds : Bounds} {inflated : Lis
 
 -- ---- arrays of primitive types
 
-pub primitive_arrays : (trees : Program) (p : LinkedProgram) (of : Primitive) → AreArrays trees p (kind_of_array of) (λ elements. Primitives (primitive_of of) elements)
+pub primitive_arrays : (trees : Program) (p : LinkedProgram) (of : Primitive)
+    → AreArrays trees p (kind_of_array of) (λ elements. Primitives (primitive_of of) elements)
 primitive_arrays trees p primitive.Boolean count = record { kind = refl; words = refl }
 primitive_arrays trees p primitive.Char count = record { kind = refl; words = refl }
 primitive_arrays trees p primitive.Byte count = record { kind = refl; words = refl }

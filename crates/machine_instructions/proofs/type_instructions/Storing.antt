@@ -49,14 +49,16 @@ TestsIf p objects word None answer = answer ≡ false
 TestsIf p objects word (Some type) answer = TestsWord p objects word type answer
 
 pub store_tested : (p : LinkedProgram) (objects : List Object) (r word : ℕ) (answer : Bool) (component : Option LinkedType)
-    → component ≡ option_and_then (component_in p.components.items) (slice_get objects r) → TestsIf p objects word component answer → TestsStore p objects r word answer
+    → component ≡ option_and_then (component_in p.components.items) (slice_get objects r) → TestsIf p objects word component answer
+    → TestsStore p objects r word answer
 store_tested p objects r word answer component is tests files trees linkable linked world shows =
     at objects world.heap shows r (subst (λ c. TestsIf p objects word c answer) is tests)
   where
     none : answer ≡ false → answer ≡ may_stand_in words trees world no_object word
     none e = e
 
-    by : (of : ObjectKind) (m : ObjectOf ℕ) → IsKindOf trees p.components.items of m → TestsIf p objects word (component_by p.components.items of) answer → answer ≡ may_stand_in words trees world m word
+    by : (of : ObjectKind) (m : ObjectOf ℕ) → IsKindOf trees p.components.items of m
+        → TestsIf p objects word (component_by p.components.items of) answer → answer ≡ may_stand_in words trees world m word
     by (kind.References number) (References type elements) h t =
         subst (λ c. TestsIf p objects word c answer) h.1 t files trees linkable linked (linked.components number h.0 h.1).tested world.heap type shows h.2
     by (kind.Instance number) (Instance class fields) h t = t
@@ -72,7 +74,8 @@ store_tested p objects r word answer component is tests files trees linkable lin
     by (kind.Narrow narrow) (References of elements) h t = absurd h
 
     at : (os : List Object) (ms : List (ObjectOf ℕ)) → ShowsObjects trees p.components.items os ms
-        → (k : ℕ) → TestsIf p objects word (option_and_then (component_in p.components.items) (slice_get os k)) answer → answer ≡ may_stand_in words trees world (slice_index_or ms k no_object) word
+        → (k : ℕ) → TestsIf p objects word (option_and_then (component_in p.components.items) (slice_get os k)) answer
+        → answer ≡ may_stand_in words trees world (slice_index_or ms k no_object) word
     at [] [] h k t = none t
     at [] (m ∷ ms) h k t = absurd h
     at (o ∷ os) [] h k t = absurd h
@@ -82,7 +85,8 @@ store_tested p objects r word answer component is tests files trees linkable lin
 -- ---- the array
 
 -- the third of the operands that are popped is as wanted
-third : (accepts : Want → ℕ → Bool) (a b c : Want) (ss : List ℕ) → pops_meet accepts (a ∷ b ∷ c ∷ []) ss ≡ true → accepts c (slice_index_or ss 2 0) ≡ true
+third : (accepts : Want → ℕ → Bool) (a b c : Want) (ss : List ℕ) → pops_meet accepts (a ∷ b ∷ c ∷ []) ss ≡ true
+    → accepts c (slice_index_or ss 2 0) ≡ true
 third accepts a b c [] h = absurd (false≢true h)
 third accepts a b c (x ∷ []) h = absurd (false≢true (and_parts (accepts a x) false h).1)
 third accepts a b c (x ∷ y ∷ []) h = absurd (false≢true (and_parts (accepts b y) false (and_parts (accepts a x) _ h).1).1)
@@ -95,7 +99,8 @@ record IsHeld (heap : List (ObjectOf ℕ)) (r : ℕ) : Type 0 where
   pub is_array : is_array array ≡ true
   pub keeps : (word : ℕ) → kept_in array word ≡ word
 
-held : (trees : Program) (heap : List (ObjectOf ℕ)) (r : ℕ) → is_word_with (types_of heap) (λ type. is_assignable trees type (ReferenceArray any_object)) (suc r) ≡ true → IsHeld heap r
+held : (trees : Program) (heap : List (ObjectOf ℕ)) (r : ℕ)
+    → is_word_with (types_of heap) (λ type. is_assignable trees type (ReferenceArray any_object)) (suc r) ≡ true → IsHeld heap r
 held trees [] r e = absurd (false≢true e)
 held trees (Instance class fields ∷ heap) zero e = absurd (false≢true e)
 held trees (Primitives of elements ∷ heap) zero e = absurd (false≢true e)
@@ -107,7 +112,10 @@ held trees (m ∷ heap) (suc r) e = let h = held trees heap r e in record { arra
 abbrev array_want : Want
 array_want = AReference (ReferenceArray any_object)
 
-module _ {trees : Program} {p : LinkedProgram} {bounds : Bounds} {inflated : List ℕ} {t : ℕ} {shared : Shared} {stack : List ShownEntry} {state : StateOf ℕ} {frame : FrameOf ℕ} {rest : StackOf ℕ} {code : LinkedCode} {site : Site} {meaning : MeaningOf ℕ} {instruction : LinkedInstruction} (is : IsRunning trees p bounds inflated t shared stack state frame rest code site meaning instruction) (frames : ℕ) (word index r : ℕ) (from : ShownFrame) (top : from ≡ is.shown)
+module _ {trees : Program} {p : LinkedProgram} {bounds : Bounds} {inflated : List ℕ} {t : ℕ} {shared : Shared} {stack : List
+    ShownEntry} {state : StateOf ℕ} {frame : FrameOf ℕ} {rest : StackOf ℕ} {code : LinkedCode} {site : Site} {meaning : MeaningOf
+    ℕ} {instruction : LinkedInstruction} (is : IsRunning trees p bounds inflated t shared stack state frame rest code site meaning
+    instruction) (frames : ℕ) (word index r : ℕ) (from : ShownFrame) (top : from ≡ is.shown)
     (word_read : word ≡ slice_index_or from.operands 0 0) (index_read : index ≡ slice_index_or from.operands 1 0) (array_read : suc r ≡ slice_index_or from.operands 2 0)
     (means : meaning_of words trees site ≡ Some (store_reference_meaning words trees site)) where
   abbrev storing : ℕ → ℕ → ℕ → OutcomeOf ℕ
@@ -119,7 +127,8 @@ module _ {trees : Program} {p : LinkedProgram} {bounds : Bounds} {inflated : Lis
   if_within =
       if_storable (may_stand_in words trees state.world (object_at state.world r) word) (stored site.next state.world r index word frame.place.slots (drop 3 frame.place.slots.stack))
 
-  store_event : (outcome : OutcomeOf ℕ) → storing word index r ≡ outcome → IsEvent is frames (become trees frames t state.world frame rest outcome)
+  store_event : (outcome : OutcomeOf ℕ) → storing word index r ≡ outcome
+      → IsEvent is frames (become trees frames t state.world frame rest outcome)
   store_event outcome e =
       event_by is frames (store_reference_meaning words trees site) means refl outcome
       ((λ i. not_null (word_reference (operand_is is from top 3 2 (omega arith) (suc r) array_read i))
@@ -146,7 +155,8 @@ module _ {trees : Program} {p : LinkedProgram} {bounds : Bounds} {inflated : Lis
   range_is : (within : Bool) → nat_lt index (length (words_at shared.heap.objects r)) ≡ within → in_range state.world r index ≡ within
   range_is within e = ap (λ m. nat_lt index (length (elements_of m))) object_is ∙ ap (λ l. nat_lt index (length l)) elements.are ∙ e
 
-  pub outside : length (words_at shared.heap.objects r) ≤ index → DoesSo is frames (Ok (effect.Raises exception.ArrayIndexOutOfBounds)) shared (with_top from stack)
+  pub outside : length (words_at shared.heap.objects r) ≤ index
+      → DoesSo is frames (Ok (effect.Raises exception.ArrayIndexOutOfBounds)) shared (with_top from stack)
   outside le = (store_event _ (ap (λ b. at_index b if_within) (range_is false (le-ltb index (length (words_at shared.heap.objects r)) le))), stays is from top)
 
   module _ (lt : index < length (words_at shared.heap.objects r)) where
@@ -154,13 +164,15 @@ module _ {trees : Program} {p : LinkedProgram} {bounds : Bounds} {inflated : Lis
     within = range_is true (lt-ltb index (length (words_at shared.heap.objects r)) lt)
 
     tested : (answer : Bool) → TestsStore p shared.heap.objects r word answer
-        → storing word index r ≡ if_storable answer (stored site.next state.world r index word frame.place.slots (drop 3 frame.place.slots.stack))
+        → storing word index r ≡ if_storable answer
+        (stored site.next state.world r index word frame.place.slots (drop 3 frame.place.slots.stack))
     tested answer tests =
         ap (λ b. at_index b if_within) within
         ∙ ap (λ b. if_storable b (stored site.next state.world r index word frame.place.slots (drop 3 frame.place.slots.stack)))
         (sym (tests is.program.files trees is.program.linkable is.program.linked state.world is.lent.represents.world_is.objects))
 
-    pub not_storable : TestsStore p shared.heap.objects r word false → DoesSo is frames (Ok (effect.Raises exception.ArrayStore)) shared (with_top from stack)
+    pub not_storable : TestsStore p shared.heap.objects r word false
+        → DoesSo is frames (Ok (effect.Raises exception.ArrayStore)) shared (with_top from stack)
     not_storable tests = (store_event _ (tested false tests), stays is from top)
 
     abbrev after : WorldOf ℕ
@@ -195,7 +207,8 @@ module _ {trees : Program} {p : LinkedProgram} {bounds : Bounds} {inflated : Lis
 
     pub stores : TestsStore p shared.heap.objects r word true → site.next ≡ offset_in code.starts.items (is.shown.place + 1)
         → (heap : Heap) → heap ≡ record shared.heap { objects = put_element shared.heap.objects r index word }
-        → (to : ShownFrame) (told : Effect) → Leaves (Ok told) 3 [] from to → DoesSo is frames (Ok told) (record shared { heap = heap }) (with_top to stack)
+        → (to : ShownFrame) (told : Effect) → Leaves (Ok told) 3 [] from to
+        → DoesSo is frames (Ok told) (record shared { heap = heap }) (with_top to stack)
     stores tests next heap heap_is to told left =
         subst (λ (h : Heap). DoesSo is frames (Ok told) (record shared { heap = h }) (with_top to stack)) (sym heap_is)
         (done_free is frames after stored_in 3 [] from to told left top

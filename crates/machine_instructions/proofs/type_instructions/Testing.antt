@@ -29,7 +29,10 @@ use Rattle.machine_instructions.specs.type_instructions.Leaving.{Leaves}
 use Rattle.machine_instructions.specs.type_instructions.Words.{TestsWord, TestsInstance}
 use Rattle.machine_instructions.proofs.type_instructions.Events.{IsEvent, DoesSo, slots_after, top_and_rest, operands_are, operand_is, operands_there, event_by, goes_on, done_free, does_own, stays}
 
-module _ {trees : Program} {p : LinkedProgram} {bounds : Bounds} {inflated : List ℕ} {t : ℕ} {shared : Shared} {stack : List ShownEntry} {state : StateOf ℕ} {frame : FrameOf ℕ} {rest : StackOf ℕ} {code : LinkedCode} {site : Site} {meaning : MeaningOf ℕ} {instruction : LinkedInstruction} (is : IsRunning trees p bounds inflated t shared stack state frame rest code site meaning instruction) (frames : ℕ) (w : ℕ) (from : ShownFrame) (top : from ≡ is.shown) (read : w ≡ slice_index_or from.operands 0 0) where
+module _ {trees : Program} {p : LinkedProgram} {bounds : Bounds} {inflated : List ℕ} {t : ℕ} {shared : Shared} {stack : List
+    ShownEntry} {state : StateOf ℕ} {frame : FrameOf ℕ} {rest : StackOf ℕ} {code : LinkedCode} {site : Site} {meaning : MeaningOf
+    ℕ} {instruction : LinkedInstruction} (is : IsRunning trees p bounds inflated t shared stack state frame rest code site meaning
+    instruction) (frames : ℕ) (w : ℕ) (from : ShownFrame) (top : from ≡ is.shown) (read : w ≡ slice_index_or from.operands 0 0) where
   -- the operand on top is the word that was read
   word_is : slice_index_or frame.place.slots.stack 0 0 ≡ w
   word_is = ap (λ ss. slice_index_or ss 0 0) (operands_are is ∙ ap (λ (f : ShownFrame). f.operands) (sym top)) ∙ sym read
@@ -38,14 +41,16 @@ module _ {trees : Program} {p : LinkedProgram} {bounds : Bounds} {inflated : Lis
 
   module _ (next : ℕ) (type : LinkedType) (check : IsCheckCast trees site next type) (tested : IsTested p.subclasses type) where
     cast_event : (answer : Bool) → TestsWord p shared.heap.objects w type answer
-        → IsEvent is frames (become trees frames t state.world frame rest (cast answer site.next w state.world frame.place.slots (drop 1 frame.place.slots.stack)))
+        → IsEvent is frames (become trees frames t state.world frame
+        rest (cast answer site.next w state.world frame.place.slots (drop 1 frame.place.slots.stack)))
     cast_event answer tests =
         event_by is frames (check_cast_meaning words trees site check.named) check.is refl _
         (ap (λ v. cast (is_word_of trees (types_of state.world.heap) check.named v) site.next v state.world frame.place.slots (drop 1 frame.place.slots.stack)) (operand_is is from top 1 0 (omega arith) w read)
         ∙ ap (λ b. cast b site.next w state.world frame.place.slots (drop 1 frame.place.slots.stack))
         (sym (tests is.program.files trees is.program.linkable is.program.linked tested state.world.heap check.named is.lent.represents.world_is.objects check.numbered)))
 
-    pub not_cast : TestsWord p shared.heap.objects w type false → DoesSo is frames (Ok (effect.Raises exception.ClassCast)) shared (with_top from stack)
+    pub not_cast : TestsWord p shared.heap.objects w type false
+        → DoesSo is frames (Ok (effect.Raises exception.ClassCast)) shared (with_top from stack)
     not_cast tests = (cast_event false tests, stays is from top)
 
     pub casts : next ≡ offset_in code.starts.items (is.shown.place + 1) → TestsWord p shared.heap.objects w type true
@@ -63,9 +68,11 @@ module _ {trees : Program} {p : LinkedProgram} {bounds : Bounds} {inflated : Lis
 
   -- ---- instanceof
 
-  pub instance : (next : ℕ) (type : LinkedType) → IsInstanceOf trees site next type → IsTested p.subclasses type → next ≡ offset_in code.starts.items (is.shown.place + 1)
+  pub instance : (next : ℕ) (type : LinkedType) → IsInstanceOf trees site next type → IsTested p.subclasses type
+      → next ≡ offset_in code.starts.items (is.shown.place + 1)
       → (bit : ℕ) → TestsInstance p shared.heap.objects w type bit
-      → (to : ShownFrame) (result : Result Effect Refusal) → Leaves result 1 (bit ∷ []) from to → DoesSo is frames result shared (with_top to stack)
+      → (to : ShownFrame) (result : Result Effect Refusal) → Leaves result 1 (bit ∷ []) from to
+      → DoesSo is frames result shared (with_top to stack)
   instance next type test tested behind bit tests to result left =
       does_own is frames 1 (bit ∷ []) from to result left top
       (event_by is frames (instance_of_meaning words trees site test.named) test.is refl (Goes Free state.world (slots_after is 1 (bit ∷ [])) site.next)
@@ -76,8 +83,12 @@ module _ {trees : Program} {p : LinkedProgram} {bounds : Bounds} {inflated : Lis
 
 -- ---- athrow
 
-module _ {trees : Program} {p : LinkedProgram} {bounds : Bounds} {inflated : List ℕ} {t : ℕ} {shared : Shared} {stack : List ShownEntry} {state : StateOf ℕ} {frame : FrameOf ℕ} {rest : StackOf ℕ} {code : LinkedCode} {site : Site} {meaning : MeaningOf ℕ} {instruction : LinkedInstruction} (is : IsRunning trees p bounds inflated t shared stack state frame rest code site meaning instruction) where
-  pub throws : (frames r : ℕ) (from : ShownFrame) → from ≡ is.shown → suc r ≡ slice_index_or from.operands 0 0 → meaning_of words trees site ≡ Some (throw_meaning words)
+module _ {trees : Program} {p : LinkedProgram} {bounds : Bounds} {inflated : List ℕ} {t : ℕ} {shared : Shared} {stack : List
+    ShownEntry} {state : StateOf ℕ} {frame : FrameOf ℕ} {rest : StackOf ℕ} {code : LinkedCode} {site : Site} {meaning : MeaningOf
+    ℕ} {instruction : LinkedInstruction} (is : IsRunning trees p bounds inflated t shared stack state frame rest code site meaning
+    instruction) where
+  pub throws : (frames r : ℕ) (from : ShownFrame) → from ≡ is.shown → suc r ≡ slice_index_or from.operands 0 0
+      → meaning_of words trees site ≡ Some (throw_meaning words)
       → IsEvent is frames (become trees frames t state.world frame rest (Throws r))
   throws frames r from top read means =
       event_by is frames (throw_meaning words) means refl (Throws r) (ap (λ w. not_null (word_reference w) (λ x. Throws x)) (operand_is is from top 1 0 (omega arith) (suc r) read))

@@ -31,6 +31,7 @@ with_leave world t (Some object) = with_exit world t object
 
 -- it is left in each world that is shown; no lock becomes fat, and nothing but monitors has changed
 pub record Leaves (t : ℕ) (entered : Option ℕ) (old new : Shared) : Type 0 where
-  pub represents : (trees : Program) (p : LinkedProgram) (bounds : Bounds) (world : WorldOf ℕ) → Represents trees p bounds old world → Represents trees p bounds new (with_leave world t entered)
+  pub represents : (trees : Program) (p : LinkedProgram) (bounds : Bounds) (world : WorldOf ℕ) → Represents trees p bounds old world
+      → Represents trees p bounds new (with_leave world t entered)
   pub flags : new.heap.locks.fat ≡ old.heap.locks.fat
   pub rest : new ≡ record old { heap = new.heap }

@@ -51,7 +51,9 @@ AreArguments trees heap operands method.PrintStreamPrintln = 0 < length operands
 
 -- The frame on top of a thread, whose stack is lent, calls a method that takes so many words. The place behind the call has this
 -- offset.
-pub record IsCalling (trees : Program) (p : LinkedProgram) (bounds : Bounds) (inflated : List ℕ) (t : ℕ) (shared : Shared) (stack : List ShownEntry) (state : StateOf ℕ) (frame : FrameOf ℕ) (rest : StackOf ℕ) (called : BuiltInMethod) (count next offset : ℕ) : Type 0 where
+pub record IsCalling (trees : Program) (p : LinkedProgram) (bounds : Bounds) (inflated : List ℕ) (t : ℕ) (shared : Shared)
+    (stack : List ShownEntry) (state : StateOf ℕ) (frame : FrameOf ℕ) (rest : StackOf ℕ) (called : BuiltInMethod)
+    (count next offset : ℕ) : Type 0 where
   pub program : IsProgram trees p
   pub lent : IsLent trees p bounds inflated t shared stack state (model.Invocation frame ∷ rest)
   pub shown : ShownFrame
@@ -82,13 +84,16 @@ call_event trees frames event world frame rest called count offset =
     (built_in_does words (built_in_of called) offset event world frame.place.slots (take count frame.place.slots.stack) (drop count frame.place.slots.stack)))
 
 -- In whatever state a thread calls the method, the result says what becomes of the event by it.
-abbrev pub DoesCall : BuiltInMethod → (count next : ℕ) → Event → Result Effect Refusal → (old new : Shared) (from to : List ShownEntry) → Type 0
+abbrev pub DoesCall : BuiltInMethod → (count next : ℕ) → Event → Result Effect Refusal → (old new : Shared) (from to : List ShownEntry)
+    → Type 0
 DoesCall called count next event result old new from to =
     (trees : Program) (p : LinkedProgram) (bounds : Bounds) (inflated : List ℕ) (state : StateOf ℕ) (frame : FrameOf ℕ) (rest : StackOf ℕ) (offset : ℕ)
     → IsCalling trees p bounds inflated event.thread old from state frame rest called count next offset
     → (frames : ℕ)
-    → Does trees p bounds inflated event.thread state.world (model.Invocation frame ∷ rest) (call_event trees frames event state.world frame rest called count offset) result old new from to
+    → Does trees p bounds inflated event.thread state.world (model.Invocation frame
+    ∷ rest) (call_event trees frames event state.world frame rest called count offset) result old new from to
 
 -- by an event of a thread that picks nothing
-abbrev pub DoesUnpicked : BuiltInMethod → (count next : ℕ) → (t : ℕ) → Result Effect Refusal → (old new : Shared) (from to : List ShownEntry) → Type 0
+abbrev pub DoesUnpicked : BuiltInMethod → (count next : ℕ) → (t : ℕ) → Result Effect Refusal → (old new : Shared)
+    (from to : List ShownEntry) → Type 0
 DoesUnpicked called count next t = DoesCall called count next (record { thread = t; pick = 0 })

@@ -40,10 +40,13 @@ abbrev pub AreArrays : Program → LinkedProgram → ObjectKind → (List ℕ �
 AreArrays trees p kind array = (count : ℕ) → ShowsObject trees p.components.items (fresh kind count) (array (replicate count 0))
 
 -- in whatever state a thread runs at an instruction that makes such an array, the result says what becomes of the event by it
-abbrev pub MakesArray : LinkedProgram → ObjectKind → (t : ℕ) → Result Effect Refusal → (old new : Shared) (from to : List ShownEntry) → Type 0
+abbrev pub MakesArray : LinkedProgram → ObjectKind → (t : ℕ) → Result Effect Refusal → (old new : Shared) (from to : List ShownEntry)
+    → Type 0
 MakesArray p kind t result old new from to =
     (frames : ℕ) (trees : Program) (bounds : Bounds) (inflated : List ℕ) (state : StateOf ℕ) (frame : FrameOf ℕ) (rest : StackOf ℕ) (code : LinkedCode) (site : Site) (meaning : MeaningOf ℕ) (instruction : LinkedInstruction)
     (is : IsRunning trees p bounds inflated t old from state frame rest code site meaning instruction)
-    → (type : ReferenceType) (array : List ℕ → ObjectOf ℕ) → meaning_of words trees site ≡ Some (array_meaning words trees site type array 0)
+    → (type : ReferenceType) (array : List ℕ → ObjectOf ℕ)
+    → meaning_of words trees site ≡ Some (array_meaning words trees site type array 0)
     → site.next ≡ offset_in code.starts.items (is.shown.place + 1) → AreArrays trees p kind array
-    → Does trees p bounds inflated t state.world (model.Invocation frame ∷ rest) (instruction_event trees frames (event_of t) state.world frame rest meaning) result old new from to
+    → Does trees p bounds inflated t state.world (model.Invocation frame
+    ∷ rest) (instruction_event trees frames (event_of t) state.world frame rest meaning) result old new from to

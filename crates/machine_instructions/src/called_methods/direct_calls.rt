@@ -51,7 +51,8 @@ pub fn invoke_static(
 ) -> Result<Effect, Refusal>
     requires running { (class : ℕ) × CanRun program.now thread shared.old stack.old (linked.InvokeStatic parameters class method) }
     requires numbered { thread < 32767 }
-    ensures { (class : ℕ) → DoesInstruction program.now (linked.InvokeStatic parameters class method) frames (record { thread = thread; pick = pick }) result shared.old shared.new stack.old stack.new }
+    ensures { (class : ℕ) → DoesInstruction program.now (linked.InvokeStatic parameters class method)
+        frames (record { thread = thread; pick = pick }) result shared.old shared.new stack.old stack.new }
 {
     let call = Call {
         method,
@@ -79,7 +80,8 @@ pub fn invoke_special(
 ) -> Result<Effect, Refusal>
     requires running { CanRun program.now thread shared.old stack.old (linked.InvokeSpecial parameters method) }
     requires numbered { thread < 32767 }
-    ensures { DoesInstruction program.now (linked.InvokeSpecial parameters method) frames (record { thread = thread; pick = pick }) result shared.old shared.new stack.old stack.new }
+    ensures { DoesInstruction program.now (linked.InvokeSpecial parameters method) frames (record { thread = thread; pick = pick }) result
+        shared.old shared.new stack.old stack.new }
 {
     let Some(object) = receiver(stack, parameters) else {
         return Ok(raised(pick, MachineException::NullPointer));

@@ -24,7 +24,9 @@ pub fn println(
 ) -> Result<Effect, Refusal>
     requires running { (p : LinkedProgram) × CanRun p thread shared.old stack.old linked.Println }
     requires numbered { thread < 32767 }
-    ensures { (p : LinkedProgram) (frames : ℕ) → DoesInstruction p linked.Println frames (record { thread = thread; pick = pick }) result shared.old shared.new stack.old stack.new }
+    ensures { (p : LinkedProgram) (frames : ℕ)
+        → DoesInstruction p linked.Println frames (record { thread = thread; pick = pick }) result shared.old shared.new stack.old
+        stack.new }
 {
     if receiver(stack, 1).is_none() {
         return Ok(raised(pick, MachineException::NullPointer));

@@ -34,7 +34,8 @@ pub fn get_field(shared: &Shared, stack: &mut ThreadStack, slot: u16) -> Result<
 /// object of the operand under it, narrowed to the type.
 #[inline]
 pub fn put_field(shared: &mut Shared, stack: &mut ThreadStack, of: Primitive, slot: u16) -> Effect
-    ensures { (p : LinkedProgram) (t : ℕ) → DoesOwn p (put_field_instruction of slot) t (Ok result) shared.old shared.new stack.old stack.new }
+    ensures { (p : LinkedProgram) (t : ℕ) → DoesOwn p (put_field_instruction of slot) t (Ok result) shared.old shared.new stack.old
+        stack.new }
 {
     let Some(frame) = stack.frame_mut() else {
         return Effect::NotEnabled;

@@ -31,7 +31,8 @@ fn static_word(statics: &[u32], slot: u32) -> u32
 /// Where there is no memory for the word on the stack; nothing has changed then.
 #[inline]
 pub fn get_static(shared: &Shared, stack: &mut ThreadStack, slot: u32) -> Result<Effect, Refusal>
-    ensures { (p : LinkedProgram) (class t : ℕ) → DoesOwn p (linked.GetStatic class slot) t result shared.now shared.now stack.old stack.new }
+    ensures { (p : LinkedProgram) (class t : ℕ)
+        → DoesOwn p (linked.GetStatic class slot) t result shared.now shared.now stack.old stack.new }
 {
     match stack.frame_mut() {
         Some(frame) => leave(frame, 0, static_word(&shared.statics, slot)),
@@ -68,7 +69,8 @@ fn set_static(statics: &mut Vec<u32>, slot: u32, word: u32)
 /// narrowed to the type.
 #[inline]
 pub fn put_static(shared: &mut Shared, stack: &mut ThreadStack, of: Primitive, slot: u32) -> Effect
-    ensures { (p : LinkedProgram) (class t : ℕ) → DoesOwn p (put_static_instruction of class slot) t (Ok result) shared.old shared.new stack.old stack.new }
+    ensures { (p : LinkedProgram) (class t : ℕ)
+        → DoesOwn p (put_static_instruction of class slot) t (Ok result) shared.old shared.new stack.old stack.new }
 {
     match stack.frame_mut() {
         Some(frame) => {

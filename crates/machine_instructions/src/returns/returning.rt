@@ -54,7 +54,8 @@ pub fn return_from(
 /// where it hasn't, for a monitor that it would leave or for want of memory, nothing has changed.
 #[inline]
 pub fn return_alone(stack: &mut ThreadStack, program: &LinkedProgram, value: bool) -> bool
-    ensures done { result ≡ true → (t : ℕ) (shared : Shared) → DoesOwn program.now (returning value) t (Ok effect.Done) shared shared stack.old stack.new }
+    ensures done { result ≡ true → (t : ℕ) (shared : Shared)
+        → DoesOwn program.now (returning value) t (Ok effect.Done) shared shared stack.old stack.new }
     ensures still { result ≡ false → stack.new ≡ stack.old }
 {
     if let Some(_entered) = entered_by_top(stack) {

@@ -64,7 +64,8 @@ pub(crate) fn notify(
     next: usize,
 ) -> Result<Effect, Refusal>
     requires { operand_of 0 stack.old - 1 < length shared.old.heap.locks.monitors }
-    ensures { DoesCall method.ObjectNotify operands next (record { thread = thread; pick = pick }) result shared.old shared.new stack.old stack.new }
+    ensures { DoesCall method.ObjectNotify operands next (record { thread = thread; pick = pick }) result shared.old shared.new stack.old
+        stack.new }
 {
     let object = object(stack, 0);
     if !may_pick(&shared.heap, object, thread, pick) {

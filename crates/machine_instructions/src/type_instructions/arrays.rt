@@ -75,7 +75,8 @@ pub fn new_reference_array(
     stack: &mut ThreadStack,
     component: u32,
 ) -> Result<Effect, Refusal>
-    ensures { (p : LinkedProgram) (t : ℕ) → DoesOwn p (linked.NewReferenceArray component) t result shared.old shared.new stack.old stack.new }
+    ensures { (p : LinkedProgram) (t : ℕ) → DoesOwn p (linked.NewReferenceArray component) t result shared.old shared.new stack.old
+        stack.new }
 {
     make_array(shared, stack, ObjectKind::References { of: component })
 }

@@ -19,7 +19,8 @@ use machine_state::{Effect, MachineException, Refusal, Shared};
 /// Where there is no memory for the word; nothing has changed then.
 #[inline]
 pub fn load_object(stack: &mut ThreadStack, word: u32) -> Result<Effect, Refusal>
-    ensures { (p : LinkedProgram) (t : ℕ) (shared : Shared) → DoesOwn p (linked.LoadObject word) t result shared shared stack.old stack.new }
+    ensures { (p : LinkedProgram) (t : ℕ) (shared : Shared)
+        → DoesOwn p (linked.LoadObject word) t result shared shared stack.old stack.new }
 {
     match stack.frame_mut() {
         Some(frame) => leave(frame, 0, word),

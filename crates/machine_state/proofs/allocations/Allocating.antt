@@ -32,7 +32,8 @@ cells_are (Instance class fields) = length-map fields (λ (f : Member × ℕ). f
 cells_are (Primitives of elements) = refl
 cells_are (References of elements) = refl
 
-all_cells : (trees : Program) (components : List LinkedType) (os : List Object) (ms : List (ObjectOf ℕ)) → ShowsObjects trees components os ms
+all_cells : (trees : Program) (components : List LinkedType) (os : List Object) (ms : List (ObjectOf ℕ))
+    → ShowsObjects trees components os ms
     → heap.cell_count os ≡ sum_by cells_of ms
 all_cells trees components [] [] h = refl
 all_cells trees components [] (m ∷ ms) h = absurd h
@@ -43,7 +44,8 @@ all_cells trees components (o ∷ os) (m ∷ ms) h =
     ∙ ap (λ n. cells_of m + n) (all_cells trees components os ms h.1)
     ∙ sym (sum_by-cons cells_of m ms)
 
-cells_behind : (n : ℕ) (trees : Program) (components : List LinkedType) (os : List Object) (ms : List (ObjectOf ℕ)) → ShowsObjects trees components os ms
+cells_behind : (n : ℕ) (trees : Program) (components : List LinkedType) (os : List Object) (ms : List (ObjectOf ℕ))
+    → ShowsObjects trees components os ms
     → heap.cell_count (drop n os) ≡ sum_by cells_of (drop n ms)
 cells_behind zero trees components os ms h = all_cells trees components os ms h
 cells_behind (suc n) trees components [] [] h = refl
@@ -51,7 +53,8 @@ cells_behind (suc n) trees components [] (m ∷ ms) h = absurd h
 cells_behind (suc n) trees components (o ∷ os) [] h = absurd h
 cells_behind (suc n) trees components (o ∷ os) (m ∷ ms) h = cells_behind n trees components os ms h.1
 
-module _ (trees : Program) (p : LinkedProgram) (bounds : Bounds) (world : WorldOf ℕ) (old : Shared) (r : Represents trees p bounds old world) where
+module _ (trees : Program) (p : LinkedProgram) (bounds : Bounds) (world : WorldOf ℕ) (old : Shared)
+    (r : Represents trees p bounds old world) where
   made_is : heap.made old.heap ≡ objects_made trees world
   made_is = λ i. counted trees p.components.items old.heap.objects world.heap r.world_is.objects i - r.limits.opening i
 
@@ -71,10 +74,12 @@ module _ (trees : Program) (p : LinkedProgram) (bounds : Bounds) (world : WorldO
   is_full : old.heap.object_limit ≤ heap.made old.heap → nat_le bounds.objects (objects_made trees world) ≡ true
   is_full above = (λ i. nat_le (sym r.limits.objects i) (sym made_is i)) ∙ le-leb old.heap.object_limit (heap.made old.heap) above
 
-  cells_fit : (count : ℕ) → heap.cells_made old.heap + count ≤ old.heap.cell_limit → nat_lt bounds.cells (cells_made trees world + count) ≡ false
+  cells_fit : (count : ℕ) → heap.cells_made old.heap + count ≤ old.heap.cell_limit
+      → nat_lt bounds.cells (cells_made trees world + count) ≡ false
   cells_fit count below = (λ i. nat_lt (sym r.limits.cells i) (sym cells_is i + count)) ∙ le-ltb old.heap.cell_limit (heap.cells_made old.heap + count) below
 
-  cells_pass : (count : ℕ) → old.heap.cell_limit < heap.cells_made old.heap + count → nat_lt bounds.cells (cells_made trees world + count) ≡ true
+  cells_pass : (count : ℕ) → old.heap.cell_limit < heap.cells_made old.heap + count
+      → nat_lt bounds.cells (cells_made trees world + count) ≡ true
   cells_pass count above = (λ i. nat_lt (sym r.limits.cells i) (sym cells_is i + count)) ∙ lt-ltb old.heap.cell_limit (heap.cells_made old.heap + count) above
 
   -- ---- the object
@@ -82,7 +87,8 @@ module _ (trees : Program) (p : LinkedProgram) (bounds : Bounds) (world : WorldO
   abbrev with_one : Object → Shared
   with_one one = record old { heap = with_object old.heap one }
 
-  represented : (one : Object) (object : ObjectOf ℕ) → ShowsObject trees p.components.items one object → Represents trees p bounds (with_one one) (allocated world object)
+  represented : (one : Object) (object : ObjectOf ℕ) → ShowsObject trees p.components.items one object
+      → Represents trees p bounds (with_one one) (allocated world object)
   represented one object shows =
       record {
         world_is = record {
@@ -116,7 +122,8 @@ made trees p bounds inflated world old new r kind reference count allocates same
     new_is : new ≡ with_one trees p bounds world old r (fresh kind count)
     new_is = same ∙ ap (λ (h : Heap). record old { heap = h }) allocates.after
 
-    within_is : full trees p bounds world old r (nat_le bounds.objects (objects_made trees world)) (nat_lt bounds.cells (cells_made trees world + count)) ≡ None
+    within_is : full trees p bounds world old
+        r (nat_le bounds.objects (objects_made trees world)) (nat_lt bounds.cells (cells_made trees world + count)) ≡ None
     within_is =
         ap (λ (b : Bool). full trees p bounds world old r b (nat_lt bounds.cells (cells_made trees world + count))) (not_full trees p bounds world old r allocates.objects)
         ∙ ap (full trees p bounds world old r false) (cells_fit trees p bounds world old r count allocates.cells)

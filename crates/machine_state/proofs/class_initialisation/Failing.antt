@@ -23,7 +23,8 @@ use Rattle.machine_state.specs.Events.{Becomes, IsDone, MayBeRefused, HasBecome,
 use Rattle.machine_state.specs.class_initialisation.Statuses.{IsStatusSet}
 
 -- what is under the entry on top
-pub under : (trees : Program) (p : LinkedProgram) (from : List ShownEntry) (entry : model.StackEntryOf ℕ) (rest : StackOf ℕ) → ShowsStack trees p from (entry ∷ rest) → ShowsStack trees p (drop 1 from) rest
+pub under : (trees : Program) (p : LinkedProgram) (from : List ShownEntry) (entry : model.StackEntryOf ℕ) (rest : StackOf ℕ)
+    → ShowsStack trees p from (entry ∷ rest) → ShowsStack trees p (drop 1 from) rest
 under trees p [] entry rest s = absurd s
 under trees p (top ∷ others) entry rest s = s.1
 
@@ -33,7 +34,8 @@ module _ (trees : Program) (p : LinkedProgram) (bounds : Bounds) (inflated : Lis
   after = with_class_status world class (shown_status status)
 
   -- refused, it changes nothing, and so at this status
-  pub still_refused : (told : Refusal) (mid : Shared) (from under : List ShownEntry) → Becomes trees p bounds inflated world (raised t fault world rest) (Err told) old mid under under
+  pub still_refused : (told : Refusal) (mid : Shared) (from under : List ShownEntry)
+      → Becomes trees p bounds inflated world (raised t fault world rest) (Err told) old mid under under
       → Becomes trees p bounds inflated world (raised t fault after rest) (Err told) old mid from from
   still_refused told mid from under h =
       let taken : h.0.cost ≡ Makes 0 = (let is = h.0.is in cc) in (
@@ -41,7 +43,8 @@ module _ (trees : Program) (p : LinkedProgram) (bounds : Bounds) (inflated : Lis
         record { shared = h.1.shared; stack = refl },
       )
 
-  added : (mid new : Shared) → new ≡ record mid { statuses = new.statuses; ready = new.ready } → AreStacksAdded old mid → AreStacksAdded old new
+  added : (mid new : Shared) → new ≡ record mid { statuses = new.statuses; ready = new.ready } → AreStacksAdded old mid
+      → AreStacksAdded old new
   added mid new kept =
       ⊎_elim
       (λ o. inl (record { stacks = ap (λ (s : Shared). s.stacks.items) kept ∙ o.stacks; threads = ap (λ (s : Shared). length s.threads.threads) kept ∙ o.threads }))
@@ -76,7 +79,8 @@ module _ (trees : Program) (p : LinkedProgram) (bounds : Bounds) (inflated : Lis
           subst (λ (c : Cost). HasBecome trees p bounds inflated world c first old mid to) taken
           (subst (λ (n : PartOf ℕ). HasBecome trees p bounds inflated world h.cost n old mid to) next h.becomes)
 
-  pub still_answered : (a : Answer) (mid new : Shared) (from under to : List ShownEntry) → Becomes trees p bounds inflated world (raised t fault world rest) (Ok a) old mid under under
+  pub still_answered : (a : Answer) (mid new : Shared) (from under to : List ShownEntry)
+      → Becomes trees p bounds inflated world (raised t fault world rest) (Ok a) old mid under under
       → new ≡ record mid { statuses = new.statuses; ready = new.ready } → IsStatusSet number status mid new → to ≡ under
       → Becomes trees p bounds inflated world (raised t fault after rest) (Ok a) old new from to
   still_answered answer.Done mid new from under to h kept set e =

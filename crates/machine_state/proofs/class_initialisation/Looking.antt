@@ -13,7 +13,8 @@ use Rattle.machine_state.specs.declared.refusals.Refusal.{Refusal}
 use Rattle.machine_state.specs.Shown.{shown_status, is_initialised}
 
 -- the status that is kept
-pub known : (o : Option ClassStatus) (s : model.ClassStatus) → option_map shown_status o ≡ Some s → shown_status (unwrap_or o status.Initialised) ≡ s
+pub known : (o : Option ClassStatus) (s : model.ClassStatus) → option_map shown_status o ≡ Some s
+    → shown_status (unwrap_or o status.Initialised) ≡ s
 known None s h = absurd cc
 known (Some x) s h = same_Some _ _ h
 
@@ -24,7 +25,9 @@ ready_by t (model.InProgress by) h = absurd cc
 ready_by t model.Initialised h = refl
 ready_by t model.Erroneous h = absurd cc
 
-pub ready_look : (t : ℕ) (s : model.ClassStatus) (flags : List Bool) (number : ℕ) (flag : Bool) → flag ≡ unwrap_or (slice_get flags number) false → flag ≡ true → slice_get flags number ≡ Some (is_initialised s) → IsReady ≡ look_by t s
+pub ready_look : (t : ℕ) (s : model.ClassStatus) (flags : List Bool) (number : ℕ) (flag : Bool)
+    → flag ≡ unwrap_or (slice_get flags number) false → flag ≡ true → slice_get flags number ≡ Some (is_initialised s)
+    → IsReady ≡ look_by t s
 ready_look t s flags number flag e on h = ready_by t s (sym (ap (λ o. unwrap_or o false) h) ∙ sym e ∙ on)
 
 -- what is said of an answer is said of it as the one of need_class
@@ -37,6 +40,7 @@ instead P Q ok err (Ok answer) (Err told) h e = absurd h
 instead P Q ok err (Err told) mapped h e = subst Q (sym h) (err told e)
 
 -- a refusal that is handed on
-pub told_so : (P : Result Answer Refusal → Type 0) (why : Refusal) (result : Result Answer Refusal) → IsErrAnd result (λ told. told ≡ why) → P (Err why) → P result
+pub told_so : (P : Result Answer Refusal → Type 0) (why : Refusal) (result : Result Answer Refusal) → IsErrAnd result (λ told. told ≡ why)
+    → P (Err why) → P result
 told_so P why (Ok answer) e h = absurd e
 told_so P why (Err told) e h = subst (λ (r : Refusal). P (Err r)) (sym e) h

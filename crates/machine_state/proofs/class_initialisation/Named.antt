@@ -26,7 +26,8 @@ behind [] ys k = let e : 0 + k ≡ k = omega arith in ap (slice_get ys) e
 behind (x ∷ xs) ys k = let e : suc (length xs) + k ≡ suc (length xs + k) = omega arith in ap (slice_get (x ∷ (xs ++ ys))) e ∙ behind xs ys k
 
 -- what passes nowhere
-pub any_at : {A : Type 0} (test : A → Bool) (xs : List A) (k : ℕ) (x : A) → slice_get xs k ≡ Some x → list_any test xs ≡ false → test x ≡ false
+pub any_at : {A : Type 0} (test : A → Bool) (xs : List A) (k : ℕ) (x : A) → slice_get xs k ≡ Some x → list_any test xs ≡ false
+    → test x ≡ false
 any_at test [] k x e h = absurd cc
 any_at test (y ∷ ys) zero x e h = let same : y ≡ x = cc in subst (λ z. test z ≡ false) same (or_parts (test y) _ h).0
 any_at test (y ∷ ys) (suc k) x e h = any_at test ys k x e (or_parts (test y) _ h).1
@@ -34,7 +35,8 @@ any_at test (y ∷ ys) (suc k) x e h = any_at test ys k x e (or_parts (test y) _
 -- ---- names that differ
 
 -- the class at a place is the first of its name
-found_at : (cs : List FileTree) → two_of_one_name cs ≡ false → (k : ℕ) (file : FileTree) → slice_get cs k ≡ Some file → find (is_named (name_of file)) cs ≡ Some file
+found_at : (cs : List FileTree) → two_of_one_name cs ≡ false → (k : ℕ) (file : FileTree) → slice_get cs k ≡ Some file
+    → find (is_named (name_of file)) cs ≡ Some file
 found_at [] differ k file at = absurd cc
 found_at (c ∷ cs) differ zero file at =
     let same : c ≡ file = cc in
@@ -45,7 +47,8 @@ found_at (c ∷ cs) differ (suc k) file at =
     ap (λ b. cond b (Some c) (find (is_named (name_of file)) cs)) other ∙ found_at cs parts.1 k file at
 
 -- no name stands at two places
-pub one_place : (cs : List FileTree) → two_of_one_name cs ≡ false → (k j : ℕ) (f g : FileTree) → slice_get cs k ≡ Some f → slice_get cs j ≡ Some g → name_of f ≡ name_of g → k ≡ j
+pub one_place : (cs : List FileTree) → two_of_one_name cs ≡ false → (k j : ℕ) (f g : FileTree) → slice_get cs k ≡ Some f
+    → slice_get cs j ≡ Some g → name_of f ≡ name_of g → k ≡ j
 one_place [] differ k j f g at there same = absurd cc
 one_place (c ∷ cs) differ zero zero f g at there same = refl
 one_place (c ∷ cs) differ zero (suc j) f g at there same =

@@ -24,7 +24,8 @@ use Rattle.machine_state.specs.class_initialisation.Steps.{IsCalleeOf, IsInitial
 
 -- ---- classes
 
-module _ (read : AreClassesRead) (trees : Program) (p : LinkedProgram) (program : IsProgram trees p) (number : ℕ) (class : Name) (at : IsClassAt trees number class) where
+module _ (read : AreClassesRead) (trees : Program) (p : LinkedProgram) (program : IsProgram trees p) (number : ℕ) (class : Name)
+    (at : IsClassAt trees number class) where
   h : HasClass trees p number class
   h = read trees p program.linked number class at
 
@@ -51,7 +52,8 @@ module _ (read : AreClassesRead) (trees : Program) (p : LinkedProgram) (program 
 
 -- ---- methods
 
-module _ (read : AreMethodsRead) (trees : Program) (p : LinkedProgram) (program : IsProgram trees p) (number : ℕ) (method : Member) (code : Body)
+module _ (read : AreMethodsRead) (trees : Program) (p : LinkedProgram) (program : IsProgram trees p) (number : ℕ) (method : Member)
+    (code : Body)
     (at : IsMethodAt trees number method) (is_body : body_of trees method ≡ Some code) where
   m : HasMethod trees p number method
   m = read trees p program.linked number method at
@@ -70,7 +72,8 @@ module _ (read : AreMethodsRead) (trees : Program) (p : LinkedProgram) (program 
     has_code b e = subst (IsMethodBody trees p method (Some code)) e runs
 
     pub is_callee : (linked : LinkedCode) → row.body ≡ body.Code linked
-        → IsCallee trees p (record { method = number; max_locals = linked.max_locals; max_stack = linked.max_stack; entered = None }) method code
+        → IsCallee trees p (record { method = number; max_locals = linked.max_locals; max_stack = linked.max_stack; entered = None })
+        method code
     is_callee linked e =
         let c : IsCode trees p method code linked = (has_code (body.Code linked) e).1 in
         record {
@@ -84,13 +87,16 @@ module _ (read : AreMethodsRead) (trees : Program) (p : LinkedProgram) (program 
 
 -- ---- the initialiser of a class
 
-pub chosen : (trees : Program) (p : LinkedProgram) (class : Name) (number : ℕ) (found : Option Callee) → IsInitialiser trees class (Some number)
-    → ((method : Member) (code : Body) → IsMethodAt trees number method → body_of trees method ≡ Some code → IsCalleeOf trees p method code found)
+pub chosen : (trees : Program) (p : LinkedProgram) (class : Name) (number : ℕ) (found : Option Callee)
+    → IsInitialiser trees class (Some number)
+    → ((method : Member) (code : Body) → IsMethodAt trees number method → body_of trees method ≡ Some code
+    → IsCalleeOf trees p method code found)
     → IsInitialiserOf trees p class found
 chosen trees p class number found h callee = by (body_of trees (initialiser_of class)) refl h.0 found (λ code e. callee (initialiser_of class) code h.1 e)
   where
     by : (o : Option Body) → body_of trees (initialiser_of class) ≡ o → is_some o ≡ true → (found : Option Callee)
-        → ((code : Body) → body_of trees (initialiser_of class) ≡ Some code → IsCalleeOf trees p (initialiser_of class) code found) → IsInitialiserOf trees p class found
+        → ((code : Body) → body_of trees (initialiser_of class) ≡ Some code → IsCalleeOf trees p (initialiser_of class) code found)
+        → IsInitialiserOf trees p class found
     by None e some found callee = absurd cc
     by (Some code) e some None callee = absurd (callee code e)
     by (Some code) e some (Some c) callee = (code, e, callee code e)

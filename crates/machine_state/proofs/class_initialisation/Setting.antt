@@ -44,7 +44,8 @@ set_elsewhere (y ∷ ys) (suc k) (suc j) new n = set_elsewhere ys k j new (λ e.
 
 -- ---- the status of a class
 
-by_kind : (b c : Bool) (status : model.ClassStatus) → b ≡ c → (if b then model.Initialised else status) ≡ (if c then model.Initialised else status)
+by_kind : (b c : Bool) (status : model.ClassStatus) → b ≡ c
+    → (if b then model.Initialised else status) ≡ (if c then model.Initialised else status)
 by_kind b c status e = ap (λ x. if x then model.Initialised else status) e
 
 module _ (trees : Program) (linkable : some_stands trees ≡ false) where
@@ -52,13 +53,15 @@ module _ (trees : Program) (linkable : some_stands trees ≡ false) where
   built_in_is number below class at = subst (λ (n : Name). is_built_in n ≡ true) at.2 (is_so trees linkable number below at.0 at.1)
 
   -- the file of a class behind the built-in ones
-  at_place : (number place : ℕ) → number ≡ 30 + place → (class : Name) → (at : IsClassAt trees number class) → slice_get (classes_of trees) (30 + place) ≡ Some at.0
+  at_place : (number place : ℕ) → number ≡ 30 + place → (class : Name) → (at : IsClassAt trees number class)
+      → slice_get (classes_of trees) (30 + place) ≡ Some at.0
   at_place number place is class at = subst (λ n. slice_get (classes_of trees) n ≡ Some at.0) is at.1
 
   pub not_built_in : (number place : ℕ) → number ≡ 30 + place → (class : Name) → IsClassAt trees number class → is_built_in class ≡ false
   not_built_in number place is class at = subst (λ (n : Name). is_built_in n ≡ false) at.2 (is_not trees linkable place at.0 (at_place number place is class at))
 
-  pub its_class : (number : ℕ) (found : Option ℕ) → IsFileOf number found → (file : FileTree) → slice_get (classes_of trees) number ≡ Some file → class_of trees (name_of file) ≡ Some file
+  pub its_class : (number : ℕ) (found : Option ℕ) → IsFileOf number found → (file : FileTree)
+      → slice_get (classes_of trees) number ≡ Some file → class_of trees (name_of file) ≡ Some file
   its_class number None below file at = class_below trees linkable number below file at
   its_class number (Some place) is file at = class_behind trees linkable place file (subst (λ n. slice_get (classes_of trees) n ≡ Some file) is at)
 
@@ -66,11 +69,13 @@ module _ (trees : Program) (linkable : some_stands trees ≡ false) where
     pub initialised : (number : ℕ) → number < 30 → (class : Name) → IsClassAt trees number class → status_of world class ≡ model.Initialised
     initialised number below class at = by_kind (is_built_in class) true (status_in class world.classes) (built_in_is number below class at)
 
-    of_file : (number place : ℕ) → number ≡ 30 + place → (class : Name) → IsClassAt trees number class → status_of world class ≡ status_in class world.classes
+    of_file : (number place : ℕ) → number ≡ 30 + place → (class : Name) → IsClassAt trees number class
+        → status_of world class ≡ status_in class world.classes
     of_file number place is class at = by_kind (is_built_in class) false (status_in class world.classes) (not_built_in number place is class at)
 
     -- classes of two numbers have two names
-    pub one_number : (number place : ℕ) → number ≡ 30 + place → (class : Name) → IsClassAt trees number class → (other : ℕ) (found : Option ℕ) → IsFileOf other found → IsClassAt trees other class → number ≡ other
+    pub one_number : (number place : ℕ) → number ≡ 30 + place → (class : Name) → IsClassAt trees number class → (other : ℕ)
+        (found : Option ℕ) → IsFileOf other found → IsClassAt trees other class → number ≡ other
     one_number number place is class at other None below there =
         absurd (true≢false (sym (built_in_is other below class there) ∙ not_built_in number place is class at))
     one_number number place is class at other (Some j) is_other there =
@@ -87,11 +92,13 @@ kind_of number = by (ltb number 30) refl
     by true h = (None, ltb-true number 30 h)
     by false h = let above : 30 ≤ number = ltb-false number 30 h in (Some (number - 30), omega arith)
 
-module _ (trees : Program) (p : LinkedProgram) (bounds : Bounds) (world : WorldOf ℕ) (program : IsProgram trees p) (shared : Shared) (r : Represents trees p bounds shared world) where
+module _ (trees : Program) (p : LinkedProgram) (bounds : Bounds) (world : WorldOf ℕ) (program : IsProgram trees p) (shared : Shared)
+    (r : Represents trees p bounds shared world) where
   linkable : some_stands trees ≡ false
   linkable = program.linkable.no_refusal
 
-  pub file_status : (number place : ℕ) → number ≡ 30 + place → (class : Name) → IsClassAt trees number class → option_map shown_status (slice_get shared.statuses.items place) ≡ Some (status_of world class)
+  pub file_status : (number place : ℕ) → number ≡ 30 + place → (class : Name) → IsClassAt trees number class
+      → option_map shown_status (slice_get shared.statuses.items place) ≡ Some (status_of world class)
   file_status number place is class at =
       sym (slice_get-map shown_status shared.statuses.items place)
       ∙ ap (λ l. slice_get l place) (sym r.world_is.statuses.are)
@@ -136,7 +143,8 @@ module _ (trees : Program) (p : LinkedProgram) (bounds : Bounds) (world : WorldO
           there : option_map shown_status (slice_get (slice_set shared.statuses.items place status) place) ≡ Some (shown_status status)
           there = by (slice_get shared.statuses.items place) refl (file_status number place is class at)
             where
-              by : (o : Option ClassStatus) → slice_get shared.statuses.items place ≡ o → option_map shown_status o ≡ Some (status_of world class)
+              by : (o : Option ClassStatus) → slice_get shared.statuses.items place ≡ o
+                  → option_map shown_status o ≡ Some (status_of world class)
                   → option_map shown_status (slice_get (slice_set shared.statuses.items place status) place) ≡ Some (shown_status status)
               by None e h = absurd cc
               by (Some old) e h = ap (option_map shown_status) (set_here shared.statuses.items place old status e)
@@ -145,7 +153,8 @@ module _ (trees : Program) (p : LinkedProgram) (bounds : Bounds) (world : WorldO
       other_is other differs = ap (λ s. if is_built_in other then model.Initialised else s) (set_other class other (shown_status status) world.classes differs)
 
       ready_at : (n : ℕ) (other : Name) → IsClassAt trees n other → (b : Bool) → name_eq class other ≡ b
-          → slice_get (slice_set shared.ready.items number (is_initialised (shown_status status))) n ≡ Some (is_initialised (status_of after other))
+          → slice_get (slice_set shared.ready.items number (is_initialised (shown_status status))) n
+          ≡ Some (is_initialised (status_of after other))
       ready_at n other there true same =
           let kind = kind_of n in
           let one : number ≡ n = one_number trees linkable world number place is class at n kind.0 kind.1 (subst (IsClassAt trees n) (sym (names_same class other same)) there) in

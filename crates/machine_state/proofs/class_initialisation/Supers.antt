@@ -20,7 +20,8 @@ use Rattle.machine_state.specs.Events.{Becomes, IsUnchanged}
 use Rattle.machine_state.specs.entries.Entered.{IsShared}
 use Rattle.machine_state.specs.class_initialisation.Steps.{RunsInitialiser}
 
-pub some_first : (trees : Program) (first : ℕ) (o : Option Name) → IsClassIf trees (Some first) o → (superclass : Name) × (o ≡ Some superclass) × IsClassAt trees first superclass
+pub some_first : (trees : Program) (first : ℕ) (o : Option Name) → IsClassIf trees (Some first) o
+    → (superclass : Name) × (o ≡ Some superclass) × IsClassAt trees first superclass
 some_first trees first None h = absurd h
 some_first trees first (Some superclass) h = (superclass, refl, h)
 
@@ -28,7 +29,8 @@ none_first : (trees : Program) (o : Option Name) → IsClassIf trees None o → 
 none_first trees None h = refl
 none_first trees (Some superclass) h = absurd h
 
-module _ (trees : Program) (p : LinkedProgram) (bounds : Bounds) (inflated : List ℕ) (world : WorldOf ℕ) (class : Name) (rest : StackOf ℕ) (frames t : ℕ)
+module _ (trees : Program) (p : LinkedProgram) (bounds : Bounds) (inflated : List ℕ) (world : WorldOf ℕ) (class : Name) (rest : StackOf ℕ)
+    (frames t : ℕ)
     (result : Result Answer Refusal) (old new : Shared) (from to : List ShownEntry) where
   -- what becomes of the class, by what comes before it
   abbrev pub Steps : Option Name → Type 0
@@ -48,10 +50,12 @@ module _ (trees : Program) (p : LinkedProgram) (bounds : Bounds) (inflated : Lis
       result m new l to
 
   -- the superclass is ready, and nothing has changed
-  pub with_ready : (program : IsProgram trees p) (is : IsShared trees p bounds inflated old world) (number : ℕ) (at : IsClassAt trees number class)
+  pub with_ready : (program : IsProgram trees p) (is : IsShared trees p bounds inflated old world) (number : ℕ)
+      (at : IsClassAt trees number class)
       → ShowsStack trees p from (model.Initialisation class model.Super ∷ rest)
       → (superclass : Name) → before trees class ≡ Some superclass → look_at t world (Some superclass) ≡ IsReady
-      → (mid : Shared) (between : List ShownEntry) → IsUnchanged old mid from between → RunsInitialiser p result t number frames mid new between to
+      → (mid : Shared) (between : List ShownEntry) → IsUnchanged old mid from between
+      → RunsInitialiser p result t number frames mid new between to
       → Steps (before trees class)
   with_ready program is number at s superclass first ready mid between same runs =
       subst Steps (sym first)

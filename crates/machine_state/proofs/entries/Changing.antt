@@ -12,7 +12,8 @@ use Rattle.machine_state.specs.declared.state.Shared.{Shared}
 use Rattle.machine_state.specs.Shown.{Represents}
 use Rattle.machine_state.specs.entries.Changes.{AreMonitorsShown, AreThreadsShown, AreBothShown}
 
-module _ (trees : Program) (p : LinkedProgram) (bounds : Bounds) (world : WorldOf ℕ) (old new : Shared) (r : Represents trees p bounds old world) where
+module _ (trees : Program) (p : LinkedProgram) (bounds : Bounds) (world : WorldOf ℕ) (old new : Shared)
+    (r : Represents trees p bounds old world) where
   -- the world is the one with the monitors and the threads that are kept
   over_is : over world old.heap ≡ world
   over_is = λ i. record world { monitors = r.world_is.monitors i }
@@ -51,7 +52,8 @@ module _ (trees : Program) (p : LinkedProgram) (bounds : Bounds) (world : WorldO
 
   -- so a world that is that one is shown by what is that
   shows : (locks : Locks) (table : ThreadTable) (after : WorldOf ℕ) → locks.limit ≡ old.heap.locks.limit → table.limit ≡ old.threads.limit
-      → record world { monitors = locks.monitors; threads = table.threads } ≡ after → new ≡ changed locks table → Represents trees p bounds new after
+      → record world { monitors = locks.monitors; threads = table.threads } ≡ after → new ≡ changed locks table
+      → Represents trees p bounds new after
   shows locks table after same_locks same_threads is same =
       subst (λ w. Represents trees p bounds new w) is (subst (λ s. Represents trees p bounds s (record world { monitors = locks.monitors; threads = table.threads })) (sym same) (shows_changed locks table same_locks same_threads))
 

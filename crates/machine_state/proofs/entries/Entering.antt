@@ -41,17 +41,20 @@ done_is answer.Held e = absurd (false≢true e)
 done_is answer.NotOwner e = absurd (false≢true e)
 
 -- the owner may enter
-owner_enters : (t : ℕ) (o : Option ℕ) (m after : Monitor) (free : Answered Monitor) → owns t o ≡ true → (as_entrant t o m free (answers_done after)).answer ≡ answer.Done
+owner_enters : (t : ℕ) (o : Option ℕ) (m after : Monitor) (free : Answered Monitor) → owns t o ≡ true
+    → (as_entrant t o m free (answers_done after)).answer ≡ answer.Done
 owner_enters t None m after free e = absurd (false≢true e)
 owner_enters t (Some owner) m after free e = ap (λ b. (if b then answers_done after else record { answer = answer.Held; after = m }).answer) e
 
 -- who may not is not the owner, and the monitor stays
-held_stays : (t : ℕ) (o : Option ℕ) (m after free : Monitor) → is_done (as_entrant t o m (answers_done free) (answers_done after)).answer ≡ false
+held_stays : (t : ℕ) (o : Option ℕ) (m after free : Monitor)
+    → is_done (as_entrant t o m (answers_done free) (answers_done after)).answer ≡ false
     → (owns t o ≡ false) × ((as_entrant t o m (answers_done free) (answers_done after)).after ≡ m)
 held_stays t None m after free e = absurd (false≢true (sym e))
 held_stays t (Some owner) m after free e = held (owner == t) refl e
   where
-    held : (b : Bool) → (owner == t) ≡ b → is_done (if b then answers_done after else record { answer = answer.Held; after = m }).answer ≡ false
+    held : (b : Bool) → (owner == t) ≡ b → is_done (if b then answers_done after else record { answer = answer.Held; after = m }).answer
+        ≡ false
         → ((owner == t) ≡ false) × ((if owner == t then answers_done after else record { answer = answer.Held; after = m }).after ≡ m)
     held true is e = absurd (false≢true (sym e))
     held false is e = (is, ap (λ b. (if b then answers_done after else record { answer = answer.Held; after = m }).after) is)
@@ -70,17 +73,20 @@ told_by_limit trees bounds inflated world cost refusal.LockCount e = e
 told_by_limit trees bounds inflated world cost refusal.Memory e = tt
 
 -- only an owner is refused
-refused_owner : (object t : ℕ) (told : Refusal) (old new : Locks) → locks.IsRefused told (calls.Enter object t) old new → owns t (monitor_at old.monitors object).owner ≡ true
+refused_owner : (object t : ℕ) (told : Refusal) (old new : Locks) → locks.IsRefused told (calls.Enter object t) old new
+    → owns t (monitor_at old.monitors object).owner ≡ true
 refused_owner object t refusal.Monitors old new why = (and_parts _ _ (and_parts _ _ why.0).0).0
 refused_owner object t refusal.LockCount old new why = (and_parts _ _ why.0).0
 refused_owner object t refusal.Memory old new why = (and_parts _ _ (and_parts _ _ why.0).0).0
 
-refused_waiter : (object t : ℕ) (told : Refusal) (old new : Locks) → locks.IsRefused told (calls.Wait object t) old new → owns t (monitor_at old.monitors object).owner ≡ true
+refused_waiter : (object t : ℕ) (told : Refusal) (old new : Locks) → locks.IsRefused told (calls.Wait object t) old new
+    → owns t (monitor_at old.monitors object).owner ≡ true
 refused_waiter object t refusal.Monitors old new why = (and_parts _ _ why.0).0
 refused_waiter object t refusal.LockCount old new why = absurd (false≢true why.0)
 refused_waiter object t refusal.Memory old new why = why.0
 
-module _ (trees : Program) (p : LinkedProgram) (bounds : Bounds) (inflated : List ℕ) (world : WorldOf ℕ) (old new : Shared) (s : IsShared trees p bounds inflated old world) (t object : ℕ) where
+module _ (trees : Program) (p : LinkedProgram) (bounds : Bounds) (inflated : List ℕ) (world : WorldOf ℕ) (old new : Shared)
+    (s : IsShared trees p bounds inflated old world) (t object : ℕ) where
   -- the monitor of the object
   abbrev m : Monitor
   m = monitor_at old.heap.locks.monitors object
@@ -102,15 +108,19 @@ module _ (trees : Program) (p : LinkedProgram) (bounds : Bounds) (inflated : Lis
   may_is = λ i. is_done (enter object t (sym s.represents.world_is.monitors i)).answer
 
   taken : (enter object t old.heap.locks.monitors).answer ≡ answer.Done
-      → IsAsTaken (entry_cost (over world old.heap) object) (entry_limit (is_crowded old.heap.locks.limit inflated object) m.count) entry old.heap.locks
+      → IsAsTaken (entry_cost (over world old.heap) object) (entry_limit (is_crowded old.heap.locks.limit inflated object) m.count) entry
+      old.heap.locks
   taken may = calls_taken.entries old.heap.locks inflated object t shows may
 
-  limit_is : (enter object t old.heap.locks.monitors).answer ≡ answer.Done → limit_of trees bounds inflated world (entry_cost world object) ≡ call_limit entry old.heap.locks
+  limit_is : (enter object t old.heap.locks.monitors).answer ≡ answer.Done
+      → limit_of trees bounds inflated world (entry_cost world object) ≡ call_limit entry old.heap.locks
   limit_is may =
       (λ i. entry_limit (is_crowded (sym s.represents.limits.monitors i) inflated object) (monitor_at (sym s.represents.world_is.monitors i) object).count) ∙ sym (taken may).refused
 
-  entered : MonitorsBecome (λ w. with_entry w t object) (fat_after entry old.heap.locks) old.heap new.heap → IsWithin entry old.heap.locks → new ≡ record old { heap = new.heap }
-      → (enter object t old.heap.locks.monitors).answer ≡ answer.Done → IsTaken trees p bounds inflated world (entry_cost world object) (with_entry world t object) old new
+  entered : MonitorsBecome (λ w. with_entry w t object) (fat_after entry old.heap.locks) old.heap new.heap → IsWithin entry old.heap.locks
+      → new ≡ record old { heap = new.heap }
+      → (enter object t old.heap.locks.monitors).answer ≡ answer.Done
+      → IsTaken trees p bounds inflated world (entry_cost world object) (with_entry world t object) old new
   entered becomes within same may =
       record {
         within = limit_is may ∙ none_told entry old.heap.locks within;
@@ -119,7 +129,8 @@ module _ (trees : Program) (p : LinkedProgram) (bounds : Bounds) (inflated : Lis
       }
 
   -- nothing has changed where another thread owns it
-  held : MonitorsBecome (λ w. with_entry w t object) (fat_after entry old.heap.locks) old.heap new.heap → new ≡ record old { heap = new.heap }
+  held : MonitorsBecome (λ w. with_entry w t object) (fat_after entry old.heap.locks) old.heap new.heap
+      → new ≡ record old { heap = new.heap }
       → is_done (enter object t old.heap.locks.monitors).answer ≡ false → new ≡ old
   held becomes same may =
       let stays = held_stays t m.owner m (owned m t (m.count + 1)) (owned m t 1) may in
@@ -130,7 +141,8 @@ module _ (trees : Program) (p : LinkedProgram) (bounds : Bounds) (inflated : Lis
       let locks : new.heap.locks ≡ old.heap.locks = λ i. record { monitors = monitors i; fat = fat i; limit = becomes.limit i } in
       same ∙ ap (λ (h : Heap). record old { heap = h }) (becomes.rest ∙ ap (λ (l : Locks). record old.heap { locks = l }) locks)
 
-  enters : (result : Result Bool Refusal) → Enters result object t old.heap new.heap → new ≡ record old { heap = new.heap } → EntersIn trees p bounds inflated world t object result old new
+  enters : (result : Result Bool Refusal) → Enters result object t old.heap new.heap → new ≡ record old { heap = new.heap }
+      → EntersIn trees p bounds inflated world t object result old new
   enters (Ok true) e same =
       let may : is_done (enter object t old.heap.locks.monitors).answer ≡ true = sym (e.0 world) in
       (may_is ∙ may, entered e.1 e.2 same (done_is _ may))
@@ -154,13 +166,15 @@ module _ (trees : Program) (p : LinkedProgram) (bounds : Bounds) (inflated : Lis
   owner_is : is_owner world t object ≡ owns t m.owner
   owner_is = λ i. owns t (monitor_at (sym s.represents.world_is.monitors i) object).owner
 
-  joined : owns t m.owner ≡ true → IsAsTaken (Joins object) (if is_crowded old.heap.locks.limit inflated object then Some cause.Monitors else None) wait old.heap.locks
+  joined : owns t m.owner ≡ true → IsAsTaken (Joins object)
+      (if is_crowded old.heap.locks.limit inflated object then Some cause.Monitors else None) wait old.heap.locks
   joined own = calls_taken.waits old.heap.locks inflated object t shows own
 
   wait_limit : owns t m.owner ≡ true → limit_of trees bounds inflated world (Joins object) ≡ call_limit wait old.heap.locks
   wait_limit own = (λ i. if is_crowded (sym s.represents.limits.monitors i) inflated object then Some cause.Monitors else None) ∙ sym (joined own).refused
 
-  waits : (result : Result Bool Refusal) → WaitsBy result object t old.heap new.heap old.threads new.threads → new ≡ record old { heap = new.heap; threads = new.threads }
+  waits : (result : Result Bool Refusal) → WaitsBy result object t old.heap new.heap old.threads new.threads
+      → new ≡ record old { heap = new.heap; threads = new.threads }
       → WaitsIn trees p bounds inflated world t object result old new
   waits (Ok true) e same =
       let own : owns t m.owner ≡ true = sym (e.0 world) in (

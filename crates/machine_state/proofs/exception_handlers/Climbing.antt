@@ -37,7 +37,8 @@ module _ (classes_read : AreClassesRead) (p : LinkedProgram) (from : ℕ) where
   begins files trees linkable linked class at =
       record { name = class; numbered = at; same = ap (λ n. is_within trees n class java_lang_error) (as_many trees (classes_of trees) p.classes.items linked.classes) }
 
-  is_here : (trees : Program) (left : ℕ) (name : Name) → name_eq name java_lang_error ≡ true → is_within trees left name java_lang_error ≡ true
+  is_here : (trees : Program) (left : ℕ) (name : Name) → name_eq name java_lang_error ≡ true
+      → is_within trees left name java_lang_error ≡ true
   is_here trees zero name h = h
   is_here trees (suc left) name h = ap (λ b. b || option_map_or (λ s. is_within trees left s java_lang_error) (superclass_of trees name) false) h
 
@@ -65,7 +66,8 @@ module _ (classes_read : AreClassesRead) (p : LinkedProgram) (from : ℕ) where
       subst (λ n. IsClassIf trees o (superclass_of trees n)) row.named
       (subst (λ x. IsClassIf trees x (superclass_of trees (name_of row.file))) (sym (e ∙ ap (λ r. option_and_then superclass_in r) row.is)) row.linked.superclass)
 
-  step_none : (trees : Program) (left : ℕ) (name : Name) → name_eq name java_lang_error ≡ false → (o : Option Name) → superclass_of trees name ≡ o → IsClassIf trees None o
+  step_none : (trees : Program) (left : ℕ) (name : Name) → name_eq name java_lang_error ≡ false → (o : Option Name)
+      → superclass_of trees name ≡ o → IsClassIf trees None o
       → is_within trees (suc left) name java_lang_error ≡ false
   step_none trees left name not None e i =
       ap (λ b. b || option_map_or (λ s. is_within trees left s java_lang_error) (superclass_of trees name) false) not
@@ -73,7 +75,8 @@ module _ (classes_read : AreClassesRead) (p : LinkedProgram) (from : ℕ) where
   step_none trees left name not (Some s) e i = absurd i
 
   -- it is not Error, and has no superclass
-  pub is_top : (nearest left : ℕ) → Climbs p from nearest (suc left) → (nearest == 8) ≡ false → None ≡ option_and_then superclass_in (slice_get p.classes.items nearest)
+  pub is_top : (nearest left : ℕ) → Climbs p from nearest (suc left) → (nearest == 8) ≡ false
+      → None ≡ option_and_then superclass_in (slice_get p.classes.items nearest)
       → (files : List (List ℕ)) (trees : Program) → IsLinkable files trees → IsLinkedProgram trees p
       → (class : Name) → IsClassAt trees from class → false ≡ is_subclass trees class java_lang_error
   is_top nearest left climbs not e files trees linkable linked class at =
@@ -87,7 +90,8 @@ module _ (classes_read : AreClassesRead) (p : LinkedProgram) (from : ℕ) where
     numbered : IsClassAt trees above upper
     same : is_within trees (suc left) name java_lang_error ≡ is_within trees left upper java_lang_error
 
-  step_some : (trees : Program) (above left : ℕ) (name : Name) → name_eq name java_lang_error ≡ false → (o : Option Name) → superclass_of trees name ≡ o → IsClassIf trees (Some above) o
+  step_some : (trees : Program) (above left : ℕ) (name : Name) → name_eq name java_lang_error ≡ false → (o : Option Name)
+      → superclass_of trees name ≡ o → IsClassIf trees (Some above) o
       → IsStep trees above left name
   step_some trees above left name not None e i = absurd i
   step_some trees above left name not (Some s) e i =
@@ -98,7 +102,8 @@ module _ (classes_read : AreClassesRead) (p : LinkedProgram) (from : ℕ) where
       }
 
   -- it is not Error, and the class above it is the nearest then
-  pub goes_up : (nearest left above : ℕ) → Climbs p from nearest (suc left) → (nearest == 8) ≡ false → Some above ≡ option_and_then superclass_in (slice_get p.classes.items nearest)
+  pub goes_up : (nearest left above : ℕ) → Climbs p from nearest (suc left) → (nearest == 8) ≡ false
+      → Some above ≡ option_and_then superclass_in (slice_get p.classes.items nearest)
       → Climbs p from above left
   goes_up nearest left above climbs not e files trees linkable linked class at =
       let n = climbs files trees linkable linked class at in

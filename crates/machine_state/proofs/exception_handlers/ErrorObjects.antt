@@ -28,7 +28,8 @@ no_interface : (trees : Program) → is_interface trees java_lang_error ≡ fals
 unfolding built_in_classes
 no_interface trees = refl
 
-none_named : (trees : Program) (names : List Name) → AllByRecursion (λ d. is_interface trees d ≡ true) names → list_any (λ i. name_eq i java_lang_error) names ≡ false
+none_named : (trees : Program) (names : List Name) → AllByRecursion (λ d. is_interface trees d ≡ true) names
+    → list_any (λ i. name_eq i java_lang_error) names ≡ false
 none_named trees [] h = refl
 none_named trees (d ∷ ds) h = or_from _ _ (by (name_eq d java_lang_error) refl) (none_named trees ds h.1)
   where
@@ -42,13 +43,15 @@ here trees zero class h = h
 here trees (suc n) class h = ap (λ b. b || option_map_or (λ s. is_within trees n s java_lang_error) (superclass_of trees class) false) h
 
 -- nothing implements it
-pub only_below : (files : List (List ℕ)) (trees : Program) → IsLinkable files trees → (class : Name) → is_subclass_or_implements trees class java_lang_error ≡ is_subclass trees class java_lang_error
+pub only_below : (files : List (List ℕ)) (trees : Program) → IsLinkable files trees → (class : Name)
+    → is_subclass_or_implements trees class java_lang_error ≡ is_subclass trees class java_lang_error
 only_below files trees linkable class = by (is_subclass trees class java_lang_error) (name_eq class java_lang_error) refl refl
   where
     none : list_any (λ i. name_eq i java_lang_error) (all_superinterfaces trees class) ≡ false
     none = none_named trees (all_superinterfaces trees class) (all_interfaces trees (unrefused_of files trees linkable.spelled linkable.no_refusal) class)
 
-    by : (below same : Bool) → is_subclass trees class java_lang_error ≡ below → name_eq class java_lang_error ≡ same → (below || implements trees class java_lang_error) ≡ below
+    by : (below same : Bool) → is_subclass trees class java_lang_error ≡ below → name_eq class java_lang_error ≡ same
+        → (below || implements trees class java_lang_error) ≡ below
     by true same b e = refl
     by false false b e = ap (λ s. s || list_any (λ i. name_eq i java_lang_error) (all_superinterfaces trees class)) e ∙ none
     by false true b e = let is : true ≡ false = sym (here trees (length (classes_of trees)) class e) ∙ b in absurd cc

@@ -18,14 +18,16 @@ none_at test [] k x h e = absurd cc
 none_at test (y ∷ xs) zero x h e = let same : y ≡ x = cc in subst (λ z. test z ≡ false) same (or_parts (test y) _ h).0
 none_at test (y ∷ xs) (suc k) x h e = none_at test xs k x (or_parts (test y) _ h).1 e
 
-not_found_first : {A : Type 0} (test : A → Bool) (y : A) (xs : List A) → is_some (find test (y ∷ xs)) ≡ false → (test y ≡ false) × (is_some (find test xs) ≡ false)
+not_found_first : {A : Type 0} (test : A → Bool) (y : A) (xs : List A) → is_some (find test (y ∷ xs)) ≡ false
+    → (test y ≡ false) × (is_some (find test xs) ≡ false)
 not_found_first test y xs h = by (test y) h
   where
     by : (b : Bool) → is_some (if b then Some y else find test xs) ≡ false → (b ≡ false) × (is_some (find test xs) ≡ false)
     by true e = absurd cc
     by false e = (refl, e)
 
-not_found_at : {A : Type 0} (test : A → Bool) (xs : List A) (k : ℕ) (x : A) → is_some (find test xs) ≡ false → slice_get xs k ≡ Some x → test x ≡ false
+not_found_at : {A : Type 0} (test : A → Bool) (xs : List A) (k : ℕ) (x : A) → is_some (find test xs) ≡ false → slice_get xs k ≡ Some x
+    → test x ≡ false
 not_found_at test [] k x h e = absurd cc
 not_found_at test (y ∷ xs) zero x h e = let same : y ≡ x = cc in subst (λ z. test z ≡ false) same (not_found_first test y xs h).0
 not_found_at test (y ∷ xs) (suc k) x h e = not_found_at test xs k x (not_found_first test y xs h).1 e
@@ -54,7 +56,8 @@ no_errors (file ∷ files) h =
     or_from _ _ (no_error file both.0) (no_errors files both.1)
 
 -- no class behind that place is named as Error
-others : (files : Program) (n : ℕ) (file : FileTree) → list_any has_built_in_name files ≡ false → slice_get (drop 9 built_in_classes ++ files) n ≡ Some file → is_named java_lang_error file ≡ false
+others : (files : Program) (n : ℕ) (file : FileTree) → list_any has_built_in_name files ≡ false
+    → slice_get (drop 9 built_in_classes ++ files) n ≡ Some file → is_named java_lang_error file ≡ false
 unfolding built_in_classes
 others files n file h e = none_at (is_named java_lang_error) (drop 9 built_in_classes ++ files) n file (no_errors files h) e
 

@@ -34,29 +34,35 @@ use Rattle.machine_state.proofs.entries.Entering.{entries_shown}
 use Rattle.machine_state.specs.invocations.Entering.{IsThere, may_begin, begin_cost, with_begin, SaysMayBegin, EntersBy, EntersFor}
 
 -- the object whose monitor is entered is there
-one_is_there : (world : WorldOf ℕ) (heap : Heap) (entered : Option ℕ) → IsThere entered heap → IsOneOf (begin_cost world entered) (length heap.locks.monitors)
+one_is_there : (world : WorldOf ℕ) (heap : Heap) (entered : Option ℕ) → IsThere entered heap
+    → IsOneOf (begin_cost world entered) (length heap.locks.monitors)
 one_is_there world heap None there = tt
 one_is_there world heap (Some object) there = there
 
 entering_is : (t : ℕ) (world : WorldOf ℕ) (rest : StackOf ℕ) (frame : FrameOf ℕ) (entered : Option ℕ)
-    → entering t world rest frame entered ≡ enabled_if (may_begin world t entered) (Next (begin_cost world entered) (part (with_begin world t entered) (Invocation frame ∷ rest)))
+    → entering t world rest frame entered ≡ enabled_if (may_begin world t entered)
+    (Next (begin_cost world entered) (part (with_begin world t entered) (Invocation frame ∷ rest)))
 entering_is t world rest frame None = refl
 entering_is t world rest frame (Some object) = refl
 
 -- a monitor that no other thread owns is entered
-module _ (trees : Program) (p : LinkedProgram) (bounds : Bounds) (inflated : List ℕ) (world : WorldOf ℕ) (old : Shared) (s : IsShared trees p bounds inflated old world) (t object : ℕ) where
-  entered_by : (did : Bool) (heap : Heap) → EntersIn trees p bounds inflated world t object (Ok did) old (record old { heap = heap }) → may_enter world t object ≡ true
+module _ (trees : Program) (p : LinkedProgram) (bounds : Bounds) (inflated : List ℕ) (world : WorldOf ℕ) (old : Shared)
+    (s : IsShared trees p bounds inflated old world) (t object : ℕ) where
+  entered_by : (did : Bool) (heap : Heap) → EntersIn trees p bounds inflated world t object (Ok did) old (record old { heap = heap })
+      → may_enter world t object ≡ true
       → EntersBy trees p bounds inflated world (Ok tt) t (Some object) old (record old { heap = heap })
   entered_by true heap e may = (e.1, refl)
   entered_by false heap e may = absurd (false≢true (sym e.0 ∙ may))
 
-  pub enters_ok : (entered : Option ℕ) → entered ≡ Some object → (did : Bool) (heap : Heap) → Enters (Ok did) object t old.heap heap → may_begin world t entered ≡ true
+  pub enters_ok : (entered : Option ℕ) → entered ≡ Some object → (did : Bool) (heap : Heap) → Enters (Ok did) object t old.heap heap
+      → may_begin world t entered ≡ true
       → EntersBy trees p bounds inflated world (Ok tt) t entered old (record old { heap = heap })
   enters_ok entered is did heap e =
       subst (λ o. may_begin world t o ≡ true → EntersBy trees p bounds inflated world (Ok tt) t o old (record old { heap = heap })) (sym is)
       (entered_by did heap (entries_shown trees p bounds inflated world old (record old { heap = heap }) s t object (Ok did) e refl))
 
-module _ (trees : Program) (p : LinkedProgram) (bounds : Bounds) (inflated : List ℕ) (world : WorldOf ℕ) (old : Shared) (s : IsShared trees p bounds inflated old world)
+module _ (trees : Program) (p : LinkedProgram) (bounds : Bounds) (inflated : List ℕ) (world : WorldOf ℕ) (old : Shared)
+    (s : IsShared trees p bounds inflated old world)
     (t limit : ℕ) (from : List ShownEntry) (own rest : StackOf ℕ) (shows : ShowsStack trees p from own) (frame : FrameOf ℕ) where
   abbrev stepped : SteppedOf (PartOf ℕ)
   stepped = pushed limit t world world own rest frame
@@ -94,21 +100,25 @@ module _ (trees : Program) (p : LinkedProgram) (bounds : Bounds) (inflated : Lis
       goes : stepped ≡ next
       goes = pushes ∙ ap (λ b. enabled_if b next) (may_is true says)
 
-      refused : (told : Refusal) (new : Shared) (to : List ShownEntry) → MayBeRefused trees bounds inflated world (begin_cost world frame.entered) told → new ≡ old → to ≡ from → Comes (Err told) new to
+      refused : (told : Refusal) (new : Shared) (to : List ShownEntry)
+          → MayBeRefused trees bounds inflated world (begin_cost world frame.entered) told → new ≡ old → to ≡ from → Comes (Err told) new to
       refused told new to may same kept = (record { cost = begin_cost world frame.entered; next = _; is = goes; may = may }, record { shared = same; stack = kept })
 
       -- there is no memory for the frame
-      pub lacks : (result : Result Effect Refusal) → IsErrAnd result (λ told. told ≡ refusal.Memory) → (to : List ShownEntry) → to ≡ from → Comes result old to
+      pub lacks : (result : Result Effect Refusal) → IsErrAnd result (λ told. told ≡ refusal.Memory) → (to : List ShownEntry) → to ≡ from
+          → Comes result old to
       lacks (Ok u) e to kept = absurd e
       lacks (Err told) e to kept = refused told old to (subst (MayBeRefused trees bounds inflated world (begin_cost world frame.entered)) (sym e) tt) refl kept
 
       -- the entry is refused
-      pub forbidden : (told : Refusal) (new : Shared) (to : List ShownEntry) → EntersFor (Err told) t frame.entered old new → to ≡ from → Comes (Err told) new to
+      pub forbidden : (told : Refusal) (new : Shared) (to : List ShownEntry) → EntersFor (Err told) t frame.entered old new → to ≡ from
+          → Comes (Err told) new to
       forbidden told new to e kept =
           let by : EntersBy trees p bounds inflated world (Err told) t frame.entered old new = e trees p bounds inflated world s (may_is true says) in
           refused told new to by.0 by.1 kept
 
-      pub done : IsThere frame.entered old.heap → (new : Shared) (to : List ShownEntry) → EntersFor (Ok tt) t frame.entered old new → ShowsStack trees p to (Invocation frame ∷ rest) → Comes (Ok effect.Done) new to
+      pub done : IsThere frame.entered old.heap → (new : Shared) (to : List ShownEntry) → EntersFor (Ok tt) t frame.entered old new
+          → ShowsStack trees p to (Invocation frame ∷ rest) → Comes (Ok effect.Done) new to
       done there new to e shown =
           let by : EntersBy trees p bounds inflated world (Ok tt) t frame.entered old new = e trees p bounds inflated world s (may_is true says) in
           record {
@@ -127,7 +137,8 @@ module _ (trees : Program) (p : LinkedProgram) (bounds : Bounds) (inflated : Lis
 
 -- ---- the stack after a call
 
-called_shown : (trees : Program) (p : LinkedProgram) (from : List ShownEntry) (frame : FrameOf ℕ) (rest : StackOf ℕ) → ShowsStack trees p from (Invocation frame ∷ rest)
+called_shown : (trees : Program) (p : LinkedProgram) (from : List ShownEntry) (frame : FrameOf ℕ) (rest : StackOf ℕ)
+    → ShowsStack trees p from (Invocation frame ∷ rest)
     → (callee : Callee) (method : Member) (body : Body) → IsCallee trees p callee method body → (count : ℕ)
     → ShowsStack trees p (called callee count from)
     (Invocation (frame_with words method (reverse (take count frame.place.slots.stack)) callee.entered body) ∷ Invocation (at_call frame (drop count frame.place.slots.stack)) ∷ rest)
@@ -135,11 +146,13 @@ called_shown trees p [] frame rest s callee method body is count = absurd s
 called_shown trees p (shown.Invocation f ∷ others) frame rest s callee method body is count = call trees p f others frame rest s callee method body is count
 called_shown trees p (shown.Initialisation class phase ∷ others) frame rest s callee method body is count = absurd s.0
 
-same_shown : (trees : Program) (p : LinkedProgram) (to from : List ShownEntry) (own : StackOf ℕ) → to ≡ from → ShowsStack trees p from own → ShowsStack trees p to own
+same_shown : (trees : Program) (p : LinkedProgram) (to from : List ShownEntry) (own : StackOf ℕ) → to ≡ from → ShowsStack trees p from own
+    → ShowsStack trees p to own
 same_shown trees p to from own same s = subst (λ (st : List ShownEntry). ShowsStack trees p st own) (sym same) s
 
 -- it is put over its caller, and then its arguments are taken
-pub two_steps_shown : (trees : Program) (p : LinkedProgram) (from over to : List ShownEntry) (frame : FrameOf ℕ) (rest : StackOf ℕ) → ShowsStack trees p from (Invocation frame ∷ rest)
+pub two_steps_shown : (trees : Program) (p : LinkedProgram) (from over to : List ShownEntry) (frame : FrameOf ℕ) (rest : StackOf ℕ)
+    → ShowsStack trees p from (Invocation frame ∷ rest)
     → (callee : Callee) (method : Member) (body : Body) → IsCallee trees p callee method body → (count : ℕ)
     → over ≡ called_over callee count from → to ≡ under_top (without count) over
     → ShowsStack trees p to
@@ -151,6 +164,7 @@ two_steps_shown trees p from over to frame rest s callee method body is count fi
 -- the frame of a method that no frame calls
 pub first_shown : (trees : Program) (p : LinkedProgram) (from to : List ShownEntry) (own : StackOf ℕ) → ShowsStack trees p from own
     → (callee : Callee) (method : Member) (body : Body) → IsCallee trees p callee method body → (arguments : List ℕ)
-    → to ≡ shown.Invocation (begun callee arguments) ∷ from → ShowsStack trees p to (Invocation (frame_with words method arguments callee.entered body) ∷ own)
+    → to ≡ shown.Invocation (begun callee arguments) ∷ from
+    → ShowsStack trees p to (Invocation (frame_with words method arguments callee.entered body) ∷ own)
 first_shown trees p from to own s callee method body is arguments same =
     same_shown trees p to (shown.Invocation (begun callee arguments) ∷ from) (Invocation (frame_with words method arguments callee.entered body) ∷ own) same (begin trees p callee method body is arguments, s)

@@ -47,7 +47,8 @@ module _ (flags : List Bool) (objects : List ℕ) (object : ℕ) (h : AreFlags f
       let same : slice_set flags object true ≡ flags = ap (slice_set flags object) (sym at) ∙ set-get_or flags object false in
       subst (λ fs. AreFlags fs objects) (sym same) h
 
-  other_flag : (other : ℕ) (b : Bool) → (object == other) ≡ b → slice_index_or (slice_set flags object true) other false ≡ (b || is_inflated objects other)
+  other_flag : (other : ℕ) (b : Bool) → (object == other) ≡ b
+      → slice_index_or (slice_set flags object true) other false ≡ (b || is_inflated objects other)
   other_flag other true e =
       ap (λ o. slice_index_or (slice_set flags object true) o false) (sym (eqb-true object other e)) ∙ get_or-set_same flags object true false there
   other_flag other false e =
@@ -68,7 +69,8 @@ module _ (flags : List Bool) (objects : List ℕ) (object : ℕ) (h : AreFlags f
   entry_set true = flag_set
   entry_set false = h
 
-flags_go : (cost : Cost) (flags : List Bool) (objects : List ℕ) → AreFlags flags objects → IsOneOf cost (length flags) → AreFlags (flags_after cost flags) (inflated_by cost objects)
+flags_go : (cost : Cost) (flags : List Bool) (objects : List ℕ) → AreFlags flags objects → IsOneOf cost (length flags)
+    → AreFlags (flags_after cost flags) (inflated_by cost objects)
 flags_go Free flags objects h there = h
 flags_go (Makes cells) flags objects h there = one_more flags objects h
 flags_go Starts flags objects h there = h
@@ -81,7 +83,8 @@ flags_kept = record { none = λ objects. record { same = no_flag objects; count 
 -- ---- calls
 
 -- whether one more lock can be inflated, by the flags
-crowd : (locks : Locks) (objects : List ℕ) (object : ℕ) → AreFlags locks.fat objects → (not (is_fat_at locks object) && nat_le locks.limit (fat_count locks)) ≡ is_crowded locks.limit objects object
+crowd : (locks : Locks) (objects : List ℕ) (object : ℕ) → AreFlags locks.fat objects
+    → (not (is_fat_at locks object) && nat_le locks.limit (fat_count locks)) ≡ is_crowded locks.limit objects object
 crowd locks objects object flags =
     let fat = flags.same object in
     let count = flags.count in
@@ -92,7 +95,8 @@ may true m after e = refl
 may false m after e = absurd cc
 
 -- a thread that may enter with some entries is the owner
-owner_may : (thread count most : ℕ) (m again : Monitor) (o : Option ℕ) (free : Answered Monitor) → (0 == most) ≡ false → IsOwnerCounted o count → (as_entrant thread o m free (answers_done again)).answer ≡ Done
+owner_may : (thread count most : ℕ) (m again : Monitor) (o : Option ℕ) (free : Answered Monitor) → (0 == most) ≡ false
+    → IsOwnerCounted o count → (as_entrant thread o m free (answers_done again)).answer ≡ Done
     → (owns thread o && (count == most)) ≡ (count == most)
 owner_may thread count most m again None free some none e = sym (ap (λ n. n == most) none ∙ some)
 owner_may thread count most m again (Some owner) free some entries e = ap (λ b. b && (count == most)) (may (owner == thread) m again e)

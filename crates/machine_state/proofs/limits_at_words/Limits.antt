@@ -57,7 +57,8 @@ module _ (files : Program) (bounds : Bounds) (crowded : ℕ → Bool) where
   taken_same state (Enters object count) = refl
   taken_same state (Joins object) = refl
 
-  taken_words : (world : World) (cost : Cost) → limit_in files bounds crowded (map_world word_of world) cost ≡ limit_in files bounds crowded world cost
+  taken_words : (world : World) (cost : Cost)
+      → limit_in files bounds crowded (map_world word_of world) cost ≡ limit_in files bounds crowded world cost
   taken_words world Free = refl
   taken_words world (Makes cells) =
       let objects = objects_made_same files world in
@@ -72,7 +73,8 @@ module _ (files : Program) (bounds : Bounds) (crowded : ℕ → Bool) where
   by_values state WrongKind = refl
   by_values state (Next cost next) = taken_same state cost
 
-  by_words : (state : State) (x : SteppedOf State) → limit_by files bounds crowded (words_of state) (map_stepped words_of x) ≡ limit_at files bounds crowded state x
+  by_words : (state : State) (x : SteppedOf State)
+      → limit_by files bounds crowded (words_of state) (map_stepped words_of x) ≡ limit_at files bounds crowded state x
   by_words state NotEnabled = refl
   by_words state WrongKind = refl
   by_words state (Next cost next) = taken_words state.world cost ∙ taken_same state cost
@@ -112,8 +114,10 @@ same_cost c cost s next e = cc
 same_next : {S : Type 0} (c cost : Cost) (s next : S) → Next c s ≡ Next cost next → s ≡ next
 same_next c cost s next e = cc
 
-module _ (trees : Program) (frames : ℕ) (events : List Event) (state : State) (event : Event) (r : run trees frames events ≡ Some state) where
-  goes_on : (cost : Cost) (next : StateOf ℕ) (y : SteppedOf State) → stepped values trees frames state event ≡ y → map_stepped words_of y ≡ Next cost next → GoesOn trees frames events event cost next
+module _ (trees : Program) (frames : ℕ) (events : List Event) (state : State) (event : Event)
+    (r : run trees frames events ≡ Some state) where
+  goes_on : (cost : Cost) (next : StateOf ℕ) (y : SteppedOf State) → stepped values trees frames state event ≡ y
+      → map_stepped words_of y ≡ Next cost next → GoesOn trees frames events event cost next
   goes_on cost next NotEnabled q e = absurd (no_next e)
   goes_on cost next WrongKind q e = absurd (no_wrong e)
   goes_on cost next (Next c s) q e =

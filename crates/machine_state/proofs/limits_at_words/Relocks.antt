@@ -18,7 +18,9 @@ use Rattle.machine_state.specs.limits_at_words.FatLocks.{AreRelocksAtWordsAllowe
 use Rattle.machine_state.proofs.limits_at_words.FatLocks.{relocks_allowed}
 
 -- a thread that is there is typed with a stack
-thread_typed : (files : Program) (os : List ReferenceType) (threads : List Thread) (stacks : List (StackOf Value)) (t : ℕ) (thread : Thread) → AreThreadsTyped files os threads stacks → slice_get threads t ≡ Some thread → (stack : StackOf Value) × IsThreadTyped files os thread stack
+thread_typed : (files : Program) (os : List ReferenceType) (threads : List Thread) (stacks : List (StackOf Value)) (t : ℕ)
+    (thread : Thread) → AreThreadsTyped files os threads stacks → slice_get threads t ≡ Some thread
+    → (stack : StackOf Value) × IsThreadTyped files os thread stack
 thread_typed files os [] stacks t thread h e = absurd cc
 thread_typed files os (x ∷ xs) [] t thread h e = absurd h
 thread_typed files os (x ∷ xs) (stack ∷ stacks) zero thread h e =
@@ -26,7 +28,9 @@ thread_typed files os (x ∷ xs) (stack ∷ stacks) zero thread h e =
     (stack, subst (λ th. IsThreadTyped files os th stack) same h.0)
 thread_typed files os (x ∷ xs) (stack ∷ stacks) (suc t) thread h e = thread_typed files os xs stacks t thread h.1 e
 
-object_there : (files : Program) (heap : List (ObjectOf Value)) (thread : Thread) (stack : StackOf Value) (object count : ℕ) (cause : WakeCause) → IsThreadTyped files (types_of heap) thread stack → thread.status ≡ Relock object count cause → object < length heap
+object_there : (files : Program) (heap : List (ObjectOf Value)) (thread : Thread) (stack : StackOf Value) (object count : ℕ)
+    (cause : WakeCause) → IsThreadTyped files (types_of heap) thread stack → thread.status ≡ Relock object count cause
+    → object < length heap
 object_there files heap thread stack object count cause h is =
     let waits = subst (IsStackTyped files (types_of heap) thread.pending stack) is h.stack_typed in
     ltb-true object (length heap) (are_objects files heap (OfType (ClassType java_lang_object)) (value.Reference object) refl waits.1.0)

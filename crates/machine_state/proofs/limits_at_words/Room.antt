@@ -43,7 +43,8 @@ int_fits objects value.Null h = λ r e. absurd (none_some r e)
 int_fits objects (value.Reference q) h = absurd (false≢true h)
 
 module _ (files : Program) (heap : List (ObjectOf Value)) (few : length heap < 2 ^ 32) where
-  usable_fits : (type : VerificationType) (v : Value) → is_usable type ≡ true → has_type files (types_of heap) type v ≡ true → IsFitting (length heap) v
+  usable_fits : (type : VerificationType) (v : Value) → is_usable type ≡ true → has_type files (types_of heap) type v ≡ true
+      → IsFitting (length heap) v
   usable_fits Unusable v u h = absurd (false≢true u)
   usable_fits IntType v u h = int_fits (length heap) v h
   usable_fits NullType v u h = fitting (length heap) v few (are_objects files heap NullType v refl h)
@@ -63,7 +64,8 @@ module _ (files : Program) (heap : List (ObjectOf Value)) (few : length heap < 2
   field_fits : (field : Member × Value) → is_field_typed files (types_of heap) field ≡ true → IsFitting (length heap) field.1
   field_fits field h = usable_fits (verification_type files (field_declared field.0.descriptor)) field.1 (declared_usable (field_declared field.0.descriptor)) h
 
-  fields_fit : (fields : List (Member × Value)) → list_all (is_field_typed files (types_of heap)) fields ≡ true → AreFitting (length heap) (map (λ (field : Member × Value). field.1) fields)
+  fields_fit : (fields : List (Member × Value)) → list_all (is_field_typed files (types_of heap)) fields ≡ true
+      → AreFitting (length heap) (map (λ (field : Member × Value). field.1) fields)
   fields_fit [] h k v e = absurd cc
   fields_fit (field ∷ fields) h zero v e =
       let same : field.1 ≡ v = cc in
@@ -78,20 +80,24 @@ module _ (files : Program) (heap : List (ObjectOf Value)) (few : length heap < 2
 
   -- ---- threads
 
-  pending_fits : (pending : Option ℕ) (stack : StackOf Value) (status : ThreadStatus) → IsStackTyped files (types_of heap) pending stack status → (exception : ℕ) → has_ended status ≡ false → pending ≡ Some exception → Fits (length heap) exception
+  pending_fits : (pending : Option ℕ) (stack : StackOf Value) (status : ThreadStatus)
+      → IsStackTyped files (types_of heap) pending stack status → (exception : ℕ) → has_ended status ≡ false → pending ≡ Some exception
+      → Fits (length heap) exception
   pending_fits None stack Running h exception a e = absurd (none_some exception e)
   pending_fits (Some found) stack Running h exception a e = subst (Fits (length heap)) (same_Some found exception e) (object_fits _ found h.0)
   pending_fits pending stack (Waiting object count) h exception a e = absurd (none_some exception (sym h.0 ∙ e))
   pending_fits pending stack (Relock object count cause) h exception a e = absurd (none_some exception (sym h.0 ∙ e))
   pending_fits pending stack (Ended thrown) h exception a e = absurd (true≢false a)
 
-  status_fits : (pending : Option ℕ) (stack : StackOf Value) (status : ThreadStatus) → IsStackTyped files (types_of heap) pending stack status → IsStatusFitting (length heap) status
+  status_fits : (pending : Option ℕ) (stack : StackOf Value) (status : ThreadStatus)
+      → IsStackTyped files (types_of heap) pending stack status → IsStatusFitting (length heap) status
   status_fits pending stack Running h = tt
   status_fits pending stack (Waiting object count) h = object_fits _ object h.1.0
   status_fits pending stack (Relock object count cause) h = object_fits _ object h.1.0
   status_fits pending stack (Ended thrown) h = tt
 
-  thread_fits : (thread : Thread) (stack : StackOf Value) → IsThreadTyped files (types_of heap) thread stack → IsThreadFitting (length heap) thread
+  thread_fits : (thread : Thread) (stack : StackOf Value) → IsThreadTyped files (types_of heap) thread stack
+      → IsThreadFitting (length heap) thread
   thread_fits thread stack h =
       record {
         object = object_fits _ thread.object h.object;
@@ -99,7 +105,8 @@ module _ (files : Program) (heap : List (ObjectOf Value)) (few : length heap < 2
         status = status_fits thread.pending stack thread.status h.stack_typed;
       }
 
-  threads_fit : (threads : List Thread) (stacks : List (StackOf Value)) → AreThreadsTyped files (types_of heap) threads stacks → (t : ℕ) (thread : Thread) → slice_get threads t ≡ Some thread → IsThreadFitting (length heap) thread
+  threads_fit : (threads : List Thread) (stacks : List (StackOf Value)) → AreThreadsTyped files (types_of heap) threads stacks → (t : ℕ)
+      (thread : Thread) → slice_get threads t ≡ Some thread → IsThreadFitting (length heap) thread
   threads_fit [] stacks h t thread e = absurd cc
   threads_fit (x ∷ xs) [] h t thread e = absurd h
   threads_fit (x ∷ xs) (stack ∷ stacks) h zero thread e =
@@ -109,7 +116,8 @@ module _ (files : Program) (heap : List (ObjectOf Value)) (few : length heap < 2
 
   -- ---- frames
 
-  slots_fit : (types : List VerificationType) (vs : List Value) → are_typed files (types_of heap) types vs ≡ true → AreSlotsFitting (length heap) types vs
+  slots_fit : (types : List VerificationType) (vs : List Value) → are_typed files (types_of heap) types vs ≡ true
+      → AreSlotsFitting (length heap) types vs
   slots_fit [] vs h k type v e f u = absurd cc
   slots_fit (t ∷ ts) [] h k type v e f u = absurd cc
   slots_fit (t ∷ ts) (x ∷ xs) h zero type v e f u =

@@ -31,7 +31,9 @@ references of files components (Primitives type elements) is = absurd is
 references of files components (References type elements) is = object_is_first files
 
 -- an array is of one of these kinds
-pub of_array : (of : ObjectKind) → (of ≡ kind.Ints) ⊎ (((number : ℕ) × (of ≡ kind.References number)) ⊎ ((narrow_kind : NarrowKind) × (of ≡ kind.Narrow narrow_kind))) → IsReceiverClass of 0
+pub of_array : (of : ObjectKind) → (of ≡ kind.Ints)
+    ⊎ (((number : ℕ) × (of ≡ kind.References number)) ⊎ ((narrow_kind : NarrowKind) × (of ≡ kind.Narrow narrow_kind)))
+    → IsReceiverClass of 0
 of_array of (inl is) = subst (λ k. IsReceiverClass k 0) (sym is) ints
 of_array of (inr (inl is)) = subst (λ k. IsReceiverClass k 0) (sym is.1) (references is.0)
 of_array of (inr (inr is)) = subst (λ k. IsReceiverClass k 0) (sym is.1) (narrow is.0)

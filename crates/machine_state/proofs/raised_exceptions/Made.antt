@@ -33,7 +33,8 @@ use Rattle.machine_state.proofs.allocations.Allocating.{made, refused}
 use Rattle.machine_state.specs.raised_exceptions.Raised.{class_number}
 use Rattle.machine_state.proofs.raised_exceptions.Numbered.{numbered}
 
-module _ (trees : Program) (p : LinkedProgram) (bounds : Bounds) (inflated : List ℕ) (world : WorldOf ℕ) (old : Shared) (r : Represents trees p bounds old world)
+module _ (trees : Program) (p : LinkedProgram) (bounds : Bounds) (inflated : List ℕ) (world : WorldOf ℕ) (old : Shared)
+    (r : Represents trees p bounds old world)
     (shown : List ShownEntry) (own : StackOf ℕ) (s : ShowsStack trees p shown own) where
   -- ---- refused
 
@@ -60,7 +61,8 @@ module _ (trees : Program) (p : LinkedProgram) (bounds : Bounds) (inflated : Lis
     abbrev pub pending_in : (change : List Thread → List Thread) (t : ℕ) → List Thread → ℕ → List Thread
     pending_in change t threads exception = slice_set (change threads) t (record (slice_index_or (change threads) t (new_thread 0)) { pending = Some exception })
 
-    pub is_pending : (change : List Thread → List Thread) → ((threads : List Thread) → length (change threads) ≡ length threads) → (t reference : ℕ) (after : Heap) (table : ThreadTable)
+    pub is_pending : (change : List Thread → List Thread) → ((threads : List Thread) → length (change threads) ≡ length threads)
+        → (t reference : ℕ) (after : Heap) (table : ThreadTable)
         → Allocates (Ok reference) (kind.Instance number) 0 old.heap after
         → table.threads ≡ pending_in change t old.threads.threads reference → table.limit ≡ old.threads.limit
         → IsDone trees p bounds inflated world

@@ -38,7 +38,8 @@ same_tail x y xs ys e = cc
 
 module _ {A B : Type 0} where
   -- pairs are told by their parts
-  pairs : (xs ys : List (A × B)) → map (λ (p : A × B). p.0) xs ≡ map (λ (p : A × B). p.0) ys → map (λ (p : A × B). p.1) xs ≡ map (λ (p : A × B). p.1) ys → xs ≡ ys
+  pairs : (xs ys : List (A × B)) → map (λ (p : A × B). p.0) xs ≡ map (λ (p : A × B). p.0) ys
+      → map (λ (p : A × B). p.1) xs ≡ map (λ (p : A × B). p.1) ys → xs ≡ ys
   pairs [] [] e f = refl
   pairs [] (y ∷ ys) e f = absurd cc
   pairs (x ∷ xs) [] e f = absurd cc
@@ -55,19 +56,22 @@ class_once files number one other a b =
     let same : a.0 ≡ b.0 = same_Some a.0 b.0 (sym a.1 ∙ b.1) in
     sym a.2 ∙ (ap name_of same ∙ b.2)
 
-method_once : (files : Program) (number : ℕ) (one other : Member) → IsMethodAt files number one → IsMethodAt files number other → one ≡ other
+method_once : (files : Program) (number : ℕ) (one other : Member) → IsMethodAt files number one → IsMethodAt files number other
+    → one ≡ other
 method_once files number one other a b = same_Some one other (sym a ∙ b)
 
 same_suc : (m n : ℕ) → suc m ≡ suc n → m ≡ n
 same_suc m n e = cc
 
-type_with : (files : Program) (dimensions : ℕ) (of : Element) (one other : ReferenceType) → IsTypeWith files dimensions of one → IsTypeWith files dimensions of other → one ≡ other
+type_with : (files : Program) (dimensions : ℕ) (of : Element) (one other : ReferenceType) → IsTypeWith files dimensions of one
+    → IsTypeWith files dimensions of other → one ≡ other
 type_with files dimensions (element.Class number) one other a b =
     a.is ∙ (ap (λ class. arrays dimensions (ClassType class)) (class_once files number a.class b.class a.numbered b.numbered) ∙ sym b.is)
 type_with files dimensions (element.Primitive of) one other a b =
     a.is ∙ (ap (λ around. arrays around (PrimitiveArray (primitive_of of))) (same_suc a.around b.around (sym a.count ∙ b.count)) ∙ sym b.is)
 
-type_once : (files : Program) (types : List LinkedType) (number : ℕ) (one other : ReferenceType) → IsTypeAt files types number one → IsTypeAt files types number other → one ≡ other
+type_once : (files : Program) (types : List LinkedType) (number : ℕ) (one other : ReferenceType) → IsTypeAt files types number one
+    → IsTypeAt files types number other → one ≡ other
 type_once files types number one other a b =
     let same : a.0 ≡ b.0 = same_Some a.0 b.0 (sym a.1 ∙ b.1) in
     type_with files b.0.dimensions b.0.element one other (subst (λ (of : LinkedType). IsType files of one) same a.2) b.2
@@ -75,14 +79,17 @@ type_once files types number one other a b =
 -- ---- objects
 
 module _ (files : Program) (components : List LinkedType) where
-  instances : (number : ℕ) (class other : Name) (fields others : List (Member × ℕ)) → IsClassAt files number class → IsClassAt files number other
-      → names_of fields ≡ instance_fields files class → names_of others ≡ instance_fields files other → words_in fields ≡ words_in others → Instance class fields ≡ Instance other others
+  instances : (number : ℕ) (class other : Name) (fields others : List (Member × ℕ)) → IsClassAt files number class
+      → IsClassAt files number other
+      → names_of fields ≡ instance_fields files class → names_of others ≡ instance_fields files other → words_in fields ≡ words_in others
+      → Instance class fields ≡ Instance other others
   instances number class other fields others a b n m e =
       let same = class_once files number class other a b in
       let names = n ∙ (ap (instance_fields files) same ∙ sym m) in
       ap (λ (c : Name). Instance c fields) same ∙ ap (λ (l : List (Member × ℕ)). Instance other l) (pairs fields others names e)
 
-  by_kind : (k : ObjectKind) (one other : ObjectOf ℕ) → IsKindOf files components k one → IsKindOf files components k other → cells_of one ≡ cells_of other → one ≡ other
+  by_kind : (k : ObjectKind) (one other : ObjectOf ℕ) → IsKindOf files components k one → IsKindOf files components k other
+      → cells_of one ≡ cells_of other → one ≡ other
   by_kind (kind.Instance number) (Instance class fields) (Instance other others) a b e = instances number class other fields others a.0 b.0 a.1 b.1 e
   by_kind (kind.Instance number) (Instance class fields) (Primitives of elements) a b e = absurd b
   by_kind (kind.Instance number) (Instance class fields) (References of elements) a b e = absurd b
@@ -105,7 +112,8 @@ module _ (files : Program) (components : List LinkedType) where
   by_kind (kind.References number) (Instance class fields) other a b e = absurd a
   by_kind (kind.References number) (Primitives of elements) other a b e = absurd a
 
-  objects_once : (shown : List Object) (one other : List (ObjectOf ℕ)) → ShowsObjects files components shown one → ShowsObjects files components shown other → one ≡ other
+  objects_once : (shown : List Object) (one other : List (ObjectOf ℕ)) → ShowsObjects files components shown one
+      → ShowsObjects files components shown other → one ≡ other
   objects_once [] [] [] a b = refl
   objects_once [] [] (n ∷ ns) a b = absurd b
   objects_once [] (m ∷ ms) other a b = absurd a
@@ -130,7 +138,8 @@ module _ (files : Program) (p : LinkedProgram) where
       ∙ (ap (λ s. frame_of other.method g.offset g.slots.locals s one.entered) (a.operands ∙ sym b.operands)
       ∙ ap (λ e. frame_of other.method g.offset g.slots.locals g.slots.stack e) (a.entered ∙ sym b.entered))))
 
-  entries_once : (shown : ShownEntry) (one other : StackEntryOf ℕ) → ShowsEntry files p shown one → ShowsEntry files p shown other → one ≡ other
+  entries_once : (shown : ShownEntry) (one other : StackEntryOf ℕ) → ShowsEntry files p shown one → ShowsEntry files p shown other
+      → one ≡ other
   entries_once (Invocation shown) (model.Invocation f) (model.Invocation g) a b = ap (λ (x : FrameOf ℕ). model.Invocation x) (frames_once shown f g a b)
   entries_once (Invocation shown) (model.Invocation f) (model.Initialisation class phase) a b = absurd b
   entries_once (Invocation shown) (model.Initialisation class phase) other a b = absurd a
@@ -139,7 +148,8 @@ module _ (files : Program) (p : LinkedProgram) where
   entries_once (Initialisation number at) (model.Initialisation class phase) (model.Invocation g) a b = absurd b
   entries_once (Initialisation number at) (model.Invocation f) other a b = absurd a
 
-  stack_once : (shown : List ShownEntry) (one other : StackOf ℕ) → ShowsStack files p shown one → ShowsStack files p shown other → one ≡ other
+  stack_once : (shown : List ShownEntry) (one other : StackOf ℕ) → ShowsStack files p shown one → ShowsStack files p shown other
+      → one ≡ other
   stack_once [] [] [] a b = refl
   stack_once [] [] (n ∷ ns) a b = absurd b
   stack_once [] (m ∷ ms) other a b = absurd a
@@ -147,7 +157,8 @@ module _ (files : Program) (p : LinkedProgram) where
   stack_once (o ∷ os) (m ∷ ms) [] a b = absurd b
   stack_once (o ∷ os) (m ∷ ms) (n ∷ ns) a b = ap (λ x. x ∷ ms) (entries_once o m n a.0 b.0) ∙ ap (λ l. n ∷ l) (stack_once os ms ns a.1 b.1)
 
-  stacks_once : (shown : List (List ShownEntry)) (one other : List (StackOf ℕ)) → ShowsStacks files p shown one → ShowsStacks files p shown other → one ≡ other
+  stacks_once : (shown : List (List ShownEntry)) (one other : List (StackOf ℕ)) → ShowsStacks files p shown one
+      → ShowsStacks files p shown other → one ≡ other
   stacks_once [] [] [] a b = refl
   stacks_once [] [] (n ∷ ns) a b = absurd b
   stacks_once [] (m ∷ ms) other a b = absurd a

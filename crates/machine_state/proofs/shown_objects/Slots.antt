@@ -14,10 +14,12 @@ lt_step a n = grind (arith, nat_tests)
 zero_lt : (n : ℕ) → ltb 0 (suc n) ≡ true
 zero_lt n = grind (arith, nat_tests)
 
-step_over : {A : Type 0} (p : A → Bool) (x : A) (xs : List A) → p x ≡ false → position p (x ∷ xs) ≡ option_map (λ (k : ℕ). suc k) (position p xs)
+step_over : {A : Type 0} (p : A → Bool) (x : A) (xs : List A) → p x ≡ false
+    → position p (x ∷ xs) ≡ option_map (λ (k : ℕ). suc k) (position p xs)
 step_over p x xs h = rw (h, lt_step (position_or_len p xs) (length xs)) (by (ltb (position_or_len p xs) (length xs)))
   where
-    by : (b : Bool) → cond b (Some (1 + position_or_len p xs)) None ≡ option_map (λ (k : ℕ). suc k) (cond b (Some (position_or_len p xs)) None)
+    by : (b : Bool) → cond b (Some (1 + position_or_len p xs)) None
+        ≡ option_map (λ (k : ℕ). suc k) (cond b (Some (position_or_len p xs)) None)
     by true = ap (λ (k : ℕ). Some k) (omega arith)
     by false = refl
 
@@ -33,11 +35,13 @@ some_is a b e = cc
 
 module _ (field : Member) where
   -- it is read at its slot
-  pub value_slot : (first : ℕ) (fields : List (Member × ℕ)) (n : ℕ) → slot_in (names_of fields) field ≡ Some n → value_in first field fields ≡ slice_index (words_in fields) n
+  pub value_slot : (first : ℕ) (fields : List (Member × ℕ)) (n : ℕ) → slot_in (names_of fields) field ≡ Some n
+      → value_in first field fields ≡ slice_index (words_in fields) n
   value_slot first [] n e = absurd cc
   value_slot first (f ∷ fields) n e = by (λ j h. value_slot first fields j h) (member_eq f.0 field) refl
     where
-      by : ((j : ℕ) → slot_in (names_of fields) field ≡ Some j → value_in first field fields ≡ slice_index (words_in fields) j) → (b : Bool) → member_eq f.0 field ≡ b → (if b then f.1 else value_in first field fields) ≡ slice_index (f.1 ∷ words_in fields) n
+      by : ((j : ℕ) → slot_in (names_of fields) field ≡ Some j → value_in first field fields ≡ slice_index (words_in fields) j)
+          → (b : Bool) → member_eq f.0 field ≡ b → (if b then f.1 else value_in first field fields) ≡ slice_index (f.1 ∷ words_in fields) n
       by rest true h =
           let z : 0 ≡ n = some_is 0 n (sym (stop_at (λ (m : Member). member_eq m field) f.0 (names_of fields) h) ∙ e) in
           ap (λ k. slice_index (f.1 ∷ words_in fields) k) z
@@ -46,11 +50,14 @@ module _ (field : Member) where
           rest more.0 more.1 ∙ ap (λ k. slice_index (f.1 ∷ words_in fields) k) more.2
 
   -- it is written there
-  pub with_slot : (v : ℕ) (fields : List (Member × ℕ)) (n : ℕ) → slot_in (names_of fields) field ≡ Some n → words_in (with_value field v fields) ≡ slice_set (words_in fields) n v
+  pub with_slot : (v : ℕ) (fields : List (Member × ℕ)) (n : ℕ) → slot_in (names_of fields) field ≡ Some n
+      → words_in (with_value field v fields) ≡ slice_set (words_in fields) n v
   with_slot v [] n e = absurd cc
   with_slot v (f ∷ fields) n e = by (λ j h. with_slot v fields j h) (member_eq f.0 field) refl
     where
-      by : ((j : ℕ) → slot_in (names_of fields) field ≡ Some j → words_in (with_value field v fields) ≡ slice_set (words_in fields) j v) → (b : Bool) → member_eq f.0 field ≡ b → words_in (if b then (f.0, v) ∷ fields else f ∷ with_value field v fields) ≡ slice_set (f.1 ∷ words_in fields) n v
+      by : ((j : ℕ) → slot_in (names_of fields) field ≡ Some j → words_in (with_value field v fields) ≡ slice_set (words_in fields) j v)
+          → (b : Bool) → member_eq f.0 field ≡ b → words_in (if b then (f.0, v) ∷ fields else f ∷ with_value field v fields)
+          ≡ slice_set (f.1 ∷ words_in fields) n v
       by rest true h =
           let z : 0 ≡ n = some_is 0 n (sym (stop_at (λ (m : Member). member_eq m field) f.0 (names_of fields) h) ∙ e) in
           ap (λ k. slice_set (f.1 ∷ words_in fields) k v) z
@@ -63,7 +70,8 @@ module _ (field : Member) where
   with_names v [] = refl
   with_names v (f ∷ fields) = by (with_names v fields) (member_eq f.0 field)
     where
-      by : names_of (with_value field v fields) ≡ names_of fields → (b : Bool) → names_of (if b then (f.0, v) ∷ fields else f ∷ with_value field v fields) ≡ f.0 ∷ names_of fields
+      by : names_of (with_value field v fields) ≡ names_of fields → (b : Bool)
+          → names_of (if b then (f.0, v) ∷ fields else f ∷ with_value field v fields) ≡ f.0 ∷ names_of fields
       by rest true = refl
       by rest false = ap (λ l. f.0 ∷ l) rest
 

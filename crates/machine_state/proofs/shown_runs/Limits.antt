@@ -27,7 +27,8 @@ module _ (files : Program) (bounds : Bounds) (event : Event) where
   alone state inflated WrongKind e = refl
   alone state inflated (Next cost next) e = ap (λ o. is_none o && true) e
 
-  pub within_more : (events : List Event) (state : State) (inflated : List ℕ) (last : State) → run_from files bounds.frames state events ≡ Some last → within_limits_from files bounds state events inflated ≡ true
+  pub within_more : (events : List Event) (state : State) (inflated : List ℕ) (last : State)
+      → run_from files bounds.frames state events ≡ Some last → within_limits_from files bounds state events inflated ≡ true
       → stands_in last (inflated_from files bounds.frames state events inflated) (stepped values files bounds.frames last event)
       → within_limits_from files bounds state (events ++ event ∷ []) inflated ≡ true
   within_more [] state inflated last e w s =
@@ -36,13 +37,17 @@ module _ (files : Program) (bounds : Bounds) (event : Event) where
   within_more (first ∷ events) state inflated last e w s =
       by (λ next inflated. within_more events next inflated last) (stepped values files bounds.frames state first) e w s
     where
-      by : ((next : State) (inflated : List ℕ) → run_from files bounds.frames next events ≡ Some last → within_limits_from files bounds next events inflated ≡ true
+      by : ((next : State) (inflated : List ℕ) → run_from files bounds.frames next events ≡ Some last
+          → within_limits_from files bounds next events inflated ≡ true
           → stands_in last (inflated_from files bounds.frames next events inflated) (stepped values files bounds.frames last event)
           → within_limits_from files bounds next (events ++ event ∷ []) inflated ≡ true)
           → (x : SteppedOf State) → option_and_then (λ next. run_from files bounds.frames next events) (next_by x) ≡ Some last
-          → if_next x true (λ cost next. is_none (limit_of files bounds (is_crowded bounds.monitors inflated) state cost) && within_limits_from files bounds next events (inflated_by cost inflated)) ≡ true
-          → stands_in last (if_next x inflated (λ cost next. inflated_from files bounds.frames next events (inflated_by cost inflated))) (stepped values files bounds.frames last event)
-          → if_next x true (λ cost next. is_none (limit_of files bounds (is_crowded bounds.monitors inflated) state cost) && within_limits_from files bounds next (events ++ event ∷ []) (inflated_by cost inflated)) ≡ true
+          → if_next x true (λ cost next. is_none (limit_of files bounds (is_crowded bounds.monitors inflated) state cost) &&
+          within_limits_from files bounds next events (inflated_by cost inflated)) ≡ true
+          → stands_in last (if_next x inflated (λ cost next. inflated_from files bounds.frames next events (inflated_by cost inflated)))
+          (stepped values files bounds.frames last event)
+          → if_next x true (λ cost next. is_none (limit_of files bounds (is_crowded bounds.monitors inflated) state cost) &&
+          within_limits_from files bounds next (events ++ event ∷ []) (inflated_by cost inflated)) ≡ true
       by rest NotEnabled e w s = absurd cc
       by rest WrongKind e w s = absurd cc
       by rest (Next cost next) e w s =

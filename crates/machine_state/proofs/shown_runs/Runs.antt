@@ -56,7 +56,8 @@ same_next c cost s next e = cc
 
 -- ---- one more event
 
-module _ (files : List (List ℕ)) (trees : Program) (accepted : IsAccepted files trees) (bounds : Bounds) (events : List Event) (at : StateOf ℕ) (lead : LeadTo trees bounds events at) (event : Event) where
+module _ (files : List (List ℕ)) (trees : Program) (accepted : IsAccepted files trees) (bounds : Bounds) (events : List Event)
+    (at : StateOf ℕ) (lead : LeadTo trees bounds events at) (event : Event) where
   abbrev pub crowded : ℕ → Bool
   crowded = is_crowded bounds.monitors (inflated trees bounds.frames events)
 
@@ -70,7 +71,8 @@ module _ (files : List (List ℕ)) (trees : Program) (accepted : IsAccepted file
   enabled_is : is_enabled_of words trees bounds.frames at event ≡ is_enabled trees bounds.frames lead.state event
   enabled_is = (reported trees (linked_of files trees accepted.linkable.spelled accepted.linkable.no_refusal).rooted carries bounds.frames at lead.state lead.are).enabled event
 
-  longer : (cost : Cost) (next : StateOf ℕ) → stepped words trees bounds.frames at event ≡ Next cost next → limit_in trees bounds crowded at.world cost ≡ None
+  longer : (cost : Cost) (next : StateOf ℕ) → stepped words trees bounds.frames at event ≡ Next cost next
+      → limit_in trees bounds crowded at.world cost ≡ None
       → (y : SteppedOf State) → stepped values trees bounds.frames lead.state event ≡ y → map_stepped words_of y ≡ Next cost next
       → LeadsOn trees bounds events event cost next
   longer cost next is within NotEnabled q e = absurd cc
@@ -92,16 +94,19 @@ module _ (files : List (List ℕ)) (trees : Program) (accepted : IsAccepted file
       stands : limit_at trees bounds crowded lead.state (stepped values trees bounds.frames lead.state event) ≡ None
       stands = sym (limits_carried files trees accepted.linkable bounds crowded bounds.frames at lead.state event lead.are) ∙ ap (limit_by trees bounds crowded at) is ∙ within
 
-  pub leads_on : (cost : Cost) (next : StateOf ℕ) → stepped words trees bounds.frames at event ≡ Next cost next → limit_in trees bounds crowded at.world cost ≡ None → LeadsOn trees bounds events event cost next
+  pub leads_on : (cost : Cost) (next : StateOf ℕ) → stepped words trees bounds.frames at event ≡ Next cost next
+      → limit_in trees bounds crowded at.world cost ≡ None → LeadsOn trees bounds events event cost next
   leads_on cost next is within = longer cost next is within (stepped values trees bounds.frames lead.state event) refl (sym at_words ∙ is)
 
   pub not_enabled : stepped words trees bounds.frames at event ≡ NotEnabled → is_enabled trees bounds.frames lead.state event ≡ false
   not_enabled e = sym enabled_is ∙ ap is_enabled_by e
 
-  pub enabled : (cost : Cost) (next : StateOf ℕ) → stepped words trees bounds.frames at event ≡ Next cost next → is_enabled trees bounds.frames lead.state event ≡ true
+  pub enabled : (cost : Cost) (next : StateOf ℕ) → stepped words trees bounds.frames at event ≡ Next cost next
+      → is_enabled trees bounds.frames lead.state event ≡ true
   enabled cost next e = sym enabled_is ∙ ap is_enabled_by e
 
-  told_after : (cost : Cost) (next : StateOf ℕ) → stepped words trees bounds.frames at event ≡ Next cost next → (o : Option RunCause) → limit_in trees bounds crowded at.world cost ≡ o
+  told_after : (cost : Cost) (next : StateOf ℕ) → stepped words trees bounds.frames at event ≡ Next cost next → (o : Option RunCause)
+      → limit_in trees bounds crowded at.world cost ≡ o
       → limit_after trees bounds events event ≡ o
   told_after cost next is o e =
       sym (limits_standing files trees accepted.linkable bounds events at lead.state event lead.reached lead.are) ∙ ap (limit_by trees bounds crowded at) is ∙ e
@@ -120,12 +125,14 @@ runs_longer_by_one files trees accepted bounds events at lead event cost next is
 
 -- ---- what is shown
 
-module _ (files : List (List ℕ)) (trees : Program) (accepted : IsAccepted files trees) (p : LinkedProgram) (bounds : Bounds) (events : List Event) (old : Shared) (has : HasRun trees p bounds old events) (event : Event) where
+module _ (files : List (List ℕ)) (trees : Program) (accepted : IsAccepted files trees) (p : LinkedProgram) (bounds : Bounds)
+    (events : List Event) (old : Shared) (has : HasRun trees p bounds old events) (event : Event) where
   -- nothing has changed
   pub still : (new : Shared) → IsSame old new → HasRun trees p bounds new events
   still new same = record { at = has.at; lead = has.lead; shown = shown_still trees p bounds (inflated trees bounds.frames events) old new has.at has.shown same }
 
-  pub going_on : (new : Shared) (result : Result Answer Refusal) → Turns trees p bounds (inflated trees bounds.frames events) has.at event result old new
+  pub going_on : (new : Shared) (result : Result Answer Refusal)
+      → Turns trees p bounds (inflated trees bounds.frames events) has.at event result old new
       → GoesOn trees p bounds events has.lead.state event result new
   going_on new (Ok answer.Done) t =
       let on = leads_on files trees accepted bounds events has.at has.lead event t.cost t.next t.is t.within in

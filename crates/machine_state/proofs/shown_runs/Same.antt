@@ -8,7 +8,8 @@ use Rattle.machine_state.specs.declared.state.Shared.{Shared}
 use Rattle.machine_state.specs.Shown.{Represents}
 use Rattle.machine_state.specs.state_events.Whole.{ShowsStacks, IsShown, IsSame}
 
-same_stacks : (trees : Program) (p : LinkedProgram) (bounds : Bounds) (inflated : List ℕ) (old new : Shared) (state : StateOf ℕ) → IsShown trees p bounds inflated old state → new.stacks.items ≡ old.stacks.items
+same_stacks : (trees : Program) (p : LinkedProgram) (bounds : Bounds) (inflated : List ℕ) (old new : Shared) (state : StateOf ℕ)
+    → IsShown trees p bounds inflated old state → new.stacks.items ≡ old.stacks.items
     → IsShown trees p bounds inflated (record old { stacks = new.stacks }) state
 same_stacks trees p bounds inflated old new state h items =
     record {
@@ -41,7 +42,8 @@ same_stacks trees p bounds inflated old new state h items =
     r : Represents trees p bounds old state.world
     r = h.represents
 
-pub shown_still : (trees : Program) (p : LinkedProgram) (bounds : Bounds) (inflated : List ℕ) (old new : Shared) (state : StateOf ℕ) → IsShown trees p bounds inflated old state → IsSame old new
+pub shown_still : (trees : Program) (p : LinkedProgram) (bounds : Bounds) (inflated : List ℕ) (old new : Shared) (state : StateOf ℕ)
+    → IsShown trees p bounds inflated old state → IsSame old new
     → IsShown trees p bounds inflated new state
 shown_still trees p bounds inflated old new state h same =
     subst (λ s. IsShown trees p bounds inflated s state) (sym same.rest) (same_stacks trees p bounds inflated old new state h same.stacks)

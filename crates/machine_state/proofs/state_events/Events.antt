@@ -41,7 +41,8 @@ use Rattle.machine_state.proofs.state_events.Places.{IsOwn, own_at, set_at, set_
 
 -- ---- what doesn't ask for stacks
 
-represents_in : (trees : Program) (p : LinkedProgram) (bounds : Bounds) (old new : Shared) (world : WorldOf ℕ) → Represents trees p bounds old world → new ≡ record old { stacks = new.stacks }
+represents_in : (trees : Program) (p : LinkedProgram) (bounds : Bounds) (old new : Shared) (world : WorldOf ℕ)
+    → Represents trees p bounds old world → new ≡ record old { stacks = new.stacks }
     → Represents trees p bounds new world
 represents_in trees p bounds old new world r same = subst (λ (s : Shared). Represents trees p bounds s world) (sym same) with_stacks
   where
@@ -108,7 +109,8 @@ module _ (trees : Program) (p : LinkedProgram) (t : ℕ) (own : StackOf ℕ) (to
   after_it : (ss : List (List ShownEntry)) (ms : List (StackOf ℕ)) → ShowsStacks trees p ss ms → t < length ss
       → (lent after : Shared) (other : List ShownEntry) → lent.stacks.items ≡ slice_set ss t other → AreStacksAdded lent after
       → length lent.threads.threads ≡ length ms
-      → ShowsStacks trees p (slice_set after.stacks.items t to) (slice_set ms t own ++ replicate (length after.threads.threads - length ms) [])
+      → ShowsStacks trees p (slice_set after.stacks.items t to) (slice_set ms t own
+      ++ replicate (length after.threads.threads - length ms) [])
   after_it ss ms h there lent after other placed (inl kept) counted =
       subst (λ n. ShowsStacks trees p (slice_set after.stacks.items t to) (slice_set ms t own ++ replicate n [])) (sym none)
       (subst (ShowsStacks trees p (slice_set after.stacks.items t to)) (sym (append-nil (slice_set ms t own)))
@@ -134,7 +136,8 @@ module _ (trees : Program) (p : LinkedProgram) (t : ℕ) (own : StackOf ℕ) (to
 
 -- ---- an event
 
-module _ (files : List (List ℕ)) (trees : Program) (accepted : IsAccepted files trees) (p : LinkedProgram) (bounds : Bounds) (inflated : List ℕ) (shared : Shared) (state : StateOf ℕ) (h : IsShown trees p bounds inflated shared state)
+module _ (files : List (List ℕ)) (trees : Program) (accepted : IsAccepted files trees) (p : LinkedProgram) (bounds : Bounds)
+    (inflated : List ℕ) (shared : Shared) (state : StateOf ℕ) (h : IsShown trees p bounds inflated shared state)
     (event : Event) (from : List ShownEntry) (own : StackOf ℕ) (kept_is : slice_get shared.stacks.items event.thread ≡ Some from) (own_is : slice_get state.stacks event.thread ≡ Some own)
     (other : List ShownEntry) (lent : Shared) (lends : HasInPlace event.thread other shared lent) where
   abbrev pub part_after : SteppedOf (PartOf ℕ)
@@ -220,7 +223,8 @@ module _ (files : List (List ℕ)) (trees : Program) (accepted : IsAccepted file
           }
 
   -- nothing has changed, and the stack stands in its place again
-  same_again : (after : Shared) (to : List ShownEntry) → after ≡ lent → to ≡ from → (new : Shared) → HasInPlace event.thread to after new → IsSame shared new
+  same_again : (after : Shared) (to : List ShownEntry) → after ≡ lent → to ≡ from → (new : Shared) → HasInPlace event.thread to after new
+      → IsSame shared new
   same_again after to shared_is stack_is new given =
       record {
         rest = given.rest ∙ ap (λ (s : Shared). record s { stacks = new.stacks }) (shared_is ∙ lends.rest);
@@ -232,7 +236,8 @@ module _ (files : List (List ℕ)) (trees : Program) (accepted : IsAccepted file
             ∙ set_same shared.stacks.items event.thread from kept_is;
       }
 
-  turns : (result : Result Answer Refusal) (after : Shared) (to : List ShownEntry) → Becomes trees p bounds inflated state.world part_after result lent after from to
+  turns : (result : Result Answer Refusal) (after : Shared) (to : List ShownEntry)
+      → Becomes trees p bounds inflated state.world part_after result lent after from to
       → (new : Shared) → HasInPlace event.thread to after new → Turns trees p bounds inflated state event result shared new
   turns (Ok answer.Done) after to b new given = is_done after to b.cost b.next b.is b.becomes new given
   turns (Ok answer.NotEnabled) after to b new given = (whole_is ∙ ap (with_part state event.thread) b.0, same_again after to b.1.shared b.1.stack new given)

@@ -15,7 +15,8 @@ pub record IsOwn (trees : Program) (p : LinkedProgram) (ms : List (StackOf ℕ))
   pub shows : ShowsStack trees p from own
 
 module _ (trees : Program) (p : LinkedProgram) where
-  pub own_at : (ss : List (List ShownEntry)) (ms : List (StackOf ℕ)) → ShowsStacks trees p ss ms → (t : ℕ) (from : List ShownEntry) → slice_get ss t ≡ Some from
+  pub own_at : (ss : List (List ShownEntry)) (ms : List (StackOf ℕ)) → ShowsStacks trees p ss ms → (t : ℕ) (from : List ShownEntry)
+      → slice_get ss t ≡ Some from
       → IsOwn trees p ms t from
   own_at [] [] h t from e = absurd cc
   own_at [] (m ∷ ms) h t from e = absurd h
@@ -23,7 +24,8 @@ module _ (trees : Program) (p : LinkedProgram) where
   own_at (s ∷ ss) (m ∷ ms) h zero from e = record { own = m; is = refl; shows = subst (λ x. ShowsStack trees p x m) (same_Some s from e) h.0 }
   own_at (s ∷ ss) (m ∷ ms) h (suc t) from e = let r = own_at ss ms h.1 t from e in record { own = r.own; is = r.is; shows = r.shows }
 
-  pub set_at : (ss : List (List ShownEntry)) (ms : List (StackOf ℕ)) → ShowsStacks trees p ss ms → (t : ℕ) (to : List ShownEntry) (own : StackOf ℕ) → ShowsStack trees p to own
+  pub set_at : (ss : List (List ShownEntry)) (ms : List (StackOf ℕ)) → ShowsStacks trees p ss ms → (t : ℕ) (to : List ShownEntry)
+      (own : StackOf ℕ) → ShowsStack trees p to own
       → ShowsStacks trees p (slice_set ss t to) (slice_set ms t own)
   set_at [] [] h t to own s = h
   set_at [] (m ∷ ms) h t to own s = absurd h
@@ -31,7 +33,8 @@ module _ (trees : Program) (p : LinkedProgram) where
   set_at (s ∷ ss) (m ∷ ms) h zero to own x = (x, h.1)
   set_at (s ∷ ss) (m ∷ ms) h (suc t) to own x = (h.0, set_at ss ms h.1 t to own x)
 
-  pub one_more : (ss : List (List ShownEntry)) (ms : List (StackOf ℕ)) → ShowsStacks trees p ss ms → ShowsStacks trees p (ss ++ [] ∷ []) (ms ++ [] ∷ [])
+  pub one_more : (ss : List (List ShownEntry)) (ms : List (StackOf ℕ)) → ShowsStacks trees p ss ms
+      → ShowsStacks trees p (ss ++ [] ∷ []) (ms ++ [] ∷ [])
   one_more [] [] h = (tt, tt)
   one_more [] (m ∷ ms) h = absurd h
   one_more (s ∷ ss) [] h = absurd h

@@ -50,7 +50,8 @@ no_objects (file ∷ files) h =
     or_from _ _ (no_object file both.0) (no_objects files both.1)
 
 -- no class behind the first is named as Object is
-others : (files : Program) (n : ℕ) (file : FileTree) → list_any has_built_in_name files ≡ false → slice_get (classes_of files) (suc n) ≡ Some file → is_named java_lang_object file ≡ false
+others : (files : Program) (n : ℕ) (file : FileTree) → list_any has_built_in_name files ≡ false
+    → slice_get (classes_of files) (suc n) ≡ Some file → is_named java_lang_object file ≡ false
 unfolding built_in_classes
 others files n file h e = none_at (is_named java_lang_object) (drop 1 built_in_classes ++ files) n file (no_objects files h) e
 

@@ -22,7 +22,8 @@ use Rattle.machine_state.specs.type_tests.Tests.{array_of, IsTypeOfKind, TestsKi
 use Rattle.machine_state.proofs.type_tests.Numbered.{small, object_first}
 
 -- an array around a type
-around : (files : Program) (dimensions : ℕ) (held : Element) (type : ReferenceType) → IsTypeWith files dimensions held type → IsTypeWith files (suc dimensions) held (ReferenceArray type)
+around : (files : Program) (dimensions : ℕ) (held : Element) (type : ReferenceType) → IsTypeWith files dimensions held type
+    → IsTypeWith files (suc dimensions) held (ReferenceArray type)
 around files dimensions (element.Class number) type is = record { class = is.class; numbered = is.numbered; is = ap (λ t. ReferenceArray t) is.is }
 around files dimensions (element.Primitive of) type is = record { around = suc is.around; count = ap suc is.count; is = ap (λ t. ReferenceArray t) is.is }
 
@@ -32,7 +33,8 @@ pub record HasType (files : Program) (components : List LinkedType) (of : Object
   pub is_of_kind : IsTypeOfKind components of own
   pub is_type : IsType files own (type_of object)
 
-type_of_kind : (files : Program) (components : List LinkedType) → ((number : ℕ) (class : Name) → IsClassAt files number class → number < 2 ^ 16)
+type_of_kind : (files : Program) (components : List LinkedType)
+    → ((number : ℕ) (class : Name) → IsClassAt files number class → number < 2 ^ 16)
     → (of : ObjectKind) (object : ObjectOf ℕ) → IsKindOf files components of object → HasType files components of object
 type_of_kind files components small (kind.Instance number) (Instance class fields) is =
     record { own = record { dimensions = 0; element = element.Class number }; is_of_kind = (small number class is.0, refl); is_type = record { class = class; numbered = is.0; is = refl } }
@@ -59,7 +61,8 @@ type_of_kind files components small (kind.References number) (Primitives of elem
 
 -- the test by numbers is that of types
 pub tested : AreTypesTested → (p : LinkedProgram) (of : ObjectKind) (type : LinkedType) (answer : Bool)
-    → ((own : LinkedType) → IsTypeOfKind p.components.items of own → answer ≡ is_linked_subtype p.subclasses own type) → TestsKind p of type answer
+    → ((own : LinkedType) → IsTypeOfKind p.components.items of own → answer ≡ is_linked_subtype p.subclasses own type)
+    → TestsKind p of type answer
 tested law p of type answer is files trees linkable program column object above of_kind of_type =
     let own = type_of_kind trees p.components.items (small files trees linkable) of object of_kind in
     is own.own own.is_of_kind
@@ -74,7 +77,8 @@ ShowsIf files components (Some o) (Some m) = ShowsObject files components o m
 ShowsIf files components None (Some m) = ⊥
 ShowsIf files components (Some o) None = ⊥
 
-shown_at : (files : Program) (components : List LinkedType) (os : List Object) (ms : List (ObjectOf ℕ)) → ShowsObjects files components os ms
+shown_at : (files : Program) (components : List LinkedType) (os : List Object) (ms : List (ObjectOf ℕ))
+    → ShowsObjects files components os ms
     → (r : ℕ) → ShowsIf files components (slice_get os r) (slice_get ms r)
 shown_at files components [] [] h r = tt
 shown_at files components [] (m ∷ ms) h r = absurd h
@@ -98,7 +102,8 @@ object_tested p objects r type answer of is tests files trees linkable program c
     by (slice_get objects r) (slice_get heap r) (shown_at trees p.components.items objects heap shows r) (subst (λ o. TestsIf p type o answer) is tests)
     ∙ ap (is_object_of trees above) (sym (type_at heap r))
   where
-    by : (o : Option Object) (m : Option (ObjectOf ℕ)) → ShowsIf trees p.components.items o m → TestsIf p type (option_map kind_of o) answer → answer ≡ is_object_of trees above (option_map type_of m)
+    by : (o : Option Object) (m : Option (ObjectOf ℕ)) → ShowsIf trees p.components.items o m
+        → TestsIf p type (option_map kind_of o) answer → answer ≡ is_object_of trees above (option_map type_of m)
     by None None h t = t
     by (Some o) (Some m) h t = t files trees linkable program column m above h.kind of_type
     by None (Some m) h t = absurd h

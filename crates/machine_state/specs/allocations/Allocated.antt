@@ -17,7 +17,8 @@ use Rattle.machine_state.specs.Shown.{Represents}
 use Rattle.machine_state.specs.Events.{limit_of, MayBeRefused}
 
 -- The world has one object more, whose reference is the next, and a monitor for it; no limit stood, and no lock is fat that wasn't.
-pub record IsMade (trees : Program) (p : LinkedProgram) (bounds : Bounds) (inflated : List ℕ) (world : WorldOf ℕ) (object : ObjectOf ℕ) (reference count : ℕ) (old new : Shared) : Type 0 where
+pub record IsMade (trees : Program) (p : LinkedProgram) (bounds : Bounds) (inflated : List ℕ) (world : WorldOf ℕ) (object : ObjectOf ℕ)
+    (reference count : ℕ) (old new : Shared) : Type 0 where
   pub next : reference ≡ length world.heap
   pub word : reference + 1 < 2 ^ 32
   pub within : limit_of trees bounds inflated world (Makes count) ≡ None
@@ -28,7 +29,8 @@ pub record IsMade (trees : Program) (p : LinkedProgram) (bounds : Bounds) (infla
 abbrev pub AreMade : Type 0
 AreMade =
     (trees : Program) (p : LinkedProgram) (bounds : Bounds) (inflated : List ℕ) (world : WorldOf ℕ) (old new : Shared) → Represents trees p bounds old world
-    → (kind : ObjectKind) (reference count : ℕ) → Allocates (Ok reference) kind count old.heap new.heap → new ≡ record old { heap = new.heap }
+    → (kind : ObjectKind) (reference count : ℕ) → Allocates (Ok reference) kind count old.heap new.heap
+    → new ≡ record old { heap = new.heap }
     → (object : ObjectOf ℕ) → ShowsObject trees p.components.items (fresh kind count) object
     → IsMade trees p bounds inflated world object reference count old new
 

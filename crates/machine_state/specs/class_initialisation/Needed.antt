@@ -26,7 +26,8 @@ Begins p result t number old new from to =
 
 -- Where the class is ready, the event is what comes after that, and nothing has changed. Else the answer is what becomes of it,
 -- whatever comes after that.
-abbrev pub NeedsBy : Program → LinkedProgram → Bounds → List ℕ → (t : ℕ) → Name → WorldOf ℕ → StackOf ℕ → Result (Option Answer) Refusal → (old new : Shared) (from to : List ShownEntry) → Type 0
+abbrev pub NeedsBy : Program → LinkedProgram → Bounds → List ℕ → (t : ℕ) → Name → WorldOf ℕ → StackOf ℕ → Result (Option Answer) Refusal
+    → (old new : Shared) (from to : List ShownEntry) → Type 0
 NeedsBy trees p bounds inflated t class world own (Ok None) old new from to = (look_at t world (Some class) ≡ IsReady) × IsUnchanged old new from to
 NeedsBy trees p bounds inflated t class world own (Ok (Some answer)) old new from to =
     (rest : SteppedOf (PartOf ℕ)) → Becomes trees p bounds inflated world (needing_class words trees t (Some class) world own rest) (Ok answer) old new from to

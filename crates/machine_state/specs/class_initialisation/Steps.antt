@@ -27,7 +27,8 @@ use Rattle.machine_state.specs.entries.Entered.{IsShared}
 abbrev pub Fails : Result Answer Refusal → (t number : ℕ) → (is_error : Bool) → (old new : Shared) (from to : List ShownEntry) → Type 0
 Fails result t number is_error old new from to =
     (trees : Program) (p : LinkedProgram) (bounds : Bounds) (inflated : List ℕ) (world : WorldOf ℕ) → IsProgram trees p → Represents trees p bounds old world
-    → (class : Name) (phase : Phase) (rest : StackOf ℕ) → IsClassAt trees number class → ShowsStack trees p from (model.Initialisation class phase ∷ rest)
+    → (class : Name) (phase : Phase) (rest : StackOf ℕ) → IsClassAt trees number class
+    → ShowsStack trees p from (model.Initialisation class phase ∷ rest)
     → Becomes trees p bounds inflated world (failed t is_error (with_class_status world class Erroneous) rest) result old new from to
 
 -- ---- what comes next of a class
@@ -70,7 +71,8 @@ Calls result t callee frames old new from to =
     (trees : Program) (p : LinkedProgram) (bounds : Bounds) (inflated : List ℕ) (world : WorldOf ℕ) → IsShared trees p bounds inflated old world
     → (own : StackOf ℕ) → ShowsStack trees p from own
     → (method : Member) (body : Body) → IsCallee trees p callee method body
-    → Becomes trees p bounds inflated world (pushed frames t world world own own (frame_with words method [] callee.entered body)) result old new from to
+    → Becomes trees p bounds inflated world (pushed frames t world world own own (frame_with words method [] callee.entered body)) result
+    old new from to
 
 -- so over the class on top, which is done after that
 abbrev pub CallsOver : Result Answer Refusal → (t : ℕ) → Callee → (frames : ℕ) → (old new : Shared) (from to : List ShownEntry) → Type 0
@@ -83,17 +85,22 @@ CallsOver result t callee frames old new from to =
     result old new from to
 
 -- the class's own initialiser is called, if it declares one (step 9)
-abbrev pub RunsInitialiser : LinkedProgram → Result Answer Refusal → (t number frames : ℕ) → (old new : Shared) (from to : List ShownEntry) → Type 0
+abbrev pub RunsInitialiser : LinkedProgram → Result Answer Refusal → (t number frames : ℕ) → (old new : Shared) (from to : List ShownEntry)
+    → Type 0
 RunsInitialiser p result t number frames old new from to =
     (trees : Program) (bounds : Bounds) (inflated : List ℕ) (world : WorldOf ℕ) → IsProgram trees p → IsShared trees p bounds inflated old world
-    → (class : Name) (rest : StackOf ℕ) → IsClassAt trees number class → ShowsStack trees p from (model.Initialisation class model.Super ∷ rest)
+    → (class : Name) (rest : StackOf ℕ) → IsClassAt trees number class
+    → ShowsStack trees p from (model.Initialisation class model.Super ∷ rest)
     → Becomes trees p bounds inflated world
     (initialiser_event words frames t (initialiser_of class) world (model.Initialisation class model.End ∷ rest) (body_of trees (initialiser_of class)))
     result old new from to
 
 -- the event of a thread with the class on top, by its number and its phase
-abbrev pub Initialises : LinkedProgram → Result Answer Refusal → (t number : ℕ) → LinkedPhase → (frames : ℕ) → (old new : Shared) (from to : List ShownEntry) → Type 0
+abbrev pub Initialises : LinkedProgram → Result Answer Refusal → (t number : ℕ) → LinkedPhase → (frames : ℕ) → (old new : Shared)
+    (from to : List ShownEntry) → Type 0
 Initialises p result t number phase frames old new from to =
     (trees : Program) (bounds : Bounds) (inflated : List ℕ) (world : WorldOf ℕ) → IsProgram trees p → IsShared trees p bounds inflated old world
-    → (class : Name) (rest : StackOf ℕ) → IsClassAt trees number class → ShowsStack trees p from (model.Initialisation class (phase_of phase) ∷ rest)
-    → Becomes trees p bounds inflated world (initialisation_event words trees frames t class (phase_of phase) world rest) result old new from to
+    → (class : Name) (rest : StackOf ℕ) → IsClassAt trees number class
+    → ShowsStack trees p from (model.Initialisation class (phase_of phase) ∷ rest)
+    → Becomes trees p bounds inflated world (initialisation_event words trees frames t class (phase_of phase) world rest) result old new
+    from to

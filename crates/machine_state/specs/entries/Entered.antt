@@ -17,26 +17,30 @@ use Rattle.machine_state.specs.Shown.{Represents}
 use Rattle.machine_state.specs.Events.{limit_of, MayBeRefused}
 
 -- What the threads share shows a world in which these locks are inflated, and in which counts are right.
-pub record IsShared (trees : Program) (p : LinkedProgram) (bounds : Bounds) (inflated : List ℕ) (shared : Shared) (world : WorldOf ℕ) : Type 0 where
+pub record IsShared (trees : Program) (p : LinkedProgram) (bounds : Bounds) (inflated : List ℕ) (shared : Shared)
+    (world : WorldOf ℕ) : Type 0 where
   pub represents : Represents trees p bounds shared world
   pub flags : AreFlags shared.heap.locks.fat inflated
   pub counted : AreMonitorsCounted (is_inflated inflated) world
 
 -- an event of this cost leads to this world: no limit stood, and the fat locks are those after it
-pub record IsTaken (trees : Program) (p : LinkedProgram) (bounds : Bounds) (inflated : List ℕ) (world : WorldOf ℕ) (cost : Cost) (after : WorldOf ℕ) (old new : Shared) : Type 0 where
+pub record IsTaken (trees : Program) (p : LinkedProgram) (bounds : Bounds) (inflated : List ℕ) (world : WorldOf ℕ) (cost : Cost)
+    (after : WorldOf ℕ) (old new : Shared) : Type 0 where
   pub within : limit_of trees bounds inflated world cost ≡ None
   pub represents : Represents trees p bounds new after
   pub flags : new.heap.locks.fat ≡ flags_after cost old.heap.locks.fat
 
 -- it is refused at a limit that stands, or for want of memory
-pub record IsForbidden (trees : Program) (bounds : Bounds) (inflated : List ℕ) (world : WorldOf ℕ) (cost : Cost) (told : Refusal) (old new : Shared) : Type 0 where
+pub record IsForbidden (trees : Program) (bounds : Bounds) (inflated : List ℕ) (world : WorldOf ℕ) (cost : Cost) (told : Refusal)
+    (old new : Shared) : Type 0 where
   pub may : MayBeRefused trees bounds inflated world cost (of_monitors told)
   pub same : new ≡ old
 
 -- ---- entries
 
 -- where no other thread owns the monitor, it is entered once, or the entry is refused; where one does, nothing has changed
-abbrev pub EntersIn : Program → LinkedProgram → Bounds → List ℕ → WorldOf ℕ → (t object : ℕ) → Result Bool Refusal → Shared → Shared → Type 0
+abbrev pub EntersIn : Program → LinkedProgram → Bounds → List ℕ → WorldOf ℕ → (t object : ℕ) → Result Bool Refusal → Shared → Shared
+    → Type 0
 EntersIn trees p bounds inflated world t object (Ok true) old new =
     (may_enter world t object ≡ true) × IsTaken trees p bounds inflated world (entry_cost world object) (with_entry world t object) old new
 EntersIn trees p bounds inflated world t object (Ok false) old new = (may_enter world t object ≡ false) × (new ≡ old)

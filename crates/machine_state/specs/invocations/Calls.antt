@@ -18,7 +18,8 @@ use Rattle.machine_state.specs.Instructions.{Does}
 use Rattle.machine_state.specs.entries.Entered.{IsShared}
 
 -- the frame on top calls a method, and so many of its operands are the arguments
-abbrev pub DoesCall : Result Effect Refusal → (t : ℕ) → Callee → (count frames : ℕ) → (old new : Shared) (from to : List ShownEntry) → Type 0
+abbrev pub DoesCall : Result Effect Refusal → (t : ℕ) → Callee → (count frames : ℕ) → (old new : Shared) (from to : List ShownEntry)
+    → Type 0
 DoesCall result t callee count frames old new from to =
     (trees : Program) (p : LinkedProgram) (bounds : Bounds) (inflated : List ℕ) (world : WorldOf ℕ) → IsShared trees p bounds inflated old world
     → (frame : FrameOf ℕ) (rest : StackOf ℕ) → ShowsStack trees p from (Invocation frame ∷ rest)
@@ -29,9 +30,11 @@ DoesCall result t callee count frames old new from to =
     result old new from to
 
 -- a method is called with these arguments, over whatever stands on the stack
-abbrev pub DoesFirstCall : Result Effect Refusal → (t : ℕ) → Callee → (arguments : List ℕ) (frames : ℕ) → (old new : Shared) (from to : List ShownEntry) → Type 0
+abbrev pub DoesFirstCall : Result Effect Refusal → (t : ℕ) → Callee → (arguments : List ℕ) (frames : ℕ) → (old new : Shared)
+    (from to : List ShownEntry) → Type 0
 DoesFirstCall result t callee arguments frames old new from to =
     (trees : Program) (p : LinkedProgram) (bounds : Bounds) (inflated : List ℕ) (world : WorldOf ℕ) → IsShared trees p bounds inflated old world
     → (own : StackOf ℕ) → ShowsStack trees p from own
     → (method : Member) (body : Body) → IsCallee trees p callee method body
-    → Does trees p bounds inflated t world own (pushed frames t world world own own (frame_with words method arguments callee.entered body)) result old new from to
+    → Does trees p bounds inflated t world own
+    (pushed frames t world world own own (frame_with words method arguments callee.entered body)) result old new from to

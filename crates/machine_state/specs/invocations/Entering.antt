@@ -36,7 +36,8 @@ abbrev pub SaysMayBegin : Bool → (t : ℕ) → Option ℕ → Heap → Type 0
 SaysMayBegin answer t entered heap = (world : WorldOf ℕ) → answer ≡ may_begin (over world heap) t entered
 
 -- it is entered, or refused
-abbrev pub EntersBy : Program → LinkedProgram → Bounds → List ℕ → WorldOf ℕ → Result (Unit {0}) Refusal → (t : ℕ) → Option ℕ → Shared → Shared → Type 0
+abbrev pub EntersBy : Program → LinkedProgram → Bounds → List ℕ → WorldOf ℕ → Result (Unit {0}) Refusal → (t : ℕ) → Option ℕ → Shared
+    → Shared → Type 0
 EntersBy trees p bounds inflated world (Ok u) t entered old new =
     IsTaken trees p bounds inflated world (begin_cost world entered) (with_begin world t entered) old new × (new ≡ record old { heap = new.heap })
 EntersBy trees p bounds inflated world (Err told) t entered old new =

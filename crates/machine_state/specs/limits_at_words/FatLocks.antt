@@ -82,7 +82,8 @@ abbrev pub AreWaitsAsTaken : Type 0
 AreWaitsAsTaken =
     (locks : Locks) (objects : List ℕ) (object thread : ℕ) → Shows locks objects object
     → IsTrue (owns thread (monitor_at locks.monitors object).owner)
-    → IsAsTaken (Joins object) (if is_crowded locks.limit objects object then Some cause.Monitors else None) (calls.Wait object thread) locks
+    → IsAsTaken (Joins object) (if is_crowded locks.limit objects object then Some cause.Monitors else None) (calls.Wait object thread)
+    locks
 
 -- a thread that is to enter a monitor again may
 abbrev pub AreRelocksAllowed : Type 0
@@ -94,8 +95,10 @@ AreRelocksAllowed =
 abbrev pub AreRelocksAtWordsAllowed : Type 0
 AreRelocksAtWordsAllowed =
     (files : Program) (at : StateOf ℕ) → AreWellTypedWords files at
-    → (locks : Locks) (objects : List ℕ) → locks.monitors ≡ at.world.monitors → AreFlags locks.fat objects → AreMonitorsCounted (is_inflated objects) at.world
-    → (t : ℕ) (thread : Thread) (object count : ℕ) (cause : WakeCause) → slice_get at.world.threads t ≡ Some thread → thread.status ≡ Relock object count cause → t < 32767
+    → (locks : Locks) (objects : List ℕ) → locks.monitors ≡ at.world.monitors → AreFlags locks.fat objects
+    → AreMonitorsCounted (is_inflated objects) at.world
+    → (t : ℕ) (thread : Thread) (object count : ℕ) (cause : WakeCause) → slice_get at.world.threads t ≡ Some thread
+    → thread.status ≡ Relock object count cause → t < 32767
     → IsAllowed (calls.Relock object t count) locks
 
 -- ---- the statements
@@ -103,7 +106,8 @@ AreRelocksAtWordsAllowed =
 pub record AreFlagsKept : Type 0 where
   -- none is set where nothing was inflated
   pub none : (objects : ℕ) → AreFlags (replicate objects false) []
-  pub after : (cost : Cost) (flags : List Bool) (objects : List ℕ) → AreFlags flags objects → IsOneOf cost (length flags) → AreFlags (flags_after cost flags) (inflated_by cost objects)
+  pub after : (cost : Cost) (flags : List Bool) (objects : List ℕ) → AreFlags flags objects → IsOneOf cost (length flags)
+      → AreFlags (flags_after cost flags) (inflated_by cost objects)
 
 pub record AreCallsAsTaken : Type 0 where
   pub entries : AreEntriesAsTaken

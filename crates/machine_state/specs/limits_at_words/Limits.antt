@@ -43,8 +43,10 @@ limit_by files bounds crowded state (Next cost next) = limit_in files bounds cro
 
 -- over values it is the limit of the definitions, and over their words too
 pub record AreLimitsSame : Type 0 where
-  pub of_values : (files : Program) (bounds : Bounds) (crowded : ℕ → Bool) (state : State) (x : SteppedOf State) → limit_by files bounds crowded state x ≡ limit_at files bounds crowded state x
-  pub of_words : (files : Program) (bounds : Bounds) (crowded : ℕ → Bool) (state : State) (x : SteppedOf State) → limit_by files bounds crowded (words_of state) (map_stepped words_of x) ≡ limit_at files bounds crowded state x
+  pub of_values : (files : Program) (bounds : Bounds) (crowded : ℕ → Bool) (state : State) (x : SteppedOf State)
+      → limit_by files bounds crowded state x ≡ limit_at files bounds crowded state x
+  pub of_words : (files : Program) (bounds : Bounds) (crowded : ℕ → Bool) (state : State) (x : SteppedOf State)
+      → limit_by files bounds crowded (words_of state) (map_stepped words_of x) ≡ limit_at files bounds crowded state x
   -- there are as many objects at the opening
   pub opened : (files : Program) → length (opening_heap words files) ≡ opening_count files
 
@@ -53,14 +55,16 @@ abbrev pub AreLimitsCarried : Type 0
 AreLimitsCarried =
     (files : List (List ℕ)) (trees : Program) → IsLinkable files trees → (bounds : Bounds) (crowded : ℕ → Bool) (frames : ℕ) (at : StateOf ℕ) (state : State) (event : Event)
     → AreWordsOf trees at state
-    → limit_by trees bounds crowded at (stepped words trees frames at event) ≡ limit_at trees bounds crowded state (stepped values trees frames state event)
+    → limit_by trees bounds crowded at (stepped words trees frames at event)
+    ≡ limit_at trees bounds crowded state (stepped values trees frames state event)
 
 -- so after the events of a run that leads to the state, with the monitors inflated that they inflated
 abbrev pub AreLimitsStanding : Type 0
 AreLimitsStanding =
     (files : List (List ℕ)) (trees : Program) → IsLinkable files trees → (bounds : Bounds) (events : List Event) (at : StateOf ℕ) (state : State) (event : Event)
     → run trees bounds.frames events ≡ Some state → AreWordsOf trees at state
-    → limit_by trees bounds (is_crowded bounds.monitors (inflated trees bounds.frames events)) at (stepped words trees bounds.frames at event) ≡ limit_after trees bounds events event
+    → limit_by trees bounds (is_crowded bounds.monitors (inflated trees bounds.frames events))
+    at (stepped words trees bounds.frames at event) ≡ limit_after trees bounds events event
 
 -- one more event at words of the state of a run leads to words of the next state, and the run goes on with what it takes
 pub record GoesOn (trees : Program) (frames : ℕ) (events : List Event) (event : Event) (cost : Cost) (next : StateOf ℕ) : Type 0 where
@@ -71,4 +75,5 @@ pub record GoesOn (trees : Program) (frames : ℕ) (events : List Event) (event 
 abbrev pub AreRunsLongerAtWords : Type 0
 AreRunsLongerAtWords =
     (files : List (List ℕ)) (trees : Program) → IsLinkable files trees → (frames : ℕ) (events : List Event) (at : StateOf ℕ) (state : State) (event : Event) (cost : Cost) (next : StateOf ℕ)
-    → run trees frames events ≡ Some state → AreWordsOf trees at state → stepped words trees frames at event ≡ Next cost next → GoesOn trees frames events event cost next
+    → run trees frames events ≡ Some state → AreWordsOf trees at state → stepped words trees frames at event ≡ Next cost next
+    → GoesOn trees frames events event cost next

@@ -51,13 +51,18 @@ pub record IsThreadFitting (objects : ℕ) (thread : Thread) : Type 0 where
 
 -- where there are fewer than 2^32 objects
 pub record HaveRoom (files : Program) (state : State) : Type 0 where
-  pub cells : (object : ℕ) (o : ObjectOf Value) → slice_get state.world.heap object ≡ Some o → AreFitting (length state.world.heap) (cell_values o)
+  pub cells : (object : ℕ) (o : ObjectOf Value) → slice_get state.world.heap object ≡ Some o
+      → AreFitting (length state.world.heap) (cell_values o)
   pub statics : AreFitting (length state.world.heap) (map (λ (field : Member × Value). field.1) state.world.statics)
   pub threads : (t : ℕ) (thread : Thread) → slice_get state.world.threads t ≡ Some thread → IsThreadFitting (length state.world.heap) thread
   -- the frames of its stacks: one where an exception is pending, one that is about to do its instruction, and one at a call
-  pub stopped : (frame : Frame) (h : Stopped files (types_of state.world.heap) frame) → AreSlotsFitting (length state.world.heap) h.stands.type.slots.locals frame.place.slots.locals
-  pub ready : (frame : Frame) (h : Ready files (types_of state.world.heap) frame) → AreSlotsFitting (length state.world.heap) h.stopped.stands.type.slots.stack frame.place.slots.stack
-  pub awaits : (frame : Frame) (results : List VerificationType) (h : Awaits files (types_of state.world.heap) results frame) → AreSlotsFitting (length state.world.heap) h.after.slots.locals frame.place.slots.locals × AreSlotsFitting (length state.world.heap) h.rest frame.place.slots.stack
+  pub stopped : (frame : Frame) (h : Stopped files (types_of state.world.heap) frame)
+      → AreSlotsFitting (length state.world.heap) h.stands.type.slots.locals frame.place.slots.locals
+  pub ready : (frame : Frame) (h : Ready files (types_of state.world.heap) frame)
+      → AreSlotsFitting (length state.world.heap) h.stopped.stands.type.slots.stack frame.place.slots.stack
+  pub awaits : (frame : Frame) (results : List VerificationType) (h : Awaits files (types_of state.world.heap) results frame)
+      → AreSlotsFitting (length state.world.heap) h.after.slots.locals frame.place.slots.locals
+      × AreSlotsFitting (length state.world.heap) h.rest frame.place.slots.stack
 
 abbrev pub AreReferencesFitting : Type 0
 AreReferencesFitting = (files : Program) (state : State) → IsWellTyped files state → length state.world.heap < 2 ^ 32 → HaveRoom files state

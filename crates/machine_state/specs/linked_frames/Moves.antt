@@ -30,7 +30,8 @@ AreMovesShown =
     (trees : Program) (p : LinkedProgram) (bounds : Bounds) (inflated : List ℕ) (t : ℕ) (shared : Shared) (stack : List ShownEntry) (state : StateOf ℕ) (frame : FrameOf ℕ) (rest : StackOf ℕ) (code : LinkedCode) (site : Site) (meaning : MeaningOf ℕ) (instruction : LinkedInstruction)
     → (is : IsRunning trees p bounds inflated t shared stack state frame rest code site meaning instruction)
     → (place : ℕ) (slots : Slots ℕ)
-    → ShowsStack trees p (Invocation (shown_at is.shown place slots) ∷ is.others) (model.Invocation (at_offset frame (offset_in code.starts.items place) slots) ∷ rest)
+    → ShowsStack trees p (Invocation (shown_at is.shown place slots)
+    ∷ is.others) (model.Invocation (at_offset frame (offset_in code.starts.items place) slots) ∷ rest)
 
 -- An event that takes nothing, in a world that is shown after it: no limit stands, and where no other lock is fat and no thread
 -- is new, it is done.

@@ -28,5 +28,6 @@ abbrev pub Applies : Result Answer Refusal → Effect → (t : ℕ) → Shared �
 Applies result effect t between new =
     (trees : Program) (p : LinkedProgram) (bounds : Bounds) (inflated : List ℕ) (world : WorldOf ℕ) (old : Shared) → Represents trees p bounds old world
     → (from : List ShownEntry) (own : StackOf ℕ) → ShowsStack trees p from own
-    → (stepped : SteppedOf (PartOf ℕ)) (to : List ShownEntry) → Does trees p bounds inflated t world own stepped (Ok effect) old between from to
+    → (stepped : SteppedOf (PartOf ℕ)) (to : List ShownEntry)
+    → Does trees p bounds inflated t world own stepped (Ok effect) old between from to
     → Becomes trees p bounds inflated world stepped result old new from to

@@ -21,15 +21,18 @@ AreCounted = (files : Program) (components : List LinkedType) (shown : List Obje
 abbrev pub AreAdded : Type 0
 AreAdded =
     (files : Program) (components : List LinkedType) (shown : List Object) (objects : List (ObjectOf ℕ)) (one : Object) (object : ObjectOf ℕ)
-    → ShowsObjects files components shown objects → ShowsObject files components one object → ShowsObjects files components (shown ++ one ∷ []) (objects ++ object ∷ [])
+    → ShowsObjects files components shown objects → ShowsObject files components one object
+    → ShowsObjects files components (shown ++ one ∷ []) (objects ++ object ∷ [])
 
 -- ---- fields of objects
 
 -- the field is the word in the slot, read and written
-pub record IsField (files : Program) (components : List LinkedType) (shown : List Object) (objects : List (ObjectOf ℕ)) (r slot : ℕ) (field : Member) (class : Name) (fields : List (Member × ℕ)) : Type 0 where
+pub record IsField (files : Program) (components : List LinkedType) (shown : List Object) (objects : List (ObjectOf ℕ)) (r slot : ℕ)
+    (field : Member) (class : Name) (fields : List (Member × ℕ)) : Type 0 where
   pub there : slot < length (words_at shown r)
   pub read : (first : ℕ) → value_in first field fields ≡ word_at shown r slot
-  pub written : (word : ℕ) → ShowsObjects files components (put_field shown r slot word) (slice_set objects r (with_field field word (Instance class fields)))
+  pub written : (word : ℕ) → ShowsObjects files
+      components (put_field shown r slot word) (slice_set objects r (with_field field word (Instance class fields)))
 
 abbrev pub AreFields : Type 0
 AreFields =
@@ -52,14 +55,17 @@ kept_in (Primitives of elements) word = kept of word
 kept_in (References of elements) word = word
 
 -- the elements are the words, and what is stored is kept as it is to be
-pub record HasElements (files : Program) (components : List LinkedType) (shown : List Object) (objects : List (ObjectOf ℕ)) (r : ℕ) (array : ObjectOf ℕ) : Type 0 where
+pub record HasElements (files : Program) (components : List LinkedType) (shown : List Object) (objects : List (ObjectOf ℕ)) (r : ℕ)
+    (array : ObjectOf ℕ) : Type 0 where
   pub are : elements_of array ≡ words_at shown r
-  pub written : (index word : ℕ) → ShowsObjects files components (put_element shown r index word) (slice_set objects r (with_element index (kept_in array word) array))
+  pub written : (index word : ℕ) → ShowsObjects files
+      components (put_element shown r index word) (slice_set objects r (with_element index (kept_in array word) array))
 
 abbrev pub AreElements : Type 0
 AreElements =
     (files : Program) (components : List LinkedType) (shown : List Object) (objects : List (ObjectOf ℕ)) → ShowsObjects files components shown objects
-    → (r : ℕ) (array : ObjectOf ℕ) → slice_get objects r ≡ Some array → is_array array ≡ true → HasElements files components shown objects r array
+    → (r : ℕ) (array : ObjectOf ℕ) → slice_get objects r ≡ Some array → is_array array ≡ true
+    → HasElements files components shown objects r array
 
 -- ---- static fields
 

@@ -50,7 +50,8 @@ abbrev pub AreRunsLonger : Type 0
 AreRunsLonger =
     (files : List (List ℕ)) (trees : Program) → IsAccepted files trees
     → (bounds : Bounds) (events : List Event) (at : StateOf ℕ) → LeadTo trees bounds events at
-    → (event : Event) (cost : Cost) (next : StateOf ℕ) → stepped words trees bounds.frames at event ≡ Next cost next → limit_of trees bounds (inflated trees bounds.frames events) at.world cost ≡ None
+    → (event : Event) (cost : Cost) (next : StateOf ℕ) → stepped words trees bounds.frames at event ≡ Next cost next
+    → limit_of trees bounds (inflated trees bounds.frames events) at.world cost ≡ None
     → LeadsOn trees bounds events event cost next
 
 -- an enabled event that was refused: where memory wasn't wanted, the limit that is told stands
@@ -59,7 +60,8 @@ IsRefusedAfter trees bounds events event refusal.Memory = Unit {0}
 IsRefusedAfter trees bounds events event told = limit_after trees bounds events event ≡ limit_told told
 
 -- It is done, and the run has gone on; or it is not enabled in the state of the run; or it is, and it is refused.
-abbrev pub GoesOn : (trees : Program) (p : LinkedProgram) (bounds : Bounds) (events : List Event) (state : State) → Event → Result Answer Refusal → Shared → Type 0
+abbrev pub GoesOn : (trees : Program) (p : LinkedProgram) (bounds : Bounds) (events : List Event) (state : State) → Event
+    → Result Answer Refusal → Shared → Type 0
 GoesOn trees p bounds events state event (Ok answer.Done) shared = HasRun trees p bounds shared (events ++ event ∷ [])
 GoesOn trees p bounds events state event (Ok answer.NotEnabled) shared = IsFalse (is_enabled trees bounds.frames state event) × HasRun trees p bounds shared events
 GoesOn trees p bounds events state event (Err told) shared =
@@ -69,6 +71,7 @@ GoesOn trees p bounds events state event (Err told) shared =
 abbrev pub AreRunsGoingOn : Type 0
 AreRunsGoingOn =
     (files : List (List ℕ)) (trees : Program) → IsAccepted files trees
-    → (p : LinkedProgram) (bounds : Bounds) (events : List Event) (old new : Shared) (has : HasRun trees p bounds old events) (event : Event) (result : Result Answer Refusal)
+    → (p : LinkedProgram) (bounds : Bounds) (events : List Event) (old new : Shared) (has : HasRun trees p bounds old events)
+    (event : Event) (result : Result Answer Refusal)
     → Turns trees p bounds (inflated trees bounds.frames events) has.at event result old new
     → GoesOn trees p bounds events has.lead.state event result new

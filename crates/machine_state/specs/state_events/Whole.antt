@@ -32,7 +32,8 @@ ShowsStacks trees p [] (stack ∷ stacks) = ⊥
 ShowsStacks trees p (shown ∷ others) [] = ⊥
 
 -- Words of a well-typed state, in which these locks are inflated, are shown: by a flag for each monitor the fat locks.
-pub record IsShown (trees : Program) (p : LinkedProgram) (bounds : Bounds) (inflated : List ℕ) (shared : Shared) (state : StateOf ℕ) : Type 0 where
+pub record IsShown (trees : Program) (p : LinkedProgram) (bounds : Bounds) (inflated : List ℕ) (shared : Shared)
+    (state : StateOf ℕ) : Type 0 where
   pub represents : Represents trees p bounds shared state.world
   pub flags : AreFlags shared.heap.locks.fat inflated
   pub flag_count : length shared.heap.locks.fat ≡ length shared.heap.locks.monitors
@@ -49,7 +50,8 @@ pub record HasInPlace (t : ℕ) (stack : List ShownEntry) (old new : Shared) : T
   pub stacks : new.stacks.items ≡ slice_set old.stacks.items t stack
 
 -- the stack of the state that a lent one shows
-pub record HasOwn (trees : Program) (p : LinkedProgram) (bounds : Bounds) (inflated : List ℕ) (t : ℕ) (lent : Shared) (from : List ShownEntry) (state : StateOf ℕ) : Type 0 where
+pub record HasOwn (trees : Program) (p : LinkedProgram) (bounds : Bounds) (inflated : List ℕ) (t : ℕ) (lent : Shared)
+    (from : List ShownEntry) (state : StateOf ℕ) : Type 0 where
   pub own : StackOf ℕ
   pub is : slice_get state.stacks t ≡ Some own
   pub lends : IsLent trees p bounds inflated t lent from state own
@@ -70,7 +72,8 @@ pub record IsSame (old new : Shared) : Type 0 where
   pub stacks : new.stacks.items ≡ old.stacks.items
 
 -- it is done: no limit stood, and the next state is shown
-pub record IsEventDone (trees : Program) (p : LinkedProgram) (bounds : Bounds) (inflated : List ℕ) (state : StateOf ℕ) (event : Event) (new : Shared) : Type 0 where
+pub record IsEventDone (trees : Program) (p : LinkedProgram) (bounds : Bounds) (inflated : List ℕ) (state : StateOf ℕ) (event : Event)
+    (new : Shared) : Type 0 where
   pub cost : Cost
   pub next : StateOf ℕ
   pub is : stepped words trees bounds.frames state event ≡ Next cost next
@@ -78,7 +81,8 @@ pub record IsEventDone (trees : Program) (p : LinkedProgram) (bounds : Bounds) (
   pub shown : IsShown trees p bounds (inflated_by cost inflated) new next
 
 -- it is enabled, and refused: a limit stands, or memory is wanted
-pub record IsEventRefused (trees : Program) (bounds : Bounds) (inflated : List ℕ) (state : StateOf ℕ) (event : Event) (told : Refusal) : Type 0 where
+pub record IsEventRefused (trees : Program) (bounds : Bounds) (inflated : List ℕ) (state : StateOf ℕ) (event : Event)
+    (told : Refusal) : Type 0 where
   pub cost : Cost
   pub next : StateOf ℕ
   pub is : stepped words trees bounds.frames state event ≡ Next cost next
@@ -93,8 +97,10 @@ Turns trees p bounds inflated state event (Err told) old new = IsEventRefused tr
 abbrev pub AreEventsWhole : Type 0
 AreEventsWhole =
     (files : List (List ℕ)) (trees : Program) → IsAccepted files trees
-    → (p : LinkedProgram) (bounds : Bounds) (inflated : List ℕ) (shared : Shared) (state : StateOf ℕ) → IsShown trees p bounds inflated shared state
-    → (event : Event) (from : List ShownEntry) (own : StackOf ℕ) → slice_get shared.stacks.items event.thread ≡ Some from → slice_get state.stacks event.thread ≡ Some own
+    → (p : LinkedProgram) (bounds : Bounds) (inflated : List ℕ) (shared : Shared) (state : StateOf ℕ)
+    → IsShown trees p bounds inflated shared state
+    → (event : Event) (from : List ShownEntry) (own : StackOf ℕ) → slice_get shared.stacks.items event.thread ≡ Some from
+    → slice_get state.stacks event.thread ≡ Some own
     → (other : List ShownEntry) (lent : Shared) → HasInPlace event.thread other shared lent
     → (result : Result Answer Refusal) (after : Shared) (to : List ShownEntry)
     → Becomes trees p bounds inflated state.world

@@ -63,7 +63,8 @@ fn primitive(kind: NarrowKind) -> Primitive
 
 /// Whether objects of a kind are of a type, by its number.
 fn is_below(program: &LinkedProgram, kind: ObjectKind, of: LinkedType) -> bool
-    ensures { (own : LinkedType) → IsTypeOfKind program.now.components.items kind own → result ≡ is_linked_subtype program.now.subclasses own of }
+    ensures { (own : LinkedType) → IsTypeOfKind program.now.components.items kind own
+        → result ≡ is_linked_subtype program.now.subclasses own of }
 {
     let subclasses = &program.subclasses;
     match kind {

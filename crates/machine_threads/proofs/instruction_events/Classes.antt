@@ -40,7 +40,8 @@ event_with trees frames event world frame rest meaning =
     enabled_if (meaning.may event world (ops_of words meaning frame.place.slots))
     (needing_class words trees event.thread meaning.looks world (Invocation frame ∷ rest) (done words trees frames event world frame rest meaning))
 
-bytecode_is : (trees : Program) (frames : ℕ) (event : Event) (world : WorldOf ℕ) (frame : FrameOf ℕ) (rest : StackOf ℕ) (site : Site) (meaning : MeaningOf ℕ) → IsAt trees frame site meaning
+bytecode_is : (trees : Program) (frames : ℕ) (event : Event) (world : WorldOf ℕ) (frame : FrameOf ℕ) (rest : StackOf ℕ) (site : Site)
+    (meaning : MeaningOf ℕ) → IsAt trees frame site meaning
     → bytecode_event words trees frames event world frame rest ≡ event_with trees frames event world frame rest meaning
 bytecode_is trees frames event world frame rest site meaning at =
     ap (bytecode_in words trees frames event world frame rest) at.is_body
@@ -51,7 +52,10 @@ bytecode_is trees frames event world frame rest site meaning at =
 built_in_ready : (t : ℕ) (world : WorldOf ℕ) (class : Name) → is_built_in class ≡ true → look_at t world (Some class) ≡ IsReady
 built_in_ready t world class e = ap (λ b. look_by t (if b then Initialised else status_in class world.classes)) e
 
-module _ (trees : Program) (p : LinkedProgram) (bounds : Bounds) (inflated : List ℕ) (event : Event) (shared : Shared) (stack : List ShownEntry) (state : StateOf ℕ) (frame : FrameOf ℕ) (rest : StackOf ℕ) (code : LinkedCode) (site : Site) (meaning : MeaningOf ℕ) (instruction : LinkedInstruction) (is : IsRunning trees p bounds inflated event.thread shared stack state frame rest code site meaning instruction) (frames : ℕ) where
+module _ (trees : Program) (p : LinkedProgram) (bounds : Bounds) (inflated : List ℕ) (event : Event) (shared : Shared)
+    (stack : List ShownEntry) (state : StateOf ℕ) (frame : FrameOf ℕ) (rest : StackOf ℕ) (code : LinkedCode) (site : Site)
+    (meaning : MeaningOf ℕ) (instruction : LinkedInstruction)
+    (is : IsRunning trees p bounds inflated event.thread shared stack state frame rest code site meaning instruction) (frames : ℕ) where
   abbrev whole : SteppedOf (PartOf ℕ)
   whole = bytecode_event words trees frames event state.world frame rest
 
@@ -76,7 +80,8 @@ module _ (trees : Program) (p : LinkedProgram) (bounds : Bounds) (inflated : Lis
 
   -- ---- a pick
 
-  picked_by : AreInstructionsDone → (event.pick == 0) ≡ false → (class : Name) → meaning.looks ≡ Some class → (b : Bool) → is_built_in class ≡ b → whole ≡ after
+  picked_by : AreInstructionsDone → (event.pick == 0) ≡ false → (class : Name) → meaning.looks ≡ Some class → (b : Bool)
+      → is_built_in class ≡ b → whole ≡ after
   picked_by all e class looks true built =
       all trees frames event state.world frame rest site meaning is.stands.at (ap (look_at event.thread state.world) looks ∙ built_in_ready event.thread state.world class built)
   picked_by all e class looks false built = barred (its.by_class class looks built event state.world (ops_of words meaning frame.place.slots) ∙ e)
@@ -90,7 +95,8 @@ module _ (trees : Program) (p : LinkedProgram) (bounds : Bounds) (inflated : Lis
   by_class class behind = needing_class words trees event.thread (Some class) state.world (Invocation frame ∷ rest) behind
 
   -- the event is the one that looks at the class
-  looked_by : AreInstructionsDone → (event.pick == 0) ≡ true → (class : Name) → meaning.looks ≡ Some class → (b : Bool) → is_built_in class ≡ b → (behind : SteppedOf (PartOf ℕ)) × (by_class class behind ≡ whole)
+  looked_by : AreInstructionsDone → (event.pick == 0) ≡ true → (class : Name) → meaning.looks ≡ Some class → (b : Bool)
+      → is_built_in class ≡ b → (behind : SteppedOf (PartOf ℕ)) × (by_class class behind ≡ whole)
   looked_by all e class looks true built =
       (whole, ap (λ (look : Look). needing words trees event.thread class look state.world (Invocation frame ∷ rest) whole) (built_in_ready event.thread state.world class built))
   looked_by all e class looks false built =
@@ -102,17 +108,21 @@ module _ (trees : Program) (p : LinkedProgram) (bounds : Bounds) (inflated : Lis
             ∙ ap (λ o. needing_class words trees event.thread o state.world (Invocation frame ∷ rest) finished) looks),
       )
 
-  pub looked : AreInstructionsDone → (event.pick == 0) ≡ true → (class : Name) → meaning.looks ≡ Some class → (behind : SteppedOf (PartOf ℕ)) × (by_class class behind ≡ whole)
+  pub looked : AreInstructionsDone → (event.pick == 0) ≡ true → (class : Name) → meaning.looks ≡ Some class
+      → (behind : SteppedOf (PartOf ℕ)) × (by_class class behind ≡ whole)
   looked all e class looks = looked_by all e class looks (is_built_in class) refl
 
   -- what is answered of the class is answered of the event
-  answered : AreInstructionsDone → (event.pick == 0) ≡ true → (class : Name) → meaning.looks ≡ Some class → (told : Result Answer Refusal) (new : Shared) (to : List ShownEntry)
-      → ((behind : SteppedOf (PartOf ℕ)) → Becomes trees p bounds inflated state.world (by_class class behind) told shared new stack to) → Becomes trees p bounds inflated state.world whole told shared new stack to
+  answered : AreInstructionsDone → (event.pick == 0) ≡ true → (class : Name) → meaning.looks ≡ Some class → (told : Result Answer Refusal)
+      (new : Shared) (to : List ShownEntry)
+      → ((behind : SteppedOf (PartOf ℕ)) → Becomes trees p bounds inflated state.world (by_class class behind) told shared new stack to)
+      → Becomes trees p bounds inflated state.world whole told shared new stack to
   answered all e class looks told new to h =
       let l = looked all e class looks in
       subst (λ (x : SteppedOf (PartOf ℕ)). Becomes trees p bounds inflated state.world x told shared new stack to) l.1 (h l.0)
 
-  pub first_by : AreInstructionsDone → (event.pick == 0) ≡ true → (class : Name) → meaning.looks ≡ Some class → (result : Result (Option Answer) Refusal) (new : Shared) (to : List ShownEntry)
+  pub first_by : AreInstructionsDone → (event.pick == 0) ≡ true → (class : Name) → meaning.looks ≡ Some class
+      → (result : Result (Option Answer) Refusal) (new : Shared) (to : List ShownEntry)
       → needed.NeedsBy trees p bounds inflated event.thread class state.world (Invocation frame ∷ rest) result shared new stack to
       → FirstBy trees p bounds inflated frames event state frame rest meaning result shared new stack to
   first_by all e class looks (Ok None) new to h = (all trees frames event state.world frame rest site meaning is.stands.at (ap (look_at event.thread state.world) looks ∙ h.0), h.1)
@@ -124,18 +134,22 @@ module _ (trees : Program) (p : LinkedProgram) (bounds : Bounds) (inflated : Lis
 
   -- ---- by what the instruction needs
 
-  pub by_need : AreInstructionsDone → (event.pick == 0) ≡ true → (number : ℕ) → needs.Needs instruction (Some number) → (result : Result (Option Answer) Refusal) (new : Shared) (to : List ShownEntry)
-      → needed.Needs p result event.thread number shared new stack to → FirstBy trees p bounds inflated frames event state frame rest meaning result shared new stack to
+  pub by_need : AreInstructionsDone → (event.pick == 0) ≡ true → (number : ℕ) → needs.Needs instruction (Some number)
+      → (result : Result (Option Answer) Refusal) (new : Shared) (to : List ShownEntry)
+      → needed.Needs p result event.thread number shared new stack to
+      → FirstBy trees p bounds inflated frames event state frame rest meaning result shared new stack to
   by_need all e number n result new to h =
       let w = n trees p (offset_in code.starts.items) code.instructions.items site is.shown.place meaning is.stands.linked is.stands.at.means in
       first_by all e w.0 w.1 result new to (h trees bounds inflated state.world (Invocation frame ∷ rest) is.program is.lent.represents is.lent.shows_stack w.0 w.2)
 
-  pub by_pick : AreInstructionsDone → (event.pick == 0) ≡ false → (number : ℕ) → needs.Needs instruction (Some number) → FirstBy trees p bounds inflated frames event state frame rest meaning (Ok None) shared shared stack stack
+  pub by_pick : AreInstructionsDone → (event.pick == 0) ≡ false → (number : ℕ) → needs.Needs instruction (Some number)
+      → FirstBy trees p bounds inflated frames event state frame rest meaning (Ok None) shared shared stack stack
   by_pick all e number n =
       let w = n trees p (offset_in code.starts.items) code.instructions.items site is.shown.place meaning is.stands.linked is.stands.at.means in
       (picked all e w.0 w.1, unchanged)
 
-  pub by_none : AreInstructionsDone → needs.Needs instruction None → FirstBy trees p bounds inflated frames event state frame rest meaning (Ok None) shared shared stack stack
+  pub by_none : AreInstructionsDone → needs.Needs instruction None
+      → FirstBy trees p bounds inflated frames event state frame rest meaning (Ok None) shared shared stack stack
   by_none all n =
       let ready = n trees p (offset_in code.starts.items) code.instructions.items site is.shown.place meaning is.stands.linked is.stands.at.means in
       (all trees frames event state.world frame rest site meaning is.stands.at (ready event.thread state.world), unchanged)

@@ -19,14 +19,24 @@ use Rattle.machine_threads.specs.instruction_events.Families.{is_call, is_field_
 use Rattle.machine_threads.specs.instruction_events.Doing.{DoesFieldOrLocal}
 
 -- what is said of an instruction that is the same
-pub own_same : (p : LinkedProgram) (i j : LinkedInstruction) (t : ℕ) (result : Result Effect Refusal) (old new : Shared) (from to : List ShownEntry) → i ≡ j → DoesOwn p j t result old new from to → DoesOwn p i t result old new from to
+pub own_same : (p : LinkedProgram) (i j : LinkedInstruction) (t : ℕ) (result : Result Effect Refusal) (old new : Shared)
+    (from to : List ShownEntry) → i ≡ j → DoesOwn p j t result old new from to → DoesOwn p i t result old new from to
 own_same p i j t result old new from to e h = subst (λ (x : LinkedInstruction). DoesOwn p x t result old new from to) (sym e) h
 
-pub field_same : (p : LinkedProgram) (i j : LinkedInstruction) (result : Result Effect Refusal) (old new : Shared) (from to : List ShownEntry) → i ≡ j → ((t : ℕ) → DoesOwn p j t result old new from to) → DoesFieldOrLocal p i result old new from to
+pub field_same : (p : LinkedProgram) (i j : LinkedInstruction) (result : Result Effect Refusal) (old new : Shared)
+    (from to : List ShownEntry) → i ≡ j → ((t : ℕ) → DoesOwn p j t result old new from to) → DoesFieldOrLocal p i result old new from to
 field_same p i j result old new from to e h = λ reached t. own_same p i j t result old new from to e (h t)
 
 -- behind those on fields come the local ones
-pub local_left : (i : LinkedInstruction) → is_field_or_local i ≡ true → ((slot : ℕ) → i ≡ linked.GetField slot → ⊥) → ((slot : ℕ) → i ≡ linked.PutField slot → ⊥) → ((slot : ℕ) → i ≡ linked.PutBooleanField slot → ⊥) → ((slot : ℕ) → i ≡ linked.PutByteField slot → ⊥) → ((slot : ℕ) → i ≡ linked.PutCharField slot → ⊥) → ((slot : ℕ) → i ≡ linked.PutShortField slot → ⊥) → ((class : ℕ) (slot : ℕ) → i ≡ linked.GetStatic class slot → ⊥) → ((class : ℕ) (slot : ℕ) → i ≡ linked.PutStatic class slot → ⊥) → ((class : ℕ) (slot : ℕ) → i ≡ linked.PutBooleanStatic class slot → ⊥) → ((class : ℕ) (slot : ℕ) → i ≡ linked.PutByteStatic class slot → ⊥) → ((class : ℕ) (slot : ℕ) → i ≡ linked.PutCharStatic class slot → ⊥) → ((class : ℕ) (slot : ℕ) → i ≡ linked.PutShortStatic class slot → ⊥) → is_local i ≡ true
+pub local_left : (i : LinkedInstruction) → is_field_or_local i ≡ true → ((slot : ℕ) → i ≡ linked.GetField slot → ⊥)
+    → ((slot : ℕ) → i ≡ linked.PutField slot → ⊥) → ((slot : ℕ) → i ≡ linked.PutBooleanField slot → ⊥)
+    → ((slot : ℕ) → i ≡ linked.PutByteField slot → ⊥) → ((slot : ℕ) → i ≡ linked.PutCharField slot → ⊥)
+    → ((slot : ℕ) → i ≡ linked.PutShortField slot → ⊥) → ((class : ℕ) (slot : ℕ) → i ≡ linked.GetStatic class slot → ⊥)
+    → ((class : ℕ) (slot : ℕ) → i ≡ linked.PutStatic class slot → ⊥)
+    → ((class : ℕ) (slot : ℕ) → i ≡ linked.PutBooleanStatic class slot → ⊥)
+    → ((class : ℕ) (slot : ℕ) → i ≡ linked.PutByteStatic class slot → ⊥)
+    → ((class : ℕ) (slot : ℕ) → i ≡ linked.PutCharStatic class slot → ⊥)
+    → ((class : ℕ) (slot : ℕ) → i ≡ linked.PutShortStatic class slot → ⊥) → is_local i ≡ true
 local_left (linked.GetField slot) e n0 n1 n2 n3 n4 n5 n6 n7 n8 n9 n10 n11 = absurd (n0 slot refl)
 local_left (linked.PutField slot) e n0 n1 n2 n3 n4 n5 n6 n7 n8 n9 n10 n11 = absurd (n1 slot refl)
 local_left (linked.PutBooleanField slot) e n0 n1 n2 n3 n4 n5 n6 n7 n8 n9 n10 n11 = absurd (n2 slot refl)
@@ -42,7 +52,14 @@ local_left (linked.PutShortStatic class slot) e n0 n1 n2 n3 n4 n5 n6 n7 n8 n9 n1
 local_left i e n0 n1 n2 n3 n4 n5 n6 n7 n8 n9 n10 n11 = e
 
 -- behind the others that call nothing come those on fields and the local ones: no frame stands at a part of a switch
-pub field_left : (trees : Program) (p : LinkedProgram) (at : ℕ → ℕ) (code : List LinkedInstruction) (site : Site) (k : ℕ) (i : LinkedInstruction) → is_call i ≡ false → IsLinked trees p at code site k i → (i ≡ linked.GetSystemOut → ⊥) → (i ≡ linked.LoadElement → ⊥) → (i ≡ linked.StoreInt → ⊥) → (i ≡ linked.StoreNarrow → ⊥) → (i ≡ linked.StoreReference → ⊥) → (i ≡ linked.ArrayLength → ⊥) → ((word : ℕ) → i ≡ linked.LoadObject word → ⊥) → ((class : ℕ) (fields : ℕ) → i ≡ linked.New class fields → ⊥) → ((of : Primitive) → i ≡ linked.NewArray of → ⊥) → ((number : ℕ) → i ≡ linked.NewReferenceArray number → ⊥) → ((type : LinkedType) → i ≡ linked.CheckCast type → ⊥) → ((type : LinkedType) → i ≡ linked.InstanceOf type → ⊥) → (i ≡ linked.Throw → ⊥) → (i ≡ linked.MonitorEnter → ⊥) → (i ≡ linked.MonitorExit → ⊥) → (i ≡ linked.Return → ⊥) → (i ≡ linked.ReturnValue → ⊥) → is_field_or_local i ≡ true
+pub field_left : (trees : Program) (p : LinkedProgram) (at : ℕ → ℕ) (code : List LinkedInstruction) (site : Site) (k : ℕ)
+    (i : LinkedInstruction) → is_call i ≡ false → IsLinked trees p at code site k i → (i ≡ linked.GetSystemOut → ⊥)
+    → (i ≡ linked.LoadElement → ⊥) → (i ≡ linked.StoreInt → ⊥) → (i ≡ linked.StoreNarrow → ⊥) → (i ≡ linked.StoreReference → ⊥)
+    → (i ≡ linked.ArrayLength → ⊥) → ((word : ℕ) → i ≡ linked.LoadObject word → ⊥)
+    → ((class : ℕ) (fields : ℕ) → i ≡ linked.New class fields → ⊥) → ((of : Primitive) → i ≡ linked.NewArray of → ⊥)
+    → ((number : ℕ) → i ≡ linked.NewReferenceArray number → ⊥) → ((type : LinkedType) → i ≡ linked.CheckCast type → ⊥)
+    → ((type : LinkedType) → i ≡ linked.InstanceOf type → ⊥) → (i ≡ linked.Throw → ⊥) → (i ≡ linked.MonitorEnter → ⊥)
+    → (i ≡ linked.MonitorExit → ⊥) → (i ≡ linked.Return → ⊥) → (i ≡ linked.ReturnValue → ⊥) → is_field_or_local i ≡ true
 field_left trees p at code site k linked.GetSystemOut e l n0 n1 n2 n3 n4 n5 n6 n7 n8 n9 n10 n11 n12 n13 n14 n15 n16 = absurd (n0 refl)
 field_left trees p at code site k linked.LoadElement e l n0 n1 n2 n3 n4 n5 n6 n7 n8 n9 n10 n11 n12 n13 n14 n15 n16 = absurd (n1 refl)
 field_left trees p at code site k linked.StoreInt e l n0 n1 n2 n3 n4 n5 n6 n7 n8 n9 n10 n11 n12 n13 n14 n15 n16 = absurd (n2 refl)

@@ -82,10 +82,12 @@ other_name class other stands file false e = refl
 abbrev Rows : Type 0
 Rows = List (Member × BuiltInMethod)
 
-by_test : (method : Member) (row : Member × BuiltInMethod) (rows : Rows) → is_row_of method row ≡ false → find (is_row_of method) rows ≡ None → find (is_row_of method) (row ∷ rows) ≡ None
+by_test : (method : Member) (row : Member × BuiltInMethod) (rows : Rows) → is_row_of method row ≡ false
+    → find (is_row_of method) rows ≡ None → find (is_row_of method) (row ∷ rows) ≡ None
 by_test method row rows e rest = ap (λ b. if b then Some row else find (is_row_of method) rows) e ∙ rest
 
-not_found : (method : Member) → is_built_in method.class ≡ false → (rows : Rows) → AllByRecursion (λ (row : Member × BuiltInMethod). is_built_in row.0.class ≡ true) rows → find (is_row_of method) rows ≡ None
+not_found : (method : Member) → is_built_in method.class ≡ false → (rows : Rows)
+    → AllByRecursion (λ (row : Member × BuiltInMethod). is_built_in row.0.class ≡ true) rows → find (is_row_of method) rows ≡ None
 not_found method file [] h = refl
 not_found method file (row ∷ rows) h =
     by_test method row rows (and_false (name_eq row.0.class method.class) _ (other_name row.0.class method.class h.0 file (name_eq row.0.class method.class) refl))
@@ -98,17 +100,20 @@ rows_built_in = (refl, (refl, (refl, (refl, (refl, (refl, (refl, (refl, (refl, (
 constructs : (method : Member) → is_built_in method.class ≡ false → built_in_method method ≡ Construct
 constructs method file = ap (λ (o : Option (Member × BuiltInMethod)). unwrap_or (option_map (λ (row : Member × BuiltInMethod). row.1) o) Construct) (not_found method file built_in_methods rows_built_in)
 
-run_plain : (event : Event) (world : WorldOf ℕ) (ops : List ℕ) (method : Member) → is_built_in method.class ≡ false → (body : Option Body) → may_run words event world ops method body ≡ (event.pick == 0)
+run_plain : (event : Event) (world : WorldOf ℕ) (ops : List ℕ) (method : Member) → is_built_in method.class ≡ false → (body : Option Body)
+    → may_run words event world ops method body ≡ (event.pick == 0)
 run_plain event world ops method file None = ap (λ b. built_in_may words b event world ops) (constructs method file)
 run_plain event world ops method file (Some body) = refl
 
-static_mays : (trees : Program) (site : Site) (callee : Member) (i : LinkedInstruction) → is_call i ≡ true → Mays i (static_call words trees site callee)
+static_mays : (trees : Program) (site : Site) (callee : Member) (i : LinkedInstruction) → is_call i ≡ true
+    → Mays i (static_call words trees site callee)
 static_mays trees site callee i calls = record {
   by_class = λ class looks file event world ops. let same : callee.class ≡ class = same_Some callee.class class looks in run_plain event world ops callee (ap is_built_in same ∙ file) (body_of trees callee);
   unpicked = λ own event world ops e. let both : true ≡ false = sym calls ∙ own in absurd cc;
 }
 
-module _ (trees : Program) (p : LinkedProgram) (at : ℕ → ℕ) (code : List LinkedInstruction) (site : Site) (k : ℕ) (meaning : MeaningOf ℕ) (means : meaning_of words trees site ≡ Some meaning) where
+module _ (trees : Program) (p : LinkedProgram) (at : ℕ → ℕ) (code : List LinkedInstruction) (site : Site) (k : ℕ) (meaning : MeaningOf ℕ)
+    (means : meaning_of words trees site ≡ Some meaning) where
   -- the meaning is the one of its definition
   by : (i : LinkedInstruction) (m : MeaningOf ℕ) → meaning_of words trees site ≡ Some m → Mays i m → Mays i meaning
   by i m is h = subst (Mays i) (same_Some m meaning (sym is ∙ means)) h
@@ -116,7 +121,8 @@ module _ (trees : Program) (p : LinkedProgram) (at : ℕ → ℕ) (code : List L
   as_plain : (i : LinkedInstruction) (m : MeaningOf ℕ) → meaning_of words trees site ≡ Some m → Plain m → Mays i meaning
   as_plain i m is h = by i m is (plain i m h)
 
-  calling : (i : LinkedInstruction) (m : MeaningOf ℕ) → is_call i ≡ true → meaning_of words trees site ≡ Some m → m.looks ≡ None → Mays i meaning
+  calling : (i : LinkedInstruction) (m : MeaningOf ℕ) → is_call i ≡ true → meaning_of words trees site ≡ Some m → m.looks ≡ None
+      → Mays i meaning
   calling i m calls is none = by i m is (classless i m none (λ own. let both : true ≡ false = sym calls ∙ own in absurd cc))
 
   direct : (parameters method : ℕ) → IsDirectCall trees site parameters method → Mays (linked.InvokeSpecial parameters method) meaning
@@ -126,7 +132,8 @@ module _ (trees : Program) (p : LinkedProgram) (at : ℕ → ℕ) (code : List L
 
 -- ---- each instruction, in a line
 
-pub mays : (i : LinkedInstruction) (trees : Program) (p : LinkedProgram) (at : ℕ → ℕ) (code : List LinkedInstruction) (site : Site) (k : ℕ) (meaning : MeaningOf ℕ)
+pub mays : (i : LinkedInstruction) (trees : Program) (p : LinkedProgram) (at : ℕ → ℕ) (code : List LinkedInstruction) (site : Site) (k : ℕ)
+    (meaning : MeaningOf ℕ)
     → IsLinked trees p at code site k i → meaning_of words trees site ≡ Some meaning → Mays i meaning
 mays (linked.GetField slot) trees p at code site k meaning l means = as_plain trees p at code site k meaning means _ _ l.is (λ event world ops. refl)
 mays (linked.PutField slot) trees p at code site k meaning l means = as_plain trees p at code site k meaning means _ _ l.is (λ event world ops. refl)

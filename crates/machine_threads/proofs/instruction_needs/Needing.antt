@@ -52,7 +52,8 @@ system_built_in = refl
 system_ready : (t : ℕ) (world : WorldOf ℕ) → look_at t world (Some java_lang_system) ≡ IsReady
 system_ready t world = ap (λ b. look_by t (if b then Initialised else status_in java_lang_system world.classes)) system_built_in
 
-module _ (trees : Program) (p : LinkedProgram) (at : ℕ → ℕ) (code : List LinkedInstruction) (site : Site) (k : ℕ) (meaning : MeaningOf ℕ) (means : meaning_of words trees site ≡ Some meaning) where
+module _ (trees : Program) (p : LinkedProgram) (at : ℕ → ℕ) (code : List LinkedInstruction) (site : Site) (k : ℕ) (meaning : MeaningOf ℕ)
+    (means : meaning_of words trees site ≡ Some meaning) where
   -- the meaning is the one of its definition, which needs no class
   none : (m : MeaningOf ℕ) → meaning_of words trees site ≡ Some m → m.looks ≡ None → IsNeeded trees meaning.looks None
   none m is looks =
@@ -60,7 +61,8 @@ module _ (trees : Program) (p : LinkedProgram) (at : ℕ → ℕ) (code : List L
       λ t world. ap (λ (o : Option Name). look_at t world o) (ap (λ (x : MeaningOf ℕ). x.looks) same ∙ looks)
 
   -- or needs one
-  some : (m : MeaningOf ℕ) (class : Name) (number : ℕ) → meaning_of words trees site ≡ Some m → m.looks ≡ Some class → IsClassAt trees number class → IsNeeded trees meaning.looks (Some number)
+  some : (m : MeaningOf ℕ) (class : Name) (number : ℕ) → meaning_of words trees site ≡ Some m → m.looks ≡ Some class
+      → IsClassAt trees number class → IsNeeded trees meaning.looks (Some number)
   some m class number is looks numbered =
       let same : meaning ≡ m = same_Some meaning m (sym means ∙ is) in
       (class, ap (λ (x : MeaningOf ℕ). x.looks) same ∙ looks, numbered)

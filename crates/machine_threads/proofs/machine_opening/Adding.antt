@@ -16,7 +16,8 @@ adds_both a b old mid new f s =
       are = λ limits before e. s.are limits (before ++ a) (f.are limits before e) ∙ ap (opened limits) (append_assoc before a b);
     }
 
-pub adds_next : (n : ℕ) (object : Object) (old mid new : Heap) → AddsObjects (replicate n object) old mid → AddsObjects (object ∷ []) mid new
+pub adds_next : (n : ℕ) (object : Object) (old mid new : Heap) → AddsObjects (replicate n object) old mid
+    → AddsObjects (object ∷ []) mid new
     → AddsObjects (replicate (n + 1) object) old new
 adds_next n object old mid new f s =
     subst (λ (objects : List Object). AddsObjects objects old new) (replicate-append-replicate n 1 object) (adds_both (replicate n object) (object ∷ []) old mid new f s)

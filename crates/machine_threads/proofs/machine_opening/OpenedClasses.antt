@@ -26,7 +26,8 @@ names_are : (files : List FileTree) → map (λ (c : Name × ClassStatus). c.0) 
 names_are [] = refl
 names_are (file ∷ files) = ap (λ l. name_of file ∷ l) (names_are files)
 
-statuses_are : (files : List FileTree) → map (λ (c : Name × ClassStatus). c.1) (with_none files) ≡ map shown_status (replicate (length files) status.NotInitialised)
+statuses_are : (files : List FileTree) → map (λ (c : Name × ClassStatus). c.1) (with_none files)
+    ≡ map shown_status (replicate (length files) status.NotInitialised)
 statuses_are [] = refl
 statuses_are (file ∷ files) = ap (λ l. NotInitialised ∷ l) (statuses_are files)
 
@@ -34,7 +35,8 @@ none_in : (class : Name) (files : List FileTree) → status_in class (with_none 
 none_in class [] = refl
 none_in class (file ∷ files) = by (none_in class files) (name_eq (name_of file) class)
   where
-    by : status_in class (with_none files) ≡ NotInitialised → (b : Bool) → (if b then NotInitialised else status_in class (with_none files)) ≡ NotInitialised
+    by : status_in class (with_none files) ≡ NotInitialised → (b : Bool)
+        → (if b then NotInitialised else status_in class (with_none files)) ≡ NotInitialised
     by rest true = refl
     by rest false = rest
 
@@ -55,7 +57,8 @@ module _ (trees : Program) (p : LinkedProgram) (program : IsProgram trees p) whe
   of_files : length p.classes.items - 30 ≡ length trees
   of_files = omega (arith, behind)
 
-  pub none_initialised : ShowsStatuses trees (replicate (length p.classes.items - 30) status.NotInitialised) (opening words trees).world.classes
+  pub none_initialised : ShowsStatuses trees (replicate (length p.classes.items - 30) status.NotInitialised)
+      (opening words trees).world.classes
   none_initialised = record { names = names_are trees; are = statuses_are trees ∙ ap (λ n. map shown_status (replicate n status.NotInitialised)) (sym of_files) }
 
   module _ (number : ℕ) (class : Name) (file : FileTree) (at : slice_get (classes_of trees) number ≡ Some file) (named : name_of file ≡ class) where
@@ -72,7 +75,8 @@ module _ (trees : Program) (p : LinkedProgram) (program : IsProgram trees p) whe
         ∙ copy_at 30 number true below
         ∙ ap (λ b. Some (is_initialised (status_by b))) (sym built_in)
 
-    file_not_ready : (k : ℕ) → number ≡ 30 + k → slice_get flags number ≡ Some (is_initialised (status_of (opening words trees).world class))
+    file_not_ready : (k : ℕ) → number ≡ 30 + k
+        → slice_get flags number ≡ Some (is_initialised (status_of (opening words trees).world class))
     file_not_ready k is =
         let there : slice_get (classes_of trees) (30 + k) ≡ Some file = ap (slice_get (classes_of trees)) (sym is) ∙ at in
         let other : is_built_in class ≡ false = ap is_built_in (sym named) ∙ is_not trees program.linkable.no_refusal k file there in
@@ -91,5 +95,6 @@ module _ (trees : Program) (p : LinkedProgram) (program : IsProgram trees p) whe
     pub is_ready : slice_get flags number ≡ Some (is_initialised (status_of (opening words trees).world class))
     is_ready = ready_by (ltb number 30) refl
 
-  pub built_in_are_ready : AreInitialised trees (replicate 30 true ++ replicate (length p.classes.items - 30) false) (opening words trees).world
+  pub built_in_are_ready : AreInitialised trees (replicate 30 true
+      ++ replicate (length p.classes.items - 30) false) (opening words trees).world
   built_in_are_ready number class at = is_ready number class at.0 at.1 at.2

@@ -31,7 +31,8 @@ module _ (trees : Program) (components : List LinkedType) where
   copies one object h [] = tt
   copies one object h (x ∷ xs) = (h, copies one object h xs)
 
-  both : (os : List Object) (ms : List (ObjectOf ℕ)) (others : List Object) (rest : List (ObjectOf ℕ)) → ShowsObjects trees components os ms → ShowsObjects trees components others rest
+  both : (os : List Object) (ms : List (ObjectOf ℕ)) (others : List Object) (rest : List (ObjectOf ℕ))
+      → ShowsObjects trees components os ms → ShowsObjects trees components others rest
       → ShowsObjects trees components (os ++ others) (ms ++ rest)
   both [] [] others rest f s = s
   both [] (m ∷ ms) others rest f s = absurd f
@@ -89,7 +90,8 @@ module _ (trees : Program) (components : List LinkedType) where
 
 -- ---- all of them
 
-pub class_count : (trees : Program) (files : List FileTree) (classes : List LinkedClass) → AreClasses trees files classes → length classes ≡ length files
+pub class_count : (trees : Program) (files : List FileTree) (classes : List LinkedClass) → AreClasses trees files classes
+    → length classes ≡ length files
 class_count trees [] [] h = refl
 class_count trees [] (l ∷ ls) h = absurd h
 class_count trees (f ∷ fs) [] h = absurd h

@@ -41,7 +41,8 @@ use Rattle.machine_threads.specs.pending_exceptions.Pending.{IsPending, event_of
 one_more : (n : ℕ) → n + 1 ≡ suc n
 one_more n = omega arith
 
-module _ (trees : Program) (p : LinkedProgram) (bounds : Bounds) (inflated : List ℕ) (world : WorldOf ℕ) (old : Shared) (r : Represents trees p bounds old world)
+module _ (trees : Program) (p : LinkedProgram) (bounds : Bounds) (inflated : List ℕ) (world : WorldOf ℕ) (old : Shared)
+    (r : Represents trees p bounds old world)
     (shown : ShownFrame) (others : List ShownEntry) (frame : FrameOf ℕ) (rest : StackOf ℕ) (shows : ShowsFrame trees p shown frame) (under : ShowsStack trees p others rest) where
   abbrev taken : (exception offset : ℕ) → StackOf ℕ
   taken exception offset = model.Invocation (at_offset frame offset (record { locals = frame.place.slots.locals; stack = words.reference exception ∷ [] })) ∷ rest
@@ -57,13 +58,15 @@ module _ (trees : Program) (p : LinkedProgram) (bounds : Bounds) (inflated : Lis
 
 -- ---- the exception is one of the objects
 
-same_length : (trees : Program) (components : List LinkedType) (objects : List Object) (heap : List (ObjectOf ℕ)) → ShowsObjects trees components objects heap → length objects ≡ length heap
+same_length : (trees : Program) (components : List LinkedType) (objects : List Object) (heap : List (ObjectOf ℕ))
+    → ShowsObjects trees components objects heap → length objects ≡ length heap
 same_length trees components [] [] s = refl
 same_length trees components [] (m ∷ ms) s = absurd s
 same_length trees components (o ∷ os) [] s = absurd s
 same_length trees components (o ∷ os) (m ∷ ms) s = ap suc (same_length trees components os ms s.1)
 
-module _ (trees : Program) (p : LinkedProgram) (bounds : Bounds) (inflated : List ℕ) (t exception : ℕ) (shared : Shared) (stack : List ShownEntry) (state : StateOf ℕ) (frame : FrameOf ℕ) (rest : StackOf ℕ)
+module _ (trees : Program) (p : LinkedProgram) (bounds : Bounds) (inflated : List ℕ) (t exception : ℕ) (shared : Shared)
+    (stack : List ShownEntry) (state : StateOf ℕ) (frame : FrameOf ℕ) (rest : StackOf ℕ)
     (is : IsPending trees p bounds inflated t exception shared stack state (model.Invocation frame ∷ rest)) where
   within : t < length state.world.threads
   within = subst (λ n. t < n) (tables_counted trees state is.lent.typed).stacks (slice_get_within state.stacks t (model.Invocation frame ∷ rest) is.lent.is_own)
@@ -90,7 +93,8 @@ module _ (trees : Program) (p : LinkedProgram) (bounds : Bounds) (inflated : Lis
   abbrev handler : Option ExceptionEntry
   handler = option_and_then (handler_in trees frame.place.offset (type_at state.world.heap exception)) (body_of trees frame.method)
 
-  place_is : (found : Option ℕ) → IsHandlerOnTop p shared.heap.objects exception stack found → IsPlaceOf (offset_at p top.shown.method) handler found
+  place_is : (found : Option ℕ) → IsHandlerOnTop p shared.heap.objects exception stack found
+      → IsPlaceOf (offset_at p top.shown.method) handler found
   place_is found h =
       subst (λ (st : List ShownEntry). IsHandlerOnTop p shared.heap.objects exception st found) top.is h
       trees is.program state.world.heap is.lent.represents.world_is.objects frame top.shows.top stands
@@ -99,8 +103,10 @@ module _ (trees : Program) (p : LinkedProgram) (bounds : Bounds) (inflated : Lis
     abbrev BecomesBy : Option ExceptionEntry → Type 0
     BecomesBy entry = Becomes trees p bounds inflated state.world (unwound words t exception state.world frame rest entry) result shared new stack to
 
-    pub goes_on : (place : ℕ) → IsHandlerOnTop p shared.heap.objects exception stack (Some place) → Catches t place exception result shared new stack to
-        → Becomes trees p bounds inflated state.world (event_of_pending trees t exception state (model.Invocation frame ∷ rest)) result shared new stack to
+    pub goes_on : (place : ℕ) → IsHandlerOnTop p shared.heap.objects exception stack (Some place)
+        → Catches t place exception result shared new stack to
+        → Becomes trees p bounds inflated state.world (event_of_pending trees t exception state (model.Invocation frame
+        ∷ rest)) result shared new stack to
     goes_on place h catches = by handler (place_is (Some place) h)
       where
         by : (entry : Option ExceptionEntry) → IsPlaceOf (offset_at p top.shown.method) entry (Some place) → BecomesBy entry
@@ -108,7 +114,8 @@ module _ (trees : Program) (p : LinkedProgram) (bounds : Bounds) (inflated : Lis
         by (Some entry) at = catches trees p bounds inflated state.world is.lent.represents fits top.shown top.others top.is frame rest top.shows.top top.shows.under entry.handler at
 
     pub ends : IsHandlerOnTop p shared.heap.objects exception stack None → Unwinds result t shared new stack to
-        → Becomes trees p bounds inflated state.world (event_of_pending trees t exception state (model.Invocation frame ∷ rest)) result shared new stack to
+        → Becomes trees p bounds inflated state.world (event_of_pending trees t exception state (model.Invocation frame
+        ∷ rest)) result shared new stack to
     ends h unwinds = by handler (place_is None h)
       where
         by : (entry : Option ExceptionEntry) → IsPlaceOf (offset_at p top.shown.method) entry None → BecomesBy entry

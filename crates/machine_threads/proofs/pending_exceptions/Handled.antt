@@ -25,7 +25,8 @@ use Rattle.machine_state.proofs.linked_frames.Frames.{offset_of}
 use Rattle.machine_state.specs.exception_handlers.Handlers.{type_at, first_taking, IsPlaceOf, FindsHandler}
 use Rattle.machine_threads.specs.pending_exceptions.Finding.{code_in, code_at, IsHandlerIn}
 
-code_of : (trees : Program) (p : LinkedProgram) (m : Member) (b : Body) (linked : MethodBody) → IsMethodBody trees p m (Some b) linked → (code : LinkedCode) × (linked ≡ body.Code code) × IsCode trees p m b code
+code_of : (trees : Program) (p : LinkedProgram) (m : Member) (b : Body) (linked : MethodBody) → IsMethodBody trees p m (Some b) linked
+    → (code : LinkedCode) × (linked ≡ body.Code code) × IsCode trees p m b code
 code_of trees p m b (body.Code code) h = (code, refl, h.1)
 code_of trees p m b body.Abstract h = absurd h
 code_of trees p m b (body.BuiltIn of) h = absurd h
@@ -50,15 +51,18 @@ module _ (read : AreMethodsRead) (p : LinkedProgram) (objects : List Object) (ex
     here : at shown.place ≡ frame.place.offset
     here = ap (λ (f : ℕ → ℕ). f shown.place) places ∙ sym shows.offset
 
-    found_at : (heap : List (ObjectOf ℕ)) → ShowsObjects trees p.components.items objects heap → (found : Option ℕ) → FindsHandler p objects exception (at shown.place) has.0.handlers.items found
-        → IsPlaceOf (offset_at p shown.method) (option_and_then (handler_in trees frame.place.offset (type_at heap exception)) (body_of trees frame.method)) found
+    found_at : (heap : List (ObjectOf ℕ)) → ShowsObjects trees p.components.items objects heap → (found : Option ℕ)
+        → FindsHandler p objects exception (at shown.place) has.0.handlers.items found
+        → IsPlaceOf (offset_at p shown.method) (option_and_then (handler_in trees frame.place.offset (type_at heap exception))
+        (body_of trees frame.method)) found
     found_at heap objects_are found finds =
         subst (λ (o : Option Body). IsPlaceOf (offset_at p shown.method) (option_and_then (handler_in trees frame.place.offset (type_at heap exception)) o) found) (sym stands.is_body)
         (subst (λ (f : ℕ → ℕ). IsPlaceOf f (first_taking trees stands.body.pool (type_at heap exception) frame.place.offset stands.body.code.exceptions) found) places
         (subst (λ n. IsPlaceOf at (first_taking trees stands.body.pool (type_at heap exception) n stands.body.code.exceptions) found) here
         (finds program.files trees program.linkable program.linked heap objects_are stands.body.pool at stands.body.code.exceptions has.2.handlers)))
 
-  pub handled : (code : LinkedCode) → Some code ≡ code_at p shown.method → (offset : ℕ) → offset ≡ offset_in code.starts.items shown.place → (handlers : List Handler) → handlers ≡ code.handlers.items
+  pub handled : (code : LinkedCode) → Some code ≡ code_at p shown.method → (offset : ℕ) → offset ≡ offset_in code.starts.items shown.place
+      → (handlers : List Handler) → handlers ≡ code.handlers.items
       → (found : Option ℕ) → FindsHandler p objects exception offset handlers found → IsHandlerIn p objects exception shown found
   handled code is offset offset_is handlers handlers_are found finds trees program heap objects_are frame shows stands =
       let same : code ≡ (has trees program frame shows stands).0 = same_Some code _ (is ∙ code_is trees program frame shows stands) in

@@ -31,7 +31,8 @@ main_has_code trees p program none =
     let coded = (linked_of program.files trees program.linkable.spelled program.linkable.no_refusal).main in
     let e = sym coded.is_body ∙ none in cc
 
-module _ (trees : Program) (p : LinkedProgram) (bounds : Bounds) (inflated : List ℕ) (t : ℕ) (shared : Shared) (stack : List ShownEntry) (state : StateOf ℕ)
+module _ (trees : Program) (p : LinkedProgram) (bounds : Bounds) (inflated : List ℕ) (t : ℕ) (shared : Shared) (stack : List ShownEntry)
+    (state : StateOf ℕ)
     (lent : IsLent trees p bounds inflated t shared stack state []) where
   pub is_shared : IsShared trees p bounds inflated shared state.world
   is_shared = record { represents = lent.represents; flags = lent.flags; counted = lent.counted }
@@ -49,9 +50,11 @@ module _ (trees : Program) (p : LinkedProgram) (bounds : Bounds) (inflated : Lis
 
 -- what the call pushes
 module _ (trees : Program) (p : LinkedProgram) (program : IsProgram trees p) (frames : ℕ) (world : WorldOf ℕ) where
-  pub calls : (n : ℕ) → IsClassAt trees n (initial_class trees) → (object : ℕ) → object ≡ 3 + n → (callee : Callee) (h : IsFirstCallee trees p (main trees) object callee)
+  pub calls : (n : ℕ) → IsClassAt trees n (initial_class trees) → (object : ℕ) → object ≡ 3 + n → (callee : Callee)
+      (h : IsFirstCallee trees p (main trees) object callee)
       → main_frame words trees frames world (main trees) (body_of trees (main trees))
-      ≡ pushed frames 0 world (with_begun world 0) [] [] (frame_with words (main trees) (words.reference arguments_reference ∷ []) callee.entered h.body)
+      ≡ pushed frames 0 world (with_begun world 0) [] [] (frame_with words (main trees) (words.reference arguments_reference
+      ∷ []) callee.entered h.body)
   calls n at object is callee h =
       let e : entered_by trees (main trees) (class_reference trees (initial_class trees)) ≡ callee.entered =
       ap (entered_by trees (main trees)) (sym (is ∙ class_object trees p program n at)) ∙ sym h.entered in

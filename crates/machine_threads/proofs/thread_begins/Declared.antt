@@ -35,7 +35,8 @@ behind : {A : Type 0} (xs ys : List A) (k : ℕ) → slice_get (xs ++ ys) (lengt
 behind [] ys k = let e : 0 + k ≡ k = omega arith in ap (slice_get ys) e
 behind (x ∷ xs) ys k = let e : suc (length xs) + k ≡ suc (length xs + k) = omega arith in ap (slice_get (x ∷ (xs ++ ys))) e ∙ behind xs ys k
 
-in_flat : {A B : Type 0} (f : A → List B) (xs : List A) (k : ℕ) (x : A) (j : ℕ) (y : B) → slice_get xs k ≡ Some x → slice_get (f x) j ≡ Some y → (n : ℕ) × (slice_get (flat_map f xs) n ≡ Some y)
+in_flat : {A B : Type 0} (f : A → List B) (xs : List A) (k : ℕ) (x : A) (j : ℕ) (y : B) → slice_get xs k ≡ Some x
+    → slice_get (f x) j ≡ Some y → (n : ℕ) × (slice_get (flat_map f xs) n ≡ Some y)
 in_flat f [] k x j y e g = absurd cc
 in_flat f (z ∷ xs) zero x j y e g =
     let same : z ≡ x = cc in
@@ -46,13 +47,15 @@ found_at : {A : Type 0} (p : A → Bool) (xs : List A) (x : A) → find p xs ≡
 found_at p [] x e = absurd cc
 found_at p (y ∷ xs) x e = by (found_at p xs x) (p y) e
   where
-    by : (find p xs ≡ Some x → (k : ℕ) × (slice_get xs k ≡ Some x)) → (b : Bool) → cond b (Some y) (find p xs) ≡ Some x → (k : ℕ) × (slice_get (y ∷ xs) k ≡ Some x)
+    by : (find p xs ≡ Some x → (k : ℕ) × (slice_get xs k ≡ Some x)) → (b : Bool) → cond b (Some y) (find p xs) ≡ Some x
+        → (k : ℕ) × (slice_get (y ∷ xs) k ≡ Some x)
     by later true q = (0, q)
     by later false q = let r = later q in (suc r.0, r.1)
 
 -- ---- methods
 
-numbered : (trees : Program) (method : Member) (tree : MethodTree) → method_of trees method ≡ Some tree → (n : ℕ) × IsMethodAt trees n method
+numbered : (trees : Program) (method : Member) (tree : MethodTree) → method_of trees method ≡ Some tree
+    → (n : ℕ) × IsMethodAt trees n method
 unfolding methods_of
 numbered trees method tree e =
     let h = home_of trees method tree e in
@@ -73,7 +76,8 @@ module _ (read : AreMethodsRead) (trees : Program) (p : LinkedProgram) (program 
       of_row (Some x) (body.BuiltIn of) r = absurd r
       of_row (Some x) body.Abstract r = absurd r
 
-      by : (o : Option MethodTree) → method_of trees method ≡ o → option_map_or is_abstract_method o false ≡ true → body_of trees method ≡ None
+      by : (o : Option MethodTree) → method_of trees method ≡ o → option_map_or is_abstract_method o false ≡ true
+          → body_of trees method ≡ None
       by None e q = absurd (false≢true q)
       by (Some tree) e q =
           let n = numbered trees method tree e in
@@ -85,7 +89,8 @@ module _ (read : AreMethodsRead) (trees : Program) (p : LinkedProgram) (program 
       → (o ≡ Some method) ⊎ ((option_and_then (body_of trees) o ≡ None) × (body_of trees method ≡ None))
   which method None e = by (is_one is_abstract_method trees method) refl e
     where
-      by : (a : Bool) → is_one is_abstract_method trees method ≡ a → Fails AbstractMethod ≡ (if a then Fails AbstractMethod else Runs method)
+      by : (a : Bool) → is_one is_abstract_method trees method ≡ a
+          → Fails AbstractMethod ≡ (if a then Fails AbstractMethod else Runs method)
           → (None ≡ Some method) ⊎ ((option_and_then (body_of trees) None ≡ None) × (body_of trees method ≡ None))
       by true h q = inr (refl, abstract_has_none method h)
       by false h q = absurd cc
@@ -106,5 +111,6 @@ module _ (read : AreMethodsRead) (trees : Program) (p : LinkedProgram) (program 
   is_run method o object (Some callee) h (inl same) = (method, same, h)
   is_run method o object (Some callee) h (inr none) = let e = sym none.1 ∙ h.is_body in absurd cc
 
-  pub run_found : (number : ℕ) (o : Option Member) → IsChosenBy trees (Some number) (if_concrete trees o) → (object : ℕ) (found : Option Callee) → IsCalleeAt p number object found → IsRunOf trees p o object found
+  pub run_found : (number : ℕ) (o : Option Member) → IsChosenBy trees (Some number) (if_concrete trees o) → (object : ℕ)
+      (found : Option Callee) → IsCalleeAt p number object found → IsRunOf trees p o object found
   run_found number o chosen object found callee = is_run chosen.method o object found (callee trees program chosen.method chosen.numbered) (which chosen.method o chosen.is)

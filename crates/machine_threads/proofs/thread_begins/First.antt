@@ -26,11 +26,13 @@ then_begun t NotEnabled = NotEnabled
 then_begun t WrongKind = WrongKind
 then_begun t (Next cost next) = Next cost (part (with_begun next.world t) next.stack)
 
-enabled_begun : (t : ℕ) (b : Bool) (cost : Cost) (next : PartOf ℕ) → then_begun t (enabled_if b (Next cost next)) ≡ enabled_if b (Next cost (part (with_begun next.world t) next.stack))
+enabled_begun : (t : ℕ) (b : Bool) (cost : Cost) (next : PartOf ℕ)
+    → then_begun t (enabled_if b (Next cost next)) ≡ enabled_if b (Next cost (part (with_begun next.world t) next.stack))
 enabled_begun t true cost next = refl
 enabled_begun t false cost next = refl
 
-entering_begun : (t : ℕ) (world : WorldOf ℕ) (frame : FrameOf ℕ) (entered : Option ℕ) → then_begun t (entering t world [] frame entered) ≡ entering t (with_begun world t) [] frame entered
+entering_begun : (t : ℕ) (world : WorldOf ℕ) (frame : FrameOf ℕ) (entered : Option ℕ)
+    → then_begun t (entering t world [] frame entered) ≡ entering t (with_begun world t) [] frame entered
 entering_begun t world frame None = refl
 entering_begun t world frame (Some object) = enabled_begun t (may_enter world t object) (entry_cost world object) (part (with_entry world t object) (Invocation frame ∷ []))
 
@@ -44,11 +46,13 @@ leaves_empty NotEnabled = false
 leaves_empty WrongKind = false
 leaves_empty (Next cost next) = is_empty next.stack
 
-enabled_leaves : (b : Bool) (cost : Cost) (world : WorldOf ℕ) (frame : FrameOf ℕ) → leaves_empty (enabled_if b (Next cost (part world (Invocation frame ∷ [])))) ≡ false
+enabled_leaves : (b : Bool) (cost : Cost) (world : WorldOf ℕ) (frame : FrameOf ℕ)
+    → leaves_empty (enabled_if b (Next cost (part world (Invocation frame ∷ [])))) ≡ false
 enabled_leaves true cost world frame = refl
 enabled_leaves false cost world frame = refl
 
-entering_leaves : (t : ℕ) (world : WorldOf ℕ) (frame : FrameOf ℕ) (entered : Option ℕ) → leaves_empty (entering t world [] frame entered) ≡ false
+entering_leaves : (t : ℕ) (world : WorldOf ℕ) (frame : FrameOf ℕ) (entered : Option ℕ)
+    → leaves_empty (entering t world [] frame entered) ≡ false
 entering_leaves t world frame None = refl
 entering_leaves t world frame (Some object) = enabled_leaves (may_enter world t object) (entry_cost world object) (with_entry world t object) frame
 
@@ -66,7 +70,8 @@ length_set (y ∷ ys) (suc k) x = ap suc (length_set ys k x)
 abbrev begun_threads : ℕ → List Thread → List Thread
 begun_threads t threads = slice_set threads t (record (slice_index_or threads t (new_thread 0)) { begun = true })
 
-begun_shown : (trees : Program) (p : LinkedProgram) (bounds : Bounds) (t : ℕ) (new : Shared) (world : WorldOf ℕ) → Represents trees p bounds new world
+begun_shown : (trees : Program) (p : LinkedProgram) (bounds : Bounds) (t : ℕ) (new : Shared) (world : WorldOf ℕ)
+    → Represents trees p bounds new world
     → Represents trees p bounds (begun_by effect.Done t new) (with_begun world t)
 begun_shown trees p bounds t new world r =
     record {
@@ -94,7 +99,8 @@ still_added t old new (inr h) = inr (record { stacks = h.stacks; threads = lengt
 
 -- ---- the call
 
-module _ (trees : Program) (p : LinkedProgram) (bounds : Bounds) (inflated : List ℕ) (world : WorldOf ℕ) (t frames : ℕ) (frame : FrameOf ℕ) (old : Shared) (from : List ShownEntry) where
+module _ (trees : Program) (p : LinkedProgram) (bounds : Bounds) (inflated : List ℕ) (world : WorldOf ℕ) (t frames : ℕ) (frame : FrameOf ℕ)
+    (old : Shared) (from : List ShownEntry) where
   abbrev called : SteppedOf (PartOf ℕ)
   called = pushed frames t world world [] [] frame
 
@@ -111,7 +117,8 @@ module _ (trees : Program) (p : LinkedProgram) (bounds : Bounds) (inflated : Lis
     not_raised : (other : SteppedOf (PartOf ℕ)) → leaves_empty other ≡ true → called ≡ other → ⊥
     not_raised other empty e = false≢true (sym (ap leaves_empty (enters world) ∙ entering_leaves t world frame frame.entered) ∙ ap leaves_empty e ∙ empty)
 
-    done : (new : Shared) (to : List ShownEntry) → IsDone trees p bounds inflated world called old new to → IsDone trees p bounds inflated world begins old (begun_by effect.Done t new) to
+    done : (new : Shared) (to : List ShownEntry) → IsDone trees p bounds inflated world called old new to
+        → IsDone trees p bounds inflated world begins old (begun_by effect.Done t new) to
     done new to d =
         record {
           cost = d.cost;
@@ -127,7 +134,8 @@ module _ (trees : Program) (p : LinkedProgram) (bounds : Bounds) (inflated : Lis
           };
         }
 
-    pub begun : (told : Effect) (new : Shared) (to : List ShownEntry) → Does trees p bounds inflated t world [] called (Ok told) old new from to
+    pub begun : (told : Effect) (new : Shared) (to : List ShownEntry)
+        → Does trees p bounds inflated t world [] called (Ok told) old new from to
         → Does trees p bounds inflated t world [] begins (Ok told) old (begun_by told t new) from to
     begun effect.Done new to d = done new to d
     begun effect.NotEnabled new to d = (sym is_begun ∙ ap (then_begun t) d.0, d.1)
@@ -135,7 +143,8 @@ module _ (trees : Program) (p : LinkedProgram) (bounds : Bounds) (inflated : Lis
     begun (effect.Throws thrown) new to d = absurd (not_raised _ refl d.0)
     begun effect.Interrupts new to d = absurd (not_raised _ refl d.0)
 
-    pub refused : (told : Refusal) (new : Shared) (to : List ShownEntry) → Does trees p bounds inflated t world [] called (Err told) old new from to
+    pub refused : (told : Refusal) (new : Shared) (to : List ShownEntry)
+        → Does trees p bounds inflated t world [] called (Err told) old new from to
         → Does trees p bounds inflated t world [] begins (Err told) old new from to
     refused told new to d =
         (record { cost = d.0.cost; next = part (with_begun d.0.next.world t) d.0.next.stack; is = sym is_begun ∙ ap (then_begun t) d.0.is; may = d.0.may }, d.1)

@@ -19,18 +19,21 @@ use Rattle.machine_threads.specs.thread_begins.Initial.{CallsMain}
 use Rattle.machine_threads.specs.thread_begins.Runs.{CanBegin}
 
 -- a thread that can begin still can where nothing has changed
-pub still_able : (p : LinkedProgram) (t : ℕ) (old mid : Shared) (from between : List ShownEntry) → IsUnchanged old mid from between → CanBegin p t old from → CanBegin p t mid between
+pub still_able : (p : LinkedProgram) (t : ℕ) (old mid : Shared) (from between : List ShownEntry) → IsUnchanged old mid from between
+    → CanBegin p t old from → CanBegin p t mid between
 still_able p t old mid from between same able =
     subst (λ (l : List ShownEntry). CanBegin p t mid l) (sym same.stack) (subst (λ (m : Shared). CanBegin p t m from) (sym same.shared) able)
 
-module _ (p : LinkedProgram) (result : Result Answer Refusal) (frames : ℕ) (old mid new : Shared) (from between to : List ShownEntry) (same : IsUnchanged old mid from between) where
+module _ (p : LinkedProgram) (result : Result Answer Refusal) (frames : ℕ) (old mid new : Shared) (from between to : List ShownEntry)
+    (same : IsUnchanged old mid from between) where
   called : CallsMain p result frames mid new between to → CallsMain p result frames old new from to
   called calls =
       subst (λ (l : List ShownEntry). CallsMain p result frames old new l to) same.stack
       (subst (λ (m : Shared). CallsMain p result frames m new between to) same.shared calls)
 
   pub follows : CallsMain p result frames mid new between to
-      → (trees : Program) (bounds : Bounds) (inflated : List ℕ) (state : StateOf ℕ) → IsProgram trees p → IsLent trees p bounds inflated 0 old from state []
+      → (trees : Program) (bounds : Bounds) (inflated : List ℕ) (state : StateOf ℕ) → IsProgram trees p
+      → IsLent trees p bounds inflated 0 old from state []
       → look_at 0 state.world (Some (initial_class trees)) ≡ IsReady
       → Becomes trees p bounds inflated state.world (main_event words trees frames state.world) result old new from to
   follows calls trees bounds inflated state program lent ready =
@@ -41,6 +44,7 @@ module _ (p : LinkedProgram) (result : Result Answer Refusal) (frames : ℕ) (ol
       (called calls trees bounds inflated state program lent)
 
 -- a thread that is not the main one is a started one
-pub is_started : (trees : Program) (frames : ℕ) (world : WorldOf ℕ) (t : ℕ) → (t ≡ 0 → ⊥) → run_event words trees frames t world (thread_at world t).object ≡ begin_event words trees frames world t
+pub is_started : (trees : Program) (frames : ℕ) (world : WorldOf ℕ) (t : ℕ) → (t ≡ 0 → ⊥)
+    → run_event words trees frames t world (thread_at world t).object ≡ begin_event words trees frames world t
 is_started trees frames world zero h = absurd (h refl)
 is_started trees frames world (suc t) h = refl

@@ -80,18 +80,21 @@ module _ (file : FileTree) (files : Program) (linkable : some_stands (file ∷ f
           split ∙ ap (λ k. 30 + k) (one_place trees (files_differ trees linkable) (n - 30) 0 at.0 file there refl at.2)
 
 -- the row of main has its number
-pub class_at : AreMethodsRead → (trees : Program) (p : LinkedProgram) → IsProgram trees p → (row : LinkedMethod) → slice_get p.methods.items p.main ≡ Some row → IsClassAt trees row.class (initial_class trees)
+pub class_at : AreMethodsRead → (trees : Program) (p : LinkedProgram) → IsProgram trees p → (row : LinkedMethod)
+    → slice_get p.methods.items p.main ≡ Some row → IsClassAt trees row.class (initial_class trees)
 class_at read trees p program row is =
     let has = read trees p program.linked p.main (main_of (initial_class trees)) program.linked.main in
     subst (λ (r : LinkedMethod). IsClassAt trees r.class (initial_class trees)) (same_Some _ _ (sym has.is ∙ is)) has.linked.class
 
 -- its Class object, by its number
-pub class_object : (trees : Program) (p : LinkedProgram) → IsProgram trees p → (n : ℕ) → IsClassAt trees n (initial_class trees) → 3 + n ≡ class_reference trees (initial_class trees)
+pub class_object : (trees : Program) (p : LinkedProgram) → IsProgram trees p → (n : ℕ) → IsClassAt trees n (initial_class trees)
+    → 3 + n ≡ class_reference trees (initial_class trees)
 class_object [] p program n at = absurd (true≢false (unrefused_of program.files [] program.linkable.spelled program.linkable.no_refusal).some_file)
 class_object (file ∷ files) p program n at = ap (λ k. 3 + k) (number file files program.linkable.no_refusal n at ∙ sym (place file files program.linkable.no_refusal))
 
 -- the Class object of a class is there
-pub class_object_there : (trees : Program) (state : StateOf ℕ) → AreWellTypedWords trees state → (n : ℕ) (class : Name) → IsClassAt trees n class
+pub class_object_there : (trees : Program) (state : StateOf ℕ) → AreWellTypedWords trees state → (n : ℕ) (class : Name)
+    → IsClassAt trees n class
     → class_reference trees class < length state.world.heap
 class_object_there trees state typed n class at =
     let any = passes_at (is_named class) (classes_of trees) n at.0 at.1 (subst (λ (name : Name). is_named name at.0 ≡ true) at.2 (name_self (name_of at.0))) in

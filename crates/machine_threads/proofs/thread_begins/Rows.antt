@@ -20,7 +20,8 @@ use Rattle.machine_state.specs.Shown.{IsProgram}
 use Rattle.machine_state.specs.method_selection.Rows.{HasMethod, AreMethodsRead}
 use Rattle.machine_threads.specs.thread_begins.Callees.{IsFirstCallee}
 
-module _ (read : AreMethodsRead) (trees : Program) (p : LinkedProgram) (program : IsProgram trees p) (number : ℕ) (method : Member) (at : IsMethodAt trees number method) where
+module _ (read : AreMethodsRead) (trees : Program) (p : LinkedProgram) (program : IsProgram trees p) (number : ℕ) (method : Member)
+    (at : IsMethodAt trees number method) where
   has : HasMethod trees p number method
   has = read trees p program.linked number method at
 

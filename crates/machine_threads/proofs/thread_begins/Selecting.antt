@@ -37,7 +37,8 @@ run_is_public : (trees : Program) → is_one is_private_method trees thread_run 
 unfolding built_in_classes
 run_is_public trees = refl
 
-module _ (trees : Program) (p : LinkedProgram) (program : IsProgram trees p) (objects : List Object) (heap : List (ObjectOf ℕ)) (shows : ShowsObjects trees p.components.items objects heap)
+module _ (trees : Program) (p : LinkedProgram) (program : IsProgram trees p) (objects : List Object) (heap : List (ObjectOf ℕ))
+    (shows : ShowsObjects trees p.components.items objects heap)
     (object : ℕ) (instance : IsInstance trees heap java_lang_thread object) where
   abbrev m : ObjectOf ℕ
   m = slice_index_or heap object no_object
@@ -60,7 +61,8 @@ module _ (trees : Program) (p : LinkedProgram) (program : IsProgram trees p) (ob
   pub missing : None ≡ option_map kind_of (slice_get objects object) → ⊥
   missing none = let e = none ∙ ap (option_map kind_of) shown.1 in cc
 
-  pub run_selected : (kind : ObjectKind) → Some kind ≡ option_map kind_of (slice_get objects object) → (class : ℕ) → IsReceiverClass kind class → (found : Option ℕ) → SelectsVirtual p class p.run_place found
+  pub run_selected : (kind : ObjectKind) → Some kind ≡ option_map kind_of (slice_get objects object) → (class : ℕ)
+      → IsReceiverClass kind class → (found : Option ℕ) → SelectsVirtual p class p.run_place found
       → IsChosenBy trees found (if_concrete trees (select trees (class_of_object m) thread_run))
   run_selected kind is class receiver found selects =
       let same : kind ≡ shown.0.kind = same_Some kind shown.0.kind (is ∙ ap (option_map kind_of) shown.1) in

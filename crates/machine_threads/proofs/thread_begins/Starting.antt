@@ -27,7 +27,8 @@ use Rattle.machine_state.specs.invocations.Entering.{IsThere}
 use Rattle.machine_threads.specs.thread_begins.Callees.{MayEnter}
 use Rattle.machine_threads.specs.thread_begins.Runs.{IsRunOf}
 
-module _ (trees : Program) (p : LinkedProgram) (bounds : Bounds) (inflated : List ℕ) (t : ℕ) (shared : Shared) (stack : List ShownEntry) (state : StateOf ℕ)
+module _ (trees : Program) (p : LinkedProgram) (bounds : Bounds) (inflated : List ℕ) (t : ℕ) (shared : Shared) (stack : List ShownEntry)
+    (state : StateOf ℕ)
     (lent : IsLent trees p bounds inflated t shared stack state []) (r : ℕ) (is : r ≡ (table.thread_at shared.threads.threads t).object) where
   pub is_shared : IsShared trees p bounds inflated shared state.world
   is_shared = record { represents = lent.represents; flags = lent.flags; counted = lent.counted }
@@ -55,7 +56,8 @@ module _ (trees : Program) (p : LinkedProgram) (bounds : Bounds) (inflated : Lis
 
 module _ (trees : Program) (p : LinkedProgram) (frames t : ℕ) (world : WorldOf ℕ) (r : ℕ) where
   pub calls : (o : Option Member) (callee : Callee) (h : IsRunOf trees p o r (Some callee)) (word : ℕ) → word ≡ r + 1
-      → run_of words trees frames t world r o ≡ pushed frames t world (with_begun world t) [] [] (frame_with words h.0 (word ∷ []) callee.entered h.2.body)
+      → run_of words trees frames t world r o
+      ≡ pushed frames t world (with_begun world t) [] [] (frame_with words h.0 (word ∷ []) callee.entered h.2.body)
   calls o callee h word is =
       let e : suc r ≡ r + 1 = omega arith in
       let w : suc r ≡ word = e ∙ sym is in
@@ -63,6 +65,7 @@ module _ (trees : Program) (p : LinkedProgram) (frames t : ℕ) (world : WorldOf
       ∙ ap (run_frame words trees frames t world r h.0) h.2.is_body
       ∙ (λ i. pushed frames t world (with_begun world t) [] [] (frame_with words h.0 (w i ∷ []) (sym h.2.entered i) h.2.body))
 
-  pub fails : (o : Option Member) → option_and_then (body_of trees) o ≡ None → run_of words trees frames t world r o ≡ raised t AbstractMethod world []
+  pub fails : (o : Option Member) → option_and_then (body_of trees) o ≡ None
+      → run_of words trees frames t world r o ≡ raised t AbstractMethod world []
   fails None h = refl
   fails (Some method) h = ap (run_frame words trees frames t world r method) h

@@ -23,7 +23,8 @@ use Rattle.machine_threads.specs.thread_wakes.Ends.{Ends}
 
 -- ---- as many threads as before
 
-woken_count : (object : ℕ) (cause : WakeCause) (world : WorldOf ℕ) (waiters : List Waiter) → length (all_woken object cause world waiters).threads ≡ length world.threads
+woken_count : (object : ℕ) (cause : WakeCause) (world : WorldOf ℕ) (waiters : List Waiter)
+    → length (all_woken object cause world waiters).threads ≡ length world.threads
 woken_count object cause world [] = refl
 woken_count object cause world (waiter ∷ waiters) =
     woken_count object cause (woken object cause world waiter) waiters ∙ length-set world.threads waiter.thread _
@@ -43,7 +44,9 @@ none_waiting world object past =
     ap (λ (m : Monitor). all_woken object Notified (with_monitors world (monitors.wake_all object world.monitors)) m.waiters) (get_or_past world.monitors object unlocked past)
     ∙ ap (λ (ms : List Monitor). record world { monitors = ms }) (set_past world.monitors object _ past)
 
-pub ended_alone : (t : ℕ) (old new : Shared) → ThreadsBecome (λ world. with_thread world t (ended (thread_at world t))) old.threads new.threads → new ≡ record old { threads = new.threads }
+pub ended_alone : (t : ℕ) (old new : Shared)
+    → ThreadsBecome (λ world. with_thread world t (ended (thread_at world t))) old.threads new.threads
+    → new ≡ record old { threads = new.threads }
     → length old.heap.locks.monitors ≤ (table.thread_at old.threads.threads t).object → Ends t old new
 ended_alone t old new becomes rest past =
     record {
@@ -65,7 +68,8 @@ ended_alone t old new becomes rest past =
 
 -- ---- no thread is new
 
-pub added : (old between new : Shared) → new.stacks.items ≡ between.stacks.items → length new.threads.threads ≡ length between.threads.threads
+pub added : (old between new : Shared) → new.stacks.items ≡ between.stacks.items
+    → length new.threads.threads ≡ length between.threads.threads
     → AreStacksAdded old between → AreStacksAdded old new
 added old between new stacks count (inl kept) = inl (record { stacks = stacks ∙ kept.stacks; threads = count ∙ kept.threads })
 added old between new stacks count (inr started) = inr (record { stacks = stacks ∙ started.stacks; threads = count ∙ started.threads })
@@ -82,7 +86,8 @@ module _ (trees : Program) (p : LinkedProgram) (t : ℕ) (world : WorldOf ℕ) w
   not_over [] e = ap (with_end world t) e
   not_over (entry ∷ rest) e = refl
 
-  empty_over : (to : List ShownEntry) (own : StackOf ℕ) → ShowsStack trees p to own → (length to == 0) ≡ true → is_over (thread_at world t) ≡ true
+  empty_over : (to : List ShownEntry) (own : StackOf ℕ) → ShowsStack trees p to own → (length to == 0) ≡ true
+      → is_over (thread_at world t) ≡ true
       → end_of t world own ≡ with_end world t true
   empty_over [] [] shows empty e = ap (with_end world t) e
   empty_over [] (entry ∷ rest) shows empty e = absurd shows
@@ -91,7 +96,8 @@ module _ (trees : Program) (p : LinkedProgram) (t : ℕ) (world : WorldOf ℕ) w
 
 -- ---- the event before
 
-module _ (t : ℕ) (between : Shared) (to : List ShownEntry) (trees : Program) (p : LinkedProgram) (bounds : Bounds) (inflated : List ℕ) (world : WorldOf ℕ) (old : Shared) (stepped : SteppedOf (PartOf ℕ))
+module _ (t : ℕ) (between : Shared) (to : List ShownEntry) (trees : Program) (p : LinkedProgram) (bounds : Bounds) (inflated : List ℕ)
+    (world : WorldOf ℕ) (old : Shared) (stepped : SteppedOf (PartOf ℕ))
     (d : IsDone trees p bounds inflated world stepped old between to) where
   -- the thread goes on
   kept : end_of t d.next.world d.next.stack ≡ d.next.world → IsDone trees p bounds inflated world (settled t stepped) old between to
@@ -104,11 +110,13 @@ module _ (t : ℕ) (between : Shared) (to : List ShownEntry) (trees : Program) (
   pub has_frames : (length to == 0) ≡ false → IsDone trees p bounds inflated world (settled t stepped) old between to
   has_frames e = kept (not_empty trees p t d.next.world to d.next.stack d.becomes.stack e)
 
-  pub goes_on : is_over (table.thread_at between.threads.threads t) ≡ false → IsDone trees p bounds inflated world (settled t stepped) old between to
+  pub goes_on : is_over (table.thread_at between.threads.threads t) ≡ false
+      → IsDone trees p bounds inflated world (settled t stepped) old between to
   goes_on e = kept (not_over trees p t d.next.world d.next.stack (sym over_is ∙ e))
 
   -- it has ended
-  over : (new : Shared) → Ends t between new → end_of t d.next.world d.next.stack ≡ with_end d.next.world t true → IsDone trees p bounds inflated world (settled t stepped) old new to
+  over : (new : Shared) → Ends t between new → end_of t d.next.world d.next.stack ≡ with_end d.next.world t true
+      → IsDone trees p bounds inflated world (settled t stepped) old new to
   over new e same =
       record {
         cost = d.cost;

@@ -66,7 +66,8 @@ module _ (t object count : ℕ) (world : WorldOf ℕ) (there : t < length world.
       ∙ written_twice world.threads t (throws (waits own)) runs there
       ∙ sym (ap (written throws) (written_twice world.threads t (runs own) waits there) ∙ written_twice world.threads t (waits (runs own)) throws there)
 
-  monitors_same : (monitors.relock object t count (world.monitors ++ unlocked ∷ [])).after ≡ (monitors.relock object t count world.monitors).after ++ unlocked ∷ []
+  monitors_same : (monitors.relock object t count (world.monitors ++ unlocked ∷ [])).after
+      ≡ (monitors.relock object t count world.monitors).after ++ unlocked ∷ []
   monitors_same =
       ap (λ (m : Monitor). slice_set (world.monitors ++ unlocked ∷ []) object (monitor_relock t count m).after) (get_or_append_left world.monitors (unlocked ∷ []) unlocked object inside)
       ∙ set-append_left world.monitors (unlocked ∷ []) object (monitor_relock t count (monitor_at world.monitors object)).after inside
@@ -91,7 +92,8 @@ goes_on next (Initialisation class phase ∷ others) = refl
 
 -- ---- what was done
 
-became : (trees : Program) (p : LinkedProgram) (bounds : Bounds) (inflated : List ℕ) (world : WorldOf ℕ) (cost : Cost) (next : PartOf ℕ) (old new : Shared) (to : List ShownEntry)
+became : (trees : Program) (p : LinkedProgram) (bounds : Bounds) (inflated : List ℕ) (world : WorldOf ℕ) (cost : Cost) (next : PartOf ℕ)
+    (old new : Shared) (to : List ShownEntry)
     → IsDone trees p bounds inflated world (Next cost next) old new to → HasBecome trees p bounds inflated world cost next old new to
 became trees p bounds inflated world cost next old new to d =
     let is = d.is in
@@ -102,7 +104,8 @@ became trees p bounds inflated world cost next old new to d =
 
 -- ---- a thread that has left a wait set
 
-module _ (trees : Program) (p : LinkedProgram) (bounds : Bounds) (inflated : List ℕ) (t object count : ℕ) (cause : WakeCause) (old : Shared) (from : List ShownEntry) (state : StateOf ℕ) (own : StackOf ℕ)
+module _ (trees : Program) (p : LinkedProgram) (bounds : Bounds) (inflated : List ℕ) (t object count : ℕ) (cause : WakeCause)
+    (old : Shared) (from : List ShownEntry) (state : StateOf ℕ) (own : StackOf ℕ)
     (l : HasLeft trees p bounds inflated t object count cause old from state own) where
   abbrev world : WorldOf ℕ
   world = state.world
@@ -123,10 +126,12 @@ module _ (trees : Program) (p : LinkedProgram) (bounds : Bounds) (inflated : Lis
   free_is : is_done (monitors.relock object t count world.monitors).answer ≡ frees old
   free_is = ap (λ (ms : List Monitor). is_done (monitors.relock object t count ms).answer) (sym l.lent.represents.world_is.monitors)
 
-  event_is : (free : Bool) → free ≡ frees old → relock_event trees t object count cause world own ≡ enabled_if free (after_wait trees t cause (relocked world object t count) own)
+  event_is : (free : Bool) → free ≡ frees old
+      → relock_event trees t object count cause world own ≡ enabled_if free (after_wait trees t cause (relocked world object t count) own)
   event_is free says = ap (λ b. enabled_if b (after_wait trees t cause (relocked world object t count) own)) (free_is ∙ sym says)
 
-  pub not_enabled : false ≡ frees old → Becomes trees p bounds inflated world (relock_event trees t object count cause world own) (Ok answer.NotEnabled) old old from from
+  pub not_enabled : false ≡ frees old → Becomes trees p bounds inflated
+      world (relock_event trees t object count cause world own) (Ok answer.NotEnabled) old old from from
   not_enabled says = (event_is false says, record { shared = refl; stack = refl })
 
   -- notified, it goes on behind its call
@@ -134,7 +139,8 @@ module _ (trees : Program) (p : LinkedProgram) (bounds : Bounds) (inflated : Lis
     running : AreInCode trees own
     running = in_code trees state l.lent.typed t (thread_at world t) own there l.lent.is_own (ap has_ended l.status)
 
-    pub returns : (new : Shared) (done : Bool) → Relocks done object t count old.heap new.heap old.threads new.threads → new ≡ record old { heap = new.heap; threads = new.threads }
+    pub returns : (new : Shared) (done : Bool) → Relocks done object t count old.heap new.heap old.threads new.threads
+        → new ≡ record old { heap = new.heap; threads = new.threads }
         → (next : ℕ) → IsNextOfTop p from next → (to : List ShownEntry) → to ≡ on_top (moved next) from
         → IsDone trees p bounds inflated world (relock_event trees t object count cause world own) old new to
     returns new false r rest next is to same = absurd (false≢true (sym r.0 ∙ sym says))
@@ -153,7 +159,8 @@ module _ (trees : Program) (p : LinkedProgram) (bounds : Bounds) (inflated : Lis
     throws_is : relock_event trees t object count cause world own ≡ raised_by_interrupt t (relocked world object t count) own
     throws_is = event_is true says ∙ ap (λ c. after_wait trees t c (relocked world object t count) own) interrupted
 
-    pub refused : (why : Refusal) (between : Shared) → Becomes trees p bounds inflated world (raised_by_interrupt t world own) (Err why) old between from from
+    pub refused : (why : Refusal) (between : Shared)
+        → Becomes trees p bounds inflated world (raised_by_interrupt t world own) (Err why) old between from from
         → (result : Result Answer Refusal) → IsErrAnd result (λ told. told ≡ why)
         → Becomes trees p bounds inflated world (relock_event trees t object count cause world own) result old between from from
     refused why between b (Ok told) e = absurd e
@@ -189,7 +196,8 @@ module _ (trees : Program) (p : LinkedProgram) (bounds : Bounds) (inflated : Lis
             λ thin. a.3 (sym (ap (λ (flags : List Bool). slice_index_or flags object false) h.flags ∙ not_fat old.heap.locks.fat object) ∙ thin),
           )
 
-      throws_by : (new : Shared) (done : Bool) → Relocks done object t count between.heap new.heap between.threads new.threads → new ≡ record between { heap = new.heap; threads = new.threads }
+      throws_by : (new : Shared) (done : Bool) → Relocks done object t count between.heap new.heap between.threads new.threads
+          → new ≡ record between { heap = new.heap; threads = new.threads }
           → IsDone trees p bounds inflated world (relock_event trees t object count cause world own) old new from
       throws_by new false r rest = absurd (false≢true (sym r.0 ∙ still_free ∙ sym says))
       throws_by new true r rest =
@@ -212,14 +220,17 @@ module _ (trees : Program) (p : LinkedProgram) (bounds : Bounds) (inflated : Lis
     abbrev raises : Shared → Answer → Type 0
     raises between told = Becomes trees p bounds inflated world (raised_by_interrupt t world own) (Ok told) old between from from
 
-    done_by : (between : Shared) (told : Answer) → raises between told → HasBecome trees p bounds inflated world (Makes 0) (part (thrown t world) own) old between from
+    done_by : (between : Shared) (told : Answer) → raises between told
+        → HasBecome trees p bounds inflated world (Makes 0) (part (thrown t world) own) old between from
     done_by between answer.Done b = became trees p bounds inflated world (Makes 0) (part (thrown t world) own) old between from b
     done_by between answer.NotEnabled b = let never = b.0 in absurd cc
 
-    pub allowed_then : (between : Shared) (told : Answer) → raises between told → t < 32767 → IsAllowed (calls.Relock object t count) between.heap.locks
+    pub allowed_then : (between : Shared) (told : Answer) → raises between told → t < 32767
+        → IsAllowed (calls.Relock object t count) between.heap.locks
     allowed_then between told b small = still_allowed between (done_by between told b) (allowed small).0 (allowed small)
 
     pub throws_then : (between : Shared) (told : Answer) → raises between told → object < length old.heap.locks.monitors
-        → (new : Shared) (done : Bool) → Relocks done object t count between.heap new.heap between.threads new.threads → new ≡ record between { heap = new.heap; threads = new.threads }
+        → (new : Shared) (done : Bool) → Relocks done object t count between.heap new.heap between.threads new.threads
+        → new ≡ record between { heap = new.heap; threads = new.threads }
         → IsDone trees p bounds inflated world (relock_event trees t object count cause world own) old new from
     throws_then between told b inside = throws_by between (done_by between told b) inside

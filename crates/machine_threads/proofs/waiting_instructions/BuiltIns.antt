@@ -27,7 +27,8 @@ owner_stays : (b : Bool) (done : OutcomeOf ℕ) → Stays done → Stays (if_own
 owner_stays true done h = h
 owner_stays false done h = tt
 
-start_stays : (b : Bool) (next object : ℕ) (world : WorldOf ℕ) (slots : Slots ℕ) (rest : List ℕ) → Stays (start_by b next object world slots rest)
+start_stays : (b : Bool) (next object : ℕ) (world : WorldOf ℕ) (slots : Slots ℕ) (rest : List ℕ)
+    → Stays (start_by b next object world slots rest)
 start_stays true next object world slots rest = tt
 start_stays false next object world slots rest = tt
 
@@ -36,7 +37,8 @@ join_stays true next world slots rest = tt
 join_stays false next world slots rest = tt
 
 -- a built-in method calls nothing
-pub built_in_stays : (of : BuiltInMethod) (next t : ℕ) (world : WorldOf ℕ) (slots : Slots ℕ) (ops rest : List ℕ) → Stays (built_in_does words of next (event_of t) world slots ops rest)
+pub built_in_stays : (of : BuiltInMethod) (next t : ℕ) (world : WorldOf ℕ) (slots : Slots ℕ) (ops rest : List ℕ)
+    → Stays (built_in_does words of next (event_of t) world slots ops rest)
 built_in_stays built_in.Construct next t world slots ops rest = tt
 built_in_stays built_in.ConstructWithTarget next t world slots ops rest = tt
 built_in_stays built_in.ObjectWait next t world slots ops rest = wait_stays (is_owner world t (object_of words ops 0)) (thread_at world t).interrupted t _ world rest
@@ -62,7 +64,8 @@ notify_may true n = by (nat_lt 0 n) refl
     by false e = refl
 
 -- any but join may be done by an event that picks nothing
-pub built_in_allowed : (called : linked.BuiltInMethod) → (called ≡ method.ThreadJoin → ⊥) → (t : ℕ) (world : WorldOf ℕ) (ops : List ℕ) → built_in_may words (built_in_of called) (event_of t) world ops ≡ true
+pub built_in_allowed : (called : linked.BuiltInMethod) → (called ≡ method.ThreadJoin → ⊥) → (t : ℕ) (world : WorldOf ℕ) (ops : List ℕ)
+    → built_in_may words (built_in_of called) (event_of t) world ops ≡ true
 built_in_allowed method.Construct n t world ops = refl
 built_in_allowed method.ConstructWithTarget n t world ops = refl
 built_in_allowed method.ObjectWait n t world ops = refl
@@ -79,12 +82,14 @@ built_in_allowed method.ThreadIsAlive n t world ops = refl
 built_in_allowed method.PrintStreamPrintln n t world ops = refl
 
 -- a join that may not be done is one of a thread that is alive
-join_held : (alive interrupted : Bool) (next : ℕ) (world : WorldOf ℕ) (slots : Slots ℕ) (rest : List ℕ) → (not alive || interrupted) ≡ false → join_by alive next world slots rest ≡ Interrupts
+join_held : (alive interrupted : Bool) (next : ℕ) (world : WorldOf ℕ) (slots : Slots ℕ) (rest : List ℕ)
+    → (not alive || interrupted) ≡ false → join_by alive next world slots rest ≡ Interrupts
 join_held true interrupted next world slots rest h = refl
 join_held false interrupted next world slots rest h = absurd (true≢false h)
 
 -- so a built-in method that may not be done is a join, and would be interrupted
-held_by : (of : BuiltInMethod) (next t : ℕ) (world : WorldOf ℕ) (slots : Slots ℕ) (ops rest : List ℕ) → built_in_may words of (event_of t) world ops ≡ false → built_in_does words of next (event_of t) world slots ops rest ≡ Interrupts
+held_by : (of : BuiltInMethod) (next t : ℕ) (world : WorldOf ℕ) (slots : Slots ℕ) (ops rest : List ℕ)
+    → built_in_may words of (event_of t) world ops ≡ false → built_in_does words of next (event_of t) world slots ops rest ≡ Interrupts
 held_by built_in.ThreadJoin next t world slots ops rest h = join_held (is_alive world (object_of words ops 0)) (thread_at world t).interrupted next world slots rest h
 held_by built_in.Construct next t world slots ops rest h = absurd (true≢false h)
 held_by built_in.ConstructWithTarget next t world slots ops rest h = absurd (true≢false h)
@@ -101,11 +106,13 @@ held_by built_in.ThreadIsAlive next t world slots ops rest h = absurd (true≢fa
 held_by built_in.PrintStreamPrintln next t world slots ops rest h = absurd (true≢false h)
 
 module _ (trees : Program) (site : Site) (t : ℕ) (world : WorldOf ℕ) (slots : Slots ℕ) (ops rest : List ℕ) (object : ℕ) where
-  run_held : (m : Member) (body : Option Body) → may_run words (event_of t) world ops m body ≡ false → runs words trees site (event_of t) world slots ops rest object m body ≡ Interrupts
+  run_held : (m : Member) (body : Option Body) → may_run words (event_of t) world ops m body ≡ false
+      → runs words trees site (event_of t) world slots ops rest object m body ≡ Interrupts
   run_held m None h = held_by (built_in_method m) site.next t world slots ops rest h
   run_held m (Some body) h = absurd (true≢false h)
 
   -- a call that may not be done would be interrupted
-  pub invocation_held : (chosen : Chosen) → may_invoke words trees (event_of t) world ops chosen ≡ false → invoked words trees site (event_of t) world slots ops rest object chosen ≡ Interrupts
+  pub invocation_held : (chosen : Chosen) → may_invoke words trees (event_of t) world ops chosen ≡ false
+      → invoked words trees site (event_of t) world slots ops rest object chosen ≡ Interrupts
   invocation_held (Fails fault) h = absurd (true≢false h)
   invocation_held (Runs m) h = run_held m (body_of trees m) h

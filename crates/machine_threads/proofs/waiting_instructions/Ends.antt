@@ -24,11 +24,13 @@ module _ (trees : Program) (t : ℕ) (world : WorldOf ℕ) (stack : StackOf ℕ)
   held_by None e = absurd cc
   held_by (Some class) e = ap (λ (look : Look). needing words trees t class look world stack after) e
 
-  new_by : (looks : Option Name) → look_at t world looks ≡ IsNew → is_enabled_by (needing_class words trees t looks world stack after) ≡ true
+  new_by : (looks : Option Name) → look_at t world looks ≡ IsNew
+      → is_enabled_by (needing_class words trees t looks world stack after) ≡ true
   new_by None e = absurd cc
   new_by (Some class) e = ap (λ (look : Look). is_enabled_by (needing words trees t class look world stack after)) e
 
-  failed_by : (looks : Option Name) → look_at t world looks ≡ HasFailed → is_enabled_by (needing_class words trees t looks world stack after) ≡ true
+  failed_by : (looks : Option Name) → look_at t world looks ≡ HasFailed
+      → is_enabled_by (needing_class words trees t looks world stack after) ≡ true
   failed_by None e = absurd cc
   failed_by (Some class) e = ap (λ (look : Look). is_enabled_by (needing words trees t class look world stack after)) e
 
@@ -42,11 +44,14 @@ file_class t world class n = by (is_built_in class) refl
     by true e = absurd (n (ap (λ b. look_by t (if b then Initialised else status_in class world.classes)) e))
     by false e = refl
 
-module _ (trees : Program) (site : Site) (m : MeaningOf ℕ) (means : meaning_of words trees site ≡ Some m) (t : ℕ) (world : WorldOf ℕ) (ops : List ℕ) (n : look_at t world m.looks ≡ IsReady → ⊥) where
+module _ (trees : Program) (site : Site) (m : MeaningOf ℕ) (means : meaning_of words trees site ≡ Some m) (t : ℕ) (world : WorldOf ℕ)
+    (ops : List ℕ) (n : look_at t world m.looks ≡ IsReady → ⊥) where
   unready_may : m.may (event_of t) world ops ≡ true
   unready_may = by (kind_of trees site m means)
     where
-      by_class : (looks : Option Name) → m.looks ≡ looks → ((class : Name) → m.looks ≡ Some class → is_built_in class ≡ false → m.may (event_of t) world ops ≡ true) → m.may (event_of t) world ops ≡ true
+      by_class : (looks : Option Name) → m.looks ≡ looks
+          → ((class : Name) → m.looks ≡ Some class → is_built_in class ≡ false → m.may (event_of t) world ops ≡ true)
+          → m.may (event_of t) world ops ≡ true
       by_class None e h = absurd (n (ap (look_at t world) e))
       by_class (Some class) e h = h class e (file_class t world class (λ q. n (ap (look_at t world) e ∙ q)))
 
@@ -57,7 +62,8 @@ module _ (trees : Program) (site : Site) (m : MeaningOf ℕ) (means : meaning_of
 
 -- ---- where a thread stands
 
-module _ (trees : Program) (limit t : ℕ) (world : WorldOf ℕ) (frame : FrameOf ℕ) (rest : StackOf ℕ) (site : Site) (meaning : MeaningOf ℕ) (at : IsAt trees frame site meaning) where
+module _ (trees : Program) (limit t : ℕ) (world : WorldOf ℕ) (frame : FrameOf ℕ) (rest : StackOf ℕ) (site : Site) (meaning : MeaningOf ℕ)
+    (at : IsAt trees frame site meaning) where
   abbrev may : Bool
   may = meaning.may (event_of t) world (ops_of words meaning frame.place.slots)
 
@@ -89,7 +95,8 @@ module _ (trees : Program) (limit t : ℕ) (world : WorldOf ℕ) (frame : FrameO
   stands = if is_enabled_by whole then Runnable else waits
 
   -- the class is ready
-  pub ready_stands : AreInstructionsDone → look_at t world meaning.looks ≡ IsReady → stands ≡ ready_end trees limit t world frame rest site meaning
+  pub ready_stands : AreInstructionsDone → look_at t world meaning.looks ≡ IsReady
+      → stands ≡ ready_end trees limit t world frame rest site meaning
   ready_stands all ready =
       ap (λ (s : SteppedOf (PartOf ℕ)). if is_enabled_by s then Runnable else waits) (all trees limit (event_of t) world frame rest site meaning at ready)
       ∙ ap (λ (e : ThreadEnd). if is_enabled_by (enabled_if may finished) then Runnable else e)

@@ -32,7 +32,8 @@ use Rattle.std.proofs.lemmas.Option.{same_Some}
 
 -- ---- what an instruction means
 
-module _ (trees : Program) (p : LinkedProgram) (at : ℕ → ℕ) (code : List LinkedInstruction) (site : Site) (k : ℕ) (meaning : MeaningOf ℕ) (means : meaning_of words trees site ≡ Some meaning) where
+module _ (trees : Program) (p : LinkedProgram) (at : ℕ → ℕ) (code : List LinkedInstruction) (site : Site) (k : ℕ) (meaning : MeaningOf ℕ)
+    (means : meaning_of words trees site ≡ Some meaning) where
   -- the meaning is the one of its definition
   of : (P : MeaningOf ℕ → Type 0) (m : MeaningOf ℕ) → meaning_of words trees site ≡ Some m → P m → P meaning
   of P m is h = subst P (same_Some m meaning (sym is ∙ means)) h
@@ -41,8 +42,11 @@ module _ (trees : Program) (p : LinkedProgram) (at : ℕ → ℕ) (code : List L
   quick = of IsQuick
 
   -- one that enters no monitor and calls no method by its number is quick
-  pub quick_of : (i : LinkedInstruction) → IsLinked trees p at code site k i → (i ≡ linked.MonitorEnter → ⊥) → ((parameters class method : ℕ) → i ≡ linked.InvokeStatic parameters class method → ⊥) → ((parameters method : ℕ) → i ≡ linked.InvokeSpecial parameters method → ⊥)
-      → ((parameters place : ℕ) → i ≡ linked.InvokeVirtual parameters place → ⊥) → ((parameters selector : ℕ) → i ≡ linked.InvokeInterface parameters selector → ⊥) → IsQuick meaning
+  pub quick_of : (i : LinkedInstruction) → IsLinked trees p at code site k i → (i ≡ linked.MonitorEnter → ⊥)
+      → ((parameters class method : ℕ) → i ≡ linked.InvokeStatic parameters class method → ⊥)
+      → ((parameters method : ℕ) → i ≡ linked.InvokeSpecial parameters method → ⊥)
+      → ((parameters place : ℕ) → i ≡ linked.InvokeVirtual parameters place → ⊥)
+      → ((parameters selector : ℕ) → i ≡ linked.InvokeInterface parameters selector → ⊥) → IsQuick meaning
   quick_of (linked.GetField slot) l n0 n1 n2 n3 n4 = quick _ l.is (quick_get_field trees site _ _ _)
   quick_of (linked.PutField slot) l n0 n1 n2 n3 n4 = quick _ l.is (quick_put_field trees site _ _ _)
   quick_of (linked.PutBooleanField slot) l n0 n1 n2 n3 n4 = quick _ l.is (quick_put_field trees site _ _ _)
@@ -81,13 +85,16 @@ module _ (trees : Program) (p : LinkedProgram) (at : ℕ → ℕ) (code : List L
 
   -- ---- calls
 
-  pub static_calls : (parameters class method : ℕ) → IsLinked trees p at code site k (linked.InvokeStatic parameters class method) → IsCall trees site meaning
+  pub static_calls : (parameters class method : ℕ) → IsLinked trees p at code site k (linked.InvokeStatic parameters class method)
+      → IsCall trees site meaning
   static_calls parameters class method l = of (IsCall trees site) _ l.is (calls_static trees site l.callee)
 
-  pub virtual_calls : (parameters place : ℕ) → IsLinked trees p at code site k (linked.InvokeVirtual parameters place) → IsCall trees site meaning
+  pub virtual_calls : (parameters place : ℕ) → IsLinked trees p at code site k (linked.InvokeVirtual parameters place)
+      → IsCall trees site meaning
   virtual_calls parameters place l = of (IsCall trees site) _ l.is (calls_virtual trees site l.named l.callee)
 
-  pub interface_calls : (parameters selector : ℕ) → IsLinked trees p at code site k (linked.InvokeInterface parameters selector) → IsCall trees site meaning
+  pub interface_calls : (parameters selector : ℕ) → IsLinked trees p at code site k (linked.InvokeInterface parameters selector)
+      → IsCall trees site meaning
   interface_calls parameters selector l = of (IsCall trees site) _ l.is (calls_interface trees site l.named l.callee)
 
   direct_calls : (parameters method : ℕ) → IsDirectCall trees site parameters method → IsCall trees site meaning
@@ -95,12 +102,14 @@ module _ (trees : Program) (p : LinkedProgram) (at : ℕ → ℕ) (code : List L
   direct_calls parameters method (CallsSpecial named callee is counted other found numbered) = of (IsCall trees site) _ is (calls_special trees site named.class callee)
   direct_calls parameters method (CallsOnly named callee is counted numbered) = of (IsCall trees site) _ is (calls_virtual trees site named callee)
 
-  pub special_calls : (parameters method : ℕ) → IsLinked trees p at code site k (linked.InvokeSpecial parameters method) → IsCall trees site meaning
+  pub special_calls : (parameters method : ℕ) → IsLinked trees p at code site k (linked.InvokeSpecial parameters method)
+      → IsCall trees site meaning
   special_calls parameters method l = direct_calls parameters method l.calls
 
 -- ---- how a thread stands at it
 
-module _ (trees : Program) (limit t : ℕ) (world : WorldOf ℕ) (frame : FrameOf ℕ) (rest : StackOf ℕ) (site : Site) (meaning : MeaningOf ℕ) (means : meaning_of words trees site ≡ Some meaning) where
+module _ (trees : Program) (limit t : ℕ) (world : WorldOf ℕ) (frame : FrameOf ℕ) (rest : StackOf ℕ) (site : Site) (meaning : MeaningOf ℕ)
+    (means : meaning_of words trees site ≡ Some meaning) where
   abbrev may : Bool
   may = meaning.may (event_of t) world (ops_of words meaning frame.place.slots)
 
@@ -126,7 +135,8 @@ module _ (trees : Program) (limit t : ℕ) (world : WorldOf ℕ) (frame : FrameO
   may_from b h = may_by trees t world frame rest outcome may b h
 
   -- a call
-  pub call_end : IsCall trees site meaning → (result : Standing) → StandsBy result limit event → IsEnd trees result (ready_end trees limit t world frame rest site meaning)
+  pub call_end : IsCall trees site meaning → (result : Standing) → StandsBy result limit event
+      → IsEnd trees result (ready_end trees limit t world frame rest site meaning)
   call_end c standing.Runnable h = ap (λ b. end_by b may) h
   call_end c standing.Blocked h = ap (λ b. end_by b may) h.0 ∙ ap (λ b. end_by false b) (may_from true h.1)
   call_end c standing.Joining h =
@@ -142,13 +152,17 @@ module _ (trees : Program) (limit t : ℕ) (world : WorldOf ℕ) (frame : FrameO
     same : meaning ≡ monitor_enter_meaning words site
     same = same_Some _ _ (sym means ∙ e)
 
-    enabled_of : (m : MeaningOf ℕ) → m ≡ monitor_enter_meaning words site → m.may (event_of t) world (ops_of words m frame.place.slots) ≡ true → is_enabled_by (instruction_event trees limit (event_of t) world frame rest m) ≡ true
+    enabled_of : (m : MeaningOf ℕ) → m ≡ monitor_enter_meaning words site
+        → m.may (event_of t) world (ops_of words m frame.place.slots) ≡ true
+        → is_enabled_by (instruction_event trees limit (event_of t) world frame rest m) ≡ true
     enabled_of m is h =
         ap (λ b. is_enabled_by (enabled_if b (done words trees limit (event_of t) world frame rest m))) h
         ∙ ap (λ (x : MeaningOf ℕ). is_enabled_by (done words trees limit (event_of t) world frame rest x)) is
         ∙ goes (referent words (ops_of words (monitor_enter_meaning words site) frame.place.slots) 0)
       where
-        goes : (o : Option ℕ) → is_enabled_by (become trees limit t world frame rest (not_null o (λ r. pushing_at (entry_cost world r) site.next [] (with_entry world t r) frame.place.slots (under (monitor_enter_meaning words site).wants frame.place.slots)))) ≡ true
+        goes : (o : Option ℕ) → is_enabled_by (become trees limit t world frame
+            rest (not_null o (λ r. pushing_at (entry_cost world r) site.next [] (with_entry world t r)
+            frame.place.slots (under (monitor_enter_meaning words site).wants frame.place.slots)))) ≡ true
         goes None = refl
         goes (Some r) = refl
 

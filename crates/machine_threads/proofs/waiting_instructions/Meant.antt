@@ -44,10 +44,12 @@ other_name class other stands file false e = refl
 abbrev Rows : Type 0
 Rows = List (Member × BuiltInMethod)
 
-by_test : (method : Member) (row : Member × BuiltInMethod) (rows : Rows) → is_row_of method row ≡ false → find (is_row_of method) rows ≡ None → find (is_row_of method) (row ∷ rows) ≡ None
+by_test : (method : Member) (row : Member × BuiltInMethod) (rows : Rows) → is_row_of method row ≡ false
+    → find (is_row_of method) rows ≡ None → find (is_row_of method) (row ∷ rows) ≡ None
 by_test method row rows e rest = ap (λ b. if b then Some row else find (is_row_of method) rows) e ∙ rest
 
-not_found : (method : Member) → is_built_in method.class ≡ false → (rows : Rows) → AllByRecursion (λ (row : Member × BuiltInMethod). is_built_in row.0.class ≡ true) rows → find (is_row_of method) rows ≡ None
+not_found : (method : Member) → is_built_in method.class ≡ false → (rows : Rows)
+    → AllByRecursion (λ (row : Member × BuiltInMethod). is_built_in row.0.class ≡ true) rows → find (is_row_of method) rows ≡ None
 not_found method file [] h = refl
 not_found method file (row ∷ rows) h =
     by_test method row rows (and_false (name_eq row.0.class method.class) _ (other_name row.0.class method.class h.0 file (name_eq row.0.class method.class) refl))
@@ -60,7 +62,8 @@ rows_built_in = (refl, (refl, (refl, (refl, (refl, (refl, (refl, (refl, (refl, (
 constructs : (method : Member) → is_built_in method.class ≡ false → built_in_method method ≡ Construct
 constructs method file = ap (λ (o : Option (Member × BuiltInMethod)). unwrap_or (option_map (λ (row : Member × BuiltInMethod). row.1) o) Construct) (not_found method file built_in_methods rows_built_in)
 
-run_allowed : (t : ℕ) (world : WorldOf ℕ) (ops : List ℕ) (method : Member) → is_built_in method.class ≡ false → (body : Option Body) → may_run words (event_of t) world ops method body ≡ true
+run_allowed : (t : ℕ) (world : WorldOf ℕ) (ops : List ℕ) (method : Member) → is_built_in method.class ≡ false → (body : Option Body)
+    → may_run words (event_of t) world ops method body ≡ true
 run_allowed t world ops method file None = ap (λ b. built_in_may words b (event_of t) world ops) (constructs method file)
 run_allowed t world ops method file (Some body) = refl
 
@@ -70,12 +73,17 @@ run_allowed t world ops method file (Some body) = refl
 pub record IsCall (trees : Program) (site : Site) (m : MeaningOf ℕ) : Type 0 where
   pub chosen : ℕ → WorldOf ℕ → List ℕ → Chosen
   pub object : ℕ → WorldOf ℕ → List ℕ → ℕ
-  pub may : (t : ℕ) (world : WorldOf ℕ) (ops : List ℕ) → m.may (event_of t) world ops ≡ may_invoke words trees (event_of t) world ops (chosen t world ops)
-  pub does : (t : ℕ) (world : WorldOf ℕ) (slots : Slots ℕ) (ops rest : List ℕ) → m.does (event_of t) world slots ops rest ≡ invoked words trees site (event_of t) world slots ops rest (object t world ops) (chosen t world ops)
+  pub may : (t : ℕ) (world : WorldOf ℕ) (ops : List ℕ)
+      → m.may (event_of t) world ops ≡ may_invoke words trees (event_of t) world ops (chosen t world ops)
+  pub does : (t : ℕ) (world : WorldOf ℕ) (slots : Slots ℕ) (ops rest : List ℕ)
+      → m.does (event_of t) world slots ops rest
+      ≡ invoked words trees site (event_of t) world slots ops rest (object t world ops) (chosen t world ops)
   -- where it needs a class of a file, nothing holds it
-  pub by_class : (class : Name) → m.looks ≡ Some class → is_built_in class ≡ false → (t : ℕ) (world : WorldOf ℕ) (ops : List ℕ) → m.may (event_of t) world ops ≡ true
+  pub by_class : (class : Name) → m.looks ≡ Some class → is_built_in class ≡ false → (t : ℕ) (world : WorldOf ℕ) (ops : List ℕ)
+      → m.may (event_of t) world ops ≡ true
 
-pub calls_on : (trees : Program) (site : Site) (callee : Member) (wants : List Want) (leads : Leads) (choose : WorldOf ℕ → ℕ → Chosen) → IsCall trees site (call_on words trees site callee wants leads choose)
+pub calls_on : (trees : Program) (site : Site) (callee : Member) (wants : List Want) (leads : Leads) (choose : WorldOf ℕ → ℕ → Chosen)
+    → IsCall trees site (call_on words trees site callee wants leads choose)
 calls_on trees site callee wants leads choose = record {
   chosen = _;
   object = _;
@@ -93,14 +101,17 @@ calls_static trees site callee = record {
   by_class = λ class looks file t world ops. let same : callee.class ≡ class = same_Some callee.class class looks in run_allowed t world ops callee (ap is_built_in same ∙ file) (body_of trees callee);
 }
 
-pub calls_virtual : (trees : Program) (site : Site) (named : Name) (callee : Member) → IsCall trees site (virtual_call words trees site named callee)
+pub calls_virtual : (trees : Program) (site : Site) (named : Name) (callee : Member)
+    → IsCall trees site (virtual_call words trees site named callee)
 calls_virtual trees site named callee = calls_on trees site callee (of_class trees named ∷ []) (leads_after trees site callee) (λ world r. selected trees (its_class world r) callee)
 
-pub calls_interface : (trees : Program) (site : Site) (named : Name) (callee : Member) → IsCall trees site (interface_call words trees site named callee)
+pub calls_interface : (trees : Program) (site : Site) (named : Name) (callee : Member)
+    → IsCall trees site (interface_call words trees site named callee)
 calls_interface trees site named callee =
     calls_on trees site callee (of_class trees named ∷ []) (leads_after trees site callee) (λ world r. if_implements (is_subtype trees (type_of (object_at world r)) (ClassType named)) (selected trees (its_class world r) callee))
 
-pub calls_special : (trees : Program) (site : Site) (named : Name) (callee : Member) → IsCall trees site (special_call words trees site named callee)
+pub calls_special : (trees : Program) (site : Site) (named : Name) (callee : Member)
+    → IsCall trees site (special_call words trees site named callee)
 calls_special trees site named callee = calls_on trees site callee (of_class trees site.method.class ∷ []) (leads_after trees site callee) (λ world r. selected trees (special_class trees site.method.class named) callee)
 
 pub calls_constructor : (trees : Program) (site : Site) (callee : Member) → IsCall trees site (constructor_call words trees site callee)
@@ -150,7 +161,8 @@ module _ (trees : Program) (site : Site) where
   not_interrupted None go h e = cc
   not_interrupted (Some r) go h e = h r e
 
-  enters_not : (t : ℕ) (world : WorldOf ℕ) (slots : Slots ℕ) (ops rest : List ℕ) → (monitor_enter_meaning words site).does (event_of t) world slots ops rest ≡ Interrupts → ⊥
+  enters_not : (t : ℕ) (world : WorldOf ℕ) (slots : Slots ℕ) (ops rest : List ℕ)
+      → (monitor_enter_meaning words site).does (event_of t) world slots ops rest ≡ Interrupts → ⊥
   enters_not t world slots ops rest e = not_interrupted (referent words ops 0) _ (λ r q. cc) e
 
   module _ (m : MeaningOf ℕ) (means : meaning_of words trees site ≡ Some m) (t : ℕ) (world : WorldOf ℕ) (slots : Slots ℕ) (ops : List ℕ) (held : m.may (event_of t) world ops ≡ false) where

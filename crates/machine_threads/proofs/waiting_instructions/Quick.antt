@@ -45,7 +45,8 @@ leaving_enabled t (Some object) world rest stack = by (is_owner world t object)
     by true = refl
     by false = refl
 
-pub stays_enabled : (trees : Program) (frames t : ℕ) (world : WorldOf ℕ) (frame : FrameOf ℕ) (rest : StackOf ℕ) (outcome : OutcomeOf ℕ) → Stays outcome → is_enabled_by (become trees frames t world frame rest outcome) ≡ true
+pub stays_enabled : (trees : Program) (frames t : ℕ) (world : WorldOf ℕ) (frame : FrameOf ℕ) (rest : StackOf ℕ) (outcome : OutcomeOf ℕ)
+    → Stays outcome → is_enabled_by (become trees frames t world frame rest outcome) ≡ true
 stays_enabled trees frames t world frame rest (Goes cost after slots to) h = refl
 stays_enabled trees frames t world frame rest (Raises fault) h = refl
 stays_enabled trees frames t world frame rest (Throws exception) h = refl
@@ -110,7 +111,8 @@ module _ (trees : Program) (site : Site) (next : ℕ) where
   pub quick_new : (class : Name) → IsQuick (new_meaning words trees site class)
   quick_new class = record { may = λ t world ops. refl; stays = λ t world slots ops rest. tt }
 
-  made_stays : (b : Bool) (to count : ℕ) (array : List ℕ → ObjectOf ℕ) (first : ℕ) (world : WorldOf ℕ) (slots : Slots ℕ) (rest : List ℕ) → Stays (made_array words b to count array first world slots rest)
+  made_stays : (b : Bool) (to count : ℕ) (array : List ℕ → ObjectOf ℕ) (first : ℕ) (world : WorldOf ℕ) (slots : Slots ℕ) (rest : List ℕ)
+      → Stays (made_array words b to count array first world slots rest)
   made_stays true to count array first world slots rest = tt
   made_stays false to count array first world slots rest = tt
 
@@ -126,7 +128,8 @@ module _ (trees : Program) (site : Site) (next : ℕ) where
   pub quick_length : IsQuick (array_length_meaning words site)
   quick_length = record { may = λ t world ops. refl; stays = λ t world slots ops rest. not_null_stays (referent words ops 0) (λ r. pushing site.next (words.int (length (elements_of (object_at world r))) ∷ []) world slots rest) (λ r. tt) }
 
-  quick_load_by : (array : Want) (first : ℕ) (type : List VerificationType → VerificationType) → IsQuick (load_meaning words site array first type)
+  quick_load_by : (array : Want) (first : ℕ) (type : List VerificationType → VerificationType)
+      → IsQuick (load_meaning words site array first type)
   quick_load_by array first type = record { may = λ t world ops. refl; stays = λ t world slots ops rest. not_null_stays (referent words ops 1) (λ r. at_index (in_range world r (int_operand words ops 0)) (pushing site.next (element_at first world r (int_operand words ops 0) ∷ []) world slots rest)) (λ r. at_index_stays (in_range world r (int_operand words ops 0)) (pushing site.next (element_at first world r (int_operand words ops 0) ∷ []) world slots rest) tt) }
 
   pub quick_load : (kind : ArrayKind) → IsQuick (load_of words trees site kind)

@@ -41,17 +41,20 @@ object_there trees heap (suc q ∷ stack) r e h =
     subst (λ n. n < length heap) (sym (same_Some r q e))
     (subst (λ n. q < n) (length-map heap type_of) (by (slice_get (types_of heap) q) refl (and_parts _ _ h).0))
   where
-    by : (found : Option ReferenceType) → slice_get (types_of heap) q ≡ found → option_map_or (λ (type : ReferenceType). is_assignable trees type any_object) found false ≡ true → q < length (types_of heap)
+    by : (found : Option ReferenceType) → slice_get (types_of heap) q ≡ found
+        → option_map_or (λ (type : ReferenceType). is_assignable trees type any_object) found false ≡ true → q < length (types_of heap)
     by None is h = absurd (false≢true h)
     by (Some type) is h = slice_get_within (types_of heap) q type is
 
-module _ (trees : Program) (p : LinkedProgram) (bounds : Bounds) (inflated : List ℕ) (t : ℕ) (old : Shared) (from : List ShownEntry) (state : StateOf ℕ) (frame : FrameOf ℕ) (rest : StackOf ℕ) (code : LinkedCode) (site : Site) (meaning : MeaningOf ℕ)
+module _ (trees : Program) (p : LinkedProgram) (bounds : Bounds) (inflated : List ℕ) (t : ℕ) (old : Shared) (from : List ShownEntry)
+    (state : StateOf ℕ) (frame : FrameOf ℕ) (rest : StackOf ℕ) (code : LinkedCode) (site : Site) (meaning : MeaningOf ℕ)
     (is : IsRunning trees p bounds inflated t old from state frame rest code site meaning linked.MonitorEnter) where
   abbrev stack : List ℕ
   stack = frame.place.slots.stack
 
   -- whether the event may be is whether the object may be entered
-  pub may_top : (o : Option ℕ) → o ≡ object_under 0 from → meaning.may (event_of t) state.world (ops_of words meaning frame.place.slots) ≡ may_enter_object state.world t o
+  pub may_top : (o : Option ℕ) → o ≡ object_under 0 from
+      → meaning.may (event_of t) state.world (ops_of words meaning frame.place.slots) ≡ may_enter_object state.world t o
   may_top o e =
       ap (λ (m : MeaningOf ℕ). m.may (event_of t) state.world (ops_of words m frame.place.slots)) (meaning_is trees p bounds inflated t old from state frame rest code site meaning linked.MonitorEnter is (monitor_enter_meaning words site) is.stands.linked.is)
       ∙ ap (may_enter_object state.world t) (ap word_reference (first_taken stack) ∙ sym (under_is trees p bounds inflated t old from state frame rest code site meaning linked.MonitorEnter is 0) ∙ sym e)

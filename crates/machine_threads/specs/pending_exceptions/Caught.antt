@@ -24,7 +24,8 @@ IsCaughtOnTop handler word from to =
 
 -- in each world that is shown no exception is pending in the thread any more; no more has changed than the threads
 pub record IsCleared (t : ℕ) (old new : Shared) : Type 0 where
-  pub represents : (trees : Program) (p : LinkedProgram) (bounds : Bounds) (world : WorldOf ℕ) → Represents trees p bounds old world → Represents trees p bounds new (with_caught world t)
+  pub represents : (trees : Program) (p : LinkedProgram) (bounds : Bounds) (world : WorldOf ℕ) → Represents trees p bounds old world
+      → Represents trees p bounds new (with_caught world t)
   pub rest : new ≡ record old { threads = new.threads }
   pub count : length new.threads.threads ≡ length old.threads.threads
 

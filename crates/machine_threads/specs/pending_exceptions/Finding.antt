@@ -34,7 +34,8 @@ abbrev pub IsHandlerIn : LinkedProgram → List Object → (exception : ℕ) →
 IsHandlerIn p objects exception shown found =
     (trees : Program) → IsProgram trees p → (heap : List (ObjectOf ℕ)) → ShowsObjects trees p.components.items objects heap
     → (frame : FrameOf ℕ) → ShowsFrame trees p shown frame → StandsInCode trees frame
-    → IsPlaceOf (offset_at p shown.method) (option_and_then (handler_in trees frame.place.offset (type_at heap exception)) (body_of trees frame.method)) found
+    → IsPlaceOf (offset_at p shown.method) (option_and_then (handler_in trees frame.place.offset (type_at heap exception))
+    (body_of trees frame.method)) found
 
 -- so of the frame on top, if there is one
 abbrev pub IsHandlerOnTop : LinkedProgram → List Object → (exception : ℕ) → List ShownEntry → Option ℕ → Type 0

@@ -18,7 +18,8 @@ use Rattle.machine_state.specs.Shown.{IsProgram, IsLent}
 use Rattle.machine_state.specs.Events.{Becomes}
 
 -- The exception is pending in the thread, which has not ended, and whose own stack is lent.
-pub record IsPending (trees : Program) (p : LinkedProgram) (bounds : Bounds) (inflated : List ℕ) (t exception : ℕ) (shared : Shared) (stack : List ShownEntry) (state : StateOf ℕ) (own : StackOf ℕ) : Type 0 where
+pub record IsPending (trees : Program) (p : LinkedProgram) (bounds : Bounds) (inflated : List ℕ) (t exception : ℕ) (shared : Shared)
+    (stack : List ShownEntry) (state : StateOf ℕ) (own : StackOf ℕ) : Type 0 where
   pub program : IsProgram trees p
   pub lent : IsLent trees p bounds inflated t shared stack state own
   pub going : IsFalse (has_ended (thread_at state.world t).status)
@@ -38,11 +39,14 @@ DoesPending p t exception result old new from to =
 abbrev pub DoesInFrame : LinkedProgram → (t exception : ℕ) → Result Answer Refusal → (old new : Shared) (from to : List ShownEntry) → Type 0
 DoesInFrame p t exception result old new from to =
     (trees : Program) (bounds : Bounds) (inflated : List ℕ) (state : StateOf ℕ) (frame : FrameOf ℕ) (rest : StackOf ℕ) → IsPending trees p bounds inflated t exception old from state (model.Invocation frame ∷ rest)
-    → Becomes trees p bounds inflated state.world (event_of_pending trees t exception state (model.Invocation frame ∷ rest)) result old new from to
+    → Becomes trees p bounds inflated state.world (event_of_pending trees t exception state (model.Invocation frame
+    ∷ rest)) result old new from to
 
 -- with a class on top, by its number
-abbrev pub DoesInClass : LinkedProgram → (t number exception : ℕ) → Result Answer Refusal → (old new : Shared) (from to : List ShownEntry) → Type 0
+abbrev pub DoesInClass : LinkedProgram → (t number exception : ℕ) → Result Answer Refusal → (old new : Shared) (from to : List ShownEntry)
+    → Type 0
 DoesInClass p t number exception result old new from to =
     (trees : Program) (bounds : Bounds) (inflated : List ℕ) (state : StateOf ℕ) (class : Name) (phase : Phase) (rest : StackOf ℕ) → IsClassAt trees number class
     → IsPending trees p bounds inflated t exception old from state (model.Initialisation class phase ∷ rest)
-    → Becomes trees p bounds inflated state.world (event_of_pending trees t exception state (model.Initialisation class phase ∷ rest)) result old new from to
+    → Becomes trees p bounds inflated state.world (event_of_pending trees t exception state (model.Initialisation class phase
+    ∷ rest)) result old new from to

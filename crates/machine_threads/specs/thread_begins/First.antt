@@ -26,9 +26,11 @@ begun_by effect.Done t shared = record shared { threads = with_thread shared.thr
 begun_by told t shared = shared
 
 -- a method is called with one argument, in each world that is shown, and over the empty stack of the thread
-abbrev pub PushesFirst : Result Effect Refusal → (t : ℕ) → Callee → (argument frames : ℕ) → (old new : Shared) (from to : List ShownEntry) → Type 0
+abbrev pub PushesFirst : Result Effect Refusal → (t : ℕ) → Callee → (argument frames : ℕ) → (old new : Shared) (from to : List ShownEntry)
+    → Type 0
 PushesFirst result t callee argument frames old new from to =
     (trees : Program) (p : LinkedProgram) (bounds : Bounds) (inflated : List ℕ) (world : WorldOf ℕ) → IsShared trees p bounds inflated old world
     → ShowsStack trees p from []
     → (method : Member) (body : Body) → IsCallee trees p callee method body
-    → Does trees p bounds inflated t world [] (pushed frames t world (with_begun world t) [] [] (frame_with words method (argument ∷ []) callee.entered body)) result old new from to
+    → Does trees p bounds inflated t world [] (pushed frames t world (with_begun world t) [] [] (frame_with words method (argument
+    ∷ []) callee.entered body)) result old new from to

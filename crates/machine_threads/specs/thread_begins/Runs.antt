@@ -57,4 +57,5 @@ pub record CanBegin (p : LinkedProgram) (t : ℕ) (shared : Shared) (stack : Lis
 abbrev pub BeginsRun : LinkedProgram → Result Effect Refusal → (t frames : ℕ) → (old new : Shared) (from to : List ShownEntry) → Type 0
 BeginsRun p result t frames old new from to =
     (trees : Program) (bounds : Bounds) (inflated : List ℕ) (state : StateOf ℕ) → IsProgram trees p → IsLent trees p bounds inflated t old from state []
-    → Does trees p bounds inflated t state.world [] (run_event words trees frames t state.world (thread_at state.world t).object) result old new from to
+    → Does trees p bounds inflated t state.world [] (run_event words trees frames t state.world (thread_at state.world t).object) result
+    old new from to

@@ -17,7 +17,8 @@ use Rattle.machine_state.specs.Events.{Becomes}
 abbrev pub BeginsStarted : LinkedProgram → Result Answer Refusal → (t frames : ℕ) → (old new : Shared) (from to : List ShownEntry) → Type 0
 BeginsStarted p result t frames old new from to =
     (trees : Program) (bounds : Bounds) (inflated : List ℕ) (state : StateOf ℕ) → IsProgram trees p → IsLent trees p bounds inflated t old from state []
-    → Becomes trees p bounds inflated state.world (run_event words trees frames t state.world (thread_at state.world t).object) result old new from to
+    → Becomes trees p bounds inflated state.world (run_event words trees frames t state.world (thread_at state.world t).object) result old
+    new from to
 
 -- the event Begin: what becomes of a thread with an empty stack that begins, the main thread or a started one
 abbrev pub BeginsThread : LinkedProgram → Result Answer Refusal → (t frames : ℕ) → (old new : Shared) (from to : List ShownEntry) → Type 0

@@ -15,4 +15,5 @@ use Rattle.machine_state.specs.Events.{Becomes}
 abbrev pub SettlesEvent : (t : ℕ) → (given result : Result Answer Refusal) → (between new : Shared) (to : List ShownEntry) → Type 0
 SettlesEvent t given result between new to =
     (trees : Program) (p : LinkedProgram) (bounds : Bounds) (inflated : List ℕ) (world : WorldOf ℕ) (stepped : SteppedOf (PartOf ℕ)) (old : Shared) (from : List ShownEntry)
-    → Becomes trees p bounds inflated world stepped given old between from to → Becomes trees p bounds inflated world (settled t stepped) result old new from to
+    → Becomes trees p bounds inflated world stepped given old between from to
+    → Becomes trees p bounds inflated world (settled t stepped) result old new from to

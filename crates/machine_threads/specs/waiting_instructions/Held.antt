@@ -65,7 +65,8 @@ StandsInCode entered frames t result shared stack =
 abbrev pub StandsInCall : LinkedProgram → (method object frames t : ℕ) → Standing → Shared → List ShownEntry → Type 0
 StandsInCall p method object frames t result shared stack =
     (trees : Program) (bounds : Bounds) (inflated : List ℕ) (state : StateOf ℕ) (frame : FrameOf ℕ) (rest : StackOf ℕ) (site : Site) (chosen : Chosen) (operands : ℕ)
-    → IsInvoking trees p bounds inflated t shared stack state frame rest site (record { method = method; object = object; operands = operands }) chosen
+    → IsInvoking trees p bounds inflated t shared stack state frame rest
+    site (record { method = method; object = object; operands = operands }) chosen
     → StandsBy result frames (λ limit. invoked_event trees limit (event_of t) state.world frame rest site object operands chosen)
 
 -- in whatever state it stands at an instruction that calls, its class being ready
@@ -111,4 +112,5 @@ abbrev pub StandsAt : LinkedProgram → LinkedInstruction → (frames t : ℕ) �
 StandsAt p instruction frames t result shared stack =
     (trees : Program) (bounds : Bounds) (inflated : List ℕ) (state : StateOf ℕ) (frame : FrameOf ℕ) (rest : StackOf ℕ) (code : LinkedCode) (site : Site) (meaning : MeaningOf ℕ)
     → IsRunning trees p bounds inflated t shared stack state frame rest code site meaning instruction
-    → IsEnd trees result (if is_enabled_by (bytecode_event words trees frames (event_of t) state.world frame rest) then report.Runnable else frame_end_of words trees state.world t frame (body_of trees frame.method))
+    → IsEnd trees result (if is_enabled_by (bytecode_event words trees frames (event_of t) state.world frame rest) then report.Runnable
+    else frame_end_of words trees state.world t frame (body_of trees frame.method))

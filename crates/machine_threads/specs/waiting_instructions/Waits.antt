@@ -36,4 +36,5 @@ abbrev pub StandsAtIt : LinkedProgram → Shared → List ShownEntry → (t fram
 StandsAtIt p shared stack t frames result =
     (trees : Program) (bounds : Bounds) (inflated : List ℕ) (state : StateOf ℕ) (frame : FrameOf ℕ) (rest : StackOf ℕ) (code : LinkedCode) (site : Site) (meaning : MeaningOf ℕ) (instruction : LinkedInstruction)
     → IsRunning trees p bounds inflated t shared stack state frame rest code site meaning instruction
-    → IsEnd trees result (if is_enabled_by (bytecode_event words trees frames (event_of t) state.world frame rest) then report.Runnable else frame_end_of words trees state.world t frame (body_of trees frame.method))
+    → IsEnd trees result (if is_enabled_by (bytecode_event words trees frames (event_of t) state.world frame rest) then report.Runnable
+    else frame_end_of words trees state.world t frame (body_of trees frame.method))

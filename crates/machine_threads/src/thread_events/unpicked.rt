@@ -31,7 +31,8 @@ pub(crate) fn relock(
     requires able { HasThread program.now thread shared.old stack.old }
     requires left { (row_at shared.old.threads.threads thread).status ≡ Relock object count (cause_of cause) }
     requires numbered { thread < 32767 }
-    ensures { DoesRelock program.now result (record { thread = thread; pick = pick }) object count (cause_of cause) shared.old shared.new stack.old stack.new }
+    ensures { DoesRelock program.now result (record { thread = thread; pick = pick }) object count (cause_of cause) shared.old shared.new
+        stack.old stack.new }
 {
     if pick != 0 {
         return Ok(Answer::NotEnabled);
@@ -70,7 +71,8 @@ pub(crate) fn initialisation(
     frames: usize,
 ) -> Result<Answer, Refusal>
     requires numbered { thread < 32767 }
-    ensures { DoesInitialisation program.now result (record { thread = thread; pick = pick }) class phase frames shared.old shared.new stack.old stack.new }
+    ensures { DoesInitialisation program.now result (record { thread = thread; pick = pick }) class phase frames shared.old shared.new
+        stack.old stack.new }
 {
     if pick != 0 {
         return Ok(Answer::NotEnabled);

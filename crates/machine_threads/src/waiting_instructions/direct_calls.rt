@@ -44,7 +44,8 @@ pub(crate) fn static_standing(
     method: u32,
     frames: usize,
 ) -> Standing
-    ensures { (parameters class : ℕ) → StandsInInstruction program.now (linked.InvokeStatic parameters class method) frames thread result shared.now stack.now }
+    ensures { (parameters class : ℕ) → StandsInInstruction program.now (linked.InvokeStatic parameters class method) frames thread result
+        shared.now stack.now }
 {
     let object = class_object(program, method);
     call_standing(shared, stack, program, thread, method, object, frames)

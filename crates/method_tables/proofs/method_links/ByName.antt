@@ -23,10 +23,12 @@ use Rattle.hierarchy.proofs.Apart.{class_of_its_name}
 use Rattle.run_laws.proofs.laws.Unrefused.{names_differ}
 use Rattle.run_laws.proofs.laws.Lists.{every_at}
 
-pub class_found : (files : Program) (linked : IsLinked files) (class : ℕ) (file : FileTree) → class_at files class ≡ Some file → class_of files (name_of file) ≡ Some file
+pub class_found : (files : Program) (linked : IsLinked files) (class : ℕ) (file : FileTree) → class_at files class ≡ Some file
+    → class_of files (name_of file) ≡ Some file
 class_found files linked class file c = class_of_its_name files class file (names_differ files linked.1.no_refusal) c
 
-module _ (files : Program) (linked : IsLinked files) (class k : ℕ) (file : FileTree) (m : MethodTree) (c : class_at files class ≡ Some file) (s : slice_get file.methods k ≡ Some m) where
+module _ (files : Program) (linked : IsLinked files) (class k : ℕ) (file : FileTree) (m : MethodTree)
+    (c : class_at files class ≡ Some file) (s : slice_get file.methods k ≡ Some m) where
   pub method_in_class : declared_in file (text_at file.pool m.name) (text_at file.pool m.descriptor) ≡ Some m
   method_in_class =
       let right : class_right file ≡ true = every_at (λ file. class_right file ≡ true) (classes_of files) class file (classes_right linked.0 files linked.1.spelled) c in
@@ -63,5 +65,6 @@ module _ (files : Program) (linked : IsLinked files) (class k : ℕ) (file : Fil
     code = d.code ∙ sym (ap (option_map body_needs) body_found ∙ needs_same (code_in m.parts));
   }
 
-  pub told_is : (call : MethodCall) → Describes class file m call → IsTold files (member_at files (record { class = class; member = k })) (Some call)
+  pub told_is : (call : MethodCall) → Describes class file m call
+      → IsTold files (member_at files (record { class = class; member = k })) (Some call)
   told_is call d = subst (λ o. IsTold files o (Some call)) (sym (member_is files class k file m c s)) (call_is call d)

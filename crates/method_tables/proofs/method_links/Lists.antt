@@ -28,6 +28,7 @@ module _ {A : Type 0} where
   find_place p [] x e = absurd cc
   find_place p (y ∷ xs) x e = by (p y) (find_place p xs x) e
     where
-      by : (b : Bool) → (find p xs ≡ Some x → (k : ℕ) × (slice_get xs k ≡ Some x)) → cond b (Some y) (find p xs) ≡ Some x → (k : ℕ) × (slice_get (y ∷ xs) k ≡ Some x)
+      by : (b : Bool) → (find p xs ≡ Some x → (k : ℕ) × (slice_get xs k ≡ Some x)) → cond b (Some y) (find p xs) ≡ Some x
+          → (k : ℕ) × (slice_get (y ∷ xs) k ≡ Some x)
       by true more e = (0, e)
       by false more e = let there = more e in (suc there.0, there.1)

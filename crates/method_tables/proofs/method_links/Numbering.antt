@@ -29,7 +29,8 @@ table_with firsts places = record { firsts = firsts; places = places }
 -- ---- at each number stands the place of its method
 
 module _ (files : Program) where
-  in_class : (class : ℕ) (file : FileTree) → class_at files class ≡ Some file → (ms : List MethodTree) (k : ℕ) → ((j : ℕ) → slice_get file.methods (k + j) ≡ slice_get ms j)
+  in_class : (class : ℕ) (file : FileTree) → class_at files class ≡ Some file → (ms : List MethodTree) (k : ℕ)
+      → ((j : ℕ) → slice_get file.methods (k + j) ≡ slice_get ms j)
       → map (member_at files) (places_in class k (length ms)) ≡ map some (map (member_of file) ms)
   in_class class file c [] k h = refl
   in_class class file c (m ∷ ms) k h =
@@ -38,7 +39,8 @@ module _ (files : Program) where
       let others = in_class class file c ms (suc k) (λ j. ap (slice_get file.methods) (omega arith) ∙ h (suc j)) in
       rw (first, others) refl
 
-  from_class : (rest : List FileTree) (class : ℕ) → ((j : ℕ) → class_at files (class + j) ≡ slice_get rest j) → map (member_at files) (places_from class rest) ≡ map some (flat_map members_of rest)
+  from_class : (rest : List FileTree) (class : ℕ) → ((j : ℕ) → class_at files (class + j) ≡ slice_get rest j)
+      → map (member_at files) (places_from class rest) ≡ map some (flat_map members_of rest)
   from_class [] class h = refl
   from_class (file ∷ rest) class h =
       let here : class_at files class ≡ Some file = ap (class_at files) (omega arith) ∙ h 0 in
@@ -55,7 +57,8 @@ front [] i = 0
 front (file ∷ files) zero = 0
 front (file ∷ files) (suc i) = length file.methods + front files i
 
-first_is : (n : ℕ) (files : List FileTree) (i : ℕ) (file : FileTree) → slice_get files i ≡ Some file → get_or (firsts_from n files) i 0 ≡ n + front files i
+first_is : (n : ℕ) (files : List FileTree) (i : ℕ) (file : FileTree) → slice_get files i ≡ Some file
+    → get_or (firsts_from n files) i 0 ≡ n + front files i
 first_is n [] i file e = absurd cc
 first_is n (f ∷ files) zero file e = no_more n
   where
@@ -80,7 +83,8 @@ past_in class k (suc n) j rest =
     let more : suc n + j ≡ suc (n + j) = omega arith in
     ap (slice_get (places_in class k (suc n) ++ rest)) more ∙ past_in class (suc k) n j rest
 
-from_at : (class : ℕ) (files : List FileTree) (i k : ℕ) (file : FileTree) → slice_get files i ≡ Some file → k < length file.methods → slice_get (places_from class files) (front files i + k) ≡ Some (at (class + i) k)
+from_at : (class : ℕ) (files : List FileTree) (i k : ℕ) (file : FileTree) → slice_get files i ≡ Some file → k < length file.methods
+    → slice_get (places_from class files) (front files i + k) ≡ Some (at (class + i) k)
 from_at class [] i k file e lt = absurd cc
 from_at class (f ∷ files) zero k file e lt =
     let same : f ≡ file = cc in
@@ -108,7 +112,8 @@ some_of : {A B : Type 0} (f : A → B) (o : Option A) → is_some (option_map f 
 some_of f None e = absurd cc
 some_of f (Some a) e = refl
 
-placed_in : (files : Program) (place : MemberPlace) (o : Option FileTree) → class_at files place.class ≡ o → is_some (option_and_then (λ (file : FileTree). option_map (member_of file) (slice_get file.methods place.member)) o) ≡ true
+placed_in : (files : Program) (place : MemberPlace) (o : Option FileTree) → class_at files place.class ≡ o
+    → is_some (option_and_then (λ (file : FileTree). option_map (member_of file) (slice_get file.methods place.member)) o) ≡ true
     → slice_get (places_from 0 (classes_of files)) (get_or (firsts_from 0 (classes_of files)) place.class 0 + place.member) ≡ Some place
 placed_in files place None e h = absurd cc
 placed_in files place (Some file) e h =
@@ -132,7 +137,8 @@ places_count : (class member n : ℕ) → length (places_in class member n) ≡ 
 places_count class member zero = refl
 places_count class member (suc n) = ap suc (places_count class (suc member) n)
 
-pub place_pushed : (done new all : List MemberPlace) (class member count : ℕ) → member < count → new ≡ done ++ at class member ∷ [] → done ++ places_in class member (count - member) ≡ all
+pub place_pushed : (done new all : List MemberPlace) (class member count : ℕ) → member < count → new ≡ done ++ at class member ∷ []
+    → done ++ places_in class member (count - member) ≡ all
     → new ++ places_in class (member + 1) (count - (member + 1)) ≡ all
 place_pushed done new all class member count lt is e =
     let one : count - member ≡ suc (count - (member + 1)) = omega arith in
@@ -144,13 +150,15 @@ place_pushed done new all class member count lt is e =
     ∙ ap (λ n. done ++ places_in class member n) (sym one)
     ∙ e
 
-pub all_placed : (done all : List MemberPlace) (class member count : ℕ) → count ≡ member → done ++ places_in class member (count - member) ≡ all → done ≡ all
+pub all_placed : (done all : List MemberPlace) (class member count : ℕ) → count ≡ member
+    → done ++ places_in class member (count - member) ≡ all → done ≡ all
 all_placed done all class member count past e =
     let none : count - member ≡ 0 = omega arith in
     sym (append-nil done) ∙ ap (λ n. done ++ places_in class member n) (sym none) ∙ e
 
 module _ (xs : List FileTree) (class : ℕ) (file : FileTree) (there : slice_get xs class ≡ Some file) where
-  pub class_placed : (done new all : List MemberPlace) → new ≡ done ++ places_in class 0 (length file.methods) → done ++ places_from class (drop class xs) ≡ all → new ++ places_from (class + 1) (drop (class + 1) xs) ≡ all
+  pub class_placed : (done new all : List MemberPlace) → new ≡ done ++ places_in class 0 (length file.methods)
+      → done ++ places_from class (drop class xs) ≡ all → new ++ places_from (class + 1) (drop (class + 1) xs) ≡ all
   class_placed done new all is e =
       let more : suc class ≡ class + 1 = omega arith in
       let rest = drop (class + 1) xs in
@@ -160,7 +168,8 @@ module _ (xs : List FileTree) (class : ℕ) (file : FileTree) (there : slice_get
       ∙ ap (λ l. done ++ places_from class l) (sym (drop_at xs class file there))
       ∙ e
 
-  pub first_pushed : (done new all : List ℕ) (places more : List MemberPlace) → new ≡ done ++ length places ∷ [] → more ≡ places ++ places_in class 0 (length file.methods)
+  pub first_pushed : (done new all : List ℕ) (places more : List MemberPlace) → new ≡ done ++ length places ∷ []
+      → more ≡ places ++ places_in class 0 (length file.methods)
       → done ++ firsts_from (length places) (drop class xs) ≡ all → new ++ firsts_from (length more) (drop (class + 1) xs) ≡ all
   first_pushed done new all places more is next e =
       let rest = drop (class + 1) xs in
@@ -173,23 +182,28 @@ module _ (xs : List FileTree) (class : ℕ) (file : FileTree) (there : slice_get
 
 -- ---- numbers and places
 
-pub member_is : (files : Program) (class k : ℕ) (file : FileTree) (m : MethodTree) → class_at files class ≡ Some file → slice_get file.methods k ≡ Some m → member_at files (at class k) ≡ Some (member_of file m)
+pub member_is : (files : Program) (class k : ℕ) (file : FileTree) (m : MethodTree) → class_at files class ≡ Some file
+    → slice_get file.methods k ≡ Some m → member_at files (at class k) ≡ Some (member_of file m)
 member_is files class k file m c s = ap (option_and_then (λ (f : FileTree). option_map (member_of f) (slice_get f.methods k))) c ∙ ap (option_map (member_of file)) s
 
 module _ (files : Program) (table : NumberTable) (numbers : AreNumbersOf files table) where
-  pub place_is : (number : ℕ) → option_map (member_at files) (slice_get table.places number) ≡ option_map (λ m. Some m) (slice_get (methods_of files) number)
+  pub place_is : (number : ℕ) → option_map (member_at files) (slice_get table.places number)
+      ≡ option_map (λ m. Some m) (slice_get (methods_of files) number)
   place_is number =
       sym (slice_get-map (member_at files) table.places number) ∙ ap (λ (l : List (Option Member)). slice_get l number) numbers.numbered ∙ slice_get-map (λ m. Some m) (methods_of files) number
 
-  pub at_place : (number : ℕ) (place : MemberPlace) → slice_get table.places number ≡ Some place → member_at files place ≡ slice_get (methods_of files) number
+  pub at_place : (number : ℕ) (place : MemberPlace) → slice_get table.places number ≡ Some place
+      → member_at files place ≡ slice_get (methods_of files) number
   at_place number place s = inner (member_at files place) (slice_get (methods_of files) number) (ap (option_map (member_at files)) (sym s) ∙ place_is number)
 
-  pub number_is : (number : ℕ) (place : MemberPlace) → slice_get table.places number ≡ Some place → Some (slice_get (methods_of files) number) ≡ option_map (λ m. Some m) (member_at files place)
+  pub number_is : (number : ℕ) (place : MemberPlace) → slice_get table.places number ≡ Some place
+      → Some (slice_get (methods_of files) number) ≡ option_map (λ m. Some m) (member_at files place)
   number_is number place s =
       ap (λ o. Some o) (sym (at_place number place s)) ∙ ap (option_map (member_at files)) (sym s) ∙ place_is number ∙ ap (option_map (λ m. Some m)) (sym (at_place number place s))
 
   -- a place that has no number is that of no method
-  pub no_number : (place : MemberPlace) → (slice_get table.places (get_or table.firsts place.class 0 + place.member) ≡ Some place → ⊥) → None ≡ option_map (λ m. Some m) (member_at files place)
+  pub no_number : (place : MemberPlace) → (slice_get table.places (get_or table.firsts place.class 0 + place.member) ≡ Some place → ⊥)
+      → None ≡ option_map (λ m. Some m) (member_at files place)
   no_number place none = by (member_at files place) refl
     where
       by : (o : Option Member) → member_at files place ≡ o → None ≡ option_map (λ m. Some m) o
@@ -200,7 +214,8 @@ module _ (files : Program) (table : NumberTable) (numbers : AreNumbersOf files t
   pub stands_so : (number : ℕ) (place : MemberPlace) → is_at table.places number place ≡ true → slice_get table.places number ≡ Some place
   stands_so number place h = by (slice_get table.places number) refl h
     where
-      by : (o : Option MemberPlace) → slice_get table.places number ≡ o → option_map_or (λ p. is_place p place) o false ≡ true → slice_get table.places number ≡ Some place
+      by : (o : Option MemberPlace) → slice_get table.places number ≡ o → option_map_or (λ p. is_place p place) o false ≡ true
+          → slice_get table.places number ≡ Some place
       by None e h = absurd cc
       by (Some p) e h =
           let parts = and_parts (eqb p.class place.class) _ h in
@@ -208,13 +223,15 @@ module _ (files : Program) (table : NumberTable) (numbers : AreNumbersOf files t
           let member : p.member ≡ place.member = (Decides-eqb p.member place.member).0 parts.1 in
           e ∙ ap (λ c. Some (at c p.member)) class ∙ ap (λ m. Some (at place.class m)) member
 
-  pub stands_not : (number first : ℕ) (place : MemberPlace) → first ≡ get_or table.firsts place.class 0 → (first + place.member < length table.places → number ≡ first + place.member) → is_at table.places number place ≡ false
+  pub stands_not : (number first : ℕ) (place : MemberPlace) → first ≡ get_or table.firsts place.class 0
+      → (first + place.member < length table.places → number ≡ first + place.member) → is_at table.places number place ≡ false
       → None ≡ option_map (λ m. Some m) (member_at files place)
   stands_not number first place is same h = no_number place (λ stands.
       let there : slice_get table.places (first + place.member) ≡ Some place = ap (λ n. slice_get table.places (n + place.member)) is ∙ stands in
       let here : slice_get table.places number ≡ Some place = ap (slice_get table.places) (same (slice_get_within table.places (first + place.member) place there)) ∙ there in
       true≢false (sym (ap (λ o. option_map_or (λ p. is_place p place) o false) here ∙ and_from _ _ ((Decides-eqb place.class place.class).1 refl) ((Decides-eqb place.member place.member).1 refl)) ∙ h))
 
-pub table_made : (files : Program) (firsts : List ℕ) (places : List MemberPlace) → firsts ≡ firsts_from 0 (classes_of files) → places ≡ places_from 0 (classes_of files) → table_with firsts places ≡ table_of files
+pub table_made : (files : Program) (firsts : List ℕ) (places : List MemberPlace) → firsts ≡ firsts_from 0 (classes_of files)
+    → places ≡ places_from 0 (classes_of files) → table_with firsts places ≡ table_of files
 unfolding table_of
 table_made files firsts places f p = ap (λ l. table_with l places) f ∙ ap (table_with (firsts_from 0 (classes_of files))) p

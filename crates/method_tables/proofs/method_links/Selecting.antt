@@ -38,7 +38,8 @@ stands_among texts n t e =
     stands_there texts t (omega (arith, lt, le))
 
 module _ (files : Program) (part : Part) where
-  first_number : (n : ℕ) (m : Member) → slice_get (methods_of files) n ≡ Some m → get_or (firsts_of (parts_of part files)) n 0 ≡ first_place (parts_of part files) (part_of part m)
+  first_number : (n : ℕ) (m : Member) → slice_get (methods_of files) n ≡ Some m
+      → get_or (firsts_of (parts_of part files)) n 0 ≡ first_place (parts_of part files) (part_of part m)
   first_number n m e =
       get_or_from_slice_get (firsts_of (parts_of part files)) n (first_place (parts_of part files) (part_of part m)) 0
       (get_map (first_place (parts_of part files)) (parts_of part files) n (part_of part m) (get_map (part_of part) (methods_of files) n m e))
@@ -52,7 +53,8 @@ module _ (files : Program) (part : Part) where
       ∙ stands_among (parts_of part files) k (part_of part o) (get_map (part_of part) (methods_of files) k o f)
 
   -- and the other way round
-  same_number : (n k : ℕ) (m o : Member) → slice_get (methods_of files) n ≡ Some m → slice_get (methods_of files) k ≡ Some o → part_of part m ≡ part_of part o
+  same_number : (n k : ℕ) (m o : Member) → slice_get (methods_of files) n ≡ Some m → slice_get (methods_of files) k ≡ Some o
+      → part_of part m ≡ part_of part o
       → get_or (firsts_of (parts_of part files)) n 0 ≡ get_or (firsts_of (parts_of part files)) k 0
   same_number n k m o e f h = first_number n m e ∙ ap (first_place (parts_of part files)) h ∙ sym (first_number k o f)
 
@@ -73,7 +75,8 @@ same_key key = and_from _ _ (same key.class) (and_from _ _ (same key.name) (same
 key_same : (class a b d f : ℕ) → a ≡ b → d ≡ f → key_with class a d ≡ key_with class b f
 key_same class a b d f e g = ap (λ n. key_with class n d) e ∙ ap (key_with class b) g
 
-member_same : (o : Member) (class : Name) (m : Member) → o.class ≡ class → o.name ≡ m.name → o.descriptor ≡ m.descriptor → o ≡ in_class class m
+member_same : (o : Member) (class : Name) (m : Member) → o.class ≡ class → o.name ≡ m.name → o.descriptor ≡ m.descriptor
+    → o ≡ in_class class m
 member_same o class m a b d =
     ap (λ c. member_with c o.name o.descriptor) a ∙ ap (λ n. member_with class n o.descriptor) b ∙ ap (member_with class m.name) d
 
@@ -117,7 +120,8 @@ module _ (files : Program) (table : NumberTable) (names descriptors : List ℕ) 
     pub more_sound : Stands place → Sound declared → Sound new
     more_sound stands sound wanted number e = by (is_declaration (key place.class n) wanted) refl (sym (updates wanted) ∙ e)
       where
-        by : (b : Bool) → is_declaration (key place.class n) wanted ≡ b → cond b (Some n) (lookup (is_declaration wanted) declared) ≡ Some number → IsEntry wanted number
+        by : (b : Bool) → is_declaration (key place.class n) wanted ≡ b
+            → cond b (Some n) (lookup (is_declaration wanted) declared) ≡ Some number → IsEntry wanted number
         by true h e =
             let same : n ≡ number = cc in
             subst (λ k. IsEntry wanted k) same (record { place = place; numbered = at_n; stands = stands; keyed = h })
@@ -137,11 +141,14 @@ module _ (files : Program) (table : NumberTable) (names descriptors : List ℕ) 
   stands_at : (place : MemberPlace) → selectable_at files place ≡ true → Stands place
   stands_at place h = by (class_at files place.class) refl h
     where
-      in_it : (file : FileTree) → class_at files place.class ≡ Some file → (o : Option MethodTree) → slice_get file.methods place.member ≡ o → option_map_or is_selectable o false ≡ true → Stands place
+      in_it : (file : FileTree) → class_at files place.class ≡ Some file → (o : Option MethodTree)
+          → slice_get file.methods place.member ≡ o → option_map_or is_selectable o false ≡ true → Stands place
       in_it file c None s h = absurd (false≢true h)
       in_it file c (Some tree) s h = record { file = file; tree = tree; class = c; method = s; selectable = h }
 
-      by : (o : Option FileTree) → class_at files place.class ≡ o → option_map_or is_selectable (option_and_then (λ (file : FileTree). slice_get file.methods place.member) o) false ≡ true → Stands place
+      by : (o : Option FileTree) → class_at files place.class ≡ o
+          → option_map_or is_selectable (option_and_then (λ (file : FileTree). slice_get file.methods place.member) o) false ≡ true
+          → Stands place
       by None c h = absurd (false≢true h)
       by (Some file) c h = in_it file c (slice_get file.methods place.member) refl h
 
@@ -151,7 +158,8 @@ module _ (files : Program) (table : NumberTable) (names descriptors : List ℕ) 
       ∙ ap (λ o. option_map_or is_selectable o false) st.method ∙ st.selectable
 
   -- a number more whose method may not be selected
-  pub pass_over : (declared : List (Declaration × ℕ)) (n : ℕ) (place : MemberPlace) → slice_get table.places n ≡ Some place → (Stands place → ⊥) → Complete declared n → Complete declared (n + 1)
+  pub pass_over : (declared : List (Declaration × ℕ)) (n : ℕ) (place : MemberPlace) → slice_get table.places n ≡ Some place
+      → (Stands place → ⊥) → Complete declared n → Complete declared (n + 1)
   pass_over declared n place at_n unfit complete =
       below_more (λ (k : ℕ). (p : MemberPlace) → slice_get table.places k ≡ Some p → Stands p → is_some (lookup (is_declaration (key p.class k)) declared) ≡ true) n complete
       (λ p s h. let same : p ≡ place = cc in absurd (unfit (subst Stands same h)))
@@ -162,14 +170,18 @@ module _ (files : Program) (table : NumberTable) (names descriptors : List ℕ) 
     pub step_sound : Sound declared → Sound new
     step_sound sound = by (selectable_at files place) refl updates
       where
-        by : (b : Bool) → selectable_at files place ≡ b → ((q : Declaration) → lookup (is_declaration q) new ≡ cond (b && is_declaration (key place.class n) q) (Some n) (lookup (is_declaration q) declared)) → Sound new
+        by : (b : Bool) → selectable_at files place ≡ b
+            → ((q : Declaration) → lookup (is_declaration q) new
+            ≡ cond (b && is_declaration (key place.class n) q) (Some n) (lookup (is_declaration q) declared)) → Sound new
         by true h up = more_sound declared new n place at_n up (stands_at place h) sound
         by false h up = λ wanted number e. sound wanted number (sym (up wanted) ∙ e)
 
     pub step_complete : Complete declared n → Complete new (n + 1)
     step_complete complete = by (selectable_at files place) refl updates
       where
-        by : (b : Bool) → selectable_at files place ≡ b → ((q : Declaration) → lookup (is_declaration q) new ≡ cond (b && is_declaration (key place.class n) q) (Some n) (lookup (is_declaration q) declared)) → Complete new (n + 1)
+        by : (b : Bool) → selectable_at files place ≡ b
+            → ((q : Declaration) → lookup (is_declaration q) new
+            ≡ cond (b && is_declaration (key place.class n) q) (Some n) (lookup (is_declaration q) declared)) → Complete new (n + 1)
         by true h up = more_complete declared new n place at_n up complete
         by false h up = pass_over new n place at_n (λ st. false≢true (sym h ∙ selectable_so place st))
             (λ k lt p s st. ap is_some (up (key p.class k)) ∙ complete k lt p s st)
@@ -178,7 +190,8 @@ module _ (files : Program) (table : NumberTable) (names descriptors : List ℕ) 
 
   module _ (linked : IsLinked files) (numbers : AreNumbersOf files table) (named : names ≡ firsts_of (parts_of part.Name files)) (described : descriptors ≡ firsts_of (parts_of part.Descriptor files)) where
     -- the method of a number is the one at its place
-    method_at : (n : ℕ) (place : MemberPlace) (m : Member) → slice_get table.places n ≡ Some place → member_at files place ≡ Some m → slice_get (methods_of files) n ≡ Some m
+    method_at : (n : ℕ) (place : MemberPlace) (m : Member) → slice_get table.places n ≡ Some place → member_at files place ≡ Some m
+        → slice_get (methods_of files) n ≡ Some m
     method_at n place m s h = sym (at_place files table numbers n place s) ∙ h
 
     module _ (class number : ℕ) (file : FileTree) (m : Member) (c : class_at files class ≡ Some file) (e : slice_get (methods_of files) number ≡ Some m) where
@@ -186,10 +199,12 @@ module _ (files : Program) (table : NumberTable) (names descriptors : List ℕ) 
       abbrev its : Member
       its = in_class (name_of file) m
 
-      same_names : (j : ℕ) (o : Member) → slice_get (methods_of files) j ≡ Some o → get_or names j 0 ≡ get_or names number 0 → o.name ≡ m.name
+      same_names : (j : ℕ) (o : Member) → slice_get (methods_of files) j ≡ Some o → get_or names j 0 ≡ get_or names number 0
+          → o.name ≡ m.name
       same_names j o s h = same_text files part.Name j number o m s e (ap (λ (l : List ℕ). get_or l j 0) (sym named) ∙ h ∙ ap (λ (l : List ℕ). get_or l number 0) named)
 
-      same_descriptors : (j : ℕ) (o : Member) → slice_get (methods_of files) j ≡ Some o → get_or descriptors j 0 ≡ get_or descriptors number 0 → o.descriptor ≡ m.descriptor
+      same_descriptors : (j : ℕ) (o : Member) → slice_get (methods_of files) j ≡ Some o
+          → get_or descriptors j 0 ≡ get_or descriptors number 0 → o.descriptor ≡ m.descriptor
       same_descriptors j o s h = same_text files part.Descriptor j number o m s e (ap (λ (l : List ℕ). get_or l j 0) (sym described) ∙ h ∙ ap (λ (l : List ℕ). get_or l number 0) described)
 
       found : (j : ℕ) → IsEntry (key class number) j → Names files (Some j) (method_in_class files is_selectable m (name_of file))
@@ -239,16 +254,19 @@ module _ (files : Program) (table : NumberTable) (names descriptors : List ℕ) 
         missing : Names files None (method_in_class files is_selectable m (name_of file))
         missing = sym (ap (option_map (λ m. Some m)) (none_declared (method_of files its) refl))
 
-    pub are_declared : (declared : List (Declaration × ℕ)) → Sound declared → Complete declared (length table.places) → AreDeclared files names descriptors declared
+    pub are_declared : (declared : List (Declaration × ℕ)) → Sound declared → Complete declared (length table.places)
+        → AreDeclared files names descriptors declared
     are_declared declared sound complete class number file m c e = by (lookup (is_declaration (key class number)) declared) refl
       where
-        by : (o : Option ℕ) → lookup (is_declaration (key class number)) declared ≡ o → Names files o (method_in_class files is_selectable m (name_of file))
+        by : (o : Option ℕ) → lookup (is_declaration (key class number)) declared ≡ o
+            → Names files o (method_in_class files is_selectable m (name_of file))
         by (Some j) h = found class number file m c e j (sound (key class number) j h)
         by None h = missing class number file m c e declared complete h
 
 -- ---- texts, one method after the other
 
-pub text_pushed : (files : Program) (part : Part) (done new : List Name) (t : Name) (n : ℕ) (o : Option Member) (all : List Name) → o ≡ slice_get (methods_of files) n → Some t ≡ option_map (part_of part) o → new ≡ done ++ t ∷ []
+pub text_pushed : (files : Program) (part : Part) (done new : List Name) (t : Name) (n : ℕ) (o : Option Member) (all : List Name)
+    → o ≡ slice_get (methods_of files) n → Some t ≡ option_map (part_of part) o → new ≡ done ++ t ∷ []
     → done ++ map (part_of part) (drop n (methods_of files)) ≡ all → new ++ map (part_of part) (drop (n + 1) (methods_of files)) ≡ all
 text_pushed files part done new t n None all e h is inv = absurd cc
 text_pushed files part done new t n (Some m) all e h is inv =

@@ -25,13 +25,15 @@ module _ (files : Program) where
       no k lt = omega (arith, lt)
 
   pub one_told : (calls : List MethodCall) (n : ℕ) (call : MethodCall) (place : MemberPlace) → length calls ≡ n → Told calls n
-      → Some (member_at files place) ≡ option_map (λ m. Some m) (slice_get (methods_of files) n) → IsTold files (member_at files place) (Some call) → Told (calls ++ call ∷ []) (n + 1)
+      → Some (member_at files place) ≡ option_map (λ m. Some m) (slice_get (methods_of files) n)
+      → IsTold files (member_at files place) (Some call) → Told (calls ++ call ∷ []) (n + 1)
   one_told calls n call place count said at told =
       below_more (λ (k : ℕ). IsTold files (slice_get (methods_of files) k) (slice_get (calls ++ call ∷ []) k)) n
       (λ k below. subst (IsTold files (slice_get (methods_of files) k)) (sym (get_front calls (call ∷ []) k (omega (arith, below, count)))) (said k below))
       (subst (IsTold files (slice_get (methods_of files) n)) (sym (get_last calls call n count)) (subst (λ o. IsTold files o (Some call)) (inner (member_at files place) (slice_get (methods_of files) n) at) told))
 
-  pub all_told : (calls : List MethodCall) (n : ℕ) → length calls ≡ n → Told calls n → length (methods_of files) ≤ n → AreCallsOf files calls
+  pub all_told : (calls : List MethodCall) (n : ℕ) → length calls ≡ n → Told calls n → length (methods_of files) ≤ n
+      → AreCallsOf files calls
   all_told calls n count said all k = elim (cases_lt k n) [
     | inl below ↦ said k below
     | inr above ↦ subst (λ o. IsTold files o (slice_get calls k)) (sym (slice_get_past (methods_of files) k (omega (arith, above, all)))) (subst (IsTold files None) (sym (slice_get_past calls k (omega (arith, above, count)))) tt)
@@ -45,5 +47,6 @@ module _ (files : Program) where
   untold None h = refl
   untold (Some m) h = absurd h
 
-  pub no_call : (n : ℕ) (place : MemberPlace) → Some (member_at files place) ≡ option_map (λ m. Some m) (slice_get (methods_of files) n) → IsTold files (member_at files place) None → length (methods_of files) ≤ n
+  pub no_call : (n : ℕ) (place : MemberPlace) → Some (member_at files place) ≡ option_map (λ m. Some m) (slice_get (methods_of files) n)
+      → IsTold files (member_at files place) None → length (methods_of files) ≤ n
   no_call n place at h = get_within (methods_of files) n (sym (inner (member_at files place) (slice_get (methods_of files) n) at) ∙ untold (member_at files place) h)

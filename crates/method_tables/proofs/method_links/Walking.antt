@@ -44,19 +44,23 @@ module _ (files : Program) (f : Name → Option Member) where
       by (Some m) h = absurd cc
 
   -- no class of a name has no superclass and declares nothing
-  nothing_above : ((name : Name) → class_of files name ≡ None → f name ≡ None) → (n : ℕ) (name : Name) → class_of files name ≡ None → first_found f (lineage_of files n name) ≡ None
+  nothing_above : ((name : Name) → class_of files name ≡ None → f name ≡ None) → (n : ℕ) (name : Name) → class_of files name ≡ None
+      → first_found f (lineage_of files n name) ≡ None
   nothing_above none zero name e = refl
   nothing_above none (suc n) name e =
       let over : superclass_of files name ≡ None = ap (option_and_then super_name_of) e in
       rw (over, none name e) refl
 
-  last_class : (n i : ℕ) (file : FileTree) → i < n → f (name_of file) ≡ None → superclass_of files (name_of file) ≡ None → above (n - i) file ≡ None
+  last_class : (n i : ℕ) (file : FileTree) → i < n → f (name_of file) ≡ None → superclass_of files (name_of file) ≡ None
+      → above (n - i) file ≡ None
   last_class n i file lt e over = rw (lineage_step files n i (name_of file) lt, over, e) refl
 
-  lost_above : ((name : Name) → class_of files name ≡ None → f name ≡ None) → (n i : ℕ) (file : FileTree) → i < n → f (name_of file) ≡ None → superclass_place files file ≡ None → above (n - i) file ≡ None
+  lost_above : ((name : Name) → class_of files name ≡ None → f name ≡ None) → (n i : ℕ) (file : FileTree) → i < n → f (name_of file) ≡ None
+      → superclass_place files file ≡ None → above (n - i) file ≡ None
   lost_above none n i file lt e over = by (superclass_of files (name_of file)) refl over
     where
-      by : (o : Option Name) → superclass_of files (name_of file) ≡ o → option_and_then (place_of files) o ≡ None → above (n - i) file ≡ None
+      by : (o : Option Name) → superclass_of files (name_of file) ≡ o → option_and_then (place_of files) o ≡ None
+          → above (n - i) file ≡ None
       by None is over = last_class n i file lt e is
       by (Some s) is over = next_step files n i (name_of file) s f lt e is ∙ nothing_above none (n - (i + 1)) s (no_class files s over)
 
@@ -68,7 +72,8 @@ module _ (files : Program) (file : FileTree) (next : ℕ) where
   pub above_at : superclass_place files file ≡ Some next → Above
   above_at h = by (superclass_of files (name_of file)) refl h
     where
-      there : (s : Name) → superclass_of files (name_of file) ≡ Some s → place_of files s ≡ Some next → (o : Option FileTree) → class_at files next ≡ o → Above
+      there : (s : Name) → superclass_of files (name_of file) ≡ Some s → place_of files s ≡ Some next → (o : Option FileTree)
+          → class_at files next ≡ o → Above
       there s is p None at = absurd (no_item (classes_of files) next (position_within (is_named s) (classes_of files) next p) at)
       there s is p (Some super) at = (super, at, is ∙ ap (λ n. Some n) (sym (name_at_place files s next super p at)))
 
@@ -83,13 +88,16 @@ module _ (table : SelectionTable) (first number : ℕ) where
   abbrev pub Walked : ℕ → ℕ → Type 0
   Walked class step =
       (files : Program) → AreSelectionsOf files table → (file : FileTree) → class_at files first ≡ Some file → (m : Member) → slice_get (methods_of files) number ≡ Some m
-      → (now : FileTree) × (class_at files class ≡ Some now) × (first_found (method_in_class files is_selectable m) (lineage_of files (length table.superclasses - step) (name_of now)) ≡ select files (name_of file) m)
+      → (now : FileTree) × (class_at files class ≡ Some now)
+      × (first_found (method_in_class files is_selectable m) (lineage_of files (length table.superclasses - step) (name_of now))
+      ≡ select files (name_of file) m)
 
   count_is : (files : Program) → table.superclasses ≡ superclass_places files → length table.superclasses ≡ length (classes_of files)
   unfolding superclass_places
   count_is files e = ap length e ∙ length-map (classes_of files) (superclass_place files)
 
-  pub place_is : (files : Program) → table.superclasses ≡ superclass_places files → (class : ℕ) (file : FileTree) → class_at files class ≡ Some file → get_or table.superclasses class None ≡ superclass_place files file
+  pub place_is : (files : Program) → table.superclasses ≡ superclass_places files → (class : ℕ) (file : FileTree)
+      → class_at files class ≡ Some file → get_or table.superclasses class None ≡ superclass_place files file
   unfolding superclass_places
   place_is files e class file c =
       ap (λ (l : List (Option ℕ)). get_or l class None) e
@@ -100,14 +108,16 @@ module _ (table : SelectionTable) (first number : ℕ) where
       let whole : length table.superclasses - 0 ≡ length (classes_of files) = omega (arith, count_is files sel.superclasses) in
       (file, c, ap (λ n. first_found (method_in_class files is_selectable m) (lineage_of files n (name_of file))) whole)
 
-  pub walk_finds : (class step j : ℕ) → Walked class step → step < length table.superclasses → declared_number table class number ≡ Some j → Selects table first number (Some j)
+  pub walk_finds : (class step j : ℕ) → Walked class step → step < length table.superclasses → declared_number table class number ≡ Some j
+      → Selects table first number (Some j)
   walk_finds class step j walked lt h files sel file c m e =
       let now = walked files sel file c m e in
       let f = method_in_class files is_selectable m in
       let named : Names files (Some j) (f (name_of now.0)) = subst (λ o. Names files o (f (name_of now.0))) h (sel.declared class number now.0 m now.1 e) in
       subst (Names files (Some j)) now.2 (named_here files f (length table.superclasses) step j now.0 lt named)
 
-  pub walk_ends : (class step : ℕ) → Walked class step → step < length table.superclasses → declared_number table class number ≡ None → get_or table.superclasses class None ≡ None → Selects table first number None
+  pub walk_ends : (class step : ℕ) → Walked class step → step < length table.superclasses → declared_number table class number ≡ None
+      → get_or table.superclasses class None ≡ None → Selects table first number None
   walk_ends class step walked lt h over files sel file c m e =
       let now = walked files sel file c m e in
       let f = method_in_class files is_selectable m in
@@ -123,7 +133,8 @@ module _ (table : SelectionTable) (first number : ℕ) where
       let none : first_found f (lineage_of files (length table.superclasses - step) (name_of now.0)) ≡ None = ap (λ n. first_found f (lineage_of files n (name_of now.0))) nothing_left in
       subst (Names files None) (sym none ∙ now.2) refl
 
-  pub walk_goes_on : (class step next : ℕ) → Walked class step → step < length table.superclasses → declared_number table class number ≡ None → get_or table.superclasses class None ≡ Some next → Walked next (step + 1)
+  pub walk_goes_on : (class step next : ℕ) → Walked class step → step < length table.superclasses
+      → declared_number table class number ≡ None → get_or table.superclasses class None ≡ Some next → Walked next (step + 1)
   walk_goes_on class step next walked lt h over files sel file c m e =
       let now = walked files sel file c m e in
       let f = method_in_class files is_selectable m in

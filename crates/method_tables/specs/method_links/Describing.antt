@@ -11,7 +11,8 @@ use Rattle.method_tables.specs.method_links.Calls.{frame_needs, needs_of}
 -- of a method of the class at a place
 pub record Describes (place : ℕ) (file : FileTree) (method : MethodTree) (call : MethodCall) : Type 0 where
   pub class : call.class ≡ place
-  pub operands : call.operands ≡ length (parameters_declared (text_at file.pool method.descriptor)) + (if is_static_method method then 0 else 1)
+  pub operands : call.operands ≡ length (parameters_declared (text_at file.pool method.descriptor)) + (if is_static_method method then 0
+      else 1)
   pub static : call.is_static ≡ is_static_method method
   pub private : call.is_private ≡ is_private_method method
   pub synchronized : call.is_synchronized ≡ is_synchronized_method method

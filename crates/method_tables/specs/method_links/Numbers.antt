@@ -15,7 +15,8 @@ pub record AreNumbersOf (files : Program) (table : NumberTable) : Type 0 where
   -- at each number stands the place of its method
   pub numbered : map (member_at files) table.places ≡ map (λ m. Some m) (methods_of files)
   -- the numbers of a class's methods follow one another from its first
-  pub placed : (place : MemberPlace) → is_some (member_at files place) ≡ true → slice_get table.places (slice_index_or table.firsts place.class 0 + place.member) ≡ Some place
+  pub placed : (place : MemberPlace) → is_some (member_at files place) ≡ true
+      → slice_get table.places (slice_index_or table.firsts place.class 0 + place.member) ≡ Some place
 
 -- ---- how they are made
 

@@ -65,7 +65,8 @@ declared_number table class number = lookup (is_declaration (key_of table.names 
 abbrev pub AreDeclared : Program → List ℕ → List ℕ → List (Declaration × ℕ) → Type 0
 AreDeclared files names descriptors declared =
     (class number : ℕ) (file : FileTree) (m : Member) → class_at files class ≡ Some file → slice_get (methods_of files) number ≡ Some m
-    → Names files (lookup (is_declaration (key_of names descriptors class number)) declared) (method_in_class files is_selectable m (name_of file))
+    → Names files (lookup (is_declaration (key_of names descriptors class number)) declared)
+    (method_in_class files is_selectable m (name_of file))
 
 pub record AreSelectionsOf (files : Program) (table : SelectionTable) : Type 0 where
   pub superclasses : table.superclasses ≡ superclass_places files

@@ -23,4 +23,5 @@ AreSelectionsCarried =
 abbrev pub AreInterfaceSelectionsCarried : Type 0
 AreInterfaceSelectionsCarried =
     (files : Program) (classes : List LinkedClass) (named : Name) (method : Member) (selector : ℕ)
-    → IsInterfaceSelectionInRows files (interface_rows_in classes) named method selector → IsInterfaceSelection files classes named method selector
+    → IsInterfaceSelectionInRows files (interface_rows_in classes) named method selector
+    → IsInterfaceSelection files classes named method selector

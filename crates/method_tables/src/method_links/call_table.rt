@@ -56,7 +56,8 @@ impl MethodCalls {
 
     /// Of the method of a number.
     pub fn call(&self, number: usize) -> Option<&MethodCall>
-        ensures { (files : Program) → AreCallsOf files self.now → IsTold files (slice_get (methods_of files) number) (option_map (λ c. c.now) result) }
+        ensures { (files : Program) → AreCallsOf files self.now
+            → IsTold files (slice_get (methods_of files) number) (option_map (λ c. c.now) result) }
     {
         self.calls.get(number)
     }

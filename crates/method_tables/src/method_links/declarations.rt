@@ -71,7 +71,9 @@ fn add_if(
     key: Declaration,
     number: usize,
 ) -> Result<(), AllocError>
-    ensures { OnOk result ((q : Declaration) → lookup (is_declaration q) declared.new.entries ≡ (if is_wanted && is_declaration key q then Some number else lookup (is_declaration q) declared.old.entries)) }
+    ensures { OnOk result ((q : Declaration)
+        → lookup (is_declaration q) declared.new.entries
+        ≡ (if is_wanted && is_declaration key q then Some number else lookup (is_declaration q) declared.old.entries)) }
 {
     if !is_wanted {
         return Ok(());

@@ -94,7 +94,8 @@ impl MethodNumbers {
     /// Where the method of a number stands.
     pub fn place(&self, number: usize) -> Option<MemberPlace>
         ensures place { result ≡ slice_get self.now.places number }
-        ensures method { (files : Program) → AreNumbersOf files self.now → option_map (member_at files) result ≡ option_map (λ m. Some m) (slice_get (methods_of files) number) }
+        ensures method { (files : Program) → AreNumbersOf files self.now
+            → option_map (member_at files) result ≡ option_map (λ m. Some m) (slice_get (methods_of files) number) }
     {
         self.at(number)
     }

@@ -72,7 +72,8 @@ fn first_of<'a>(
     text: &'a [u8],
     here: usize,
 ) -> Result<usize, AllocError>
-    ensures { (all : List (List ℕ)) → here < length all → slice_index_or all here [] ≡ text.now → HasPlaces all here seen.old → IfOk result (λ place. (place ≡ first_place all text.now) × HasPlaces all (here + 1) seen.new) }
+    ensures { (all : List (List ℕ)) → here < length all → slice_index_or all here [] ≡ text.now → HasPlaces all here seen.old
+        → IfOk result (λ place. (place ≡ first_place all text.now) × HasPlaces all (here + 1) seen.new) }
 {
     match seen.get(text).copied() {
         Some(place) => Ok(place),

@@ -28,7 +28,8 @@ impl Model for PlainMonitor {
 /// Where the thread stands in a wait set.
 fn position(waiters: &[Waiter], thread: u16) -> Option<usize>
     ensures member { IfSome result (λ at. at < length waiters.now) }
-    ensures value { MatchOption result (without thread waiters.now ≡ waiters.now) (λ at. remove waiters.now at ≡ without thread waiters.now) }
+    ensures value { MatchOption result (without thread waiters.now ≡ waiters.now) (λ at. remove waiters.now at
+        ≡ without thread waiters.now) }
 {
     for (at, waiter) in waiters.iter().enumerate() {
         if waiter.thread == thread {

@@ -17,7 +17,8 @@ use Rattle.program_runs.specs.continued_runs.Following.{Stands, StopsBy, Follows
 use Rattle.program_runs.specs.continued_runs.Turns.{AreInTurn, TakesTurns}
 use Rattle.program_runs.specs.continued_runs.Continuing.{Continues, IsStuck}
 
-module _ (trees : Program) (limits : Limits) (budget : ℕ) (opened : WorldOf) (is_new : IsNew trees limits budget opened) (schedule : List Event) (why : Stopped) (w : WorldOf) (follows : Follows schedule why opened w) where
+module _ (trees : Program) (limits : Limits) (budget : ℕ) (opened : WorldOf) (is_new : IsNew trees limits budget opened)
+    (schedule : List Event) (why : Stopped) (w : WorldOf) (follows : Follows schedule why opened w) where
   trees_are : w.trees ≡ trees
   trees_are = follows.same.trees ∙ is_new.trees_are
 
@@ -45,7 +46,8 @@ module _ (trees : Program) (limits : Limits) (budget : ℕ) (opened : WorldOf) (
         stops = subst (λ (l : Limits). EndsBy why trees (bounds_of l) lead.state follows.front follows.left) limits_are by_front.2;
       }
 
-pub stuck : (trees : Program) (limits : Limits) (budget : ℕ) (opened : WorldOf) → IsNew trees limits budget opened → (schedule : List Event) (why : Stopped) (w : WorldOf) → Follows schedule why opened w
+pub stuck : (trees : Program) (limits : Limits) (budget : ℕ) (opened : WorldOf) → IsNew trees limits budget opened
+    → (schedule : List Event) (why : Stopped) (w : WorldOf) → Follows schedule why opened w
     → (why ≡ stopped.Most → ⊥) → IsStuck trees schedule limits
 stuck trees limits budget opened is_new schedule stopped.Most w follows not_all = absurd (not_all refl)
 stuck trees limits budget opened is_new schedule stopped.NotEnabled w follows not_all = stuck_by trees limits budget opened is_new schedule stopped.NotEnabled w follows not_all follows.stops
@@ -53,7 +55,8 @@ stuck trees limits budget opened is_new schedule (stopped.Refused told) w follow
 
 -- ---- whole
 
-module _ (trees : Program) (limits : Limits) (budget : ℕ) (opened : WorldOf) (is_new : IsNew trees limits budget opened) (schedule : List Event) (w : WorldOf) (follows : Follows schedule stopped.Most opened w)
+module _ (trees : Program) (limits : Limits) (budget : ℕ) (opened : WorldOf) (is_new : IsNew trees limits budget opened)
+    (schedule : List Event) (w : WorldOf) (follows : Follows schedule stopped.Most opened w)
     (last : WorldOf) (turns : TakesTurns w last) (r : Recorded) (is : IsRecordOf last.trees last.machine.limits last.budget r) (keeps : Keeps last r) where
   all_trees : last.trees ≡ trees
   all_trees = turns.same.trees ∙ trees_are trees limits budget opened is_new schedule stopped.Most w follows
@@ -105,8 +108,10 @@ module _ (trees : Program) (limits : Limits) (budget : ℕ) (opened : WorldOf) (
     },
   )
 
-pub whole_of : (trees : Program) (limits : Limits) (budget : ℕ) (opened : WorldOf) (is_new : IsNew trees limits budget opened) (schedule : List Event) (why : Stopped) → why ≡ stopped.Most
-    → (w : WorldOf) (follows : Follows schedule why opened w) (last : WorldOf) → TakesTurns w last → (r : Recorded) → IsRecordOf last.trees last.machine.limits last.budget r → Keeps last r
+pub whole_of : (trees : Program) (limits : Limits) (budget : ℕ) (opened : WorldOf) (is_new : IsNew trees limits budget opened)
+    (schedule : List Event) (why : Stopped) → why ≡ stopped.Most
+    → (w : WorldOf) (follows : Follows schedule why opened w) (last : WorldOf) → TakesTurns w last → (r : Recorded)
+    → IsRecordOf last.trees last.machine.limits last.budget r → Keeps last r
     → IsRecordOf trees limits budget r × Continues trees schedule limits.frames budget (events_of r.schedule)
 whole_of trees limits budget opened is_new schedule why all_done w follows last turns r is keeps =
     whole trees limits budget opened is_new schedule w (subst (λ y. Follows schedule y opened w) all_done follows) last turns r is keeps

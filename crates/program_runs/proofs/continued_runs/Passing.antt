@@ -37,7 +37,8 @@ of_more : (P : Event → Type 0) (left rest : List Event) → OfNext left P → 
 of_more P [] rest h = absurd h
 of_more P (e ∷ left) rest h = h
 
-module _ (schedule : List Event) (first w new : WorldOf) (passed : HasPassed schedule first w) (event : Event) (most n : ℕ) (why : Stopped) (r : RepeatsWithin event most w.end (n, why) w new) where
+module _ (schedule : List Event) (first w new : WorldOf) (passed : HasPassed schedule first w) (event : Event) (most n : ℕ) (why : Stopped)
+    (r : RepeatsWithin event most w.end (n, why) w new) where
   abbrev at : HasRepeated event most n why w new
   at = subst (λ o. RepeatsWithin event most o (n, why) w new) passed.on r
 
@@ -86,13 +87,15 @@ module _ (schedule : List Event) (first w new : WorldOf) (passed : HasPassed sch
             omega (arith, many, as_asked, at.asked_is, least)
         by_order (inr le) = absurd (omega (arith, room le, as_asked, less))
 
-    stands : (why : Stopped) → EndsBy why w.trees (bounds_of new.machine.limits) at.gone.done.run.lead.state (w.events ++ at.gone.front) behind → Stands why new.machine new.trees new.events behind
+    stands : (why : Stopped) → EndsBy why w.trees (bounds_of new.machine.limits) at.gone.done.run.lead.state (w.events
+        ++ at.gone.front) behind → Stands why new.machine new.trees new.events behind
     stands why ends =
         let here : Stands why new.machine w.trees (w.events ++ at.gone.front) behind = (at.files, at.gone.done, ends) in
         let by_events : Stands why new.machine w.trees new.events behind = subst (λ l. Stands why new.machine w.trees l behind) (ap (λ l. w.events ++ l) front_is ∙ sym at.events) here in
         subst (λ (t : Program). Stands why new.machine t new.events behind) (sym at.same.trees) by_events
 
-    stops_by : (x : Stopped) → EndsBy x w.trees (bounds_of new.machine.limits) at.gone.done.run.lead.state (w.events ++ at.gone.front) at.gone.left → StopsBy x new behind
+    stops_by : (x : Stopped) → EndsBy x w.trees (bounds_of new.machine.limits) at.gone.done.run.lead.state (w.events
+        ++ at.gone.front) at.gone.left → StopsBy x new behind
     stops_by stopped.Most none_left =
         inr (subst (λ b. b ≤ length new.events) (sym at.same.budget) (used_up (
         let all : at.asked ≡ length (at.gone.front ++ at.gone.left) = sym (length-replicate at.asked event) ∙ ap length at.gone.schedule_is in

@@ -20,7 +20,8 @@ pub record InTurn (first w : WorldOf) (from : ℕ) : Type 0 where
   pub same : IsOfSame first w
   pub more : List Event
   pub events : w.events ≡ first.events ++ more
-  pub chain : (rest : List Event) → AreInTurn first.trees first.machine.limits.frames w.events from rest → AreInTurn first.trees first.machine.limits.frames first.events 0 (more ++ rest)
+  pub chain : (rest : List Event) → AreInTurn first.trees first.machine.limits.frames w.events from rest
+      → AreInTurn first.trees first.machine.limits.frames first.events 0 (more ++ rest)
 
 pub begins : (w : WorldOf) → InTurn w w 0
 begins w = record { same = record { trees = refl; budget = refl; limits = refl }; more = []; events = sym (append-nil w.events); chain = λ rest are. are }
@@ -103,7 +104,8 @@ over first w from so_far end is =
       is = is;
     }
 
-pub over_if : (first w : WorldOf) (from : ℕ) → InTurn first w from → (o : Option End) → o ≡ w.end → (r : Bool) → r ≡ is_some o → r ≡ true → TakesTurns first w
+pub over_if : (first w : WorldOf) (from : ℕ) → InTurn first w from → (o : Option End) → o ≡ w.end → (r : Bool) → r ≡ is_some o → r ≡ true
+    → TakesTurns first w
 over_if first w from so_far None is r some is_so = let bad : false ≡ true = sym some ∙ is_so in absurd cc
 over_if first w from so_far (Some end) is r some is_so = over first w from so_far end (sym is)
 
@@ -111,6 +113,7 @@ pub none_of : (w : WorldOf) (o : Option End) → o ≡ w.end → (r : Bool) → 
 none_of w None is r some is_so = sym is
 none_of w (Some end) is r some is_so = let bad : true ≡ false = sym some ∙ is_so in absurd cc
 
-pub turned_some : (first w : WorldOf) (from : ℕ) → InTurn first w from → Holds w → (new : WorldOf) (r : Option ℕ) (t : ℕ) → r ≡ Some t → w.end ≡ None → TakesTurn from 1 w.end r w new → InTurn first new (behind t)
+pub turned_some : (first w : WorldOf) (from : ℕ) → InTurn first w from → Holds w → (new : WorldOf) (r : Option ℕ) (t : ℕ) → r ≡ Some t
+    → w.end ≡ None → TakesTurn from 1 w.end r w new → InTurn first new (behind t)
 turned_some first w from so_far holds new r t is on turn =
     turned first w from so_far holds new (Some t) on (subst (λ x. TakesTurn from 1 w.end x w new) is turn)

@@ -13,7 +13,8 @@ use Rattle.program_runs.specs.machine_replay.Shown.{IsOpened}
 pub of_accepted : (trees : Program) (p : LinkedProgram) → IsProgramOf trees p → IsOfAccepted p
 of_accepted trees p h = record { files = h.files; trees = trees; accepted = h.accepted; program = h.program }
 
-pub is_opened : AreRunsOpened → (trees : Program) (p : LinkedProgram) (limits : Limits) (m : MachineOf) → IsProgramOf trees p → Opens p limits m → IsOpened trees limits m
+pub is_opened : AreRunsOpened → (trees : Program) (p : LinkedProgram) (limits : Limits) (m : MachineOf) → IsProgramOf trees p
+    → Opens p limits m → IsOpened trees limits m
 is_opened opens trees p limits m h o =
     let shows = o.1 h.files trees h.accepted h.program in
     record {

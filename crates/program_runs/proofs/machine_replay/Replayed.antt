@@ -32,7 +32,8 @@ use Rattle.program_runs.specs.machine_replay.Shown.{IsOpened, Tells, end_of}
 -- ---- the end
 
 module _ (trees : Program) (bounds : Bounds) (state : State) (front : List Event) where
-  pub refused_for : (event : Event) (told : Refusal) → IsRefusedAfter trees bounds front event told → IsRefusedFor trees bounds front event (cause_of told)
+  pub refused_for : (event : Event) (told : Refusal) → IsRefusedAfter trees bounds front event told
+      → IsRefusedFor trees bounds front event (cause_of told)
   refused_for event refusal.Objects h = h
   refused_for event refusal.Cells h = h
   refused_for event refusal.Monitors h = h
@@ -44,7 +45,8 @@ module _ (trees : Program) (bounds : Bounds) (state : State) (front : List Event
   next_is P Q on [] h = absurd h
   next_is P Q on (event ∷ left) h = on event h
 
-  fits : (why : Stopped) (n : ℕ) (quiet : Bool) (left : List Event) → n ≡ length front → quiet ≡ is_quiet trees bounds.frames state → EndsBy why trees bounds state front left
+  fits : (why : Stopped) (n : ℕ) (quiet : Bool) (left : List Event) → n ≡ length front → quiet ≡ is_quiet trees bounds.frames state
+      → EndsBy why trees bounds state front left
       → EndFits trees bounds state front left (end_of why n quiet)
   fits stopped.Most n true left count e h = (h, sym e)
   fits stopped.Most n false left count e h = (h, sym e)
@@ -64,15 +66,18 @@ is_right (stopped.Refused refusal.Threads) n quiet = tt
 is_right (stopped.Refused refusal.LockCount) n quiet = tt
 is_right (stopped.Refused refusal.Memory) n quiet = tt
 
-pub operands_found : IsNoEventWrong → (files : List (List ℕ)) (trees : Program) → IsAccepted files trees → (frames : ℕ) (events : List Event) → AreOperandsFound trees frames events
+pub operands_found : IsNoEventWrong → (files : List (List ℕ)) (trees : Program) → IsAccepted files trees → (frames : ℕ)
+    (events : List Event) → AreOperandsFound trees frames events
 operands_found sound files trees accepted frames events front event left state are reached wrong =
     true≢false (sym (ap is_wrong wrong) ∙ sound files trees accepted frames front state event reached)
 
 -- ---- the report
 
 -- The text of what words show is that of the report.
-pub told_of : (trees : Program) (frames : ℕ) (at : StateOf ℕ) (front : List Event) (n : ℕ) (r : Report) → n ≡ length front → ReportsOn trees frames at n r → (e : End)
-    → report_text at.world.printed (thread_ends_of words trees frames at) (length front) e ≡ report_text r.printed.items (map end_state_of r.threads.items) r.events e
+pub told_of : (trees : Program) (frames : ℕ) (at : StateOf ℕ) (front : List Event) (n : ℕ) (r : Report) → n ≡ length front
+    → ReportsOn trees frames at n r → (e : End)
+    → report_text at.world.printed (thread_ends_of words trees frames at) (length front) e
+    ≡ report_text r.printed.items (map end_state_of r.threads.items) r.events e
 told_of trees frames at front n r count on e =
     ap (λ l. report_text l (thread_ends_of words trees frames at) (length front) e) (sym on.printed)
     ∙ ap (λ l. report_text r.printed.items l (length front) e) (sym on.threads)
@@ -80,8 +85,10 @@ told_of trees frames at front n r count on e =
 
 -- ---- the replay
 
-module _ (files : List (List ℕ)) (trees : Program) (m : MachineOf) (schedule : List Event) (n : ℕ) (why : Stopped) (r : Report) (end : End) where
-  replayed : AreReportsOfWords → IsNoEventWrong → HasGone m files trees [] schedule n why → Tells trees m n why r end → IsReplay trees schedule m.limits r end
+module _ (files : List (List ℕ)) (trees : Program) (m : MachineOf) (schedule : List Event) (n : ℕ) (why : Stopped) (r : Report)
+    (end : End) where
+  replayed : AreReportsOfWords → IsNoEventWrong → HasGone m files trees [] schedule n why → Tells trees m n why r end
+      → IsReplay trees schedule m.limits r end
   replayed reported sound gone tells =
       let has = gone.done.run in
       let state = has.lead.state in
@@ -106,17 +113,21 @@ module _ (files : List (List ℕ)) (trees : Program) (m : MachineOf) (schedule :
       }
 
 -- of a machine that was opened
-pub is_replay : AreReportsOfWords → IsNoEventWrong → (trees : Program) (limits : Limits) (old new : MachineOf) (schedule : List Event) (result : ℕ × Stopped) (r : Report) (end : End)
-    → IsOpened trees limits old → GoesThrough result schedule old new → Tells trees new result.0 result.1 r end → IsReplay trees schedule limits r end
+pub is_replay : AreReportsOfWords → IsNoEventWrong → (trees : Program) (limits : Limits) (old new : MachineOf) (schedule : List Event)
+    (result : ℕ × Stopped) (r : Report) (end : End)
+    → IsOpened trees limits old → GoesThrough result schedule old new → Tells trees new result.0 result.1 r end
+    → IsReplay trees schedule limits r end
 is_replay reported sound trees limits old new schedule result r end opened goes tells =
     let same : new.limits ≡ limits = ap (λ (x : MachineOf). x.limits) goes.0 ∙ opened.limits_are in
     subst (λ l. IsReplay trees schedule l r end) same
     (replayed opened.files trees new schedule result.0 result.1 r end reported sound (goes.1 opened.files trees [] opened.done) tells)
 
 -- and where there is a report
-pub replay_if : AreReportsOfWords → IsNoEventWrong → (trees classes : Program) → classes ≡ trees → (limits : Limits) (old new : MachineOf) (schedule : List Event) (result : ℕ × Stopped)
+pub replay_if : AreReportsOfWords → IsNoEventWrong → (trees classes : Program) → classes ≡ trees → (limits : Limits) (old new : MachineOf)
+    (schedule : List Event) (result : ℕ × Stopped)
     → IsOpened trees limits old → GoesThrough result schedule old new
-    → {E : Type 0} (ended : Result (Report × End) E) → IfOk ended (λ r. Tells classes new result.0 result.1 r.0 r.1) → IfOk ended (λ r. IsReplay trees schedule limits r.0 r.1)
+    → {E : Type 0} (ended : Result (Report × End) E) → IfOk ended (λ r. Tells classes new result.0 result.1 r.0 r.1)
+    → IfOk ended (λ r. IsReplay trees schedule limits r.0 r.1)
 replay_if reported sound trees classes same limits old new schedule result opened goes (Ok r) tells =
     is_replay reported sound trees limits old new schedule result r.0 r.1 opened goes (subst (λ t. Tells t new result.0 result.1 r.0 r.1) same tells)
 replay_if reported sound trees classes same limits old new schedule result opened goes (Err e) tells = tt

@@ -12,8 +12,10 @@ use Rattle.machine.specs.Machines.{MachineOf}
 use Rattle.machine.specs.machine_reports.Told.{AreQuietAt, Reports}
 use Rattle.program_runs.specs.machine_replay.Shown.{Tells, end_of}
 
-pub tells : (trees : Program) (m : MachineOf) (p : LinkedProgram) (shared : Shared) (limits : Limits) (done : ℕ) (why : Stopped) (r : Report) (end : End) (quiet : Bool) (ends : List EndState)
-    → p ≡ m.program → shared ≡ m.shared → limits ≡ m.limits → Reports trees p shared limits.frames done r → ends ≡ r.threads.items → AreQuietAt ends quiet → end ≡ end_of why done quiet
+pub tells : (trees : Program) (m : MachineOf) (p : LinkedProgram) (shared : Shared) (limits : Limits) (done : ℕ) (why : Stopped)
+    (r : Report) (end : End) (quiet : Bool) (ends : List EndState)
+    → p ≡ m.program → shared ≡ m.shared → limits ≡ m.limits → Reports trees p shared limits.frames done r → ends ≡ r.threads.items
+    → AreQuietAt ends quiet → end ≡ end_of why done quiet
     → Tells trees m done why r end
 tells trees m p shared limits done why r end quiet ends program_is shared_is limits_are reports ends_are quiet_is end_is =
     let by_limits : Reports trees p shared m.limits.frames done r = subst (λ (l : Limits). Reports trees p shared l.frames done r) limits_are reports in

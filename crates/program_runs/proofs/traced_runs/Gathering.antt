@@ -17,7 +17,8 @@ use Rattle.program_runs.specs.declared.traced_runs.window.Window.{Window}
 
 module _ (trees : Program) (frames : ℕ) (window : Window) where
   -- those of some more events
-  pub more_told : (done events more : List Event) (text rest : List ℕ) → Tells trees frames window done events text → Tells trees frames window (done ++ events) more rest → Tells trees frames window done (events ++ more) (text ++ rest)
+  pub more_told : (done events more : List Event) (text rest : List ℕ) → Tells trees frames window done events text
+      → Tells trees frames window (done ++ events) more rest → Tells trees frames window done (events ++ more) (text ++ rest)
   more_told done [] more text rest first then =
       let here : Tells trees frames window done more rest = subst (λ (d : List Event). Tells trees frames window d more rest) (append-nil done) then in
       subst (λ (l : List ℕ). Tells trees frames window done more (l ++ rest)) (sym first) here
@@ -33,7 +34,9 @@ module _ (trees : Program) (frames : ℕ) (window : Window) where
   left_out done event b is = subst (λ (x : Bool). TellsIf x window.form trees frames done event []) (sym is) refl
 
   -- those of an event again and again that is not told
-  pub none_told : (k : ℕ) (event : Event) (done : List Event) → ((n : ℕ) → length done ≤ n → n < length done + k → is_told window n event.thread ≡ false) → Tells trees frames window done (replicate k event) []
+  pub none_told : (k : ℕ) (event : Event) (done : List Event)
+      → ((n : ℕ) → length done ≤ n → n < length done + k → is_told window n event.thread ≡ false)
+      → Tells trees frames window done (replicate k event) []
   none_told zero event done untold = refl
   none_told (suc k) event done untold =
       let longer : length (done ++ event ∷ []) ≡ length done + 1 = length-append done (event ∷ []) in (
@@ -45,7 +48,9 @@ module _ (trees : Program) (frames : ℕ) (window : Window) where
       )
 
   -- that of one event
-  pub one_told : (done : List Event) (event : Event) (line : List ℕ) → TellsIf (is_told window (length done) event.thread) window.form trees frames done event line → Tells trees frames window done (event ∷ []) line
+  pub one_told : (done : List Event) (event : Event) (line : List ℕ)
+      → TellsIf (is_told window (length done) event.thread) window.form trees frames done event line
+      → Tells trees frames window done (event ∷ []) line
   one_told done event line tells = (line, [], sym (append-nil line), tells, refl)
 
 -- ---- what is gathered
@@ -61,7 +66,8 @@ pub line_gathered : (held : Held) (before now line : List ℕ) → now ≡ befor
 line_gathered held before now line is = ([], nothing_on held, sym is)
 
 -- a text, and then another one
-pub gathers_on : (old mid new : Held) (before between now text rest : List ℕ) → Gathers old mid before between text → Gathers mid new between now rest → Gathers old new before now (text ++ rest)
+pub gathers_on : (old mid new : Held) (before between now text rest : List ℕ) → Gathers old mid before between text
+    → Gathers mid new between now rest → Gathers old new before now (text ++ rest)
 gathers_on old mid new before between now text rest first then = (
   first.0 ++ then.0,
   appends_on old mid new first.0 then.0 first.1 then.1,
@@ -73,7 +79,8 @@ gathers_on old mid new before between now text rest first then = (
 )
 
 -- then the writing stops
-pub gathers_front : (old mid new : Held) (before between text rest : List ℕ) → Gathers old mid before between text → AppendsFront mid new (between ++ rest) → AppendsFront old new (before ++ (text ++ rest))
+pub gathers_front : (old mid new : Held) (before between text rest : List ℕ) → Gathers old mid before between text
+    → AppendsFront mid new (between ++ rest) → AppendsFront old new (before ++ (text ++ rest))
 gathers_front old mid new before between text rest first front =
     let whole : first.0 ++ (between ++ rest) ≡ before ++ (text ++ rest) =
     sym (append_assoc first.0 between rest) ∙ ap (λ (l : List ℕ). l ++ rest) (sym first.2) ∙ append_assoc before text rest

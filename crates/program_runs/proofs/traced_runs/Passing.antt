@@ -28,7 +28,8 @@ some_left : (P : Event → Type 0) (left : List Event) → OfNext left P → 0 <
 some_left P [] next = absurd next
 some_left P (event ∷ left) next = omega arith
 
-module _ (trees : Program) (bounds : Bounds) (state : State) (done front left : List Event) (n : ℕ) (one : length front + length left ≡ 1) (count : n ≡ length front) where
+module _ (trees : Program) (bounds : Bounds) (state : State) (done front left : List Event) (n : ℕ) (one : length front + length left ≡ 1)
+    (count : n ≡ length front) where
   counted : (why : Stopped) → EndsBy why trees bounds state done left → n ≡ times why
   counted stopped.Most ends =
       let none : length left ≡ 0 = ap length ends in
@@ -37,7 +38,8 @@ module _ (trees : Program) (bounds : Bounds) (state : State) (done front left : 
   counted (stopped.Refused told) ends = omega (arith, some_left _ left ends)
 
 -- how often it was done, by why it was not done again
-pub done_once : (event : Event) (n : ℕ) (why : Stopped) (old new : MachineOf) → GoesThrough (n, why) (event ∷ []) old new → GoesThrough (times why, why) (event ∷ []) old new
+pub done_once : (event : Event) (n : ℕ) (why : Stopped) (old new : MachineOf) → GoesThrough (n, why) (event ∷ []) old new
+    → GoesThrough (times why, why) (event ∷ []) old new
 done_once event n why old new goes = (
   goes.0,
   λ files trees done has.
@@ -49,8 +51,10 @@ done_once event n why old new goes = (
 
 module _ (trees : Program) (window : Window) (old : MachineOf) (count : ℕ) (event : Event) where
   -- its line, where it was done and is told
-  line_of : (frames : ℕ) (done : List Event) → length done ≡ count → is_told window count event.thread ≡ true → (why : Stopped) (held : Held) (before now : List ℕ)
-      → AddsOne why window.form trees frames before now done event → AreTold trees frames window done (take (times why) (event ∷ [])) held held before now
+  line_of : (frames : ℕ) (done : List Event) → length done ≡ count → is_told window count event.thread ≡ true → (why : Stopped)
+      (held : Held) (before now : List ℕ)
+      → AddsOne why window.form trees frames before now done event
+      → AreTold trees frames window done (take (times why) (event ∷ [])) held held before now
   line_of frames done at told stopped.Most held before now adds =
       let here : is_told window (length done) event.thread ≡ true = ap (λ k. is_told window k event.thread) at ∙ told in (
         adds.0,
@@ -60,14 +64,17 @@ module _ (trees : Program) (window : Window) (old : MachineOf) (count : ℕ) (ev
   line_of frames done at told stopped.NotEnabled held before now adds = ([], refl, line_gathered held before now [] (adds ∙ sym (append-nil before)))
   line_of frames done at told (stopped.Refused refusal) held before now adds = ([], refl, line_gathered held before now [] (adds ∙ sym (append-nil before)))
 
-  pub line_told : (why : Stopped) (new : MachineOf) (held : Held) (before now : List ℕ) → is_told window count event.thread ≡ true → GoesThrough (times why, why) (event ∷ []) old new
-      → AfterRun trees old count (λ done. AddsOne why window.form trees old.limits.frames before now done event) → HasTold trees window old count (event ∷ []) (times why) why new held held before now
+  pub line_told : (why : Stopped) (new : MachineOf) (held : Held) (before now : List ℕ) → is_told window count event.thread ≡ true
+      → GoesThrough (times why, why) (event ∷ []) old new
+      → AfterRun trees old count (λ done. AddsOne why window.form trees old.limits.frames before now done event)
+      → HasTold trees window old count (event ∷ []) (times why) why new held held before now
   line_told why new held before now told goes adds =
       record { goes = goes; told = λ files done has at. line_of old.limits.frames done at told why held before now (adds files done has at) }
 
 -- ---- an event again and again that is not told
 
-pub none_of_entry : (trees : Program) (window : Window) (event : Event) (most count n : ℕ) (why : Stopped) (old new : MachineOf) → n ≤ most → GoesThrough (n, why) (replicate most event) old new
+pub none_of_entry : (trees : Program) (window : Window) (event : Event) (most count n : ℕ) (why : Stopped) (old new : MachineOf) → n ≤ most
+    → GoesThrough (n, why) (replicate most event) old new
     → ((k : ℕ) → count ≤ k → k < count + most → is_told window k event.thread ≡ false)
     → (held : Held) (before : List ℕ) → HasTold trees window old count (replicate most event) n why new held held before before
 none_of_entry trees window event most count n why old new within goes untold held before =
@@ -84,15 +91,19 @@ at_most_once stopped.NotEnabled = omega arith
 at_most_once (stopped.Refused told) = omega arith
 
 -- and once
-pub none_of_event : (trees : Program) (window : Window) (event : Event) (count : ℕ) (why : Stopped) (old new : MachineOf) → is_told window count event.thread ≡ false
-    → GoesThrough (times why, why) (event ∷ []) old new → (held : Held) (before : List ℕ) → HasTold trees window old count (event ∷ []) (times why) why new held held before before
+pub none_of_event : (trees : Program) (window : Window) (event : Event) (count : ℕ) (why : Stopped) (old new : MachineOf)
+    → is_told window count event.thread ≡ false
+    → GoesThrough (times why, why) (event ∷ []) old new → (held : Held) (before : List ℕ)
+    → HasTold trees window old count (event ∷ []) (times why) why new held held before before
 none_of_event trees window event count why old new untold goes held before =
     none_of_entry trees window event 1 count (times why) why old new (at_most_once why) goes (λ k from to. let same : k ≡ count = omega arith in ap (λ j. is_told window j event.thread) same ∙ untold) held before
 
 -- ---- more of what was gathered is written
 
-pub eased : (trees : Program) (window : Window) (m : MachineOf) (count : ℕ) (schedule : List Event) (n : ℕ) (why : Stopped) (after : MachineOf) (old mid new : Held) (before between now : List ℕ)
-    → HasTold trees window m count schedule n why after old mid before between → Gathers mid new between now [] → HasTold trees window m count schedule n why after old new before now
+pub eased : (trees : Program) (window : Window) (m : MachineOf) (count : ℕ) (schedule : List Event) (n : ℕ) (why : Stopped)
+    (after : MachineOf) (old mid new : Held) (before between now : List ℕ)
+    → HasTold trees window m count schedule n why after old mid before between → Gathers mid new between now []
+    → HasTold trees window m count schedule n why after old new before now
 eased trees window m count schedule n why after old mid new before between now has_told more =
     record {
       goes = has_told.goes;
@@ -102,23 +113,28 @@ eased trees window m count schedule n why after old mid new before between now h
     }
 
 -- all of it is
-pub flushed : (trees : Program) (window : Window) (m : MachineOf) (count : ℕ) (schedule : List Event) (n : ℕ) (why : Stopped) (after : MachineOf) (old mid new : Held) (before between : List ℕ)
-    → HasTold trees window m count schedule n why after old mid before between → Appends mid new between → HasTold trees window m count schedule n why after old new before []
+pub flushed : (trees : Program) (window : Window) (m : MachineOf) (count : ℕ) (schedule : List Event) (n : ℕ) (why : Stopped)
+    (after : MachineOf) (old mid new : Held) (before between : List ℕ)
+    → HasTold trees window m count schedule n why after old mid before between → Appends mid new between
+    → HasTold trees window m count schedule n why after old new before []
 flushed trees window m count schedule n why after old mid new before between has_told written =
     eased trees window m count schedule n why after old mid new before between [] has_told (between, written, refl)
 
 -- ---- some events after others
 
 -- all of them were done, and their lines are gathered
-pub record HasPassed (trees : Program) (window : Window) (m : MachineOf) (count : ℕ) (schedule : List Event) (n : ℕ) (after : MachineOf) (old new : Held) (before now : List ℕ) : Type 0 where
+pub record HasPassed (trees : Program) (window : Window) (m : MachineOf) (count : ℕ) (schedule : List Event) (n : ℕ) (after : MachineOf)
+    (old new : Held) (before now : List ℕ) : Type 0 where
   pub passed : IsPassed schedule n m after
   pub told : AfterRun trees m count (λ done. AreTold trees m.limits.frames window done schedule old new before now)
 
-pub none_yet : (trees : Program) (window : Window) (m : MachineOf) (count : ℕ) (held : Held) (before : List ℕ) → HasPassed trees window m count [] 0 m held held before before
+pub none_yet : (trees : Program) (window : Window) (m : MachineOf) (count : ℕ) (held : Held) (before : List ℕ)
+    → HasPassed trees window m count [] 0 m held held before before
 none_yet trees window m count held before =
     record { passed = begins m; told = λ files done has at. ([], refl, none_gathered held before) }
 
-module _ (trees : Program) (window : Window) (m : MachineOf) (count : ℕ) (schedule : List Event) (n : ℕ) (between : MachineOf) (old mid : Held) (before gathered : List ℕ)
+module _ (trees : Program) (window : Window) (m : MachineOf) (count : ℕ) (schedule : List Event) (n : ℕ) (between : MachineOf)
+    (old mid : Held) (before gathered : List ℕ)
     (so_far : HasPassed trees window m count schedule n between old mid before gathered) where
   same_frames : between.limits.frames ≡ m.limits.frames
   same_frames = ap (λ (x : MachineOf). x.limits.frames) so_far.passed.same
@@ -131,7 +147,8 @@ module _ (trees : Program) (window : Window) (m : MachineOf) (count : ℕ) (sche
     behind : length (done ++ schedule) ≡ count + n
     behind = omega (arith, passed_is.0, at, length-append done schedule)
 
-    both_told : (more : List Event) (new : Held) (now : List ℕ) → AreTold trees between.limits.frames window (done ++ schedule) more mid new gathered now
+    both_told : (more : List Event) (new : Held) (now : List ℕ)
+        → AreTold trees between.limits.frames window (done ++ schedule) more mid new gathered now
         → AreTold trees m.limits.frames window done (schedule ++ more) old new before now
     both_told more new now then =
         let first = so_far.told files done has at in
@@ -148,7 +165,8 @@ module _ (trees : Program) (window : Window) (m : MachineOf) (count : ℕ) (sche
         omega (arith, gone.count, ap length gone.schedule_is, length-append gone.front gone.left)
 
     -- some of them were done, and no more of all
-    pub told_until : (why ≡ stopped.Most → ⊥) → (all rest : List Event) → all ≡ schedule ++ (more ++ rest) → HasTold trees window m count all (n + k) why after old new before now
+    pub told_until : (why ≡ stopped.Most → ⊥) → (all rest : List Event) → all ≡ schedule ++ (more ++ rest)
+        → HasTold trees window m count all (n + k) why after old new before now
     told_until not_most all rest is =
         record {
           goes = stops schedule n m between after so_far.passed more k why not_most next.goes all rest is;
@@ -165,7 +183,8 @@ module _ (trees : Program) (window : Window) (m : MachineOf) (count : ℕ) (sche
         }
 
   -- all of them were done
-  pub told_on : (more : List Event) (k : ℕ) (after : MachineOf) (new : Held) (now : List ℕ) → HasTold trees window between (count + n) more k stopped.Most after mid new gathered now
+  pub told_on : (more : List Event) (k : ℕ) (after : MachineOf) (new : Held) (now : List ℕ)
+      → HasTold trees window between (count + n) more k stopped.Most after mid new gathered now
       → HasPassed trees window m count (schedule ++ more) (n + k) after old new before now
   told_on more k after new now next =
       record {
@@ -180,7 +199,8 @@ module _ (trees : Program) (window : Window) (m : MachineOf) (count : ℕ) (sche
       }
 
   -- then something failed
-  pub told_short : (more : List Event) (new : Held) → StopsShort trees window between (count + n) more mid new gathered → (all rest : List Event) → all ≡ schedule ++ (more ++ rest)
+  pub told_short : (more : List Event) (new : Held) → StopsShort trees window between (count + n) more mid new gathered
+      → (all rest : List Event) → all ≡ schedule ++ (more ++ rest)
       → StopsShort trees window m count all old new before
   told_short more new next all rest is files done has at =
       let is_passed = passed_is files done has at in
@@ -199,8 +219,10 @@ module _ (trees : Program) (window : Window) (m : MachineOf) (count : ℕ) (sche
       }
 
 -- where there are no more
-pub all_told : (trees : Program) (window : Window) (m : MachineOf) (count : ℕ) (schedule : List Event) (n : ℕ) (after : MachineOf) (old new : Held) (before now : List ℕ)
-    → HasPassed trees window m count schedule n after old new before now → HasTold trees window m count schedule n stopped.Most after old new before now
+pub all_told : (trees : Program) (window : Window) (m : MachineOf) (count : ℕ) (schedule : List Event) (n : ℕ) (after : MachineOf)
+    (old new : Held) (before now : List ℕ)
+    → HasPassed trees window m count schedule n after old new before now
+    → HasTold trees window m count schedule n stopped.Most after old new before now
 all_told trees window m count schedule n after old new before now so_far =
     record {
       goes = all_done schedule n m after so_far.passed;
@@ -213,7 +235,8 @@ all_told trees window m count schedule n after old new before now so_far =
 -- ---- before an error
 
 -- nothing was done, and nothing is written
-pub none_done : (trees : Program) (window : Window) (m : MachineOf) (count : ℕ) (schedule : List Event) (held : Held) (before : List ℕ) → StopsShort trees window m count schedule held held before
+pub none_done : (trees : Program) (window : Window) (m : MachineOf) (count : ℕ) (schedule : List Event) (held : Held) (before : List ℕ)
+    → StopsShort trees window m count schedule held held before
 none_done trees window m count schedule held before files done has at =
     record {
       front = [];
@@ -227,8 +250,10 @@ none_done trees window m count schedule held before files done has at =
     }
 
 -- all that was done is told, and the writing of what was gathered stops
-pub writing_stops : (trees : Program) (window : Window) (m : MachineOf) (count : ℕ) (schedule : List Event) (n : ℕ) (why : Stopped) (after : MachineOf) (old mid new : Held) (before now : List ℕ)
-    → HasTold trees window m count schedule n why after old mid before now → AppendsFront mid new now → StopsShort trees window m count schedule old new before
+pub writing_stops : (trees : Program) (window : Window) (m : MachineOf) (count : ℕ) (schedule : List Event) (n : ℕ) (why : Stopped)
+    (after : MachineOf) (old mid new : Held) (before now : List ℕ)
+    → HasTold trees window m count schedule n why after old mid before now → AppendsFront mid new now
+    → StopsShort trees window m count schedule old new before
 writing_stops trees window m count schedule n why after old mid new before now has_told front files done has at =
     let told = has_told.told files done has at in
     let gone = has_told.goes.1 files trees done has in
@@ -256,14 +281,16 @@ no_times stopped.Most not_most = absurd (not_most refl)
 no_times stopped.NotEnabled not_most = refl
 no_times (stopped.Refused told) not_most = refl
 
-module _ (trees : Program) (window : Window) (m : MachineOf) (count : ℕ) (event : Event) (k : ℕ) (between : MachineOf) (old mid : Held) (before gathered : List ℕ)
+module _ (trees : Program) (window : Window) (m : MachineOf) (count : ℕ) (event : Event) (k : ℕ) (between : MachineOf) (old mid : Held)
+    (before gathered : List ℕ)
     (so_far : HasPassed trees window m count (replicate k event) k between old mid before gathered) (number : ℕ) (here : number ≡ count + k) where
   split : (most : ℕ) → k < most → replicate most event ≡ replicate k event ++ (event ∷ [] ++ replicate (most - (k + 1)) event)
   split most within =
       let sum : k + (1 + (most - (k + 1))) ≡ most = omega arith in
       sym (ap (λ l. replicate k event ++ l) (replicate-append-replicate 1 (most - (k + 1)) event) ∙ replicate-append-replicate k (1 + (most - (k + 1))) event ∙ ap (λ j. replicate j event) sum)
 
-  pub again_on : (why : Stopped) → why ≡ stopped.Most → (after : MachineOf) (new : Held) (now : List ℕ) → HasTold trees window between number (event ∷ []) (times why) why after mid new gathered now
+  pub again_on : (why : Stopped) → why ≡ stopped.Most → (after : MachineOf) (new : Held) (now : List ℕ)
+      → HasTold trees window between number (event ∷ []) (times why) why after mid new gathered now
       → HasPassed trees window m count (replicate (k + 1) event) (k + 1) after old new before now
   again_on why most after new now next =
       let placed : HasTold trees window between (count + k) (event ∷ []) (times why) why after mid new gathered now =
@@ -275,7 +302,8 @@ module _ (trees : Program) (window : Window) (m : MachineOf) (count : ℕ) (even
       subst (λ es. HasPassed trees window m count es (k + 1) after old new before now) (replicate-append-replicate k 1 event)
       (told_on trees window m count (replicate k event) k between old mid before gathered so_far (event ∷ []) 1 after new now done)
 
-  pub again_until : (most : ℕ) → k < most → (why : Stopped) → (why ≡ stopped.Most → ⊥) → (after : MachineOf) (new : Held) (now : List ℕ) → HasTold trees window between number (event ∷ []) (times why) why after mid new gathered now
+  pub again_until : (most : ℕ) → k < most → (why : Stopped) → (why ≡ stopped.Most → ⊥) → (after : MachineOf) (new : Held) (now : List ℕ)
+      → HasTold trees window between number (event ∷ []) (times why) why after mid new gathered now
       → HasTold trees window m count (replicate most event) k why after old new before now
   again_until most within why not_most after new now next =
       let placed : HasTold trees window between (count + k) (event ∷ []) (times why) why after mid new gathered now =
@@ -286,7 +314,8 @@ module _ (trees : Program) (window : Window) (m : MachineOf) (count : ℕ) (even
       (told_until trees window m count (replicate k event) k between old mid before gathered so_far (event ∷ []) (times why) why after new now placed not_most (replicate most event)
       (replicate (most - (k + 1)) event) (split most within))
 
-  pub again_short : (most : ℕ) → k < most → (new : Held) → StopsShort trees window between number (event ∷ []) mid new gathered → StopsShort trees window m count (replicate most event) old new before
+  pub again_short : (most : ℕ) → k < most → (new : Held) → StopsShort trees window between number (event ∷ []) mid new gathered
+      → StopsShort trees window m count (replicate most event) old new before
   again_short most within new next =
       let placed : StopsShort trees window between (count + k) (event ∷ []) mid new gathered = subst (λ j. StopsShort trees window between j (event ∷ []) mid new gathered) here next in
       told_short trees window m count (replicate k event) k between old mid before gathered so_far (event ∷ []) new placed (replicate most event) (replicate (most - (k + 1)) event) (split most within)

@@ -23,7 +23,8 @@ use Rattle.program_runs.specs.traced_runs.Traces.{TellsIf, stack_at}
 
 -- ---- on top of its stack
 
-sees : (trees : Program) (p : LinkedProgram) (shown : List ShownEntry) (stack : StackOf ℕ) (frame : Option FrameBefore) (class : Option ℕ) → ShowsStack trees p shown stack → IsSeen p shown frame class
+sees : (trees : Program) (p : LinkedProgram) (shown : List ShownEntry) (stack : StackOf ℕ) (frame : Option FrameBefore) (class : Option ℕ)
+    → ShowsStack trees p shown stack → IsSeen p shown frame class
     → Sees trees frame class stack
 sees trees p [] [] frame class shows seen = seen
 sees trees p (Invocation shown ∷ others) (model.Invocation on_top ∷ stack) frame class shows seen = (
@@ -40,7 +41,8 @@ sees trees p [] (entry ∷ stack) frame class shows seen = absurd shows
 sees trees p (shown ∷ others) [] frame class shows seen = absurd shows
 
 -- of any thread, one that is not there included
-seen_at : (trees : Program) (p : LinkedProgram) (shown : List (List ShownEntry)) (stacks : List (StackOf ℕ)) (t : ℕ) (frame : Option FrameBefore) (class : Option ℕ) → ShowsStacks trees p shown stacks
+seen_at : (trees : Program) (p : LinkedProgram) (shown : List (List ShownEntry)) (stacks : List (StackOf ℕ)) (t : ℕ)
+    (frame : Option FrameBefore) (class : Option ℕ) → ShowsStacks trees p shown stacks
     → IsSeenIf p (slice_get shown t) frame class → Sees trees frame class (unwrap_or (slice_get stacks t) [])
 seen_at trees p [] [] t frame class shows seen = seen
 seen_at trees p (shown ∷ others) (stack ∷ stacks) zero frame class shows seen = sees trees p shown stack frame class shows.0 seen
@@ -51,12 +53,14 @@ seen_at trees p (shown ∷ others) [] t frame class shows seen = absurd shows
 -- ---- words and values
 
 -- a line tells no word
-line_of_values : {A B : Type 0} (f : A → B) (form : Form) (trees : Program) (n t : ℕ) (stack : StackOf A) (line : List ℕ) → IsLine form trees n t (map_stack f stack) line → IsLine form trees n t stack line
+line_of_values : {A B : Type 0} (f : A → B) (form : Form) (trees : Program) (n t : ℕ) (stack : StackOf A) (line : List ℕ)
+    → IsLine form trees n t (map_stack f stack) line → IsLine form trees n t stack line
 line_of_values f form trees n t [] line is = is
 line_of_values f form trees n t (model.Invocation frame ∷ stack) line is = is
 line_of_values f form trees n t (model.Initialisation class phase ∷ stack) line is = is
 
-mapped_or : {A B : Type 0} (f : A → B) (found : Option (StackOf A)) → unwrap_or (option_map (map_stack f) found) [] ≡ map_stack f (unwrap_or found [])
+mapped_or : {A B : Type 0} (f : A → B) (found : Option (StackOf A))
+    → unwrap_or (option_map (map_stack f) found) [] ≡ map_stack f (unwrap_or found [])
 mapped_or f None = refl
 mapped_or f (Some stack) = refl
 
@@ -65,7 +69,8 @@ stack_of_words state t = ap (λ (o : Option (StackOf ℕ)). unwrap_or o []) (sli
 
 -- ---- the line of the next event
 
-module _ (form : Form) (trees : Program) (m : MachineOf) (files : List (List ℕ)) (done : List Event) (has : HasDone m files trees done) (n : ℕ) (count : length done ≡ n) (event : Event) where
+module _ (form : Form) (trees : Program) (m : MachineOf) (files : List (List ℕ)) (done : List Event) (has : HasDone m files trees done)
+    (n : ℕ) (count : length done ≡ n) (event : Event) where
   -- where it is said of whatever stack is seen, it is said of the thread's own
   pub own_line : (frame : Option FrameBefore) (class : Option ℕ) → IsSeenOf m.program m.shared event.thread frame class → (old new : List ℕ)
       → ((stack : StackOf ℕ) → Sees trees frame class stack → AddsLine form trees n event.thread stack old new)

@@ -37,7 +37,8 @@ module _ (trees : Program) (window : Window) (limits : Limits) (events : List Ev
     frames_are : old.limits.frames ≡ limits.frames
     frames_are = ap (λ (l : Limits). l.frames) opened.limits_are
 
-    pub front_written : (held now : Held) → StopsShort trees window old 0 events held now [] → WritesFront trees events limits window held now
+    pub front_written : (held now : Held) → StopsShort trees window old 0 events held now []
+        → WritesFront trees events limits window held now
     front_written held now stops =
         let cut = stops opened.files [] opened.done refl in
         record {

@@ -20,16 +20,19 @@ pub none_to : (m : MachineOf) (from t to : ℕ) → HasNone m from t → to ≤ 
 none_to m from t to none all u low high = none u low (omega (arith, high, all))
 
 -- from the number on at which the rotation begins
-pub found_above : (m : MachineOf) (from count : ℕ) (out : ThreadBurst) → count ≡ length m.shared.threads.threads → CopiesFirst m from count (Some out) → ChecksOut m from (Some out)
+pub found_above : (m : MachineOf) (from count : ℕ) (out : ThreadBurst) → count ≡ length m.shared.threads.threads
+    → CopiesFirst m from count (Some out) → ChecksOut m from (Some out)
 found_above m from count out all first = (omega (arith, first.1, all), first.2, inl (first.0, first.3))
 
 -- below it, where there is none from it up
-found_below : (m : MachineOf) (from below count : ℕ) (out : ThreadBurst) → count ≡ length m.shared.threads.threads → HasNone m from count → below ≤ from → below ≤ count → CopiesFirst m 0 below (Some out)
+found_below : (m : MachineOf) (from below count : ℕ) (out : ThreadBurst) → count ≡ length m.shared.threads.threads → HasNone m from count
+    → below ≤ from → below ≤ count → CopiesFirst m 0 below (Some out)
     → ChecksOut m from (Some out)
 found_below m from below count out all none low high first =
     (omega (arith, first.1, high, all), first.2, inr (omega (arith, first.1, low), subst (HasNone m from) all none, first.3))
 
-none_found : (m : MachineOf) (from below count : ℕ) → count ≡ length m.shared.threads.threads → HasNone m from count → (below ≡ from) ⊎ (below ≡ count) → HasNone m 0 below → ChecksOut m from None
+none_found : (m : MachineOf) (from below count : ℕ) → count ≡ length m.shared.threads.threads → HasNone m from count
+    → (below ≡ from) ⊎ (below ≡ count) → HasNone m 0 below → ChecksOut m from None
 none_found m from below count all above (inr e) under u low high = under u low (omega (arith, high, all, e))
 none_found m from below count all above (inl e) under u low high = case (dec_lt u from)
   where
@@ -45,12 +48,14 @@ least a b k is = case (dec_lt a b)
     case (no ge) = inr (omega (arith, ge, is))
 
 -- by what is found below it
-pub found_rest : (m : MachineOf) (from below count : ℕ) → count ≡ length m.shared.threads.threads → HasNone m from count → below ≤ from → below ≤ count → (below ≡ from) ⊎ (below ≡ count)
+pub found_rest : (m : MachineOf) (from below count : ℕ) → count ≡ length m.shared.threads.threads → HasNone m from count → below ≤ from
+    → below ≤ count → (below ≡ from) ⊎ (below ≡ count)
     → (r : Option ThreadBurst) → CopiesFirst m 0 below r → ChecksOut m from r
 found_rest m from below count all none low high which (Some out) first = found_below m from below count out all none low high first
 found_rest m from below count all none low high which None first = none_found m from below count all none which first
 
-pub rest_if : (m : MachineOf) (from below count : ℕ) → count ≡ length m.shared.threads.threads → HasNone m from count → below ≤ from → below ≤ count → (below ≡ from) ⊎ (below ≡ count)
+pub rest_if : (m : MachineOf) (from below count : ℕ) → count ≡ length m.shared.threads.threads → HasNone m from count → below ≤ from
+    → below ≤ count → (below ≡ from) ⊎ (below ≡ count)
     → {E : Type 0} (r : Result (Option ThreadBurst) E) → IfOk r (CopiesFirst m 0 below) → IfOk r (ChecksOut m from)
 rest_if m from below count all none low high which (Ok found) first = found_rest m from below count all none low high which found first
 rest_if m from below count all none low high which (Err e) first = tt

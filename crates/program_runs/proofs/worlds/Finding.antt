@@ -9,7 +9,8 @@ use Rattle.machine.specs.thread_standings.Standings.{MaySo}
 use Rattle.machine.specs.Machines.{MachineOf}
 use Rattle.program_runs.specs.worlds.Turns.{MayStep, MayNone, IsFirst, IsFound}
 
-pub may_so : (m : MachineOf) (p : LinkedProgram) (s : Shared) (t : ℕ) (r : Bool) → p ≡ m.program → s ≡ m.shared → MaySo p s t m.limits.frames r → MayStep m t r
+pub may_so : (m : MachineOf) (p : LinkedProgram) (s : Shared) (t : ℕ) (r : Bool) → p ≡ m.program → s ≡ m.shared
+    → MaySo p s t m.limits.frames r → MayStep m t r
 may_so m p s t r program shared is =
     subst (λ (q : LinkedProgram). MaySo q m.shared t m.limits.frames r) program (subst (λ (x : Shared). MaySo p x t m.limits.frames r) shared is)
 

@@ -30,10 +30,12 @@ none_yet w = record { same = of_equal w w refl; kept = λ end e. refl }
 abbrev Turn : (from most : ℕ) → Option ℕ → (old new : WorldOf) → Type 0
 Turn from most r old new = TakesTurn from most None r old new
 
-turn : (from most : ℕ) (r : Option ℕ) (old new : WorldOf) → old.end ≡ None → TakesTurn from most old.end r old new → Turn from most r old new
+turn : (from most : ℕ) (r : Option ℕ) (old new : WorldOf) → old.end ≡ None → TakesTurn from most old.end r old new
+    → Turn from most r old new
 turn from most r old new on t = subst (λ o. TakesTurn from most o r old new) on t
 
-pub one_more : (first old new : WorldOf) (from most : ℕ) (r : Option ℕ) → HasTakenTurns first old → old.end ≡ None → TakesTurn from most old.end r old new → HasTakenTurns first new
+pub one_more : (first old new : WorldOf) (from most : ℕ) (r : Option ℕ) → HasTakenTurns first old → old.end ≡ None
+    → TakesTurn from most old.end r old new → HasTakenTurns first new
 one_more first old new from most r before on t =
     record {
       same = joined first old new before.same (of_turn from most old.end r old new t);
@@ -47,7 +49,8 @@ front_within event m front left e =
     let all : m ≡ length (front ++ left) = sym (length-replicate m event) ∙ ap length e in
     omega (arith, all, length-append front left)
 
-after_shared : (t most : ℕ) (old new : WorldOf) → length old.events ≤ old.budget → old.end ≡ None → HasShared old new t most → left new < left old
+after_shared : (t most : ℕ) (old new : WorldOf) → length old.events ≤ old.budget → old.end ≡ None → HasShared old new t most
+    → left new < left old
 unfolding left
 after_shared t most old new within on s =
     let r = s.repeated in
@@ -67,7 +70,8 @@ after_end old new on e =
     let events : length new.events ≡ length old.events = ap length e.events in
     omega (arith, before, after, budget, events)
 
-pub smaller : (old new : WorldOf) (from most : ℕ) (r : Option ℕ) → Holds old → old.end ≡ None → TakesTurn from most old.end r old new → left new < left old
+pub smaller : (old new : WorldOf) (from most : ℕ) (r : Option ℕ) → Holds old → old.end ≡ None → TakesTurn from most old.end r old new
+    → left new < left old
 smaller old new from most r holds on t = by_result r (turn from most r old new on t)
   where
     by_result : (r : Option ℕ) → Turn from most r old new → left new < left old

@@ -28,7 +28,8 @@ use Rattle.program_runs.proofs.worlds.Staying.{of_record}
 
 -- ---- the report
 
-pub is_report_on : (w : WorldOf) (classes : Program) (p : LinkedProgram) (shared : Shared) (frames count : ℕ) → classes ≡ w.trees → p ≡ w.machine.program → shared ≡ w.machine.shared
+pub is_report_on : (w : WorldOf) (classes : Program) (p : LinkedProgram) (shared : Shared) (frames count : ℕ) → classes ≡ w.trees
+    → p ≡ w.machine.program → shared ≡ w.machine.shared
     → frames ≡ w.machine.limits.frames → count ≡ length w.events
     → {E : Type 0} (result : Result Report E) → IfOk result (Reports classes p shared frames count) → IfOk result (IsReportOn w)
 is_report_on w classes p shared frames count classes_are p_is shared_is frames_are count_is (Err e) reports = tt
@@ -43,7 +44,8 @@ is_report_on w classes p shared frames count classes_are p_is shared_is frames_a
 -- ---- the record
 
 -- the end is none for an operand of a wrong kind
-is_right : (trees : Program) (bounds : Bounds) (state : State) (budget : ℕ) (events : List Event) (end : End) → EndFits trees bounds state budget events (Some end) → IsRight end
+is_right : (trees : Program) (bounds : Bounds) (state : State) (budget : ℕ) (events : List Event) (end : End)
+    → EndFits trees bounds state budget events (Some end) → IsRight end
 is_right trees bounds state budget events ends.Schedule fits = absurd fits
 is_right trees bounds state budget events (ends.NotEnabled i) fits = absurd fits
 is_right trees bounds state budget events ends.Quiet fits = tt
@@ -84,7 +86,8 @@ module _ (reported : AreReportsOfWords) (sound : IsNoEventWrong) (w : WorldOf) (
         found = λ next. operands_found sound h.files w.trees h.done.accepted w.machine.limits.frames (w.events ++ next ∷ []);
       }
 
-  is_record_at : (r : Recorded) → arc_value r.verified ≡ w.trees → r.limits ≡ w.machine.limits → events_of r.schedule ≡ w.events → IsReportOn w r.report → r.end ≡ end → IsRecordAt w end r
+  is_record_at : (r : Recorded) → arc_value r.verified ≡ w.trees → r.limits ≡ w.machine.limits → events_of r.schedule ≡ w.events
+      → IsReportOn w r.report → r.end ≡ end → IsRecordAt w end r
   is_record_at r trees limits events reports end_is =
       let by_events : IsRecorded w.trees w.machine.limits w.budget (events_of r.schedule) r.report end = subst (λ l. IsRecorded w.trees w.machine.limits w.budget l r.report end) (sym events) (is_recorded r.report reports) in
       record {
@@ -93,7 +96,8 @@ module _ (reported : AreReportsOfWords) (sound : IsNoEventWrong) (w : WorldOf) (
         events = events;
       }
 
-pub is_record_of : AreReportsOfWords → IsNoEventWrong → (w of : WorldOf) → w ≡ of → Holds w → (end : End) → of.end ≡ Some end → (r : Recorded) → arc_value r.verified ≡ w.trees → r.limits ≡ w.machine.limits
+pub is_record_of : AreReportsOfWords → IsNoEventWrong → (w of : WorldOf) → w ≡ of → Holds w → (end : End) → of.end ≡ Some end
+    → (r : Recorded) → arc_value r.verified ≡ w.trees → r.limits ≡ w.machine.limits
     → events_of r.schedule ≡ w.events → IsReportOn of r.report → r.end ≡ end → IsRecordAt of end r
 is_record_of reported sound w of same h end ended r trees limits events reports end_is =
     is_record_at reported sound of (subst Holds same h) end ended r (trees ∙ ap (λ (x : WorldOf). x.trees) same) (limits ∙ ap (λ (x : WorldOf). x.machine.limits) same)
@@ -101,11 +105,13 @@ is_record_of reported sound w of same h end ended r trees limits events reports 
 
 -- ---- after turns
 
-pub of_turns : (old new : WorldOf) (end : End) → HasTakenTurns old new → {E : Type 0} (result : Result Recorded E) → IfOk result (IsRecordAt new end) → IfOk result (IsRecordOf old.trees old.machine.limits old.budget)
+pub of_turns : (old new : WorldOf) (end : End) → HasTakenTurns old new → {E : Type 0} (result : Result Recorded E)
+    → IfOk result (IsRecordAt new end) → IfOk result (IsRecordOf old.trees old.machine.limits old.budget)
 of_turns old new end turns (Ok r) at = of_record old new turns.same r at.is
 of_turns old new end turns (Err e) at = tt
 
-pub keeps : (old new : WorldOf) (end : End) → HasTakenTurns old new → new.end ≡ Some end → {E : Type 0} (result : Result Recorded E) → IfOk result (IsRecordAt new end) → IfOk result (Keeps old)
+pub keeps : (old new : WorldOf) (end : End) → HasTakenTurns old new → new.end ≡ Some end → {E : Type 0} (result : Result Recorded E)
+    → IfOk result (IsRecordAt new end) → IfOk result (Keeps old)
 keeps old new end turns ended (Err e) at = tt
 keeps old new end turns ended (Ok r) at = λ first is.
     let same : new ≡ old = turns.kept first is in

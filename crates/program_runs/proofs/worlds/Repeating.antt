@@ -12,7 +12,8 @@ use Rattle.machine.specs.schedule_runs.Done.{HasDone, HasGone}
 use Rattle.machine.proofs.schedule_runs.Repeated.{entry_gone}
 use Rattle.program_runs.specs.worlds.Worlds.{WorldOf, Holds, EndFits, HasRepeated, RepeatsWithin}
 
-module _ (w : WorldOf) (h : Holds w) (on : w.end ≡ None) (event : Event) (asked n : ℕ) (why : Stopped) (new : MachineOf) (r : Repeats (n, why) event asked w.machine new) where
+module _ (w : WorldOf) (h : Holds w) (on : w.end ≡ None) (event : Event) (asked n : ℕ) (why : Stopped) (new : MachineOf)
+    (r : Repeats (n, why) event asked w.machine new) where
   gone : HasGone new h.files w.trees w.events (replicate asked event) n why
   gone = (entry_gone (n, why) event asked w.machine new r).1 h.files w.trees w.events h.done
 
@@ -51,11 +52,13 @@ module _ (w : WorldOf) (h : Holds w) (on : w.end ≡ None) (event : Event) (aske
             on = refl;
           })
 
-      pub has_repeated_at : (old : WorldOf) → w ≡ old → RepeatsWithin event most old.end (n, why) old (record w { events = es; machine = new })
+      pub has_repeated_at : (old : WorldOf) → w ≡ old
+          → RepeatsWithin event most old.end (n, why) old (record w { events = es; machine = new })
       has_repeated_at old same = subst (λ (o : WorldOf). RepeatsWithin event most o.end (n, why) o (record w { events = es; machine = new })) same has_repeated
 
 -- what is said of a world where there is no end, of equal ones before and after
-pub repeated_of : (event : Event) (most n : ℕ) (why : Stopped) (w old new after : WorldOf) → w.end ≡ None → w ≡ old → after ≡ new → RepeatsWithin event most old.end (n, why) old new
+pub repeated_of : (event : Event) (most n : ℕ) (why : Stopped) (w old new after : WorldOf) → w.end ≡ None → w ≡ old → after ≡ new
+    → RepeatsWithin event most old.end (n, why) old new
     → HasRepeated event most n why w after
 repeated_of event most n why w old new after on before then is =
     let at : RepeatsWithin event most w.end (n, why) w new = subst (λ (x : WorldOf). RepeatsWithin event most x.end (n, why) x new) (sym before) is in

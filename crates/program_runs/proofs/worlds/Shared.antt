@@ -120,7 +120,8 @@ module _ (reported : AreReportsOfWords) (w : WorldOf) (holds : Holds w) where
   next_is from t found = record { may = sym (may_is t true found.1); rotation = rotation found.2 }
     where
       rotation : ((from ≤ t) × MayNone m from t) ⊎ ((t < from) × MayNone m from (length m.shared.threads.threads) × MayNone m 0 t)
-          → ((from ≤ t) × AreIdle w.trees frames state from t) ⊎ ((t < from) × AreIdle w.trees frames state from (length state.world.threads) × AreIdle w.trees frames state 0 t)
+          → ((from ≤ t) × AreIdle w.trees frames state from t)
+          ⊎ ((t < from) × AreIdle w.trees frames state from (length state.world.threads) × AreIdle w.trees frames state 0 t)
       rotation (inl up) = inl (up.0, idle from t up.1)
       rotation (inr around) = inr (around.0, subst (AreIdle w.trees frames state from) counts (idle from (length m.shared.threads.threads) around.1), idle 0 t around.2)
 
@@ -185,7 +186,8 @@ module _ (reported : AreReportsOfWords) (w : WorldOf) (holds : Holds w) where
             let room : 1 ≤ w.budget - length w.events = omega (arith, below, count) in
             subst (λ k. 0 < k) (sym r.asked_is) (least_some most (w.budget - length w.events) some room)
 
-        fits : (y : Stopped) → EndsBy y w.trees (bounds_of v.machine.limits) r.gone.done.run.lead.state (w.events ++ r.gone.front) r.gone.left
+        fits : (y : Stopped) → EndsBy y w.trees (bounds_of v.machine.limits) r.gone.done.run.lead.state (w.events
+            ++ r.gone.front) r.gone.left
             → EndFits w.trees (bounds_of v.machine.limits) r.gone.done.run.lead.state v.budget (w.events ++ r.gone.front) (stopped_end y i)
         fits stopped.Most is = tt
         fits stopped.NotEnabled is = tt
@@ -214,7 +216,8 @@ module _ (reported : AreReportsOfWords) (w : WorldOf) (holds : Holds w) where
             let c : run w.trees frames w.events ≡ Some r.gone.done.run.lead.state = subst (λ (l : Limits). run w.trees l.frames w.events ≡ Some r.gone.done.run.lead.state) r.same.limits b in
             same_state r.gone.done.run.lead.state state (sym c ∙ has.lead.reached)
 
-        is_end : (y : Stopped) → EndsBy y w.trees (bounds_of v.machine.limits) r.gone.done.run.lead.state (w.events ++ r.gone.front) r.gone.left → (e : End) × (stopped_end y i ≡ Some e)
+        is_end : (y : Stopped) → EndsBy y w.trees (bounds_of v.machine.limits) r.gone.done.run.lead.state (w.events
+            ++ r.gone.front) r.gone.left → (e : End) × (stopped_end y i ≡ Some e)
         is_end stopped.Most is =
             let none_left : replicate r.asked (plain t) ≡ [] = sym left_is ∙ is in
             let nothing : r.asked ≡ 0 = sym (length-replicate r.asked (plain t)) ∙ ap length none_left in
@@ -233,5 +236,6 @@ module _ (reported : AreReportsOfWords) (w : WorldOf) (holds : Holds w) where
             let e = is_end why r.gone.ends in
             subst (λ o. TakesTurn from most o None w (record v { end = end })) (sym on) (record { same = record { trees = r.same.trees; budget = r.same.budget; limits = r.same.limits }; events = none_more; end = e.0; is = end_is ∙ e.1 })
 
-pub turn_at : (from most : ℕ) (result : Option ℕ) (w old new : WorldOf) → old ≡ w → TakesTurn from most w.end result w new → TakesTurn from most old.end result old new
+pub turn_at : (from most : ℕ) (result : Option ℕ) (w old new : WorldOf) → old ≡ w → TakesTurn from most w.end result w new
+    → TakesTurn from most old.end result old new
 turn_at from most result w old new same is = subst (λ (x : WorldOf). TakesTurn from most x.end result x new) (sym same) is

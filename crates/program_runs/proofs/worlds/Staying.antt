@@ -24,7 +24,8 @@ of_turn from most None (Some thread) old new t = t.1.repeated.same
 of_turn from most None None old new t = t.same
 
 -- what is a record after is one before
-pub of_record : (old new : WorldOf) → IsOfSame old new → (r : Recorded) → IsRecordOf new.trees new.machine.limits new.budget r → IsRecordOf old.trees old.machine.limits old.budget r
+pub of_record : (old new : WorldOf) → IsOfSame old new → (r : Recorded) → IsRecordOf new.trees new.machine.limits new.budget r
+    → IsRecordOf old.trees old.machine.limits old.budget r
 of_record old new same r is =
     subst (λ (t : Program). IsRecordOf t old.machine.limits old.budget r) same.trees
     (subst (λ (l : Limits). IsRecordOf new.trees l old.budget r) same.limits (subst (λ b. IsRecordOf new.trees new.machine.limits b r) same.budget is))

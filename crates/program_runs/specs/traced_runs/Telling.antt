@@ -37,18 +37,21 @@ abbrev pub Gathers : (old new : Option (List ℕ)) → (before now text : List �
 Gathers old new before now text = (written : List ℕ) × Appends old new written × (before ++ text ≡ written ++ now)
 
 -- so it is of the lines of the next events
-abbrev pub AreTold : Program → (frames : ℕ) → Window → (done events : List Event) → (old new : Option (List ℕ)) → (before now : List ℕ) → Type 0
+abbrev pub AreTold : Program → (frames : ℕ) → Window → (done events : List Event) → (old new : Option (List ℕ)) → (before now : List ℕ)
+    → Type 0
 AreTold trees frames window done events old new before now = (text : List ℕ) × Tells trees frames window done events text × Gathers old new before now text
 
 -- so many events of a schedule were done, as far as it goes, and their lines are gathered
-pub record HasTold (trees : Program) (window : Window) (m : MachineOf) (count : ℕ) (schedule : List Event) (n : ℕ) (why : Stopped) (after : MachineOf) (old new : Option (List ℕ)) (before now : List ℕ) : Type 0 where
+pub record HasTold (trees : Program) (window : Window) (m : MachineOf) (count : ℕ) (schedule : List Event) (n : ℕ) (why : Stopped)
+    (after : MachineOf) (old new : Option (List ℕ)) (before now : List ℕ) : Type 0 where
   pub goes : GoesThrough (n, why) schedule m after
   pub told : AfterRun trees m count (λ done. AreTold trees m.limits.frames window done (take n schedule) old new before now)
 
 -- ---- before an error
 
 -- a front of the next events was done, and of what was gathered and their lines a front is written
-pub record AreCutShort (trees : Program) (frames : ℕ) (window : Window) (done events : List Event) (old new : Option (List ℕ)) (before : List ℕ) : Type 0 where
+pub record AreCutShort (trees : Program) (frames : ℕ) (window : Window) (done events : List Event) (old new : Option (List ℕ))
+    (before : List ℕ) : Type 0 where
   pub front : List Event
   pub left : List Event
   pub events_are : events ≡ front ++ left
@@ -58,5 +61,6 @@ pub record AreCutShort (trees : Program) (frames : ℕ) (window : Window) (done 
   pub told : Tells trees frames window done front text
   pub written : AppendsFront old new (before ++ text)
 
-abbrev pub StopsShort : Program → Window → MachineOf → (count : ℕ) → (schedule : List Event) → (old new : Option (List ℕ)) → (before : List ℕ) → Type 0
+abbrev pub StopsShort : Program → Window → MachineOf → (count : ℕ) → (schedule : List Event) → (old new : Option (List ℕ))
+    → (before : List ℕ) → Type 0
 StopsShort trees window m count schedule old new before = AfterRun trees m count (λ done. AreCutShort trees m.limits.frames window done schedule old new before)

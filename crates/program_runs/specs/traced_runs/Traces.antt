@@ -35,12 +35,14 @@ Tells trees frames window before (event ∷ events) text =
 -- ---- a whole run
 
 -- a replay, and the lines of the events that it did
-pub record IsTrace (trees : Program) (events : List Event) (limits : Limits) (window : Window) (r : Report) (end : End) (text : List ℕ) : Type 0 where
+pub record IsTrace (trees : Program) (events : List Event) (limits : Limits) (window : Window) (r : Report) (end : End)
+    (text : List ℕ) : Type 0 where
   pub replay : IsReplay trees events limits r end
   pub told : Tells trees limits.frames window [] replay.front text
 
 -- before an error a front of the lines of the events that were done is written, and those are a front of the events
-pub record WritesFront (trees : Program) (events : List Event) (limits : Limits) (window : Window) (old new : Option (List ℕ)) : Type 0 where
+pub record WritesFront (trees : Program) (events : List Event) (limits : Limits) (window : Window)
+    (old new : Option (List ℕ)) : Type 0 where
   pub front : List Event
   pub left : List Event
   pub events_are : events ≡ front ++ left

@@ -27,7 +27,8 @@ abbrev pub ChecksOut : MachineOf → (from : ℕ) → Option ThreadBurst → Typ
 ChecksOut m from (Some out) =
     (out.thread < length m.shared.threads.threads)
     × CopiesTop m out.thread (Some out.burst)
-    × (((from ≤ out.thread) × HasNone m from out.thread) ⊎ ((out.thread < from) × HasNone m from (length m.shared.threads.threads) × HasNone m 0 out.thread))
+    × (((from ≤ out.thread) × HasNone m from out.thread)
+    ⊎ ((out.thread < from) × HasNone m from (length m.shared.threads.threads) × HasNone m 0 out.thread))
 ChecksOut m from None = HasNone m 0 (length m.shared.threads.threads)
 
 -- ---- committed

@@ -67,9 +67,11 @@ fn event<W: Sink>(
     output: &mut W,
 ) -> Result<Stopped, DeviceFault>
     requires { line.form ≡ telling.window.form }
-    ensures told { IfOk result (λ why. HasTold telling.entry.teller.now.linked.now telling.entry.window machine.old line.number (line.event ∷ []) (times why) why machine.new
+    ensures told { IfOk result (λ why. HasTold telling.entry.teller.now.linked.now telling.entry.window machine.old line.number (line.event
+        ∷ []) (times why) why machine.new
         (W.contents output.old) (W.contents output.new) lines.old.text.items lines.new.text.items) }
-    ensures part { OnErr result (StopsShort telling.entry.teller.now.linked.now telling.entry.window machine.old line.number (line.event ∷ [])
+    ensures part { OnErr result (StopsShort telling.entry.teller.now.linked.now telling.entry.window machine.old line.number (line.event
+        ∷ [])
         (W.contents output.old) (W.contents output.new) lines.old.text.items) }
     ensures counted { Counts result (W.failures output.old) (W.failures output.new) }
 {
@@ -93,9 +95,11 @@ pub(crate) fn entry<W: Sink>(
     output: &mut W,
 ) -> Result<(u32, Stopped), DeviceFault>
     requires { first + entry.repeat < 2 ^ 64 }
-    ensures told { IfOk result (λ r. HasTold telling.entry.teller.now.linked.now telling.entry.window machine.old first (replicate entry.repeat entry.event) r.0 r.1 machine.new
+    ensures told { IfOk result (λ r. HasTold telling.entry.teller.now.linked.now telling.entry.window machine.old
+        first (replicate entry.repeat entry.event) r.0 r.1 machine.new
         (W.contents output.old) (W.contents output.new) lines.old.text.items lines.new.text.items) }
-    ensures part { OnErr result (StopsShort telling.entry.teller.now.linked.now telling.entry.window machine.old first (replicate entry.repeat entry.event)
+    ensures part { OnErr result (StopsShort telling.entry.teller.now.linked.now telling.entry.window machine.old
+        first (replicate entry.repeat entry.event)
         (W.contents output.old) (W.contents output.new) lines.old.text.items) }
     ensures counted { Counts result (W.failures output.old) (W.failures output.new) }
 {

@@ -32,7 +32,8 @@ fn gathered<W: Sink>(
     lines: &mut Lines,
     output: &mut W,
 ) -> Result<(u64, Stopped), DeviceFault>
-    ensures told { IfOk result (λ r. HasTold telling.entry.teller.now.linked.now telling.entry.window machine.old 0 (events_of schedule.now) r.0 r.1 machine.new
+    ensures told { IfOk result (λ r. HasTold telling.entry.teller.now.linked.now telling.entry.window machine.old
+        0 (events_of schedule.now) r.0 r.1 machine.new
         (W.contents output.old) (W.contents output.new) lines.old.text.items lines.new.text.items) }
     ensures part { OnErr result (StopsShort telling.entry.teller.now.linked.now telling.entry.window machine.old 0 (events_of schedule.now)
         (W.contents output.old) (W.contents output.new) lines.old.text.items) }
@@ -58,7 +59,8 @@ fn events<W: Sink>(
     schedule: &Schedule,
     output: &mut W,
 ) -> Result<(u64, Stopped), DeviceFault>
-    ensures told { IfOk result (λ r. HasTold telling.entry.teller.now.linked.now telling.entry.window machine.old 0 (events_of schedule.now) r.0 r.1 machine.new
+    ensures told { IfOk result (λ r. HasTold telling.entry.teller.now.linked.now telling.entry.window machine.old
+        0 (events_of schedule.now) r.0 r.1 machine.new
         (W.contents output.old) (W.contents output.new) [] []) }
     ensures part { OnErr result (StopsShort telling.entry.teller.now.linked.now telling.entry.window machine.old 0 (events_of schedule.now)
         (W.contents output.old) (W.contents output.new) []) }
@@ -85,7 +87,8 @@ pub fn trace<W: Sink>(
 ) -> Result<(Report, End), DeviceFault>
     ensures traced { IfOk result (λ r. (text : _) × IsTrace verified.now (events_of schedule.now) limits window r.0 r.1 text
         × Appends (W.contents output.old) (W.contents output.new) text) }
-    ensures part { OnErr result (WritesFront verified.now (events_of schedule.now) limits window (W.contents output.old) (W.contents output.new)) }
+    ensures part { OnErr result (WritesFront verified.now (events_of schedule.now) limits
+        window (W.contents output.old) (W.contents output.new)) }
     ensures counted { Counts result (W.failures output.old) (W.failures output.new) }
 {
     reports_of_words();

@@ -23,7 +23,8 @@ both false b h = absurd h
 below : (a b : ℕ) → Holds (nat_lt a b) → a < b
 below a b h = ltb-true a b (is_true _ h)
 
-all : {A : Type 0} (test : A → Bool) (P : A → Type 0) → ((x : A) → Holds (test x) → P x) → (xs : List A) → Holds (list_all test xs) → AllByRecursion P xs
+all : {A : Type 0} (test : A → Bool) (P : A → Type 0) → ((x : A) → Holds (test x) → P x) → (xs : List A) → Holds (list_all test xs)
+    → AllByRecursion P xs
 all test P each [] h = tt
 all test P each (x ∷ xs) h = let g = both (test x) (list_all test xs) h in (each x g.0, all test P each xs g.1)
 
@@ -39,7 +40,8 @@ is_u8 n = nat_lt n (2 ^ 64)
 abbrev is_table : {A : Type 0} → (A → Bool) → List A → Bool
 is_table test xs = is_u2 (length xs) && list_all test xs
 
-table : {A : Type 0} (test : A → Bool) (P : A → Type 0) → ((x : A) → Holds (test x) → P x) → (xs : List A) → Holds (is_table test xs) → TableFits P xs
+table : {A : Type 0} (test : A → Bool) (P : A → Type 0) → ((x : A) → Holds (test x) → P x) → (xs : List A) → Holds (is_table test xs)
+    → TableFits P xs
 table test P each xs h = let g = both (is_u2 (length xs)) (list_all test xs) h in (below _ _ g.0, all test P each xs g.1)
 
 -- ---- the pool
@@ -107,7 +109,9 @@ narrow : (b : Bool) → Holds (places_fit b []) → IsFalse b
 narrow true h = absurd h
 narrow false h = refl
 
-following : (b : Bool) (f : Entry) (places : List Entry) → (Holds (places_fit false places) → ArePlaced places) → (Holds (places_fit false (f ∷ places)) → ArePlaced (f ∷ places)) → Holds (places_fit b (f ∷ places)) → MatchBool b ((f ≡ Unusable) × ArePlaced places) (ArePlaced (f ∷ places))
+following : (b : Bool) (f : Entry) (places : List Entry) → (Holds (places_fit false places) → ArePlaced places)
+    → (Holds (places_fit false (f ∷ places)) → ArePlaced (f ∷ places)) → Holds (places_fit b (f ∷ places))
+    → MatchBool b ((f ≡ Unusable) × ArePlaced places) (ArePlaced (f ∷ places))
 following true f places skip go h = let g = both (is_unusable f) (places_fit false places) h in (unusable f g.0, skip g.1)
 following false f places skip go h = go h
 

@@ -47,13 +47,15 @@ all_typed files table = list_all (class_typed files table) (classes_of files)
 
 -- ---- what `find` finds
 
-found_by : {A : Type 0} (test holds : A → Bool) (x y : A) (rest : Option A) (b : Bool) → test x ≡ b → holds x ≡ true → (rest ≡ Some y → (test y ≡ true) × (holds y ≡ true)) → cond b (Some x) rest ≡ Some y → (test y ≡ true) × (holds y ≡ true)
+found_by : {A : Type 0} (test holds : A → Bool) (x y : A) (rest : Option A) (b : Bool) → test x ≡ b → holds x ≡ true
+    → (rest ≡ Some y → (test y ≡ true) × (holds y ≡ true)) → cond b (Some x) rest ≡ Some y → (test y ≡ true) × (holds y ≡ true)
 found_by test holds x y rest true t h go e =
     let q = same_Some x y e in (subst (λ z. test z ≡ true) q t, subst (λ z. holds z ≡ true) q h)
 found_by test holds x y rest false t h go e = go e
 
 -- it passes the test, and what holds of each element holds of it
-found : {A : Type 0} (test holds : A → Bool) (xs : List A) (y : A) → list_all holds xs ≡ true → find test xs ≡ Some y → (test y ≡ true) × (holds y ≡ true)
+found : {A : Type 0} (test holds : A → Bool) (xs : List A) (y : A) → list_all holds xs ≡ true → find test xs ≡ Some y
+    → (test y ≡ true) × (holds y ≡ true)
 found test holds [] y h e = absurd (none-some y e)
 found test holds (x ∷ xs) y h e =
     let g = and_parts (holds x) (list_all holds xs) h in
@@ -65,7 +67,10 @@ same_name : (a b : Name) → name_eq a b ≡ true → a ≡ b
 same_name a b h = (bytes_eq-Decides a b).0 h
 
 module _ (files : Program) (table : Table) where
-  as_named : (file : FileTree) (class name descriptor : Name) (code : CodeTree) (body : Body) → name_of file ≡ class → with_pool file.pool code ≡ body → (n d : Name) → n ≡ name → d ≡ descriptor → named_typed files table file (Some n) (Some d) (Some code) ≡ true → HasTyping files (record { class = class; name = name; descriptor = descriptor }) body
+  as_named : (file : FileTree) (class name descriptor : Name) (code : CodeTree) (body : Body) → name_of file ≡ class
+      → with_pool file.pool code ≡ body → (n d : Name) → n ≡ name → d ≡ descriptor
+      → named_typed files table file (Some n) (Some d) (Some code) ≡ true
+      → HasTyping files (record { class = class; name = name; descriptor = descriptor }) body
   as_named file class name descriptor code body p q n d s t h =
       let own : Member = record { class = name_of file; name = n; descriptor = d } in
       let typed : HasTyping files own (with_pool file.pool code) = record { typing = typing_in (types_in table own); holds = is_typed files own (with_pool file.pool code) (types_in table own) h } in
@@ -74,21 +79,27 @@ module _ (files : Program) (table : Table) where
       let described : HasTyping files (record { class = class; name = name; descriptor = descriptor }) (with_pool file.pool code) = subst (λ x. HasTyping files (record { class = class; name = name; descriptor = x }) (with_pool file.pool code)) t of_name in
       subst (λ b. HasTyping files (record { class = class; name = name; descriptor = descriptor }) b) q described
 
-  in_method : (file : FileTree) (m : Member) (body : Body) → name_of file ≡ m.class → (name descriptor : Option Name) (code : Option CodeTree) → spells name m.name ≡ true → spells descriptor m.descriptor ≡ true → option_map (with_pool file.pool) code ≡ Some body → named_typed files table file name descriptor code ≡ true → HasTyping files m body
+  in_method : (file : FileTree) (m : Member) (body : Body) → name_of file ≡ m.class → (name descriptor : Option Name)
+      (code : Option CodeTree) → spells name m.name ≡ true → spells descriptor m.descriptor ≡ true
+      → option_map (with_pool file.pool) code ≡ Some body → named_typed files table file name descriptor code ≡ true
+      → HasTyping files m body
   in_method file m body p None descriptor code s t e h = absurd (false≢true s)
   in_method file m body p (Some n) None code s t e h = absurd (false≢true t)
   in_method file m body p (Some n) (Some d) None s t e h = absurd (none-some body e)
   in_method file m body p (Some n) (Some d) (Some code) s t e h =
       as_named file m.class m.name m.descriptor code body p (same_Some _ _ e) n d (same_name n m.name s) (same_name d m.descriptor t) h
 
-  in_class_by : (file : FileTree) (m : Member) (body : Body) → name_of file ≡ m.class → class_typed files table file ≡ true → (o : Option MethodTree) → declared_in file m.name m.descriptor ≡ o → option_map (with_pool file.pool) (option_and_then (λ (x : MethodTree). code_in x.parts) o) ≡ Some body → HasTyping files m body
+  in_class_by : (file : FileTree) (m : Member) (body : Body) → name_of file ≡ m.class → class_typed files table file ≡ true
+      → (o : Option MethodTree) → declared_in file m.name m.descriptor ≡ o
+      → option_map (with_pool file.pool) (option_and_then (λ (x : MethodTree). code_in x.parts) o) ≡ Some body → HasTyping files m body
   in_class_by file m body p h None e q = absurd (none-some body q)
   in_class_by file m body p h (Some x) e q =
       let g = found (is_method file.pool m.name m.descriptor) (method_typed files table file) file.methods x h e in
       let s = and_parts (spells (utf8_at file.pool x.name) m.name) (spells (utf8_at file.pool x.descriptor) m.descriptor) g.0 in
       in_method file m body p (utf8_at file.pool x.name) (utf8_at file.pool x.descriptor) (code_in x.parts) s.0 s.1 q g.1
 
-  in_program : all_typed files table ≡ true → (m : Member) (body : Body) (o : Option FileTree) → class_of files m.class ≡ o → option_and_then (body_in m.name m.descriptor) o ≡ Some body → HasTyping files m body
+  in_program : all_typed files table ≡ true → (m : Member) (body : Body) (o : Option FileTree) → class_of files m.class ≡ o
+      → option_and_then (body_in m.name m.descriptor) o ≡ Some body → HasTyping files m body
   in_program h m body None e q = absurd (none-some body q)
   in_program h m body (Some file) e q =
       let g = found (is_named m.class) (class_typed files table) (classes_of files) file h e in

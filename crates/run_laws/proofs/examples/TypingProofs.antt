@@ -36,28 +36,34 @@ abbrev pub is_typing : Program → Member → Body → List (ℕ × FrameType) �
 is_typing files method body types =
     reaches files types (0, entry_type files method body) && list_all (agrees files method body types) types
 
-all : {A : Type 0} (test : A → Bool) (P : A → Type 0) → ((x : A) → test x ≡ true → P x) → (xs : List A) → list_all test xs ≡ true → AllByRecursion P xs
+all : {A : Type 0} (test : A → Bool) (P : A → Type 0) → ((x : A) → test x ≡ true → P x) → (xs : List A) → list_all test xs ≡ true
+    → AllByRecursion P xs
 all test P each [] h = tt
 all test P each (x ∷ xs) h = let g = and_parts (test x) (list_all test xs) h in (each x g.0, all test P each xs g.1)
 
-found : (P : ℕ → FrameType → Type 0) (entry : ℕ × FrameType) (entries : List (ℕ × FrameType)) (k : ℕ) (t : FrameType) (b : Bool) → eqb entry.0 k ≡ b → P entry.0 entry.1 → (typing_in entries k ≡ Some t → P k t) → (if b then Some entry.1 else typing_in entries k) ≡ Some t → P k t
+found : (P : ℕ → FrameType → Type 0) (entry : ℕ × FrameType) (entries : List (ℕ × FrameType)) (k : ℕ) (t : FrameType) (b : Bool)
+    → eqb entry.0 k ≡ b → P entry.0 entry.1 → (typing_in entries k ≡ Some t → P k t)
+    → (if b then Some entry.1 else typing_in entries k) ≡ Some t → P k t
 found P entry entries k t true e here rest h =
     let q : entry.1 ≡ t = cc in subst (λ n. P n t) (eqb-true entry.0 k e) (subst (P entry.0) q here)
 found P entry entries k t false e here rest h = rest h
 
-each_in : (P : ℕ → FrameType → Type 0) (entries : List (ℕ × FrameType)) → AllByRecursion (λ e. P e.0 e.1) entries → (k : ℕ) (t : FrameType) → typing_in entries k ≡ Some t → P k t
+each_in : (P : ℕ → FrameType → Type 0) (entries : List (ℕ × FrameType)) → AllByRecursion (λ e. P e.0 e.1) entries → (k : ℕ) (t : FrameType)
+    → typing_in entries k ≡ Some t → P k t
 each_in P [] h k t e = absurd cc
 each_in P (entry ∷ entries) h k t e = found P entry entries k t (eqb entry.0 k) refl h.0 (λ g. each_in P entries h.1 k t g) e
 
 module _ (files : Program) (method : Member) (body : Body) (types : List (ℕ × FrameType)) where
-  reached_by : (k : ℕ) (t : FrameType) (o : Option FrameType) → typing_in types k ≡ o → reaches_by files t o ≡ true → Reaches files (typing_in types) k t
+  reached_by : (k : ℕ) (t : FrameType) (o : Option FrameType) → typing_in types k ≡ o → reaches_by files t o ≡ true
+      → Reaches files (typing_in types) k t
   reached_by k t None e h = absurd (false≢true h)
   reached_by k t (Some there) e h = record { there = there; typed = e; above = h }
 
   reached : (lead : ℕ × FrameType) → reaches files types lead ≡ true → Reaches files (typing_in types) lead.0 lead.1
   reached lead h = reached_by lead.0 lead.1 (typing_in types lead.0) refl h
 
-  rule_by : (k : ℕ) (t : FrameType) (o : Option (List (ℕ × FrameType))) → flow files method body k t ≡ o → agrees_by files types o ≡ true → Rule files method body (typing_in types) k t
+  rule_by : (k : ℕ) (t : FrameType) (o : Option (List (ℕ × FrameType))) → flow files method body k t ≡ o → agrees_by files types o ≡ true
+      → Rule files method body (typing_in types) k t
   rule_by k t None e h = absurd (false≢true h)
   rule_by k t (Some leads) e h = record { leads = leads; flows = e; reached = all (reaches files types) _ reached leads h }
 
@@ -108,7 +114,8 @@ above_unusable files (OfType t) h = absurd (false≢true h)
 above_unusable files (Uninitialised at c) h = absurd (false≢true h)
 above_unusable files (UninitialisedThis c) h = absurd (false≢true h)
 
-second_unusable : (files : Program) (s : VerificationType) (ts : List VerificationType) → pairwise (is_local_below files) (s ∷ Unusable ∷ []) ts ≡ true → (t : VerificationType) × (ts ≡ t ∷ Unusable ∷ [])
+second_unusable : (files : Program) (s : VerificationType) (ts : List VerificationType)
+    → pairwise (is_local_below files) (s ∷ Unusable ∷ []) ts ≡ true → (t : VerificationType) × (ts ≡ t ∷ Unusable ∷ [])
 second_unusable files s [] h = absurd (false≢true h)
 second_unusable files s (t ∷ []) h = absurd (false≢true (and_parts _ _ h).1)
 second_unusable files s (t ∷ u ∷ []) h =
@@ -132,7 +139,9 @@ module _ (files : Program) (method : Member) (body : Body) (F : Typing) (holds :
       let g = and_parts _ _ r.above in
       record { type = r.there; typed = r.typed; stack = above_ints files n r.there.slots.stack (and_parts _ _ g.1).0 }
 
-  flow_known : (k n : ℕ) (at : At k n) (o : Option (List (ℕ × FrameType))) → ((locals : List VerificationType) (c : Bool) → flow files method body k (frame locals n c) ≡ o) → flow files method body k at.type ≡ o
+  flow_known : (k n : ℕ) (at : At k n) (o : Option (List (ℕ × FrameType)))
+      → ((locals : List VerificationType) (c : Bool) → flow files method body k (frame locals n c) ≡ o)
+      → flow files method body k at.type ≡ o
   flow_known k n at o h =
       subst (λ s. flow files method body k (record { slots = record { locals = at.type.slots.locals; stack = s }; constructed = at.type.constructed }) ≡ o) (sym at.stack) (h at.type.slots.locals at.type.constructed)
 
@@ -143,12 +152,16 @@ module _ (files : Program) (method : Member) (body : Body) (F : Typing) (holds :
       let none = flow_known k n at None h in
       absurd cc
 
-  each_at : (i : ℕ) (locals : List VerificationType) (d : Bool) (js : List ℕ) → AllByRecursion (λ (lead : ℕ × FrameType). Reaches files F lead.0 lead.1) (map (λ j. (j, frame locals i d)) js) → AllByRecursion (λ j. At j i) js
+  each_at : (i : ℕ) (locals : List VerificationType) (d : Bool) (js : List ℕ)
+      → AllByRecursion (λ (lead : ℕ × FrameType). Reaches files F lead.0 lead.1) (map (λ j. (j, frame locals i d)) js)
+      → AllByRecursion (λ j. At j i) js
   each_at i locals d [] h = tt
   each_at i locals d (j ∷ js) h = (from_reaches j i locals d h.0, each_at i locals d js h.1)
 
   -- the instruction leads to these offsets, with so many ints on the stack, whatever the local variables are
-  pub next : (k n i : ℕ) (js : List ℕ) → ((locals : List VerificationType) (c : Bool) → (d : Bool) × (flow files method body k (frame locals n c) ≡ Some (map (λ j. (j, frame locals i d)) js))) → At k n → AllByRecursion (λ j. At j i) js
+  pub next : (k n i : ℕ) (js : List ℕ) → ((locals : List VerificationType) (c : Bool)
+      → (d : Bool) × (flow files method body k (frame locals n c) ≡ Some (map (λ j. (j, frame locals i d)) js))) → At k n
+      → AllByRecursion (λ j. At j i) js
   next k n i js h at =
       let rule = holds.agrees k at.type at.typed in
       let known = h at.type.slots.locals at.type.constructed in
@@ -161,7 +174,9 @@ module _ (files : Program) (method : Member) (body : Body) (F : Typing) (holds :
       some_same o xs ys p q = cc
 
   -- the instruction leads to this offset, if it does not fail
-  pub may_lead : (k n j : ℕ) → ((locals : List VerificationType) (c : Bool) → (test : Bool) × (t : FrameType) × (flow files method body k (frame locals n c) ≡ (if test then Some ((j, t) ∷ []) else None))) → At k n → (t : FrameType) × (F j ≡ Some t)
+  pub may_lead : (k n j : ℕ) → ((locals : List VerificationType) (c : Bool)
+      → (test : Bool) × (t : FrameType) × (flow files method body k (frame locals n c) ≡ (if test then Some ((j, t) ∷ []) else None)))
+      → At k n → (t : FrameType) × (F j ≡ Some t)
   may_lead k n j h at =
       let rule = holds.agrees k at.type at.typed in
       let known = h at.type.slots.locals at.type.constructed in
@@ -191,7 +206,9 @@ module _ (files : Program) (method : Member) (body : Body) (F : Typing) (holds :
       empty_int q = absurd cc
 
   -- a method whose second local variable is not usable, at its begin
-  pub with_unusable : (s : VerificationType) (stack : List VerificationType) (c : Bool) → entry_type files method body ≡ record { slots = record { locals = s ∷ Unusable ∷ []; stack = stack }; constructed = c } → (t : FrameType) × (u : VerificationType) × (F 0 ≡ Some t) × (t.slots.locals ≡ u ∷ Unusable ∷ [])
+  pub with_unusable : (s : VerificationType) (stack : List VerificationType) (c : Bool)
+      → entry_type files method body ≡ record { slots = record { locals = s ∷ Unusable ∷ []; stack = stack }; constructed = c }
+      → (t : FrameType) × (u : VerificationType) × (F 0 ≡ Some t) × (t.slots.locals ≡ u ∷ Unusable ∷ [])
   with_unusable s stack c e =
       let r = subst (Reaches files F 0) e holds.begins in
       let l = second_unusable files s r.there.slots.locals (and_parts _ _ r.above).0 in
@@ -202,7 +219,8 @@ module _ (files : Program) (method : Member) (body : Body) (F : Typing) (holds :
   begins locals c e = from_reaches 0 0 locals c (subst (λ t. Reaches files F 0 t) e holds.begins)
 
   -- the first instruction fails where no constructor was called on `this`
-  pub unconstructed : (entry_type files method body).constructed ≡ false → ((slots : Slots VerificationType) → flow files method body 0 (record { slots = slots; constructed = false }) ≡ None) → ⊥
+  pub unconstructed : (entry_type files method body).constructed ≡ false
+      → ((slots : Slots VerificationType) → flow files method body 0 (record { slots = slots; constructed = false }) ≡ None) → ⊥
   unconstructed e h =
       let r = holds.begins in
       let mark : r.there.constructed ≡ false = mark_below _ _ e (and_parts _ _ (and_parts _ _ r.above).1).1 in

@@ -30,7 +30,8 @@ set_front [] ys k x y e = absurd cc
 set_front (z ∷ zs) ys zero x y e = refl
 set_front (z ∷ zs) ys (suc k) x y e = ap (λ l. z ∷ l) (set_front zs ys k x y e)
 
-module _ (files : List (List ℕ)) (trees : Program) (accepted : IsAccepted files trees) (frames : ℕ) (state : State) (h : IsWellTyped trees state) where
+module _ (files : List (List ℕ)) (trees : Program) (accepted : IsAccepted files trees) (frames : ℕ) (state : State)
+    (h : IsWellTyped trees state) where
   pub right : (event : Event) → is_wrong (stepped values trees frames state event) ≡ false
   right event =
       let l = links files trees accepted in
@@ -80,7 +81,8 @@ module _ (files : List (List ℕ)) (trees : Program) (accepted : IsAccepted file
           let n = next_of trees state t own e in
           of_next trees after t own (record { stack = n.stack; status = alone.status ∙ n.status; pending = alone.pending ∙ n.pending; there = alone.stack ∙ n.there; does = n.does })
 
-      either_order : (own : StackOf Value) → with_part (with_stack state t own) event.thread (Next cost p) ≡ Next cost (with_stack after t own)
+      either_order : (own : StackOf Value) → with_part (with_stack state t own) event.thread (Next cost p)
+          ≡ Next cost (with_stack after t own)
       either_order own =
           let before = slice_set (slice_set state.stacks t own) event.thread p.stack in
           let set = slice_set state.stacks event.thread p.stack in
@@ -93,7 +95,8 @@ module _ (files : List (List ℕ)) (trees : Program) (accepted : IsAccepted file
       same_next : {a b : Cost} {x y : State} → Next a x ≡ Next b y → (a ≡ b) × (x ≡ y)
       same_next e = (cc, cc)
 
-      by_part : (stack : StackOf Value) (there : slice_get state.stacks event.thread ≡ Some stack) (x : SteppedOf (PartOf Value)) → does event stack there ≡ x → OnPart trees event.thread state.world x → with_part state event.thread x ≡ Next cost next → P next
+      by_part : (stack : StackOf Value) (there : slice_get state.stacks event.thread ≡ Some stack) (x : SteppedOf (PartOf Value))
+          → does event stack there ≡ x → OnPart trees event.thread state.world x → with_part state event.thread x ≡ Next cost next → P next
       by_part stack there NotEnabled q typed e = absurd cc
       by_part stack there WrongKind q typed e = absurd cc
       by_part stack there (Next taken p) q typed e =
@@ -101,7 +104,8 @@ module _ (files : List (List ℕ)) (trees : Program) (accepted : IsAccepted file
           let q2 : does event stack there ≡ Next cost p = q ∙ ap (λ c. Next c p) s.0 in
           subst P s.1 (each stack p typed there q2)
 
-      by_there : (o : Option (StackOf Value)) → slice_get state.stacks event.thread ≡ o → event_of values trees frames state event o ≡ Next cost next → P next
+      by_there : (o : Option (StackOf Value)) → slice_get state.stacks event.thread ≡ o
+          → event_of values trees frames state event o ≡ Next cost next → P next
       by_there None q e = absurd cc
       by_there (Some stack) q e = by_part stack q (does event stack q) refl (does_typed event stack q) e
 
@@ -111,10 +115,13 @@ module _ (files : List (List ℕ)) (trees : Program) (accepted : IsAccepted file
     pub left_alone : (next : State) → stepped values trees frames state event ≡ Next cost next → IsLeftAlone state next t
     left_alone next e = each_next (λ z. IsLeftAlone state z t) (λ stack p typed there q. alone p typed) next e
 
-    commutes : (own : StackOf Value) → next_local trees state t ≡ Some own → (next : State) → stepped values trees frames state event ≡ Next cost next → Commute trees frames state t own event cost next
+    commutes : (own : StackOf Value) → next_local trees state t ≡ Some own → (next : State)
+        → stepped values trees frames state event ≡ Next cost next → Commute trees frames state t own event cost next
     commutes own n next e = each_next (λ z. Commute trees frames state t own event cost z) each next e
       where
-        each : (stack : StackOf Value) (p : PartOf Value) (typed : OnPart trees event.thread state.world (Next cost p)) → (there : slice_get state.stacks event.thread ≡ Some stack) → does event stack there ≡ Next cost p → Commute trees frames state t own event cost (after p typed)
+        each : (stack : StackOf Value) (p : PartOf Value) (typed : OnPart trees event.thread state.world (Next cost p))
+            → (there : slice_get state.stacks event.thread ≡ Some stack) → does event stack there ≡ Next cost p
+            → Commute trees frames state t own event cost (after p typed)
         each stack p typed there q =
             let reads = get_set_other state.stacks t event.thread own ne ∙ there in
             record {
@@ -122,11 +129,13 @@ module _ (files : List (List ℕ)) (trees : Program) (accepted : IsAccepted file
               same = ap (event_of values trees frames (with_stack state t own) event) reads ∙ (ap (with_part (with_stack state t own) event.thread) q ∙ either_order p typed own);
             }
 
-  pub local_commutes : (t : ℕ) (own : StackOf Value) → next_local trees state t ≡ Some own → (event : Event) (cost : Cost) (next : State) → (t ≡ event.thread → ⊥) → stepped values trees frames state event ≡ Next cost next → Commute trees frames state t own event cost next
+  pub local_commutes : (t : ℕ) (own : StackOf Value) → next_local trees state t ≡ Some own → (event : Event) (cost : Cost) (next : State)
+      → (t ≡ event.thread → ⊥) → stepped values trees frames state event ≡ Next cost next → Commute trees frames state t own event cost next
   local_commutes t own e event cost next ne s =
       let n = next_of trees state t own e in commutes t n.stack n.there n.status event ne cost own e next s
 
-  pub local_is_own : (event : Event) (own : StackOf Value) → next_local trees state event.thread ≡ Some own → (event.pick == 0) ≡ true → stepped values trees frames state event ≡ Next Free (with_stack state event.thread own)
+  pub local_is_own : (event : Event) (own : StackOf Value) → next_local trees state event.thread ≡ Some own → (event.pick == 0) ≡ true
+      → stepped values trees frames state event ≡ Next Free (with_stack state event.thread own)
   local_is_own event own e p = own_stepped trees frames state h event own (next_of trees state event.thread own e) (right event) p
 
 pub others_left_alone : AreOthersLeftAlone

@@ -42,13 +42,16 @@ going (Relock object count cause) p h = absurd (false≢true h)
 going (Ended exception) p h = absurd (false≢true h)
 
 module _ (files : Program) (state : State) (t : ℕ) (own : StackOf Value) where
-  by_stack : (o : Option (StackOf Value)) → slice_get state.stacks t ≡ o → is_going (thread_at state.world t).status (thread_at state.world t).pending ≡ true → option_and_then (local_stack files) o ≡ Some own → IsNext files state t own
+  by_stack : (o : Option (StackOf Value)) → slice_get state.stacks t ≡ o
+      → is_going (thread_at state.world t).status (thread_at state.world t).pending ≡ true
+      → option_and_then (local_stack files) o ≡ Some own → IsNext files state t own
   by_stack None e g h = absurd (none-some own h)
   by_stack (Some stack) e g h =
       let q = going (thread_at state.world t).status (thread_at state.world t).pending g in
       record { stack = stack; status = q.0; pending = q.1; there = e; does = h }
 
-  by_going : (b : Bool) → is_going (thread_at state.world t).status (thread_at state.world t).pending ≡ b → (if b then option_and_then (local_stack files) (slice_get state.stacks t) else None) ≡ Some own → IsNext files state t own
+  by_going : (b : Bool) → is_going (thread_at state.world t).status (thread_at state.world t).pending ≡ b
+      → (if b then option_and_then (local_stack files) (slice_get state.stacks t) else None) ≡ Some own → IsNext files state t own
   by_going true e h = by_stack (slice_get state.stacks t) refl e h
   by_going false e h = absurd (none-some own h)
 
@@ -74,7 +77,8 @@ pub record IsOwn (files : Program) (stack own : StackOf Value) : Type 0 where
   pub row : Row
   pub is_row : row_at site ≡ Some row
   pub passes : row.fails (operand_words frame row) ≡ false
-  pub own_is : Invocation (at_offset frame (row_target row (operand_words frame row)) (after_row over_values row frame.place.slots)) ∷ rest ≡ own
+  pub own_is : Invocation (at_offset frame (row_target row (operand_words frame row)) (after_row over_values row frame.place.slots)) ∷ rest
+      ≡ own
 
 module _ (files : Program) (frame : Frame) (rest own : StackOf Value) where
   abbrev put : Option Frame → Option (StackOf Value)
@@ -82,20 +86,26 @@ module _ (files : Program) (frame : Frame) (rest own : StackOf Value) where
 
   module _ (body : Body) (is_body : body_of files frame.method ≡ Some body) (site : Site) (is_site : site_at frame.method body frame.place.offset ≡ Some site) (row : Row) (is_row : row_at site ≡ Some row) where
     by_fails : (b : Bool) → row.fails (operand_words frame row) ≡ b
-        → put (if b then None else Some (at_offset frame (row_target row (operand_words frame row)) (after_row over_values row frame.place.slots))) ≡ Some own → IsOwn files (Invocation frame ∷ rest) own
+        → put (if b then None else Some (at_offset
+        frame (row_target row (operand_words frame row)) (after_row over_values row frame.place.slots))) ≡ Some own
+        → IsOwn files (Invocation frame ∷ rest) own
     by_fails true e h = absurd (none-some own h)
     by_fails false e h =
         record { frame = frame; rest = rest; stack_is = refl; body = body; is_body = is_body; site = site; is_site = is_site; row = row; is_row = is_row; passes = e; own_is = same_Some _ own h }
 
-  by_row : (body : Body) → body_of files frame.method ≡ Some body → (site : Site) → site_at frame.method body frame.place.offset ≡ Some site → (o : Option Row) → row_at site ≡ o → put (option_and_then (after_local frame) o) ≡ Some own → IsOwn files (Invocation frame ∷ rest) own
+  by_row : (body : Body) → body_of files frame.method ≡ Some body → (site : Site)
+      → site_at frame.method body frame.place.offset ≡ Some site → (o : Option Row) → row_at site ≡ o
+      → put (option_and_then (after_local frame) o) ≡ Some own → IsOwn files (Invocation frame ∷ rest) own
   by_row body b site s None e h = absurd (none-some own h)
   by_row body b site s (Some row) e h = by_fails body b site s row e (row.fails (operand_words frame row)) refl h
 
-  by_site : (body : Body) → body_of files frame.method ≡ Some body → (o : Option Site) → site_at frame.method body frame.place.offset ≡ o → put (option_and_then (after_local frame) (option_and_then row_at o)) ≡ Some own → IsOwn files (Invocation frame ∷ rest) own
+  by_site : (body : Body) → body_of files frame.method ≡ Some body → (o : Option Site) → site_at frame.method body frame.place.offset ≡ o
+      → put (option_and_then (after_local frame) (option_and_then row_at o)) ≡ Some own → IsOwn files (Invocation frame ∷ rest) own
   by_site body b None e h = absurd (none-some own h)
   by_site body b (Some site) e h = by_row body b site e (row_at site) refl h
 
-  by_body : (o : Option Body) → body_of files frame.method ≡ o → put (option_and_then (after_local frame) (option_and_then (row_in frame) o)) ≡ Some own → IsOwn files (Invocation frame ∷ rest) own
+  by_body : (o : Option Body) → body_of files frame.method ≡ o
+      → put (option_and_then (after_local frame) (option_and_then (row_in frame) o)) ≡ Some own → IsOwn files (Invocation frame ∷ rest) own
   by_body None e h = absurd (none-some own h)
   by_body (Some body) e h = by_site body e (site_at frame.method body frame.place.offset) refl h
 
@@ -118,7 +128,8 @@ module _ (files : Program) (frames : ℕ) (event : Event) (world : World) (stack
       if finds then enabled_if (event.pick == 0) (become files frames event.thread world o.frame o.rest (if fails then Raises Arithmetic else goes)) else unpicked event WrongKind
 
   -- done, where it finds its operands
-  pub own_running : running_event values files frames event world stack ≡ (if finds then enabled_if (event.pick == 0) (Next Free (part world own)) else unpicked event WrongKind)
+  pub own_running : running_event values files frames event world stack
+      ≡ (if finds then enabled_if (event.pick == 0) (Next Free (part world own)) else unpicked event WrongKind)
   own_running =
       ap (running_event values files frames event world) o.stack_is
       ∙ (ap (bytecode_in values files frames event world o.frame o.rest) o.is_body
@@ -128,17 +139,20 @@ module _ (files : Program) (frames : ℕ) (event : Event) (world : World) (stack
       ∙ ap (λ k. if finds then enabled_if (event.pick == 0) (Next Free (part world k)) else unpicked event WrongKind) o.own_is))))
 
 -- the stack of a local event is not empty, so the thread does not end by it
-stays_on : (files : Program) (world : World) (t : ℕ) (stack own : StackOf Value) → IsOwn files stack own → settled t (Next Free (part world own)) ≡ Next Free (part world own)
+stays_on : (files : Program) (world : World) (t : ℕ) (stack own : StackOf Value) → IsOwn files stack own
+    → settled t (Next Free (part world own)) ≡ Next Free (part world own)
 stays_on files world t stack own o = subst (λ k. settled t (Next Free (part world k)) ≡ Next Free (part world k)) o.own_is refl
 
-module _ (files : Program) (frames : ℕ) (state : State) (h : IsWellTyped files state) (event : Event) (own : StackOf Value) (n : IsNext files state event.thread own) where
+module _ (files : Program) (frames : ℕ) (state : State) (h : IsWellTyped files state) (event : Event) (own : StackOf Value)
+    (n : IsNext files state event.thread own) where
   abbrev put_back : SteppedOf (PartOf Value) → SteppedOf State
   put_back x = with_part state event.thread (settled event.thread x)
 
   abbrev found : Bool
   found = finds files frames event state.world n.stack own (own_of files n.stack own n.does)
 
-  own_event : stepped values files frames state event ≡ put_back (if found then enabled_if (event.pick == 0) (Next Free (part state.world own)) else unpicked event WrongKind)
+  own_event : stepped values files frames state event
+      ≡ put_back (if found then enabled_if (event.pick == 0) (Next Free (part state.world own)) else unpicked event WrongKind)
   own_event =
       ap (event_of values files frames state event) n.there
       ∙ (ap (λ s. put_back (thread_event values files frames event state.world n.stack s)) n.status
@@ -157,18 +171,21 @@ module _ (files : Program) (frames : ℕ) (state : State) (h : IsWellTyped files
   done_now = ap (with_part state event.thread) (stays_on files state.world event.thread n.stack own (own_of files n.stack own n.does)) ∙ there_now
 
   by_found : is_wrong (stepped values files frames state event) ≡ false → (b : Bool) → (event.pick == 0) ≡ true
-      → stepped values files frames state event ≡ put_back (if b then enabled_if (event.pick == 0) (Next Free (part state.world own)) else unpicked event WrongKind)
+      → stepped values files frames state event
+      ≡ put_back (if b then enabled_if (event.pick == 0) (Next Free (part state.world own)) else unpicked event WrongKind)
       → stepped values files frames state event ≡ Next Free (with_stack state event.thread own)
   by_found right true p e = e ∙ (ap (λ b. put_back (enabled_if b (Next Free (part state.world own)))) p ∙ done_now)
   by_found right false p e =
       let wrong : stepped values files frames state event ≡ WrongKind = e ∙ ap (λ b. put_back (enabled_if b WrongKind)) p in
       absurd (false≢true (sym right ∙ ap is_wrong wrong))
 
-  pub own_stepped : is_wrong (stepped values files frames state event) ≡ false → (event.pick == 0) ≡ true → stepped values files frames state event ≡ Next Free (with_stack state event.thread own)
+  pub own_stepped : is_wrong (stepped values files frames state event) ≡ false → (event.pick == 0) ≡ true
+      → stepped values files frames state event ≡ Next Free (with_stack state event.thread own)
   own_stepped right p = by_found right found p own_event
 
   by_pick : (b : Bool) → (event.pick == 0) ≡ false
-      → stepped values files frames state event ≡ put_back (if b then enabled_if (event.pick == 0) (Next Free (part state.world own)) else unpicked event WrongKind)
+      → stepped values files frames state event
+      ≡ put_back (if b then enabled_if (event.pick == 0) (Next Free (part state.world own)) else unpicked event WrongKind)
       → step files frames state event ≡ None
   by_pick true p e = ap next_by (e ∙ ap (λ b. put_back (enabled_if b (Next Free (part state.world own)))) p)
   by_pick false p e = ap next_by (e ∙ ap (λ b. put_back (enabled_if b WrongKind)) p)

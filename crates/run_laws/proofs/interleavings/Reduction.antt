@@ -83,18 +83,22 @@ module _ (files : List (List ℕ)) (trees : Program) (accepted : IsAccepted file
   abbrev pub event_0 : ℕ → Event
   event_0 t = record { thread = t; pick = 0 }
 
-  pub local_step : (state : State) → IsWellTyped trees state → (event : Event) (own : StackOf Value) → next_local trees state event.thread ≡ Some own → (event.pick == 0) ≡ true → go state event ≡ Some (with_stack state event.thread own)
+  pub local_step : (state : State) → IsWellTyped trees state → (event : Event) (own : StackOf Value)
+      → next_local trees state event.thread ≡ Some own → (event.pick == 0) ≡ true
+      → go state event ≡ Some (with_stack state event.thread own)
   local_step state h event own e p = ap next_by (local_is_own files trees accepted frames state h event own e p)
 
   -- a thread of a local event is there
-  within : (state : State) → IsWellTyped trees state → (t : ℕ) (own : StackOf Value) → next_local trees state t ≡ Some own → t < length state.world.threads
+  within : (state : State) → IsWellTyped trees state → (t : ℕ) (own : StackOf Value) → next_local trees state t ≡ Some own
+      → t < length state.world.threads
   within state h t own e =
       let n = next_of trees state t own e in
       let lt = slice_get_within state.stacks t n.stack n.there in
       omega (arith, lt, lengths_same trees (types_of state.world.heap) state.world.threads state.stacks h.threads)
 
   -- so its state isn't quiet
-  not_quiet : (state : State) → IsWellTyped trees state → is_quiet trees frames state ≡ true → (t : ℕ) (own : StackOf Value) → next_local trees state t ≡ Some own → ⊥
+  not_quiet : (state : State) → IsWellTyped trees state → is_quiet trees frames state ≡ true → (t : ℕ) (own : StackOf Value)
+      → next_local trees state t ≡ Some own → ⊥
   not_quiet state h q t own e =
       let lt = within state h t own e in
       let still : may_step trees frames state t ≡ false = not-true _ (all_at (λ u. not (may_step trees frames state u)) 0 (length state.world.threads) t q (omega arith) (omega (arith, lt))) in
@@ -109,14 +113,16 @@ module _ (files : List (List ℕ)) (trees : Program) (accepted : IsAccepted file
     abbrev Rest : ℕ → StackOf Value → List Event → Type 0
     Rest t own events = (m : State) → IsWellTyped trees m → next_local trees m t ≡ Some own → Runs events m → Moved trees frames (with_stack m t own) events last
 
-    pub move_front : (events : List Event) (state : State) → IsWellTyped trees state → (t : ℕ) (own : StackOf Value) → next_local trees state t ≡ Some own → Runs events state → Moved trees frames (with_stack state t own) events last
+    pub move_front : (events : List Event) (state : State) → IsWellTyped trees state → (t : ℕ) (own : StackOf Value)
+        → next_local trees state t ≡ Some own → Runs events state → Moved trees frames (with_stack state t own) events last
     move_front [] state h t own e r =
         let same : state ≡ last = same_Some state last r in
         absurd (not_quiet state h (subst (λ s. is_quiet trees frames s ≡ true) (sym same) quiet) t own e)
     move_front (event ∷ events) state h t own e r =
         by (t == event.thread) refl (go state event) refl r (λ m g x y. move_front events m g t own x y)
       where
-        itself : t ≡ event.thread → (m : State) → go state event ≡ Some m → Runs events m → (b : Bool) → (event.pick == 0) ≡ b → Moved trees frames (with_stack state t own) (event ∷ events) last
+        itself : t ≡ event.thread → (m : State) → go state event ≡ Some m → Runs events m → (b : Bool) → (event.pick == 0) ≡ b
+            → Moved trees frames (with_stack state t own) (event ∷ events) last
         itself same m s y true p =
             let at = subst (λ u. next_local trees state u ≡ Some own) same e in
             let is : with_stack state event.thread own ≡ m = same_Some _ m (sym (local_step state h event own at p) ∙ s) in
@@ -126,7 +132,8 @@ module _ (files : List (List ℕ)) (trees : Program) (accepted : IsAccepted file
             let at = subst (λ u. next_local trees state u ≡ Some own) same e in
             absurd (none-some m (sym (own_unpicked trees frames state h event own (next_of trees state event.thread own at) p) ∙ s))
 
-        later : (t ≡ event.thread → ⊥) → (m : State) → go state event ≡ Some m → Runs events m → Rest t own events → Moved trees frames (with_stack state t own) (event ∷ events) last
+        later : (t ≡ event.thread → ⊥) → (m : State) → go state event ≡ Some m → Runs events m → Rest t own events
+            → Moved trees frames (with_stack state t own) (event ∷ events) last
         later ne m s y rest =
             let c = cost_of (stepped values trees frames state event) m s in
             let both = local_commutes files trees accepted frames state h t own e event c.0 m ne c.1 in
@@ -134,7 +141,9 @@ module _ (files : List (List ℕ)) (trees : Program) (accepted : IsAccepted file
             let goes : go (with_stack state t own) event ≡ Some (with_stack m t own) = ap next_by both.same in
             record { others = event ∷ after.others; shorter = ap suc after.shorter; ends = ap (option_and_then (λ next. run_from trees frames next after.others)) goes ∙ after.ends }
 
-        by : (b : Bool) → (t == event.thread) ≡ b → (o : Option State) → go state event ≡ o → option_and_then (λ next. run_from trees frames next events) o ≡ Some last → Rest t own events → Moved trees frames (with_stack state t own) (event ∷ events) last
+        by : (b : Bool) → (t == event.thread) ≡ b → (o : Option State) → go state event ≡ o
+            → option_and_then (λ next. run_from trees frames next events) o ≡ Some last → Rest t own events
+            → Moved trees frames (with_stack state t own) (event ∷ events) last
         by b q None s y rest = absurd (none-some last y)
         by true q (Some m) s y rest = itself (eqb-true t event.thread q) m s y (event.pick == 0) refl
         by false q (Some m) s y rest = later (λ same. false≢true (sym q ∙ eq-eqb t event.thread same)) m s y rest
@@ -151,7 +160,8 @@ module _ (files : List (List ℕ)) (trees : Program) (accepted : IsAccepted file
     one_more : (state next : State) (event : Event) → reduced_step trees frames state event ≡ Some next → Explored next → Explored state
     one_more state next event s x = (event ∷ x.0, ap (option_and_then (λ m. reduced_run_from trees frames m x.0)) s ∙ x.1)
 
-    local_first : (n : ℕ) (events : List Event) (state : State) → IsWellTyped trees state → length events ≤ n → Runs events state → (t : ℕ) → first_local trees state ≡ Some t → Before n → Explored state
+    local_first : (n : ℕ) (events : List Event) (state : State) → IsWellTyped trees state → length events ≤ n → Runs events state → (t : ℕ)
+        → first_local trees state ≡ Some t → Before n → Explored state
     local_first n events state h le r t f before =
         let l = some_is (next_local trees state t) (found_passes (is_local trees state) (counting 0 (length state.stacks)) t f) in
         let m = move_front events state h t l.0 l.1 r in
@@ -162,11 +172,13 @@ module _ (files : List (List ℕ)) (trees : Program) (accepted : IsAccepted file
         let moves : may_move (first_local trees state) t ≡ true = ap (λ o. may_move o t) f ∙ eq-eqb t t refl in
         one_more state next (event_0 t) (ap (λ b. if b then go state (event_0 t) else None) moves ∙ s) rest
 
-    shared_next : (n : ℕ) (events : List Event) (state : State) → IsWellTyped trees state → length events ≤ n → Runs events state → first_local trees state ≡ None → Before n → Explored state
+    shared_next : (n : ℕ) (events : List Event) (state : State) → IsWellTyped trees state → length events ≤ n → Runs events state
+        → first_local trees state ≡ None → Before n → Explored state
     shared_next n [] state h le r f before = ([], r)
     shared_next n (event ∷ events) state h le r f before = by (go state event) refl r
       where
-        by : (o : Option State) → go state event ≡ o → option_and_then (λ next. run_from trees frames next events) o ≡ Some last → Explored state
+        by : (o : Option State) → go state event ≡ o → option_and_then (λ next. run_from trees frames next events) o ≡ Some last
+            → Explored state
         by None s y = absurd (none-some last y)
         by (Some m) s y =
             let fewer : length events < n = omega (arith, le) in
@@ -174,7 +186,8 @@ module _ (files : List (List ℕ)) (trees : Program) (accepted : IsAccepted file
             let moves : may_move (first_local trees state) event.thread ≡ true = ap (λ o. may_move o event.thread) f in
             one_more state m event (ap (λ b. if b then go state event else None) moves ∙ s) rest
 
-    either : (n : ℕ) (events : List Event) (state : State) → IsWellTyped trees state → length events ≤ n → Runs events state → Before n → (o : Option ℕ) → first_local trees state ≡ o → Explored state
+    either : (n : ℕ) (events : List Event) (state : State) → IsWellTyped trees state → length events ≤ n → Runs events state → Before n
+        → (o : Option ℕ) → first_local trees state ≡ o → Explored state
     either n events state h le r before None f = shared_next n events state h le r f before
     either n events state h le r before (Some t) f = local_first n events state h le r t f before
 
@@ -185,16 +198,20 @@ module _ (files : List (List ℕ)) (trees : Program) (accepted : IsAccepted file
   pub opened : IsWellTyped trees (opening values trees)
   opened = opening_typed trees
 
-  pub explored : (events : List Event) (state : State) → run trees frames events ≡ Some state → is_quiet trees frames state ≡ true → (others : List Event) × (reduced_run trees frames others ≡ Some state)
+  pub explored : (events : List Event) (state : State) → run trees frames events ≡ Some state → is_quiet trees frames state ≡ true
+      → (others : List Event) × (reduced_run trees frames others ≡ Some state)
   explored events state r q = explored_below state q (suc (length events)) events (opening values trees) opened (omega arith) r
 
   -- ---- well-typed states of a run
 
-  pub run_typed : (events : List Event) (state last : State) → IsWellTyped trees state → run_from trees frames state events ≡ Some last → IsWellTyped trees last
+  pub run_typed : (events : List Event) (state last : State) → IsWellTyped trees state → run_from trees frames state events ≡ Some last
+      → IsWellTyped trees last
   run_typed [] state last h r = subst (IsWellTyped trees) (same_Some state last r) h
   run_typed (event ∷ events) state last h r = by (go state event) refl r (λ m g y. run_typed events m last g y)
     where
-      by : (o : Option State) → go state event ≡ o → option_and_then (λ next. run_from trees frames next events) o ≡ Some last → ((m : State) → IsWellTyped trees m → run_from trees frames m events ≡ Some last → IsWellTyped trees last) → IsWellTyped trees last
+      by : (o : Option State) → go state event ≡ o → option_and_then (λ next. run_from trees frames next events) o ≡ Some last
+          → ((m : State) → IsWellTyped trees m → run_from trees frames m events ≡ Some last → IsWellTyped trees last)
+          → IsWellTyped trees last
       by None s y rest = absurd (none-some last y)
       by (Some m) s y rest = rest m (kept files trees accepted frames state event m h s) y
 
@@ -223,11 +240,14 @@ module _ (files : List (List ℕ)) (trees : Program) (accepted : IsAccepted file
 
   module _ (states : List State) (outcomes : List Outcome) (s : IsSearched trees frames states outcomes) where
     -- closed under reduced steps is closed under reduced runs
-    explored_in : (events : List Event) (state last : State) → Has states state → reduced_run_from trees frames state events ≡ Some last → Has states last
+    explored_in : (events : List Event) (state last : State) → Has states state → reduced_run_from trees frames state events ≡ Some last
+        → Has states last
     explored_in [] state last h r = subst (Has states) (same_Some state last r) h
     explored_in (event ∷ events) state last h r = by (reduced_step trees frames state event) refl r (λ m g y. explored_in events m last g y)
       where
-        by : (o : Option State) → reduced_step trees frames state event ≡ o → option_and_then (λ next. reduced_run_from trees frames next events) o ≡ Some last → ((m : State) → Has states m → reduced_run_from trees frames m events ≡ Some last → Has states last) → Has states last
+        by : (o : Option State) → reduced_step trees frames state event ≡ o
+            → option_and_then (λ next. reduced_run_from trees frames next events) o ≡ Some last
+            → ((m : State) → Has states m → reduced_run_from trees frames m events ≡ Some last → Has states last) → Has states last
         by None q y rest = absurd (none-some last y)
         by (Some m) q y rest = rest m (s.closed state m event h q) y
 

@@ -53,13 +53,15 @@ if_right true x y h g = h
 if_right false x y h g = g
 
 module _ (files : Program) where
-  needing_right : (t : ℕ) (class : Name) (look : Look) (world : World) (stack : StackOf Value) (rest : Part) → Right rest → Right (needing values files t class look world stack rest)
+  needing_right : (t : ℕ) (class : Name) (look : Look) (world : World) (stack : StackOf Value) (rest : Part) → Right rest
+      → Right (needing values files t class look world stack rest)
   needing_right t class IsReady world stack rest h = h
   needing_right t class IsNew world stack rest h = refl
   needing_right t class IsHeld world stack rest h = refl
   needing_right t class HasFailed world stack rest h = refl
 
-  needing_class_right : (t : ℕ) (class : Option Name) (world : World) (stack : StackOf Value) (rest : Part) → Right rest → Right (needing_class values files t class world stack rest)
+  needing_class_right : (t : ℕ) (class : Option Name) (world : World) (stack : StackOf Value) (rest : Part) → Right rest
+      → Right (needing_class values files t class world stack rest)
   needing_class_right t None world stack rest h = h
   needing_class_right t (Some class) world stack rest h = needing_right t class (look_by t (status_of world class)) world stack rest h
 
@@ -68,7 +70,8 @@ module _ (files : Program) where
   entering_right t world rest frame (Some object) =
       enabled_right (may_enter world t object) (Next (entry_cost world object) (part (with_entry world t object) (Invocation frame ∷ rest))) refl
 
-  pushed_right : (frames t : ℕ) (world after : World) (stack rest : StackOf Value) (frame : Frame) → Right (pushed frames t world after stack rest frame)
+  pushed_right : (frames t : ℕ) (world after : World) (stack rest : StackOf Value) (frame : Frame)
+      → Right (pushed frames t world after stack rest frame)
   pushed_right frames t world after stack rest frame =
       if_right (nat_lt (frame_count stack) frames) (entering t after rest frame frame.entered) (raised t StackOverflow world stack) (entering_right t after rest frame frame.entered) refl
 
@@ -77,7 +80,8 @@ module _ (files : Program) where
   leaving_right t (Some object) world rest stack =
       if_right (is_owner world t object) (on_to (with_exit world t object) rest) (raised t IllegalMonitorState world stack) refl refl
 
-  become_right : (frames t : ℕ) (world : World) (frame : Frame) (stack : StackOf Value) (o : OutcomeOf Value) → Right (become files frames t world frame stack o)
+  become_right : (frames t : ℕ) (world : World) (frame : Frame) (stack : StackOf Value) (o : OutcomeOf Value)
+      → Right (become files frames t world frame stack o)
   become_right frames t world frame stack (Goes cost after slots to) = refl
   become_right frames t world frame stack (Raises fault) = refl
   become_right frames t world frame stack (Throws exception) = refl
@@ -88,7 +92,9 @@ module _ (files : Program) where
       leaving_right t frame.entered after (returned files results stack) (Invocation frame ∷ stack)
   become_right frames t world frame stack (Waits cost after rest) = refl
 
-  bytecode_by_right : (frames : ℕ) (event : Event) (world : World) (frame : Frame) (stack : StackOf Value) (max_stack : ℕ) (o : Option (MeaningOf Value)) → finds_operands files (types_of world.heap) max_stack frame o ≡ true → Right (bytecode_by values files frames event world frame stack max_stack o)
+  bytecode_by_right : (frames : ℕ) (event : Event) (world : World) (frame : Frame) (stack : StackOf Value) (max_stack : ℕ)
+      (o : Option (MeaningOf Value)) → finds_operands files (types_of world.heap) max_stack frame o ≡ true
+      → Right (bytecode_by values files frames event world frame stack max_stack o)
   bytecode_by_right frames event world frame stack max_stack None h = absurd (false≢true h)
   bytecode_by_right frames event world frame stack max_stack (Some meaning) h =
       subst (λ b. Right (if b then enabled_if (meaning.may event world (ops_of values meaning frame.place.slots)) (needing_class values files event.thread meaning.looks world (Invocation frame ∷ stack) (done values files frames event world frame stack meaning)) else unpicked event WrongKind)) (sym h)
@@ -96,23 +102,27 @@ module _ (files : Program) where
       (needing_class_right event.thread meaning.looks world (Invocation frame ∷ stack) (done values files frames event world frame stack meaning)
       (become_right frames event.thread world frame stack (meaning.does event world frame.place.slots (ops_of values meaning frame.place.slots) (under meaning.wants frame.place.slots)))))
 
-  bytecode_in_right : (frames : ℕ) (event : Event) (world : World) (frame : Frame) (stack : StackOf Value) (o : Option Body) → finds_in files (types_of world.heap) frame o ≡ true → Right (bytecode_in values files frames event world frame stack o)
+  bytecode_in_right : (frames : ℕ) (event : Event) (world : World) (frame : Frame) (stack : StackOf Value) (o : Option Body)
+      → finds_in files (types_of world.heap) frame o ≡ true → Right (bytecode_in values files frames event world frame stack o)
   bytecode_in_right frames event world frame stack None h = absurd (false≢true h)
   bytecode_in_right frames event world frame stack (Some body) h =
       bytecode_by_right frames event world frame stack body.code.max_stack (option_and_then (meaning_of values files) (site_at frame.method body frame.place.offset)) h
 
-  initialiser_right : (frames t : ℕ) (m : Member) (world : World) (stack : StackOf Value) (o : Option Body) → Right (initialiser_event values frames t m world stack o)
+  initialiser_right : (frames t : ℕ) (m : Member) (world : World) (stack : StackOf Value) (o : Option Body)
+      → Right (initialiser_event values frames t m world stack o)
   initialiser_right frames t m world stack None = refl
   initialiser_right frames t m world stack (Some body) = pushed_right frames t world world stack stack (frame_with values m [] None body)
 
-  initialisation_right : (frames t : ℕ) (class : Name) (phase : Phase) (world : World) (stack : StackOf Value) → Right (initialisation_event values files frames t class phase world stack)
+  initialisation_right : (frames t : ℕ) (class : Name) (phase : Phase) (world : World) (stack : StackOf Value)
+      → Right (initialisation_event values files frames t class phase world stack)
   initialisation_right frames t class Super world stack =
       needing_class_right t (before files class) world (Initialisation class Super ∷ stack)
       (initialiser_event values frames t (initialiser_of class) world (Initialisation class End ∷ stack) (body_of files (initialiser_of class)))
       (initialiser_right frames t (initialiser_of class) world (Initialisation class End ∷ stack) (body_of files (initialiser_of class)))
   initialisation_right frames t class End world stack = refl
 
-  run_frame_right : (frames t : ℕ) (world : World) (object : ℕ) (m : Member) (o : Option Body) → Right (run_frame values files frames t world object m o)
+  run_frame_right : (frames t : ℕ) (world : World) (object : ℕ) (m : Member) (o : Option Body)
+      → Right (run_frame values files frames t world object m o)
   run_frame_right frames t world object m None = refl
   run_frame_right frames t world object m (Some body) =
       pushed_right frames t world (with_begun world t) [] [] (frame_with values m (value.Reference object ∷ []) (entered_by files m object) body)
@@ -133,7 +143,8 @@ module _ (files : Program) where
   begin_right main frames world (suc t) =
       run_of_right frames (suc t) world (thread_at world (suc t)).object (select files (class_of_object (object_at world (thread_at world (suc t)).object)) thread_run)
 
-  unwound_right : (t exception : ℕ) (world : World) (frame : Frame) (stack : StackOf Value) (o : Option ExceptionEntry) → Right (unwound values t exception world frame stack o)
+  unwound_right : (t exception : ℕ) (world : World) (frame : Frame) (stack : StackOf Value) (o : Option ExceptionEntry)
+      → Right (unwound values t exception world frame stack o)
   unwound_right t exception world frame stack None = leaving_right t frame.entered world stack stack
   unwound_right t exception world frame stack (Some entry) = refl
 
@@ -141,7 +152,8 @@ module _ (files : Program) where
   failed_right t true world stack = refl
   failed_right t false world stack = refl
 
-  pending_right : (t exception : ℕ) (thrown : Option ReferenceType) (world : World) (stack : StackOf Value) → Right (pending_event values files t exception thrown world stack)
+  pending_right : (t exception : ℕ) (thrown : Option ReferenceType) (world : World) (stack : StackOf Value)
+      → Right (pending_event values files t exception thrown world stack)
   pending_right t exception thrown world [] = refl
   pending_right t exception thrown world (Invocation frame ∷ stack) =
       unwound_right t exception world frame stack (option_and_then (handler_in files frame.place.offset thrown) (body_of files frame.method))
@@ -153,19 +165,23 @@ module _ (files : Program) where
   after_wait_right t Interrupted world stack = refl
 
   module _ (rooted : Rooted files) (main : HasMain files) (frames : ℕ) (event : Event) (world : World) where
-    running_right : (stack : StackOf Value) → IsRunning files (types_of world.heap) None stack → Right (running_event values files frames event world stack)
+    running_right : (stack : StackOf Value) → IsRunning files (types_of world.heap) None stack
+        → Right (running_event values files frames event world stack)
     running_right [] h = enabled_right (event.pick == 0) (begin_event values files frames world event.thread) (begin_right main frames world event.thread)
     running_right (Invocation frame ∷ stack) h =
         bytecode_in_right frames event world frame stack (body_of files frame.method) (ready_finds files rooted (types_of world.heap) frame h.0)
     running_right (Initialisation class phase ∷ stack) h =
         enabled_right (event.pick == 0) (initialisation_event values files frames event.thread class phase world stack) (initialisation_right frames event.thread class phase world stack)
 
-    going_right : (stack : StackOf Value) (pending : Option ℕ) → IsRunning files (types_of world.heap) pending stack → Right (going_event values files frames event world stack pending)
+    going_right : (stack : StackOf Value) (pending : Option ℕ) → IsRunning files (types_of world.heap) pending stack
+        → Right (going_event values files frames event world stack pending)
     going_right stack None h = running_right stack h
     going_right stack (Some exception) h =
         enabled_right (event.pick == 0) (pending_event values files event.thread exception (slice_get (types_of world.heap) exception) world stack) (pending_right event.thread exception (slice_get (types_of world.heap) exception) world stack)
 
-    event_right : (stack : StackOf Value) (thread : Thread) (status : ThreadStatus) → thread_at world event.thread ≡ thread → IsStackTyped files (types_of world.heap) thread.pending stack status → Right (thread_event values files frames event world stack status)
+    event_right : (stack : StackOf Value) (thread : Thread) (status : ThreadStatus) → thread_at world event.thread ≡ thread
+        → IsStackTyped files (types_of world.heap) thread.pending stack status
+        → Right (thread_event values files frames event world stack status)
     event_right stack thread Running e h =
         subst (λ (th : Thread). Right (going_event values files frames event world stack th.pending)) (sym e) (going_right stack thread.pending h)
     event_right stack thread (Waiting object count) e h = refl
@@ -176,13 +192,16 @@ module _ (files : Program) where
     event_right stack thread (Ended exception) e h = refl
 
 -- the thread of a stack
-pub thread_of_stack : (files : Program) (os : List ReferenceType) (threads : List Thread) (stacks : List (StackOf Value)) (t : ℕ) (stack : StackOf Value) → AreThreadsTyped files os threads stacks → slice_get stacks t ≡ Some stack → IsThreadTyped files os (slice_index_or threads t no_thread) stack
+pub thread_of_stack : (files : Program) (os : List ReferenceType) (threads : List Thread) (stacks : List (StackOf Value)) (t : ℕ)
+    (stack : StackOf Value) → AreThreadsTyped files os threads stacks → slice_get stacks t ≡ Some stack
+    → IsThreadTyped files os (slice_index_or threads t no_thread) stack
 thread_of_stack files os threads [] t stack h e = absurd cc
 thread_of_stack files os [] (s ∷ stacks) t stack h e = absurd h
 thread_of_stack files os (thread ∷ threads) (s ∷ stacks) zero stack h e = let q : s ≡ stack = cc in subst (IsThreadTyped files os thread) q h.0
 thread_of_stack files os (thread ∷ threads) (s ∷ stacks) (suc t) stack h e = thread_of_stack files os threads stacks t stack h.1 e
 
-event_of_right : (files : Program) → Rooted files → HasMain files → (frames : ℕ) (state : State) (event : Event) → IsWellTyped files state → (o : Option (StackOf Value)) → slice_get state.stacks event.thread ≡ o → is_wrong (event_of values files frames state event o) ≡ false
+event_of_right : (files : Program) → Rooted files → HasMain files → (frames : ℕ) (state : State) (event : Event) → IsWellTyped files state
+    → (o : Option (StackOf Value)) → slice_get state.stacks event.thread ≡ o → is_wrong (event_of values files frames state event o) ≡ false
 event_of_right files rooted main frames state event h None e = refl
 event_of_right files rooted main frames state event h (Some stack) e =
     let thread = thread_at state.world event.thread in
@@ -190,5 +209,6 @@ event_of_right files rooted main frames state event h (Some stack) e =
     let x = thread_event values files frames event state.world stack thread.status in
     put_same state event.thread (settled event.thread x) (settled_same event.thread x (event_right files rooted main frames event state.world stack thread thread.status refl typed.stack_typed))
 
-pub never_wrong : (files : Program) → Rooted files → HasMain files → (frames : ℕ) (state : State) (event : Event) → IsWellTyped files state → is_wrong (stepped values files frames state event) ≡ false
+pub never_wrong : (files : Program) → Rooted files → HasMain files → (frames : ℕ) (state : State) (event : Event) → IsWellTyped files state
+    → is_wrong (stepped values files frames state event) ≡ false
 never_wrong files rooted main frames state event h = event_of_right files rooted main frames state event h (slice_get state.stacks event.thread) refl

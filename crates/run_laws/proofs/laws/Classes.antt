@@ -23,15 +23,18 @@ members_same a b h =
     let d = names_same a.descriptor b.descriptor q.1 in
     λ i. record { class = c i; name = n i; descriptor = d i }
 
-on_super : (f g : Name → Bool) (o : Option Name) → ((s : Name) → f s ≡ true → g s ≡ true) → option_map_or f o false ≡ true → option_map_or g o false ≡ true
+on_super : (f g : Name → Bool) (o : Option Name) → ((s : Name) → f s ≡ true → g s ≡ true) → option_map_or f o false ≡ true
+    → option_map_or g o false ≡ true
 on_super f g None h q = q
 on_super f g (Some s) h q = h s q
 
-both_super : (f g k : Name → Bool) (o : Option Name) → ((s : Name) → k s ≡ true → f s ≡ true → g s ≡ true) → option_map_or k o true ≡ true → option_map_or f o false ≡ true → option_map_or g o false ≡ true
+both_super : (f g k : Name → Bool) (o : Option Name) → ((s : Name) → k s ≡ true → f s ≡ true → g s ≡ true) → option_map_or k o true ≡ true
+    → option_map_or f o false ≡ true → option_map_or g o false ≡ true
 both_super f g k None h e q = q
 both_super f g k (Some s) h e q = h s e q
 
-none_super : (f k : Name → Bool) (o : Option Name) → ((s : Name) → k s ≡ false) → option_map_or k o true ≡ true → option_map_or f o false ≡ true → ⊥
+none_super : (f k : Name → Bool) (o : Option Name) → ((s : Name) → k s ≡ false) → option_map_or k o true ≡ true
+    → option_map_or f o false ≡ true → ⊥
 none_super f k None h e q = absurd (false≢true q)
 none_super f k (Some s) h e q = absurd (false≢true (sym (h s) ∙ e))
 
@@ -41,7 +44,9 @@ module _ (files : Program) where
   more_steps zero (suc b) c d l w = or_left (name_eq c d) _ w
   more_steps (suc a) zero c d l w = absurd (omega arith)
   more_steps (suc a) (suc b) c d l w =
-      ⊎_elim (λ q. or_left (name_eq c d) _ q) (λ q. or_right (name_eq c d) _ (on_super _ _ (superclass_of files c) (λ s. more_steps a b s d (omega arith)) q)) (or_cases (name_eq c d) _ w)
+      ⊎_elim (λ q. or_left (name_eq c d) _ q)
+      (λ q. or_right (name_eq c d) _ (on_super _ _ (superclass_of files c) (λ s. more_steps a b s d (omega arith)) q))
+      (or_cases (name_eq c d) _ w)
 
   -- where the superclasses end, no more steps lead further
   enough : (n m : ℕ) (c d : Name) → ends files (suc n) c ≡ true → is_within files m c d ≡ true → is_within files n c d ≡ true
@@ -50,7 +55,8 @@ module _ (files : Program) where
       ⊎_elim (λ q. q) (λ q. absurd (none_super _ _ (superclass_of files c) (λ s. refl) e q)) (or_cases (name_eq c d) _ w)
   enough (suc n) zero c d e w = or_left (name_eq c d) _ w
   enough (suc n) (suc m) c d e w =
-      ⊎_elim (λ q. or_left (name_eq c d) _ q) (λ q. or_right (name_eq c d) _ (both_super _ _ _ (superclass_of files c) (λ s. enough n m s d) e q)) (or_cases (name_eq c d) _ w)
+      ⊎_elim (λ q. or_left (name_eq c d) _ q)
+      (λ q. or_right (name_eq c d) _ (both_super _ _ _ (superclass_of files c) (λ s. enough n m s d) e q)) (or_cases (name_eq c d) _ w)
 
   joined_ways : (n m : ℕ) (c d e : Name) → is_within files n c d ≡ true → is_within files m d e ≡ true → is_within files (n + m) c e ≡ true
   joined_ways zero m c d e p q =
@@ -68,7 +74,8 @@ module _ (files : Program) where
   subclass_self zero c = name_self c
   subclass_self (suc n) c = or_left (name_eq c c) _ (name_self c)
 
-  pub subclass_trans : Rooted files → (a b c : Name) → is_subclass files a b ≡ true → is_subclass files b c ≡ true → is_subclass files a c ≡ true
+  pub subclass_trans : Rooted files → (a b c : Name) → is_subclass files a b ≡ true → is_subclass files b c ≡ true
+      → is_subclass files a c ≡ true
   subclass_trans rooted a b c p q =
       let n = length (classes_of files) in enough n (n + n) a c (rooted a) (joined_ways n n a b c p q)
 
@@ -84,7 +91,8 @@ object_is_top files = refl
 top_within : (files : Program) (n : ℕ) (c : Name) → is_within files n java_lang_object c ≡ true → java_lang_object ≡ c
 top_within files zero c h = names_same java_lang_object c h
 top_within files (suc n) c h =
-    ⊎_elim (λ q. names_same java_lang_object c q) (λ q. absurd (false≢true (subst (λ o. option_map_or (λ s. is_within files n s c) o false ≡ true) (object_is_top files) q))) (or_cases (name_eq java_lang_object c) _ h)
+    ⊎_elim (λ q. names_same java_lang_object c q) (λ q. absurd (false≢true (subst (λ o. option_map_or (λ s. is_within files n s c) o false
+    ≡ true) (object_is_top files) q))) (or_cases (name_eq java_lang_object c) _ h)
 
 -- nothing is above Object but itself
 pub above_object : (files : Program) (c : Name) → is_subclass files java_lang_object c ≡ true → java_lang_object ≡ c

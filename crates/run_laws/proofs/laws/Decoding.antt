@@ -20,14 +20,17 @@ not_false true h = refl
 not_false false h = absurd cc
 
 -- an opcode that is known, at which nothing is malformed, begins a whole instruction
-whole_one : (known low negative whole : Bool) → not known ≡ false → (low || (negative || (known && (not whole && (not low && not negative))))) ≡ false → whole ≡ true
+whole_one : (known low negative whole : Bool) → not known ≡ false
+    → (low || (negative || (known && (not whole && (not low && not negative))))) ≡ false → whole ≡ true
 whole_one known low negative true k h = refl
 whole_one true true negative false k h = absurd cc
 whole_one true false true false k h = absurd cc
 whole_one true false false false k h = absurd cc
 whole_one false low negative false k h = absurd cc
 
-none_ends : (c : CodeTree) (o : Option ℕ) → end_of_decoding c.code ≡ o → option_map_or (λ pc. not (is_known_opcode c.code pc)) o false ≡ false → option_map_or (malformed_offset c) o false ≡ false → is_some o ≡ false
+none_ends : (c : CodeTree) (o : Option ℕ) → end_of_decoding c.code ≡ o
+    → option_map_or (λ pc. not (is_known_opcode c.code pc)) o false ≡ false → option_map_or (malformed_offset c) o false ≡ false
+    → is_some o ≡ false
 none_ends c None e known whole = refl
 none_ends c (Some pc) e known whole =
     let none : begins_none c.code pc ≡ true = found_passes (begins_none c.code) (boundaries c.code) pc e in
@@ -38,7 +41,8 @@ pub code_decodes : (m : MethodTree) (c : CodeTree) → unknown_opcode m c ≡ fa
 code_decodes m c known whole = ap (λ b. not b) (none_ends c (end_of_decoding c.code) refl known whole)
 
 -- of such a code its instructions are looked at
-pub of_decoded : (test : ℕ → Instr → Bool) (c : CodeTree) → decodes c.code ≡ true → any_decoded test c ≡ false → any_instruction test c ≡ false
+pub of_decoded : (test : ℕ → Instr → Bool) (c : CodeTree) → decodes c.code ≡ true → any_decoded test c ≡ false
+    → any_instruction test c ≡ false
 of_decoded test c d h = ap (λ b. b && any_instruction test c) (sym d) ∙ h
 
 -- ---- a class file
@@ -48,7 +52,8 @@ abbrev pub undecoded : MethodTree → CodeTree → Bool
 undecoded m c = not (decodes c.code)
 
 module _ (files : Program) (file : FileTree) where
-  undecoded_not : (m : MethodTree) (o : Option CodeTree) → option_map_or (unknown_opcode m) o false ≡ false → option_map_or (malformed_code files file m) o false ≡ false → option_map_or (undecoded m) o false ≡ false
+  undecoded_not : (m : MethodTree) (o : Option CodeTree) → option_map_or (unknown_opcode m) o false ≡ false
+      → option_map_or (malformed_code files file m) o false ≡ false → option_map_or (undecoded m) o false ≡ false
   undecoded_not m None known whole = refl
   undecoded_not m (Some c) known whole =
       let a = or_parts (too_few_locals file m c) _ whole in
@@ -60,7 +65,8 @@ module _ (files : Program) (file : FileTree) where
   abbrev malformed_in : MethodTree → Bool
   malformed_in m = option_map_or (malformed_code files file m) (code_in m.parts) false
 
-  none_undecoded : (ms : List MethodTree) → list_any unknown_in ms ≡ false → list_any malformed_in ms ≡ false → list_any (λ (m : MethodTree). option_map_or (undecoded m) (code_in m.parts) false) ms ≡ false
+  none_undecoded : (ms : List MethodTree) → list_any unknown_in ms ≡ false → list_any malformed_in ms ≡ false
+      → list_any (λ (m : MethodTree). option_map_or (undecoded m) (code_in m.parts) false) ms ≡ false
   none_undecoded [] known whole = refl
   none_undecoded (m ∷ ms) known whole =
       let k = or_parts (unknown_in m) _ known in
@@ -82,7 +88,8 @@ pub record IsWellFormed (files : Program) (file : FileTree) : Type 0 where
   pub none : has_malformed_code files file ≡ false
   pub decoded : any_code undecoded file ≡ false
 
-pub well_formed_all : (files some : Program) → list_any is_outside_profile some ≡ false → list_any (has_malformed_code files) some ≡ false → AllByRecursion (IsWellFormed files) some
+pub well_formed_all : (files some : Program) → list_any is_outside_profile some ≡ false → list_any (has_malformed_code files) some ≡ false
+    → AllByRecursion (IsWellFormed files) some
 well_formed_all files [] profile code = tt
 well_formed_all files (file ∷ some) profile code =
     let p = or_parts (is_outside_profile file) _ profile in

@@ -5,7 +5,8 @@ use Rattle.std.specs.List.{AllByRecursion, list_any, list_all}
 use Rattle.std.proofs.lemmas.Bool.{and_parts, or_parts, or_left, or_right}
 
 module _ {A : Type 0} where
-  first_step : (b : Bool) (y x : A) (o : Option A) (Q : Type 0) → cond b (Some y) o ≡ Some x → (b ≡ true → y ≡ x → Q) → (b ≡ false → o ≡ Some x → Q) → Q
+  first_step : (b : Bool) (y x : A) (o : Option A) (Q : Type 0) → cond b (Some y) o ≡ Some x → (b ≡ true → y ≡ x → Q)
+      → (b ≡ false → o ≡ Some x → Q) → Q
   first_step true y x o Q e f g = let q : y ≡ x = cc in f refl q
   first_step false y x o Q e f g = g refl e
 
@@ -37,12 +38,14 @@ module _ {A : Type 0} where
   every_all q [] h = tt
   every_all q (x ∷ xs) h = let p = and_parts (q x) _ h in (p.0, every_all q xs p.1)
 
-pub every_both : {A : Type 0} (P Q : A → Type 0) (xs : List A) → AllByRecursion P xs → AllByRecursion Q xs → AllByRecursion (λ x. P x × Q x) xs
+pub every_both : {A : Type 0} (P Q : A → Type 0) (xs : List A) → AllByRecursion P xs → AllByRecursion Q xs
+    → AllByRecursion (λ x. P x × Q x) xs
 every_both P Q [] a b = tt
 every_both P Q (x ∷ xs) a b = ((a.0, b.0), every_both P Q xs a.1 b.1)
 
 -- a value that comes from an optional one
-pub some_from : {A B : Type 0} (f : A → Option B) (o : Option A) (b : B) → option_and_then f o ≡ Some b → (a : A) × (o ≡ Some a) × (f a ≡ Some b)
+pub some_from : {A B : Type 0} (f : A → Option B) (o : Option A) (b : B) → option_and_then f o ≡ Some b
+    → (a : A) × (o ≡ Some a) × (f a ≡ Some b)
 some_from f None b e = absurd cc
 some_from f (Some a) b e = (a, refl, e)
 

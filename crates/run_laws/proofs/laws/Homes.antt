@@ -52,10 +52,12 @@ module _ (files : Program) where
   class_named c file e = names_same (name_of file) c (found_passes (is_named c) (classes_of files) file e)
 
   -- what holds of each class
-  pub class_has : (P : FileTree → Type 0) → AllByRecursion P built_in_classes → AllByRecursion P files → (c : Name) (file : FileTree) → class_of files c ≡ Some file → P file
+  pub class_has : (P : FileTree → Type 0) → AllByRecursion P built_in_classes → AllByRecursion P files → (c : Name) (file : FileTree)
+      → class_of files c ≡ Some file → P file
   class_has P a b c file e = found_has P (is_named c) (classes_of files) file (every_append P built_in_classes files a b) e
 
-  home_in : (method : Member) (m : MethodTree) (file : FileTree) → class_of files method.class ≡ Some file → declared_in file method.name method.descriptor ≡ Some m → Home files method m
+  home_in : (method : Member) (m : MethodTree) (file : FileTree) → class_of files method.class ≡ Some file
+      → declared_in file method.name method.descriptor ≡ Some m → Home files method m
   home_in method m file c d =
       let texts = and_parts _ _ (found_passes (is_method file.pool method.name method.descriptor) file.methods m d) in
       record {
@@ -73,16 +75,21 @@ module _ (files : Program) where
       home_in method m f.0 f.1 f.2
 
   -- what holds of each method of each class
-  pub method_has : (Q : FileTree → MethodTree → Type 0) → AllByRecursion (λ file. AllByRecursion (Q file) file.methods) built_in_classes → AllByRecursion (λ file. AllByRecursion (Q file) file.methods) files → (method : Member) (m : MethodTree) (h : Home files method m) → Q h.file m
+  pub method_has : (Q : FileTree → MethodTree → Type 0) → AllByRecursion (λ file. AllByRecursion (Q file) file.methods) built_in_classes
+      → AllByRecursion (λ file. AllByRecursion (Q file) file.methods) files → (method : Member) (m : MethodTree) (h : Home files method m)
+      → Q h.file m
   method_has Q a b method m h =
       found_has (Q h.file) (is_method h.file.pool method.name method.descriptor) h.file.methods m
       (class_has (λ file. AllByRecursion (Q file) file.methods) a b method.class h.file h.is_class) h.is_declared
 
-  code_then : (method : Member) (body : Body) (m : MethodTree) (h : Home files method m) → (o : Option CodeTree) → code_in m.parts ≡ o → option_map (with_pool h.file.pool) o ≡ Some body → Coded files method body
+  code_then : (method : Member) (body : Body) (m : MethodTree) (h : Home files method m) → (o : Option CodeTree) → code_in m.parts ≡ o
+      → option_map (with_pool h.file.pool) o ≡ Some body → Coded files method body
   code_then method body m h None q e = absurd cc
   code_then method body m h (Some code) q e = record { method_tree = m; home = h; code = code; is_code = q; is_body = let s : with_pool h.file.pool code ≡ body = cc in sym s }
 
-  coded_in : (method : Member) (body : Body) (file : FileTree) → class_of files method.class ≡ Some file → (o : Option MethodTree) → declared_in file method.name method.descriptor ≡ o → option_map (with_pool file.pool) (option_and_then (λ (m : MethodTree). code_in m.parts) o) ≡ Some body → Coded files method body
+  coded_in : (method : Member) (body : Body) (file : FileTree) → class_of files method.class ≡ Some file → (o : Option MethodTree)
+      → declared_in file method.name method.descriptor ≡ o
+      → option_map (with_pool file.pool) (option_and_then (λ (m : MethodTree). code_in m.parts) o) ≡ Some body → Coded files method body
   unfolding home_in
   coded_in method body file c None d e = absurd cc
   coded_in method body file c (Some m) d e = code_then method body m (home_in method m file c d) (code_in m.parts) refl e

@@ -47,34 +47,62 @@ pub record Linked (files : Program) : Type 0 where
   pub rooted : Rooted files
   pub main : Main files
   -- a method without code is abstract or one of the machine
-  pub native : (method : Member) (m : MethodTree) → method_of files method ≡ Some m → is_abstract_method m ≡ false → body_of files method ≡ None → is_of_the_machine method ≡ true
+  pub native : (method : Member) (m : MethodTree) → method_of files method ≡ Some m → is_abstract_method m ≡ false
+      → body_of files method ≡ None → is_of_the_machine method ≡ true
   -- a static method is not abstract
-  pub static_is_concrete : (method : Member) (m : MethodTree) → method_of files method ≡ Some m → is_static_method m ≡ true → is_abstract_method m ≡ false
+  pub static_is_concrete : (method : Member) (m : MethodTree) → method_of files method ≡ Some m → is_static_method m ≡ true
+      → is_abstract_method m ≡ false
   -- a constructor is not abstract, and returns nothing
-  pub constructor_is_concrete : (method : Member) (m : MethodTree) → method_of files method ≡ Some m → name_eq method.name constructor_name ≡ true → is_abstract_method m ≡ false
-  pub constructor_returns_nothing : (method : Member) (m : MethodTree) → method_of files method ≡ Some m → name_eq method.name constructor_name ≡ true → results_declared method.descriptor ≡ []
+  pub constructor_is_concrete : (method : Member) (m : MethodTree) → method_of files method ≡ Some m
+      → name_eq method.name constructor_name ≡ true → is_abstract_method m ≡ false
+  pub constructor_returns_nothing : (method : Member) (m : MethodTree) → method_of files method ≡ Some m
+      → name_eq method.name constructor_name ≡ true → results_declared method.descriptor ≡ []
   -- of the methods of an interface none is private, its initialiser aside
-  pub interface_is_public : (method : Member) (m : MethodTree) → method_of files method ≡ Some m → is_interface files method.class ≡ true → name_eq method.name initialiser_name ≡ false → is_private_method m ≡ false
+  pub interface_is_public : (method : Member) (m : MethodTree) → method_of files method ≡ Some m → is_interface files method.class ≡ true
+      → name_eq method.name initialiser_name ≡ false → is_private_method m ≡ false
   -- a private method is not abstract
-  pub private_is_concrete : (method : Member) (m : MethodTree) → method_of files method ≡ Some m → is_private_method m ≡ true → is_abstract_method m ≡ false
+  pub private_is_concrete : (method : Member) (m : MethodTree) → method_of files method ≡ Some m → is_private_method m ≡ true
+      → is_abstract_method m ≡ false
   -- a private method that a class's method reference finds stands in the class or above it
-  pub private_is_above : (named found : Member) (m : MethodTree) → IsCallable named → find_method files named ≡ Some found → method_of files found ≡ Some m → is_private_method m ≡ true → is_subclass files named.class found.class ≡ true
-  pub interface_found_is_public : (named found : Member) (m : MethodTree) → IsCallable named → is_interface files named.class ≡ true → find_interface_method files named ≡ Some found → method_of files found ≡ Some m → is_private_method m ≡ false
+  pub private_is_above : (named found : Member) (m : MethodTree) → IsCallable named → find_method files named ≡ Some found
+      → method_of files found ≡ Some m → is_private_method m ≡ true → is_subclass files named.class found.class ≡ true
+  pub interface_found_is_public : (named found : Member) (m : MethodTree) → IsCallable named → is_interface files named.class ≡ true
+      → find_interface_method files named ≡ Some found → method_of files found ≡ Some m → is_private_method m ≡ false
   -- no instruction calls the initialiser of a class (JVMS 4.9.1)
-  pub callable : (method : Member) (body : Body) (offset size : ℕ) (how : Invocation) (index : ℕ) (named : Member) → body_of files method ≡ Some body → is_start body.code.code offset ≡ true → sized_at body.code.code offset ≡ Some (Invoke how index, size) → method_at body.pool index ≡ Some named → IsCallable named
-  pub callable_interface : (method : Member) (body : Body) (offset size index count last : ℕ) (named : Member) → body_of files method ≡ Some body → is_start body.code.code offset ≡ true → sized_at body.code.code offset ≡ Some (InvokeInterface index count last, size) → interface_method_at body.pool index ≡ Some named → IsCallable named
+  pub callable : (method : Member) (body : Body) (offset size : ℕ) (how : Invocation) (index : ℕ) (named : Member)
+      → body_of files method ≡ Some body → is_start body.code.code offset ≡ true
+      → sized_at body.code.code offset ≡ Some (Invoke how index, size) → method_at body.pool index ≡ Some named → IsCallable named
+  pub callable_interface : (method : Member) (body : Body) (offset size index count last : ℕ) (named : Member)
+      → body_of files method ≡ Some body → is_start body.code.code offset ≡ true
+      → sized_at body.code.code offset ≡ Some (InvokeInterface index count last, size) → interface_method_at body.pool index ≡ Some named
+      → IsCallable named
   -- invokeinterface names an interface, and no other call does (JVMS 5.4.3.3, 5.4.3.4)
-  pub calls_class : (method : Member) (body : Body) (offset size : ℕ) (how : Invocation) (index : ℕ) (named : Member) → body_of files method ≡ Some body → is_start body.code.code offset ≡ true → sized_at body.code.code offset ≡ Some (Invoke how index, size) → method_at body.pool index ≡ Some named → is_interface files named.class ≡ false
-  pub calls_interface : (method : Member) (body : Body) (offset size index count last : ℕ) (named : Member) → body_of files method ≡ Some body → is_start body.code.code offset ≡ true → sized_at body.code.code offset ≡ Some (InvokeInterface index count last, size) → interface_method_at body.pool index ≡ Some named → is_interface files named.class ≡ true
+  pub calls_class : (method : Member) (body : Body) (offset size : ℕ) (how : Invocation) (index : ℕ) (named : Member)
+      → body_of files method ≡ Some body → is_start body.code.code offset ≡ true
+      → sized_at body.code.code offset ≡ Some (Invoke how index, size) → method_at body.pool index ≡ Some named
+      → is_interface files named.class ≡ false
+  pub calls_interface : (method : Member) (body : Body) (offset size index count last : ℕ) (named : Member)
+      → body_of files method ≡ Some body → is_start body.code.code offset ≡ true
+      → sized_at body.code.code offset ≡ Some (InvokeInterface index count last, size) → interface_method_at body.pool index ≡ Some named
+      → is_interface files named.class ≡ true
   -- invokespecial of another method than a constructor names the current class or one above it (JVMS 4.9.1)
-  pub special : (method : Member) (body : Body) (offset size index : ℕ) (named : Member) → body_of files method ≡ Some body → is_start body.code.code offset ≡ true → sized_at body.code.code offset ≡ Some (Invoke invocation.Special index, size) → method_at body.pool index ≡ Some named → name_eq named.name constructor_name ≡ false → is_subclass files method.class named.class ≡ true
+  pub special : (method : Member) (body : Body) (offset size index : ℕ) (named : Member) → body_of files method ≡ Some body
+      → is_start body.code.code offset ≡ true → sized_at body.code.code offset ≡ Some (Invoke invocation.Special index, size)
+      → method_at body.pool index ≡ Some named → name_eq named.name constructor_name ≡ false
+      → is_subclass files method.class named.class ≡ true
   -- above an interface there is Object alone
   pub interface_super : (class : Name) → is_interface files class ≡ true → superclass_of files class ≡ Some java_lang_object
   -- an object of a class or of one that implements it is of the verifier's type for it
-  pub subtype_made : (c d : Name) → is_subclass_or_implements files c d ≡ true → is_assignable files (ClassType c) (made_type files (ClassType d)) ≡ true
+  pub subtype_made : (c d : Name) → is_subclass_or_implements files c d ≡ true
+      → is_assignable files (ClassType c) (made_type files (ClassType d)) ≡ true
   -- what a handler catches is no array class
-  pub catches : (method : Member) (body : Body) → body_of files method ≡ Some body → AllByRecursion (λ (e : ExceptionEntry). (class : Name) → class_name_at body.pool e.catch_type ≡ Some class → is_array_class class ≡ false) body.code.exceptions
+  pub catches : (method : Member) (body : Body) → body_of files method ≡ Some body
+      → AllByRecursion (λ (e : ExceptionEntry). (class : Name) → class_name_at body.pool e.catch_type ≡ Some class
+      → is_array_class class ≡ false) body.code.exceptions
   -- the constant of a field is of a kind that its descriptor asks for (JVMS 4.7.2)
-  pub constants_fit : (class : Name) (file : FileTree) → class_of files class ≡ Some file → AllByRecursion (λ (field : FieldTree). (index : ℕ) → constant_in field.parts ≡ Some index → is_constant_of (text_at file.pool field.descriptor) (entry_at file.pool index) ≡ true) file.fields
+  pub constants_fit : (class : Name) (file : FileTree) → class_of files class ≡ Some file
+      → AllByRecursion (λ (field : FieldTree). (index : ℕ) → constant_in field.parts ≡ Some index
+      → is_constant_of (text_at file.pool field.descriptor) (entry_at file.pool index) ≡ true) file.fields
   -- the text of each String of a constant pool has an object
-  pub string_known : (class : Name) (file : FileTree) → class_of files class ≡ Some file → (index text : ℕ) (bytes : List ℕ) → entry_at file.pool index ≡ String text → utf8_at file.pool text ≡ Some bytes → list_any (name_eq bytes) (string_texts files) ≡ true
+  pub string_known : (class : Name) (file : FileTree) → class_of files class ≡ Some file → (index text : ℕ) (bytes : List ℕ)
+      → entry_at file.pool index ≡ String text → utf8_at file.pool text ≡ Some bytes → list_any (name_eq bytes) (string_texts files) ≡ true

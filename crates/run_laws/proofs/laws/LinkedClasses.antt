@@ -25,12 +25,14 @@ use Rattle.run_laws.proofs.laws.LinkedCode.{resolved}
 
 -- ---- entries of a constant pool that has its indices right
 
-every_entry : (q : Entry → Bool) (pool : List Entry) (index : ℕ) → q Unusable ≡ true → list_all q pool ≡ true → q (get_or pool index Unusable) ≡ true
+every_entry : (q : Entry → Bool) (pool : List Entry) (index : ℕ) → q Unusable ≡ true → list_all q pool ≡ true
+    → q (get_or pool index Unusable) ≡ true
 every_entry q [] index u h = u
 every_entry q (e ∷ pool) zero u h = (and_parts (q e) _ h).0
 every_entry q (e ∷ pool) (suc index) u h = every_entry q pool index u (and_parts (q e) _ h).1
 
-pub entry_right : (q : Entry → Bool) (pool : List Entry) (index : ℕ) → q Unusable ≡ true → list_all q pool ≡ true → q (entry_at pool index) ≡ true
+pub entry_right : (q : Entry → Bool) (pool : List Entry) (index : ℕ) → q Unusable ≡ true → list_all q pool ≡ true
+    → q (entry_at pool index) ≡ true
 entry_right q pool zero u h = u
 entry_right q pool (suc index) u h = every_entry q pool index u h
 
@@ -48,7 +50,8 @@ has_text (InterfaceMethod class name) h = h
 has_text (NameAndType name descriptor) h = h
 has_text Unusable h = h
 
-pub has_class_name : (pool : List Entry) (e : Entry) → is_class e ≡ true → entry_indices pool e ≡ true → is_some (class_name_of pool e) ≡ true
+pub has_class_name : (pool : List Entry) (e : Entry) → is_class e ≡ true → entry_indices pool e ≡ true
+    → is_some (class_name_of pool e) ≡ true
 has_class_name pool (Utf8 text) h i = h
 has_class_name pool (Integer bits) h i = h
 has_class_name pool (Float bits) h i = h
@@ -85,11 +88,14 @@ pub record Ordered (files : Program) (file : FileTree) : Type 0 where
   pub catches : catches_no_throwable files file ≡ false
 
 module _ (files : Program) where
-  built_in_ordered : list_all (λ file. (name_eq (name_of file) java_lang_object || is_some (super_name_of file)) && not (implements_class files file || (interface_below_other files file || catches_no_throwable files file))) built_in_classes ≡ true
+  built_in_ordered : list_all (λ file. (name_eq (name_of file) java_lang_object || is_some (super_name_of file)) &&
+      not (implements_class files file || (interface_below_other files file || catches_no_throwable files file))) built_in_classes ≡ true
   unfolding built_in_classes
   built_in_ordered = refl
 
-  ordered_built_in : (file : FileTree) → ((name_eq (name_of file) java_lang_object || is_some (super_name_of file)) && not (implements_class files file || (interface_below_other files file || catches_no_throwable files file))) ≡ true → Ordered files file
+  ordered_built_in : (file : FileTree) → ((name_eq (name_of file) java_lang_object || is_some (super_name_of file)) &&
+      not (implements_class files file || (interface_below_other files file || catches_no_throwable files file))) ≡ true
+      → Ordered files file
   ordered_built_in file h =
       let a = and_parts (name_eq (name_of file) java_lang_object || is_some (super_name_of file)) _ h in
       let b = or_parts (implements_class files file) _ (not-true _ a.1) in
@@ -126,7 +132,8 @@ module _ (files : Program) where
     pub rooted : Rooted files
     rooted = rooted_of files (every_cycle files ok.hierarchy)
       where
-        every_cycle : (fs : List FileTree) → AllByRecursion (λ file. has_bad_hierarchy files file ≡ false) fs → list_any (in_cycle files) fs ≡ false
+        every_cycle : (fs : List FileTree) → AllByRecursion (λ file. has_bad_hierarchy files file ≡ false) fs
+            → list_any (in_cycle files) fs ≡ false
         every_cycle [] h = refl
         every_cycle (f ∷ fs) h = or_from (in_cycle files f) _ (or_parts (in_cycle files f) _ h.0).0 (every_cycle fs h.1)
 
@@ -137,7 +144,8 @@ module _ (files : Program) where
         found_in None q = absurd (true≢false (sym (ap is_none q) ∙ h))
         found_in (Some file) q = (file, q)
 
-    super_found : (c s : Name) (file : FileTree) → class_of files c ≡ Some file → super_name_of file ≡ Some s → (above : FileTree) × (class_of files s ≡ Some above)
+    super_found : (c s : Name) (file : FileTree) → class_of files c ≡ Some file → super_name_of file ≡ Some s
+        → (above : FileTree) × (class_of files s ≡ Some above)
     super_found c s file e q =
         is_found s (sym (map_or_at (is_missing files) (super_name_of file) false s q) ∙ (resolved files ok c file e).super)
 
@@ -145,7 +153,8 @@ module _ (files : Program) where
     super_is c s file e q = ap (λ o. option_and_then super_name_of o) e ∙ q
 
     -- each class is below Object
-    below_by : (k : ℕ) (c : Name) (file : FileTree) → class_of files c ≡ Some file → ends files k c ≡ true → is_within files k c java_lang_object ≡ true
+    below_by : (k : ℕ) (c : Name) (file : FileTree) → class_of files c ≡ Some file → ends files k c ≡ true
+        → is_within files k c java_lang_object ≡ true
     below_by zero c file e h = absurd (false≢true h)
     below_by (suc k) c file e h =
         ⊎_elim (λ t. or_left (name_eq c java_lang_object) _ (subst (λ n. name_eq n java_lang_object ≡ true) (class_named files c file e) t))
@@ -166,10 +175,12 @@ module _ (files : Program) where
         let n = suc (length (classes_of files)) in
         within_subclass files rooted n c java_lang_object (below_by n c file e (rooted c))
 
-    interface_there : (c : Name) → is_interface files c ≡ true → (file : FileTree) × (class_of files c ≡ Some file) × (is_interface_class file ≡ true)
+    interface_there : (c : Name) → is_interface files c ≡ true
+        → (file : FileTree) × (class_of files c ≡ Some file) × (is_interface_class file ≡ true)
     interface_there c h = there (class_of files c) refl
       where
-        there : (o : Option FileTree) → class_of files c ≡ o → (file : FileTree) × (class_of files c ≡ Some file) × (is_interface_class file ≡ true)
+        there : (o : Option FileTree) → class_of files c ≡ o
+            → (file : FileTree) × (class_of files c ≡ Some file) × (is_interface_class file ≡ true)
         there None q = absurd (false≢true (sym (ap (λ o. option_map_or is_interface_class o false) q) ∙ h))
         there (Some file) q = (file, q, sym (ap (λ o. option_map_or is_interface_class o false) q) ∙ h)
 
@@ -178,7 +189,8 @@ module _ (files : Program) where
         let i = interface_there class h in
         ap (λ o. option_and_then super_name_of o) i.1 ∙ object_above (is_interface_class i.0) (super_name_of i.0) i.2 (ordered class i.0 i.1).interface
       where
-        object_above : (b : Bool) (o : Option Name) → b ≡ true → (b && not (option_map_or (λ s. name_eq s java_lang_object) o false)) ≡ false → o ≡ Some java_lang_object
+        object_above : (b : Bool) (o : Option Name) → b ≡ true
+            → (b && not (option_map_or (λ s. name_eq s java_lang_object) o false)) ≡ false → o ≡ Some java_lang_object
         object_above b None t q = absurd (true≢false (sym (ap (λ x. x && true) t) ∙ q))
         object_above b (Some s) t q = ap (λ x. Some x) (names_same s java_lang_object (must_hold b (name_eq s java_lang_object) t q))
 
@@ -199,7 +211,8 @@ module _ (files : Program) where
             every_weaken (λ d. (is_found_class files d ≡ false) × (is_missing files d ≡ false)) (λ d. is_interface files d ≡ true) (interface_names file) (λ d p. found_interface d p.0 p.1)
             (every_both _ _ (interface_names file) (none_any (is_found_class files) (interface_names file) (ordered c file q).implemented) (none_any (is_missing files) (interface_names file) (resolved files ok c file q).interfaces))
 
-    every_flat : (P Q : Name → Type 0) (f : Name → List Name) (xs : List Name) → AllByRecursion P xs → ((x : Name) → P x → AllByRecursion Q (f x)) → AllByRecursion Q (flat_map f xs)
+    every_flat : (P Q : Name → Type 0) (f : Name → List Name) (xs : List Name) → AllByRecursion P xs
+        → ((x : Name) → P x → AllByRecursion Q (f x)) → AllByRecursion Q (flat_map f xs)
     every_flat P Q f [] h g = tt
     every_flat P Q f (x ∷ xs) h g = every_append Q (f x) (flat_map f xs) (g x h.0) (every_flat P Q f xs h.1 g)
 

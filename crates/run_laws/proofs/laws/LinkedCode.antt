@@ -32,20 +32,23 @@ use Rattle.run_laws.proofs.laws.Decoding.{not_false, of_decoded, undecoded, all_
 
 -- ---- a condition that stands at no boundary
 
-unmarked : (q : ℕ → Bool) (base : ℕ) (marks : List Bool) (k : ℕ) → list_any q (marked_from base marks) ≡ false → slice_index_or marks k false ≡ true → q (base + k) ≡ false
+unmarked : (q : ℕ → Bool) (base : ℕ) (marks : List Bool) (k : ℕ) → list_any q (marked_from base marks) ≡ false
+    → slice_index_or marks k false ≡ true → q (base + k) ≡ false
 unmarked q base [] k h m = absurd (false≢true m)
 unmarked q base (true ∷ marks) zero h m = subst (λ n. q n ≡ false) (omega arith) (or_parts (q base) _ h).0
 unmarked q base (false ∷ marks) zero h m = absurd (false≢true m)
 unmarked q base (true ∷ marks) (suc k) h m = subst (λ n. q n ≡ false) (omega arith) (unmarked q (suc base) marks k (or_parts (q base) _ h).1 m)
 unmarked q base (false ∷ marks) (suc k) h m = subst (λ n. q n ≡ false) (omega arith) (unmarked q (suc base) marks k h m)
 
-pub no_instruction : (test : ℕ → Instr → Bool) (c : CodeTree) (pc : ℕ) (i : Instr) → any_instruction test c ≡ false → is_start c.code pc ≡ true → instr_at c.code pc ≡ Some i → test pc i ≡ false
+pub no_instruction : (test : ℕ → Instr → Bool) (c : CodeTree) (pc : ℕ) (i : Instr) → any_instruction test c ≡ false
+    → is_start c.code pc ≡ true → instr_at c.code pc ≡ Some i → test pc i ≡ false
 no_instruction test c pc i h start is =
     let at : ℕ → Bool = λ k. option_map_or (test k) (instr_at c.code k) false in
     let here : at pc ≡ false = subst (λ k. at k ≡ false) (omega arith) (unmarked at 0 _ pc h start) in
     sym (map_or_at (test pc) (instr_at c.code pc) false i is) ∙ here
 
-pub no_code : (files : Program) (method : Member) (body : Body) (test : MethodTree → CodeTree → Bool) (c : Coded files method body) → any_code test c.home.file ≡ false → test c.method_tree c.code ≡ false
+pub no_code : (files : Program) (method : Member) (body : Body) (test : MethodTree → CodeTree → Bool) (c : Coded files method body)
+    → any_code test c.home.file ≡ false → test c.method_tree c.code ≡ false
 no_code files method body test c h =
     sym (map_or_at (test c.method_tree) (code_in c.method_tree.parts) false c.code c.is_code)
     ∙ found_has (λ (m : MethodTree). option_map_or (test m) (code_in m.parts) false ≡ false) (is_method c.home.file.pool method.name method.descriptor) c.home.file.methods c.method_tree
@@ -75,11 +78,14 @@ module _ (files : Program) where
       let a = or_parts (any_code unknown_opcode file) _ (not-true _ h) in
       record { none = a.1; decoded = all_decode files file a.0 a.1 }
 
-  built_in_named : list_all (λ file. not (superclass_missing files file || (interface_missing files file || any_instruction_in (misnames files file) file))) built_in_classes ≡ true
+  built_in_named : list_all (λ file. not (superclass_missing files file
+      || (interface_missing files file || any_instruction_in (misnames files file) file))) built_in_classes ≡ true
   unfolding built_in_classes low_form high_form wide_at table_switch_at lookup_switch_at starts_from element_at field_at field_type parameters_at method_type
   built_in_named = refl
 
-  resolved_built_in : (file : FileTree) → not (superclass_missing files file || (interface_missing files file || any_instruction_in (misnames files file) file)) ≡ true → Resolved files file
+  resolved_built_in : (file : FileTree) → not
+      (superclass_missing files file || (interface_missing files file || any_instruction_in (misnames files file) file)) ≡ true
+      → Resolved files file
   resolved_built_in file h =
       let a = or_parts _ _ (not-true _ h) in
       let b = or_parts _ _ a.1 in
@@ -143,7 +149,10 @@ module _ (files : Program) where
           (no_instruction (λ pc j. r.test j) c.code offset i
           (no_code files method body (λ m code. any_instruction (λ pc j. r.test j) code) c r.none) start is)
 
-      later_conditions : (constructor_not_by_special c.home.file.pool i || (calls_initialiser c.home.file.pool i || (special_of_class_aside files c.home.file i || (new_of_array c.home.file.pool i || too_many_dimensions c.home.file.pool i)))) ≡ false
+      later_conditions : (constructor_not_by_special c.home.file.pool i
+          || (calls_initialiser c.home.file.pool i
+          || (special_of_class_aside files c.home.file i || (new_of_array c.home.file.pool i || too_many_dimensions c.home.file.pool i))))
+          ≡ false
       later_conditions =
           let a = or_parts (jump_off_boundary c.code offset i) _ well_formed in
           let b = or_parts (unsorted_matches c.code i) _ a.1 in
@@ -172,20 +181,29 @@ module _ (files : Program) where
     instr_of code offset i size e = ap (λ o. option_map (λ (s : Sized). s.0) o) e
 
     -- of the body as it is found
-    on_body : (P : Body → Type 0) (method : Member) (body : Body) → body_of files method ≡ Some body → ((c : Coded files method body) → P (with_pool c.home.file.pool c.code)) → P body
+    on_body : (P : Body → Type 0) (method : Member) (body : Body) → body_of files method ≡ Some body
+        → ((c : Coded files method body) → P (with_pool c.home.file.pool c.code)) → P body
     on_body P method body e f = let c = coded_of files method body e in subst P (sym c.is_body) (f c)
 
-    pub callable : (method : Member) (body : Body) (offset size : ℕ) (how : Invocation) (index : ℕ) (named : Member) → body_of files method ≡ Some body → is_start body.code.code offset ≡ true → sized_at body.code.code offset ≡ Some (Invoke how index, size) → method_at body.pool index ≡ Some named → IsCallable named
+    pub callable : (method : Member) (body : Body) (offset size : ℕ) (how : Invocation) (index : ℕ) (named : Member)
+        → body_of files method ≡ Some body → is_start body.code.code offset ≡ true
+        → sized_at body.code.code offset ≡ Some (Invoke how index, size) → method_at body.pool index ≡ Some named → IsCallable named
     callable method body offset size how index named e =
         on_body (λ b. is_start b.code.code offset ≡ true → sized_at b.code.code offset ≡ Some (Invoke how index, size) → method_at b.pool index ≡ Some named → IsCallable named) method body e
         (λ c start is m. not_initialiser method body c offset (Invoke how index) start (instr_of c.code.code offset (Invoke how index) size is) named m)
 
-    pub callable_interface : (method : Member) (body : Body) (offset size index count last : ℕ) (named : Member) → body_of files method ≡ Some body → is_start body.code.code offset ≡ true → sized_at body.code.code offset ≡ Some (InvokeInterface index count last, size) → interface_method_at body.pool index ≡ Some named → IsCallable named
+    pub callable_interface : (method : Member) (body : Body) (offset size index count last : ℕ) (named : Member)
+        → body_of files method ≡ Some body → is_start body.code.code offset ≡ true
+        → sized_at body.code.code offset ≡ Some (InvokeInterface index count last, size) → interface_method_at body.pool index ≡ Some named
+        → IsCallable named
     callable_interface method body offset size index count last named e =
         on_body (λ b. is_start b.code.code offset ≡ true → sized_at b.code.code offset ≡ Some (InvokeInterface index count last, size) → interface_method_at b.pool index ≡ Some named → IsCallable named) method body e
         (λ c start is m. not_initialiser method body c offset (InvokeInterface index count last) start (instr_of c.code.code offset (InvokeInterface index count last) size is) named m)
 
-    pub special : (method : Member) (body : Body) (offset size index : ℕ) (named : Member) → body_of files method ≡ Some body → is_start body.code.code offset ≡ true → sized_at body.code.code offset ≡ Some (Invoke invocation.Special index, size) → method_at body.pool index ≡ Some named → name_eq named.name constructor_name ≡ false → is_subclass files method.class named.class ≡ true
+    pub special : (method : Member) (body : Body) (offset size index : ℕ) (named : Member) → body_of files method ≡ Some body
+        → is_start body.code.code offset ≡ true → sized_at body.code.code offset ≡ Some (Invoke invocation.Special index, size)
+        → method_at body.pool index ≡ Some named → name_eq named.name constructor_name ≡ false
+        → is_subclass files method.class named.class ≡ true
     special method body offset size index named e =
         on_body (λ b. is_start b.code.code offset ≡ true → sized_at b.code.code offset ≡ Some (Invoke invocation.Special index, size) → method_at b.pool index ≡ Some named → name_eq named.name constructor_name ≡ false → is_subclass files method.class named.class ≡ true) method body e
         (λ c start is m other.
@@ -194,11 +212,14 @@ module _ (files : Program) where
         subst (λ n. is_subclass files n named.class ≡ true) c.home.named
         (both_not (name_eq named.name constructor_name) (is_subclass files (name_of c.home.file) named.class) none other))
 
-    no_interface : (o : Option FileTree) → option_map_or (λ (f : FileTree). differs false (is_interface_class f)) o false ≡ false → option_map_or is_interface_class o false ≡ false
+    no_interface : (o : Option FileTree) → option_map_or (λ (f : FileTree). differs false (is_interface_class f)) o false ≡ false
+        → option_map_or is_interface_class o false ≡ false
     no_interface None h = refl
     no_interface (Some f) h = h
 
-    an_interface : (o : Option FileTree) → is_none o ≡ false → option_map_or (λ (f : FileTree). differs true (is_interface_class f)) o false ≡ false → option_map_or is_interface_class o false ≡ true
+    an_interface : (o : Option FileTree) → is_none o ≡ false
+        → option_map_or (λ (f : FileTree). differs true (is_interface_class f)) o false ≡ false
+        → option_map_or is_interface_class o false ≡ true
     an_interface None n h = absurd (true≢false n)
     an_interface (Some f) n h = not_false (is_interface_class f) h
       where
@@ -207,10 +228,14 @@ module _ (files : Program) where
         not_false false h = sym h
 
     -- the class of a named method
-    of_named : (o : Option Member) (named : Member) (test : FileTree → Bool) → o ≡ Some named → option_map_or test (option_and_then (λ (m : Member). class_of files m.class) o) false ≡ false → option_map_or test (class_of files named.class) false ≡ false
+    of_named : (o : Option Member) (named : Member) (test : FileTree → Bool) → o ≡ Some named
+        → option_map_or test (option_and_then (λ (m : Member). class_of files m.class) o) false ≡ false
+        → option_map_or test (class_of files named.class) false ≡ false
     of_named o named test e h = subst (λ x. option_map_or test (option_and_then (λ (m : Member). class_of files m.class) x) false ≡ false) e h
 
-    found_class : (pool : List Entry) (i : Instr) (file : FileTree) (named : Member) → file.pool ≡ pool → field_operand pool i ≡ None → class_operand pool i ≡ None → method_operand pool i ≡ Some named → operand_class_missing files file i ≡ false → is_none (class_of files named.class) ≡ false
+    found_class : (pool : List Entry) (i : Instr) (file : FileTree) (named : Member) → file.pool ≡ pool → field_operand pool i ≡ None
+        → class_operand pool i ≡ None → method_operand pool i ≡ Some named → operand_class_missing files file i ≡ false
+        → is_none (class_of files named.class) ≡ false
     found_class pool i file named p f c m h =
         let in_pool : list_any (is_missing files) (operand_classes pool i) ≡ false = subst (λ q. list_any (is_missing files) (operand_classes q i) ≡ false) p h in
         let fields : list_any (is_missing files) (flat_map classes_named [] ++ (member_classes None ++ member_classes (Some named))) ≡ false =
@@ -219,17 +244,25 @@ module _ (files : Program) where
         (subst (λ o. list_any (is_missing files) (flat_map classes_named (option_to_list o) ++ (member_classes (field_operand pool i) ++ member_classes (method_operand pool i))) ≡ false) c in_pool)) in
         (or_parts (is_none (class_of files named.class)) _ fields).0
 
-    pub calls_class : (method : Member) (body : Body) (offset size : ℕ) (how : Invocation) (index : ℕ) (named : Member) → body_of files method ≡ Some body → is_start body.code.code offset ≡ true → sized_at body.code.code offset ≡ Some (Invoke how index, size) → method_at body.pool index ≡ Some named → is_interface files named.class ≡ false
+    pub calls_class : (method : Member) (body : Body) (offset size : ℕ) (how : Invocation) (index : ℕ) (named : Member)
+        → body_of files method ≡ Some body → is_start body.code.code offset ≡ true
+        → sized_at body.code.code offset ≡ Some (Invoke how index, size) → method_at body.pool index ≡ Some named
+        → is_interface files named.class ≡ false
     calls_class method body offset size how index named e =
         on_body (λ b. is_start b.code.code offset ≡ true → sized_at b.code.code offset ≡ Some (Invoke how index, size) → method_at b.pool index ≡ Some named → is_interface files named.class ≡ false) method body e
         (λ c start is m.
         let h = or_parts (operand_class_missing files c.home.file (Invoke how index)) (call_on_other_kind files c.home.file (Invoke how index)) (well_named method body c offset (Invoke how index) start (instr_of c.code.code offset (Invoke how index) size is)) in
         no_interface (class_of files named.class) (of_named (method_at c.home.file.pool index) named (λ (f : FileTree). differs false (is_interface_class f)) m (not_wanted how index c.home.file h.1)))
       where
-        not_wanted : (how : Invocation) (index : ℕ) (file : FileTree) → call_on_other_kind files file (Invoke how index) ≡ false → option_map_or (λ (f : FileTree). differs false (is_interface_class f)) (option_and_then (λ (m : Member). class_of files m.class) (method_at file.pool index)) false ≡ false
+        not_wanted : (how : Invocation) (index : ℕ) (file : FileTree) → call_on_other_kind files file (Invoke how index) ≡ false
+            → option_map_or (λ (f : FileTree). differs false (is_interface_class f))
+            (option_and_then (λ (m : Member). class_of files m.class) (method_at file.pool index)) false ≡ false
         not_wanted how index file h = h
 
-    pub calls_interface : (method : Member) (body : Body) (offset size index count last : ℕ) (named : Member) → body_of files method ≡ Some body → is_start body.code.code offset ≡ true → sized_at body.code.code offset ≡ Some (InvokeInterface index count last, size) → interface_method_at body.pool index ≡ Some named → is_interface files named.class ≡ true
+    pub calls_interface : (method : Member) (body : Body) (offset size index count last : ℕ) (named : Member)
+        → body_of files method ≡ Some body → is_start body.code.code offset ≡ true
+        → sized_at body.code.code offset ≡ Some (InvokeInterface index count last, size) → interface_method_at body.pool index ≡ Some named
+        → is_interface files named.class ≡ true
     calls_interface method body offset size index count last named e =
         on_body (λ b. is_start b.code.code offset ≡ true → sized_at b.code.code offset ≡ Some (InvokeInterface index count last, size) → interface_method_at b.pool index ≡ Some named → is_interface files named.class ≡ true) method body e
         (λ c start is m.

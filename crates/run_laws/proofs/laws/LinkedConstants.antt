@@ -25,7 +25,8 @@ use Rattle.run_laws.proofs.laws.LinkedClasses.{entry_right}
 abbrev pub FitsIn : List Entry → FieldTree → Type 0
 FitsIn pool field = (index : ℕ) → constant_in field.parts ≡ Some index → is_constant_of (text_at pool field.descriptor) (entry_at pool index) ≡ true
 
-constant_right : (pool : List Entry) (descriptor : List ℕ) (parts : List FieldPart) → list_all (constant_fits pool descriptor) parts ≡ true → (index : ℕ) → constant_in parts ≡ Some index → is_constant_of descriptor (entry_at pool index) ≡ true
+constant_right : (pool : List Entry) (descriptor : List ℕ) (parts : List FieldPart) → list_all (constant_fits pool descriptor) parts ≡ true
+    → (index : ℕ) → constant_in parts ≡ Some index → is_constant_of descriptor (entry_at pool index) ≡ true
 constant_right pool descriptor [] h index e = absurd cc
 constant_right pool descriptor (ConstantOf name at ∷ parts) h index e =
     let q : at ≡ index = cc in subst (λ k. is_constant_of descriptor (entry_at pool k) ≡ true) q (and_parts _ _ h).0
@@ -47,7 +48,8 @@ any_kept : (c : Bool) (b x : Name) (ys : List Name) → list_any (name_eq b) ys 
 any_kept true b x ys h = or_right (name_eq b x) _ h
 any_kept false b x ys h = h
 
-any_filtered : (p : Name → Bool) (b : Name) (xs : List Name) → p b ≡ true → list_any (name_eq b) xs ≡ true → list_any (name_eq b) (filter p xs) ≡ true
+any_filtered : (p : Name → Bool) (b : Name) (xs : List Name) → p b ≡ true → list_any (name_eq b) xs ≡ true
+    → list_any (name_eq b) (filter p xs) ≡ true
 any_filtered p b [] t h = h
 any_filtered p b (x ∷ xs) t h =
     ⊎_elim
@@ -77,23 +79,27 @@ any_back b [] ys h = h
 any_back b (x ∷ xs) ys h = or_right (name_eq b x) _ (any_back b xs ys h)
 
 -- the texts of each file are among those of all
-texts_of_all : (Q : Name → Type 0) (fs : List FileTree) → ((b : Name) → list_any (name_eq b) (flat_map texts_in fs) ≡ true → Q b) → AllByRecursion (λ file. (b : Name) → list_any (name_eq b) (texts_in file) ≡ true → Q b) fs
+texts_of_all : (Q : Name → Type 0) (fs : List FileTree) → ((b : Name) → list_any (name_eq b) (flat_map texts_in fs) ≡ true → Q b)
+    → AllByRecursion (λ file. (b : Name) → list_any (name_eq b) (texts_in file) ≡ true → Q b) fs
 texts_of_all Q [] h = tt
 texts_of_all Q (f ∷ fs) h =
     ((λ b e. h b (any_front b (texts_in f) (flat_map texts_in fs) e)), texts_of_all Q fs (λ b e. h b (any_back b (texts_in f) (flat_map texts_in fs) e)))
 
 -- a String entry gives its text
-after_option : (b : Name) (o : Option Name) (xs : List Name) → list_any (name_eq b) xs ≡ true → list_any (name_eq b) (cons_option o xs) ≡ true
+after_option : (b : Name) (o : Option Name) (xs : List Name) → list_any (name_eq b) xs ≡ true
+    → list_any (name_eq b) (cons_option o xs) ≡ true
 after_option b None xs h = h
 after_option b (Some x) xs h = or_right (name_eq b x) _ h
 
-string_listed : (pool es : List Entry) (k text : ℕ) (b : Name) → get_or es k Unusable ≡ String text → utf8_at pool text ≡ Some b → list_any (name_eq b) (filter_map (string_of pool) es) ≡ true
+string_listed : (pool es : List Entry) (k text : ℕ) (b : Name) → get_or es k Unusable ≡ String text → utf8_at pool text ≡ Some b
+    → list_any (name_eq b) (filter_map (string_of pool) es) ≡ true
 string_listed pool [] k text b e u = absurd cc
 string_listed pool (x ∷ es) zero text b e u =
     subst (λ o. list_any (name_eq b) (cons_option o (filter_map (string_of pool) es)) ≡ true) (sym (ap (string_of pool) e ∙ u)) (or_left (name_eq b b) _ (name_self b))
 string_listed pool (x ∷ es) (suc k) text b e u = after_option b (string_of pool x) (filter_map (string_of pool) es) (string_listed pool es k text b e u)
 
-string_in : (pool : List Entry) (index text : ℕ) (b : Name) → entry_at pool index ≡ String text → utf8_at pool text ≡ Some b → list_any (name_eq b) (filter_map (string_of pool) pool) ≡ true
+string_in : (pool : List Entry) (index text : ℕ) (b : Name) → entry_at pool index ≡ String text → utf8_at pool text ≡ Some b
+    → list_any (name_eq b) (filter_map (string_of pool) pool) ≡ true
 string_in pool zero text b e u = absurd cc
 string_in pool (suc k) text b e u = string_listed pool pool k text b e u
 

@@ -48,9 +48,11 @@ module _ (files : Program) where
         within_one c d e = or_right (name_eq c d) _ (map_or_at (λ s. is_within files 0 s d) (superclass_of files c) false d e ∙ name_self d)
 
     -- what has superinterfaces is there, so it is below Object
-    implementer_below : (c d : Name) → list_any (λ i. name_eq i d) (all_superinterfaces files c) ≡ true → is_subclass files c java_lang_object ≡ true
+    implementer_below : (c d : Name) → list_any (λ i. name_eq i d) (all_superinterfaces files c) ≡ true
+        → is_subclass files c java_lang_object ≡ true
     implementer_below c d h =
-        ⊎_elim (λ none. absurd (false≢true (ap (λ l. list_any (λ i. name_eq i d) l) (sym (no_superinterfaces c (length (classes_of files)) none)) ∙ h)))
+        ⊎_elim (λ none. absurd (false≢true (ap (λ l. list_any (λ i. name_eq i d) l)
+        (sym (no_superinterfaces c (length (classes_of files)) none)) ∙ h)))
         (λ f. below_object files ok c f.0 f.1)
         (option_cases (class_of files c))
 
@@ -60,7 +62,8 @@ module _ (files : Program) where
         (λ i. subclass_trans files (rooted files ok) c d java_lang_object h (super_interface d java_lang_object (interface_super files ok d i)))
         (λ i. h)
 
-    pub subtype_made : (c d : Name) → is_subclass_or_implements files c d ≡ true → is_assignable files (ClassType c) (made_type files (ClassType d)) ≡ true
+    pub subtype_made : (c d : Name) → is_subclass_or_implements files c d ≡ true
+        → is_assignable files (ClassType c) (made_type files (ClassType d)) ≡ true
     subtype_made c d h =
         ⊎_elim (below_made c d)
         (λ i. ⊎_elim
@@ -74,7 +77,8 @@ module _ (files : Program) where
 
     -- ---- methods that a reference finds
 
-    declared_there : (wanted : MethodTree → Bool) (m : Member) (class : Name) (found : Member) → method_in_class files wanted m class ≡ Some found → found ≡ in_class class m
+    declared_there : (wanted : MethodTree → Bool) (m : Member) (class : Name) (found : Member)
+        → method_in_class files wanted m class ≡ Some found → found ≡ in_class class m
     declared_there wanted m class found e = of_where (option_map_or wanted (method_of files (in_class class m)) false) (in_class class m) found e
       where
         of_where : (b : Bool) (x found : Member) → where_so b x ≡ Some found → found ≡ x
@@ -85,18 +89,21 @@ module _ (files : Program) where
     or_some None p a e = inr e
     or_some (Some b) p a e = inl e
 
-    found_first : (P : Name → Type 0) (wanted : MethodTree → Bool) (m : Member) (xs : List Name) (found : Member) → AllByRecursion P xs → first_found (method_in_class files wanted m) xs ≡ Some found → (class : Name) × (P class) × (found ≡ in_class class m)
+    found_first : (P : Name → Type 0) (wanted : MethodTree → Bool) (m : Member) (xs : List Name) (found : Member) → AllByRecursion P xs
+        → first_found (method_in_class files wanted m) xs ≡ Some found → (class : Name) × (P class) × (found ≡ in_class class m)
     found_first P wanted m [] found a e = absurd cc
     found_first P wanted m (x ∷ xs) found a e =
         ⊎_elim (λ own. (x, a.0, declared_there wanted m x found own)) (λ later. found_first P wanted m xs found a.1 later)
         (or_some (method_in_class files wanted m x) (first_found (method_in_class files wanted m) xs) found e)
 
     -- in an interface above, no private method is found
-    not_private : (named found : Member) (m : MethodTree) (class : Name) → IsCallable named → is_interface files class ≡ true → found ≡ in_class class named → method_of files found ≡ Some m → is_private_method m ≡ false
+    not_private : (named found : Member) (m : MethodTree) (class : Name) → IsCallable named → is_interface files class ≡ true
+        → found ≡ in_class class named → method_of files found ≡ Some m → is_private_method m ≡ false
     not_private named found m class callable i e q =
         interface_is_public files ok (in_class class named) m (subst (λ f. method_of files f ≡ Some m) e q) i callable
 
-    pub private_is_above : (named found : Member) (m : MethodTree) → IsCallable named → find_method files named ≡ Some found → method_of files found ≡ Some m → is_private_method m ≡ true → is_subclass files named.class found.class ≡ true
+    pub private_is_above : (named found : Member) (m : MethodTree) → IsCallable named → find_method files named ≡ Some found
+        → method_of files found ≡ Some m → is_private_method m ≡ true → is_subclass files named.class found.class ≡ true
     private_is_above named found m callable e q private =
         ⊎_elim
         (λ above.
@@ -108,13 +115,15 @@ module _ (files : Program) where
         absurd (false≢true (sym (not_private named found m f.0 callable f.1 f.2 q) ∙ private)))
         (or_some (first_found (method_in_class files any_method named) (lineage files named.class)) _ found e)
 
-    object_public : (m : MethodTree) (name descriptor : Name) → method_of files (record { class = java_lang_object; name = name; descriptor = descriptor }) ≡ Some m → is_private_method m ≡ false
+    object_public : (m : MethodTree) (name descriptor : Name)
+        → method_of files (record { class = java_lang_object; name = name; descriptor = descriptor }) ≡ Some m → is_private_method m ≡ false
     unfolding built_in_classes
     object_public m name descriptor e =
         not-true (is_private_method m)
         (found_has (λ x. not (is_private_method x) ≡ true) (is_method object_class.pool name descriptor) object_class.methods m (every_all (λ x. not (is_private_method x)) object_class.methods refl) e)
 
-    pub interface_found_is_public : (named found : Member) (m : MethodTree) → IsCallable named → is_interface files named.class ≡ true → find_interface_method files named ≡ Some found → method_of files found ≡ Some m → is_private_method m ≡ false
+    pub interface_found_is_public : (named found : Member) (m : MethodTree) → IsCallable named → is_interface files named.class ≡ true
+        → find_interface_method files named ≡ Some found → method_of files found ≡ Some m → is_private_method m ≡ false
     interface_found_is_public named found m callable i e q =
         ⊎_elim (λ own. not_private named found m named.class callable i (declared_there any_method named named.class found own) q)
         (λ other. ⊎_elim
@@ -127,7 +136,8 @@ module _ (files : Program) where
 
     -- ---- handlers
 
-    not_array : (pool : List Entry) (e : ExceptionEntry) → option_map_or (is_no_throwable files) (catch_class pool e) false ≡ false → (class : Name) → class_name_at pool e.catch_type ≡ Some class → is_array_class class ≡ false
+    not_array : (pool : List Entry) (e : ExceptionEntry) → option_map_or (is_no_throwable files) (catch_class pool e) false ≡ false
+        → (class : Name) → class_name_at pool e.catch_type ≡ Some class → is_array_class class ≡ false
     not_array pool e h class is = by_zero (e.catch_type == 0) refl
       where
         by_zero : (b : Bool) → (e.catch_type == 0) ≡ b → is_array_class class ≡ false
@@ -139,7 +149,9 @@ module _ (files : Program) where
             (or_parts (is_array_class class) _
             (sym (map_or_at (is_no_throwable files) (catch_class pool e) false class (ap (λ b. if b then None else class_name_at pool e.catch_type) z ∙ is)) ∙ h)).0
 
-    pub catches : (method : Member) (body : Body) → body_of files method ≡ Some body → AllByRecursion (λ (e : ExceptionEntry). (class : Name) → class_name_at body.pool e.catch_type ≡ Some class → is_array_class class ≡ false) body.code.exceptions
+    pub catches : (method : Member) (body : Body) → body_of files method ≡ Some body
+        → AllByRecursion (λ (e : ExceptionEntry). (class : Name) → class_name_at body.pool e.catch_type ≡ Some class
+        → is_array_class class ≡ false) body.code.exceptions
     catches method body e =
         let c = coded_of files method body e in
         subst (λ (b : Body). AllByRecursion (λ (e : ExceptionEntry). (class : Name) → class_name_at b.pool e.catch_type ≡ Some class → is_array_class class ≡ false) b.code.exceptions) (sym c.is_body)

@@ -14,7 +14,8 @@ use Rattle.run_laws.proofs.laws.Linked.{is_of_the_machine, Main}
 use Rattle.run_laws.proofs.laws.Unrefused.{Unrefused}
 use Rattle.run_laws.proofs.laws.LinkedMethods.{native, static_is_concrete}
 
-no_row : (method : Member) (rows : List (Member × BuiltInMethod)) → AllByRecursion (λ row. not (name_eq row.0.name method.name) ≡ true) rows → list_any (is_row_of method) rows ≡ false
+no_row : (method : Member) (rows : List (Member × BuiltInMethod))
+    → AllByRecursion (λ row. not (name_eq row.0.name method.name) ≡ true) rows → list_any (is_row_of method) rows ≡ false
 no_row method [] h = refl
 no_row method (row ∷ rows) h =
     or_from (is_row_of method row) _
@@ -26,12 +27,15 @@ main_is_declared : (class : Name) → is_of_the_machine (main_of class) ≡ fals
 main_is_declared class =
     or_from _ _ (no_row (main_of class) built_in_methods (every_all (λ row. not (name_eq row.0.name (main_of class).name)) built_in_methods refl)) refl
 
-has_body : (files : Program) (ok : Unrefused files) (class : Name) (m : MethodTree) → method_of files (main_of class) ≡ Some m → is_static_method m ≡ true → (o : Option Body) → body_of files (main_of class) ≡ o → (body : Body) × (body_of files (main_of class) ≡ Some body)
+has_body : (files : Program) (ok : Unrefused files) (class : Name) (m : MethodTree) → method_of files (main_of class) ≡ Some m
+    → is_static_method m ≡ true → (o : Option Body) → body_of files (main_of class) ≡ o
+    → (body : Body) × (body_of files (main_of class) ≡ Some body)
 has_body files ok class m e s (Some body) q = (body, q)
 has_body files ok class m e s None q =
     absurd (false≢true (sym (main_is_declared class) ∙ native files ok (main_of class) m e (static_is_concrete files ok (main_of class) m e s) q))
 
-has_main : (file : FileTree) (files : Program) (ok : Unrefused (file ∷ files)) → (o : Option MethodTree) → method_of (file ∷ files) (main_of (name_of file)) ≡ o → not (option_map_or is_static_method o false) ≡ false → Main (file ∷ files)
+has_main : (file : FileTree) (files : Program) (ok : Unrefused (file ∷ files)) → (o : Option MethodTree)
+    → method_of (file ∷ files) (main_of (name_of file)) ≡ o → not (option_map_or is_static_method o false) ≡ false → Main (file ∷ files)
 has_main file files ok None e h = absurd (true≢false h)
 has_main file files ok (Some m) e h =
     let static : is_static_method m ≡ true = not-false (is_static_method m) h in

@@ -68,7 +68,8 @@ is_regular file m =
 
 -- the tests one by one
 record Regular (file : FileTree) (m : MethodTree) : Type 0 where
-  native : (is_abstract_method m || (is_some (code_in m.parts) || is_of_the_machine (record { class = name_of file; name = method_name file m; descriptor = method_descriptor file m }))) ≡ true
+  native : (is_abstract_method m || (is_some (code_in m.parts) ||
+      is_of_the_machine (record { class = name_of file; name = method_name file m; descriptor = method_descriptor file m }))) ≡ true
   static : gives (is_static_method m) (not (is_abstract_method m)) ≡ true
   private : gives (is_private_method m) (not (is_abstract_method m)) ≡ true
   constructor : gives (is_constructor file m) (not (is_abstract_method m)) ≡ true
@@ -96,7 +97,9 @@ counted_code [] e = absurd (omega (arith, e))
 counted_code (CodeOf name code ∷ parts) e = refl
 counted_code (SkippedOfMethod a ∷ parts) e = counted_code parts (omega (arith, e))
 
-has_its_code : (native abstract other : Bool) (parts : List MethodPart) → native ≡ false → (count_by is_code_part parts == (if not (native || abstract) then 1 else 0)) ≡ true → (abstract || (is_some (code_in parts) || other)) ≡ true
+has_its_code : (native abstract other : Bool) (parts : List MethodPart) → native ≡ false
+    → (count_by is_code_part parts == (if not (native || abstract) then 1 else 0)) ≡ true
+    → (abstract || (is_some (code_in parts) || other)) ≡ true
 has_its_code true abstract other parts n e = absurd (true≢false n)
 has_its_code false true other parts n e = refl
 has_its_code false false other parts n e =
@@ -109,7 +112,8 @@ public_abstract true false false p a h = absurd (true≢false h)
 public_abstract true false true true a h = absurd (true≢false h)
 public_abstract true false true false a h = refl
 
-regular_in : (file : FileTree) (m : MethodTree) → method_outside_profile file m ≡ false → has_code_by_flags m ≡ true → is_regular file m ≡ true
+regular_in : (file : FileTree) (m : MethodTree) → method_outside_profile file m ≡ false → has_code_by_flags m ≡ true
+    → is_regular file m ≡ true
 regular_in file m h code =
     let a = or_parts _ _ h in
     let b = or_parts _ _ a.1 in
@@ -135,7 +139,8 @@ regular_in file m h code =
     twice k true h = h
     twice k false h = h
 
-regular_methods : (file : FileTree) → is_outside_profile file ≡ false → file_attributes file ≡ true → AllByRecursion (λ m. is_regular file m ≡ true) file.methods
+regular_methods : (file : FileTree) → is_outside_profile file ≡ false → file_attributes file ≡ true
+    → AllByRecursion (λ m. is_regular file m ≡ true) file.methods
 regular_methods file h a =
     let methods = (or_parts _ _ (or_parts _ _ h).1).0 in
     let codes = (and_parts _ _ a).1 in
@@ -154,7 +159,9 @@ module _ (files : Program) (ok : Unrefused files) where
       (every_weaken _ _ files (λ file p. regular_methods file p.0 p.1.attributes) (every_both _ _ files ok.profile ok.whole))
       method m h)
 
-  machine_at : (method : Member) (m : MethodTree) (h : Home files method m) → is_of_the_machine (record { class = name_of h.file; name = method_name h.file m; descriptor = method_descriptor h.file m }) ≡ true → is_of_the_machine method ≡ true
+  machine_at : (method : Member) (m : MethodTree) (h : Home files method m)
+      → is_of_the_machine (record { class = name_of h.file; name = method_name h.file m; descriptor = method_descriptor h.file m }) ≡ true
+      → is_of_the_machine method ≡ true
   machine_at method m h e =
       subst (λ c. is_of_the_machine (record { class = c; name = method.name; descriptor = method.descriptor }) ≡ true) h.named
       (subst (λ n. is_of_the_machine (record { class = name_of h.file; name = n; descriptor = method.descriptor }) ≡ true) h.name
@@ -175,32 +182,38 @@ module _ (files : Program) (ok : Unrefused files) where
   of_machine false true c h p q = absurd (true≢false q)
   of_machine false false c h p q = h
 
-  pub native : (method : Member) (m : MethodTree) → method_of files method ≡ Some m → is_abstract_method m ≡ false → body_of files method ≡ None → is_of_the_machine method ≡ true
+  pub native : (method : Member) (m : MethodTree) → method_of files method ≡ Some m → is_abstract_method m ≡ false
+      → body_of files method ≡ None → is_of_the_machine method ≡ true
   native method m e concrete none =
       let h = home_of files method m e in
       let t = (tests method m h).native in
       machine_at method m h (of_machine (is_abstract_method m) (is_some (code_in m.parts)) _ t concrete (ap is_some (no_code method m h none)))
 
-  pub static_is_concrete : (method : Member) (m : MethodTree) → method_of files method ≡ Some m → is_static_method m ≡ true → is_abstract_method m ≡ false
+  pub static_is_concrete : (method : Member) (m : MethodTree) → method_of files method ≡ Some m → is_static_method m ≡ true
+      → is_abstract_method m ≡ false
   static_is_concrete method m e s =
       let t = (tests method m (home_of files method m e)).static in
       given_not (is_static_method m) (is_abstract_method m) t s
 
-  pub private_is_concrete : (method : Member) (m : MethodTree) → method_of files method ≡ Some m → is_private_method m ≡ true → is_abstract_method m ≡ false
+  pub private_is_concrete : (method : Member) (m : MethodTree) → method_of files method ≡ Some m → is_private_method m ≡ true
+      → is_abstract_method m ≡ false
   private_is_concrete method m e s =
       let t = (tests method m (home_of files method m e)).private in
       given_not (is_private_method m) (is_abstract_method m) t s
 
-  is_named_so : (method : Member) (m : MethodTree) (h : Home files method m) (name : Name) (b : Bool) → name_eq method.name name ≡ b → name_eq (method_name h.file m) name ≡ b
+  is_named_so : (method : Member) (m : MethodTree) (h : Home files method m) (name : Name) (b : Bool) → name_eq method.name name ≡ b
+      → name_eq (method_name h.file m) name ≡ b
   is_named_so method m h name b e = subst (λ n. name_eq n name ≡ b) (sym h.name) e
 
-  pub constructor_is_concrete : (method : Member) (m : MethodTree) → method_of files method ≡ Some m → name_eq method.name constructor_name ≡ true → is_abstract_method m ≡ false
+  pub constructor_is_concrete : (method : Member) (m : MethodTree) → method_of files method ≡ Some m
+      → name_eq method.name constructor_name ≡ true → is_abstract_method m ≡ false
   constructor_is_concrete method m e s =
       let h = home_of files method m e in
       let t = (tests method m h).constructor in
       given_not (is_constructor h.file m) (is_abstract_method m) t (is_named_so method m h constructor_name true s)
 
-  no_results : (o : Option MethodType) → option_map_or (λ (m : MethodType). not (is_some m.returns)) o false ≡ true → option_map_or (λ (m : MethodType). returned_type m.returns) o [] ≡ []
+  no_results : (o : Option MethodType) → option_map_or (λ (m : MethodType). not (is_some m.returns)) o false ≡ true
+      → option_map_or (λ (m : MethodType). returned_type m.returns) o [] ≡ []
   no_results None h = refl
   no_results (Some m) h = nothing m.returns h
     where
@@ -208,7 +221,8 @@ module _ (files : Program) (ok : Unrefused files) where
       nothing None h = refl
       nothing (Some t) h = absurd (false≢true h)
 
-  pub constructor_returns_nothing : (method : Member) (m : MethodTree) → method_of files method ≡ Some m → name_eq method.name constructor_name ≡ true → results_declared method.descriptor ≡ []
+  pub constructor_returns_nothing : (method : Member) (m : MethodTree) → method_of files method ≡ Some m
+      → name_eq method.name constructor_name ≡ true → results_declared method.descriptor ≡ []
   constructor_returns_nothing method m e s =
       let h = home_of files method m e in
       let t = (tests method m h).returns in
@@ -220,7 +234,8 @@ module _ (files : Program) (ok : Unrefused files) where
   other_of false true h e = absurd (false≢true h)
   other_of false false h e = refl
 
-  pub interface_is_public : (method : Member) (m : MethodTree) → method_of files method ≡ Some m → is_interface files method.class ≡ true → name_eq method.name initialiser_name ≡ false → is_private_method m ≡ false
+  pub interface_is_public : (method : Member) (m : MethodTree) → method_of files method ≡ Some m → is_interface files method.class ≡ true
+      → name_eq method.name initialiser_name ≡ false → is_private_method m ≡ false
   interface_is_public method m e i n =
       let h = home_of files method m e in
       let t = (tests method m h).interface in

@@ -26,21 +26,24 @@ of_pairs R (x ∷ xs) [] h = absurd h
 of_pairs R (x ∷ xs) (y ∷ ys) h = and_from _ _ h.0 (of_pairs R xs ys h.1)
 
 module _ {A B : Type 0} (R : A → B → Bool) where
-  pub pair_get : (xs : List A) (ys : List B) (a : A) (b : B) → Pairwise R xs ys → R a b ≡ true → (k : ℕ) → R (slice_index_or xs k a) (slice_index_or ys k b) ≡ true
+  pub pair_get : (xs : List A) (ys : List B) (a : A) (b : B) → Pairwise R xs ys → R a b ≡ true → (k : ℕ)
+      → R (slice_index_or xs k a) (slice_index_or ys k b) ≡ true
   pair_get [] [] a b h d k = d
   pair_get [] (y ∷ ys) a b h d k = absurd h
   pair_get (x ∷ xs) [] a b h d k = absurd h
   pair_get (x ∷ xs) (y ∷ ys) a b h d zero = h.0
   pair_get (x ∷ xs) (y ∷ ys) a b h d (suc k) = pair_get xs ys a b h.1 d k
 
-  pub pair_set : (xs : List A) (ys : List B) (a : A) (b : B) → Pairwise R xs ys → R a b ≡ true → (k : ℕ) → Pairwise R (slice_set xs k a) (slice_set ys k b)
+  pub pair_set : (xs : List A) (ys : List B) (a : A) (b : B) → Pairwise R xs ys → R a b ≡ true → (k : ℕ)
+      → Pairwise R (slice_set xs k a) (slice_set ys k b)
   pair_set [] [] a b h d k = tt
   pair_set [] (y ∷ ys) a b h d k = absurd h
   pair_set (x ∷ xs) [] a b h d k = absurd h
   pair_set (x ∷ xs) (y ∷ ys) a b h d zero = (d, h.1)
   pair_set (x ∷ xs) (y ∷ ys) a b h d (suc k) = (h.0, pair_set xs ys a b h.1 d k)
 
-  pub pair_append : (xs : List A) (ys : List B) (ls : List A) (bs : List B) → Pairwise R xs ys → Pairwise R ls bs → Pairwise R (xs ++ ls) (ys ++ bs)
+  pub pair_append : (xs : List A) (ys : List B) (ls : List A) (bs : List B) → Pairwise R xs ys → Pairwise R ls bs
+      → Pairwise R (xs ++ ls) (ys ++ bs)
   pair_append [] [] ls bs h g = g
   pair_append [] (y ∷ ys) ls bs h g = absurd h
   pair_append (x ∷ xs) [] ls bs h g = absurd h
@@ -75,13 +78,15 @@ module _ {A B : Type 0} (R : A → B → Bool) where
   pair_map f g [] h = tt
   pair_map f g (c ∷ cs) h = (h c, pair_map f g cs h)
 
-pub pair_weaken : {A B : Type 0} (R S : A → B → Bool) (xs : List A) (ys : List B) → ((x : A) (y : B) → R x y ≡ true → S x y ≡ true) → Pairwise R xs ys → Pairwise S xs ys
+pub pair_weaken : {A B : Type 0} (R S : A → B → Bool) (xs : List A) (ys : List B) → ((x : A) (y : B) → R x y ≡ true → S x y ≡ true)
+    → Pairwise R xs ys → Pairwise S xs ys
 pair_weaken R S [] [] w h = tt
 pair_weaken R S [] (y ∷ ys) w h = absurd h
 pair_weaken R S (x ∷ xs) [] w h = absurd h
 pair_weaken R S (x ∷ xs) (y ∷ ys) w h = (w x y h.0, pair_weaken R S xs ys w h.1)
 
-pub pair_through : {A B C : Type 0} (R : A → B → Bool) (S : A → C → Bool) (T : B → C → Bool) (xs : List A) (ys : List B) (zs : List C) → ((x : A) (y : B) (z : C) → R x y ≡ true → S x z ≡ true → T y z ≡ true) → Pairwise R xs ys → Pairwise S xs zs → Pairwise T ys zs
+pub pair_through : {A B C : Type 0} (R : A → B → Bool) (S : A → C → Bool) (T : B → C → Bool) (xs : List A) (ys : List B) (zs : List C)
+    → ((x : A) (y : B) (z : C) → R x y ≡ true → S x z ≡ true → T y z ≡ true) → Pairwise R xs ys → Pairwise S xs zs → Pairwise T ys zs
 pair_through R S T [] [] [] w h g = tt
 pair_through R S T [] [] (z ∷ zs) w h g = absurd g
 pair_through R S T [] (y ∷ ys) zs w h g = absurd h
@@ -122,7 +127,8 @@ pub every_weaken : {A : Type 0} (P Q : A → Type 0) (xs : List A) → ((x : A) 
 every_weaken P Q [] w h = tt
 every_weaken P Q (x ∷ xs) w h = (w x h.0, every_weaken P Q xs w h.1)
 
-pub get_set_same : {A B : Type 0} (f : A → B) (xs : List A) (k : ℕ) (old new : A) → slice_get xs k ≡ Some old → f new ≡ f old → map f (slice_set xs k new) ≡ map f xs
+pub get_set_same : {A B : Type 0} (f : A → B) (xs : List A) (k : ℕ) (old new : A) → slice_get xs k ≡ Some old → f new ≡ f old
+    → map f (slice_set xs k new) ≡ map f xs
 get_set_same f [] k old new e q = refl
 get_set_same f (x ∷ xs) zero old new e q =
     let same : x ≡ old = cc in
@@ -144,19 +150,22 @@ get_map f (y ∷ xs) zero x e = let q : y ≡ x = cc in ap (λ z. Some (f z)) q
 get_map f (y ∷ xs) (suc k) x e = get_map f xs k x e
 
 -- the left side changed, where what fits goes on fitting
-pub pair_map_left : {A B : Type 0} (R : A → B → Bool) (g : A → A) → ((a : A) (b : B) → R a b ≡ true → R (g a) b ≡ true) → (xs : List A) (ys : List B) → Pairwise R xs ys → Pairwise R (map g xs) ys
+pub pair_map_left : {A B : Type 0} (R : A → B → Bool) (g : A → A) → ((a : A) (b : B) → R a b ≡ true → R (g a) b ≡ true) → (xs : List A)
+    (ys : List B) → Pairwise R xs ys → Pairwise R (map g xs) ys
 pair_map_left R g w [] [] h = tt
 pair_map_left R g w [] (y ∷ ys) h = absurd h
 pair_map_left R g w (x ∷ xs) [] h = absurd h
 pair_map_left R g w (x ∷ xs) (y ∷ ys) h = (w x y h.0, pair_map_left R g w xs ys h.1)
 
-pub pair_map_two : {A B C : Type 0} (R : A → B → Bool) (S : C → B → Bool) (f : A → C) → ((a : A) (b : B) → R a b ≡ true → S (f a) b ≡ true) → (xs : List A) (ys : List B) → Pairwise R xs ys → Pairwise S (map f xs) ys
+pub pair_map_two : {A B C : Type 0} (R : A → B → Bool) (S : C → B → Bool) (f : A → C) → ((a : A) (b : B) → R a b ≡ true → S (f a) b ≡ true)
+    → (xs : List A) (ys : List B) → Pairwise R xs ys → Pairwise S (map f xs) ys
 pair_map_two R S f w [] [] h = tt
 pair_map_two R S f w [] (y ∷ ys) h = absurd h
 pair_map_two R S f w (x ∷ xs) [] h = absurd h
 pair_map_two R S f w (x ∷ xs) (y ∷ ys) h = (w x y h.0, pair_map_two R S f w xs ys h.1)
 
-pub pair_unmap : {A B C : Type 0} (R : A → B → Bool) (S : C → B → Bool) (f : C → A) → ((c : C) (b : B) → R (f c) b ≡ true → S c b ≡ true) → (xs : List C) (ys : List B) → Pairwise R (map f xs) ys → Pairwise S xs ys
+pub pair_unmap : {A B C : Type 0} (R : A → B → Bool) (S : C → B → Bool) (f : C → A) → ((c : C) (b : B) → R (f c) b ≡ true → S c b ≡ true)
+    → (xs : List C) (ys : List B) → Pairwise R (map f xs) ys → Pairwise S xs ys
 pair_unmap R S f w [] [] h = tt
 pair_unmap R S f w [] (y ∷ ys) h = absurd h
 pair_unmap R S f w (x ∷ xs) [] h = absurd h
@@ -168,10 +177,12 @@ every_unmap P f (x ∷ xs) h = (h.0, every_unmap P f xs h.1)
 
 -- ---- the same of tests
 
-pub pairwise_weaken : {A B : Type 0} (R S : A → B → Bool) (xs : List A) (ys : List B) → ((x : A) (y : B) → R x y ≡ true → S x y ≡ true) → pairwise R xs ys ≡ true → pairwise S xs ys ≡ true
+pub pairwise_weaken : {A B : Type 0} (R S : A → B → Bool) (xs : List A) (ys : List B) → ((x : A) (y : B) → R x y ≡ true → S x y ≡ true)
+    → pairwise R xs ys ≡ true → pairwise S xs ys ≡ true
 pairwise_weaken R S xs ys w h = of_pairs S xs ys (pair_weaken R S xs ys w (pairs_of R xs ys h))
 
-pub all_weaken : {A : Type 0} (p q : A → Bool) (xs : List A) → ((x : A) → p x ≡ true → q x ≡ true) → list_all p xs ≡ true → list_all q xs ≡ true
+pub all_weaken : {A : Type 0} (p q : A → Bool) (xs : List A) → ((x : A) → p x ≡ true → q x ≡ true) → list_all p xs ≡ true
+    → list_all q xs ≡ true
 all_weaken p q [] w h = refl
 all_weaken p q (x ∷ xs) w h = let g = and_parts _ _ h in and_from _ _ (w x g.0) (all_weaken p q xs w g.1)
 

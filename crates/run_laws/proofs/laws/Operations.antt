@@ -77,18 +77,24 @@ pub record NamedText (site : Site) (entry : ℕ → Entry) : Type 0 where
 -- ---- operations
 
 pub data Operation (files : Program) (site : Site) : Type 0 where
-  OfRow : (row : Row) → local_row (integers_of site.body.pool) site.body.code.code site.offset site.next site.instr ≡ Some row → Operation files site
+  OfRow : (row : Row) → local_row (integers_of site.body.pool) site.body.code.code site.offset site.next site.instr ≡ Some row
+      → Operation files site
   GetSystemOut : (index : ℕ) → site.instr ≡ instr.Field access.GetStatic index → Operation files site
   GetStatic : NamedField files site access.GetStatic is_static_field → Operation files site
   PutStatic : NamedField files site access.PutStatic is_static_field → Operation files site
   GetField : NamedField files site access.GetField is_instance_field → Operation files site
   PutField : NamedField files site access.PutField is_instance_field → Operation files site
   Println : (call : NamedCall site invocation.Virtual) → member_eq call.named println_int ≡ true → Operation files site
-  CallVirtual : (call : NamedCall site invocation.Virtual) → member_eq call.named println_int ≡ false → FoundMethod files is_instance_one (find_method files call.named) → Operation files site
-  CallConstructor : (call : NamedCall site invocation.Special) → name_eq call.named.name constructor_name ≡ true → is_one is_instance_one files call.named ≡ true → Operation files site
-  CallSpecial : (call : NamedCall site invocation.Special) → name_eq call.named.name constructor_name ≡ false → FoundMethod files is_instance_one (find_method files call.named) → Operation files site
-  CallStatic : (index : ℕ) → site.instr ≡ instr.Invoke invocation.Static index → FoundMethod files is_static_method (option_and_then (find_method files) (method_at site.body.pool index)) → Operation files site
-  CallInterface : (call : NamedInterfaceCall site) → FoundMethod files is_instance_one (find_interface_method files call.named) → Operation files site
+  CallVirtual : (call : NamedCall site invocation.Virtual) → member_eq call.named println_int ≡ false
+      → FoundMethod files is_instance_one (find_method files call.named) → Operation files site
+  CallConstructor : (call : NamedCall site invocation.Special) → name_eq call.named.name constructor_name ≡ true
+      → is_one is_instance_one files call.named ≡ true → Operation files site
+  CallSpecial : (call : NamedCall site invocation.Special) → name_eq call.named.name constructor_name ≡ false
+      → FoundMethod files is_instance_one (find_method files call.named) → Operation files site
+  CallStatic : (index : ℕ) → site.instr ≡ instr.Invoke invocation.Static index
+      → FoundMethod files is_static_method (option_and_then (find_method files) (method_at site.body.pool index)) → Operation files site
+  CallInterface : (call : NamedInterfaceCall site) → FoundMethod files is_instance_one (find_interface_method files call.named)
+      → Operation files site
   Return : (kind : Returned) → site.instr ≡ instr.Return kind → Operation files site
   LoadClass : (constant : NamedText site Class) (file : FileTree) → class_of files constant.text ≡ Some file → Operation files site
   LoadString : NamedText site String → Operation files site
@@ -138,34 +144,42 @@ module _ {A B : Type 0} (C : Carrier A) (D : Carrier B) (files : Program) (site 
     nothing : Operates None None
     does : (o : Operation files site) → Operates (Some (operation C files site o)) (Some (operation D files site o))
 
-  then_does : {X : Type 0} (o : Option X) (v : X → Option (MeaningOf A)) (w : X → Option (MeaningOf B)) → ((x : X) → o ≡ Some x → Operates (v x) (w x)) → Operates (option_and_then v o) (option_and_then w o)
+  then_does : {X : Type 0} (o : Option X) (v : X → Option (MeaningOf A)) (w : X → Option (MeaningOf B))
+      → ((x : X) → o ≡ Some x → Operates (v x) (w x)) → Operates (option_and_then v o) (option_and_then w o)
   then_does None v w h = nothing
   then_does (Some x) v w h = h x refl
 
-  map_does : {X : Type 0} (o : Option X) (v : X → MeaningOf A) (w : X → MeaningOf B) → ((x : X) → o ≡ Some x → Operates (Some (v x)) (Some (w x))) → Operates (option_map v o) (option_map w o)
+  map_does : {X : Type 0} (o : Option X) (v : X → MeaningOf A) (w : X → MeaningOf B)
+      → ((x : X) → o ≡ Some x → Operates (Some (v x)) (Some (w x))) → Operates (option_map v o) (option_map w o)
   map_does None v w h = nothing
   map_does (Some x) v w h = h x refl
 
-  either_does : (b : Bool) (v x : Option (MeaningOf A)) (w y : Option (MeaningOf B)) → (b ≡ true → Operates v w) → (b ≡ false → Operates x y) → Operates (if b then v else x) (if b then w else y)
+  either_does : (b : Bool) (v x : Option (MeaningOf A)) (w y : Option (MeaningOf B)) → (b ≡ true → Operates v w)
+      → (b ≡ false → Operates x y) → Operates (if b then v else x) (if b then w else y)
   either_does true v x w y h g = h refl
   either_does false v x w y h g = g refl
 
-  if_does : (b : Bool) (v : MeaningOf A) (w : MeaningOf B) → (b ≡ true → Operates (Some v) (Some w)) → Operates (if b then Some v else None) (if b then Some w else None)
+  if_does : (b : Bool) (v : MeaningOf A) (w : MeaningOf B) → (b ≡ true → Operates (Some v) (Some w))
+      → Operates (if b then Some v else None) (if b then Some w else None)
   if_does b v w h = either_does b (Some v) None (Some w) None h (λ e. nothing)
 
   -- ---- fields
 
   field_does : (test : FieldTree → Bool) (v : Member → MeaningOf A) (w : Member → MeaningOf B) (named : Member)
-      → ((field : Member) → find_field files named ≡ Some field → option_map_or test (field_of files field) false ≡ true → Operates (Some (v field)) (Some (w field)))
-      → Operates (option_and_then (if_field test files v) (find_field files named)) (option_and_then (if_field test files w) (find_field files named))
+      → ((field : Member) → find_field files named ≡ Some field → option_map_or test (field_of files field) false ≡ true
+      → Operates (Some (v field)) (Some (w field)))
+      → Operates (option_and_then (if_field test files v) (find_field files named))
+      (option_and_then (if_field test files w) (find_field files named))
   field_does test v w named h =
       then_does (find_field files named) (if_field test files v) (if_field test files w) (λ field found. if_does (option_map_or test (field_of files field) false) (v field) (w field) (h field found))
 
   module _ (index : ℕ) (named : Member) (names : field_at site.body.pool index ≡ Some named) where
-    abbrev named_field : (how : FieldAccess) (test : FieldTree → Bool) → site.instr ≡ instr.Field how index → (field : Member) → find_field files named ≡ Some field → option_map_or test (field_of files field) false ≡ true → NamedField files site how test
+    abbrev named_field : (how : FieldAccess) (test : FieldTree → Bool) → site.instr ≡ instr.Field how index → (field : Member)
+        → find_field files named ≡ Some field → option_map_or test (field_of files field) false ≡ true → NamedField files site how test
     named_field how test i field found passes = record { index = index; instruction = i; named = named; names = names; field = field; found = found; passes = passes }
 
-    access_does : (how : FieldAccess) → site.instr ≡ instr.Field how index → Operates (field_meaning C files site.next how named) (field_meaning D files site.next how named)
+    access_does : (how : FieldAccess) → site.instr ≡ instr.Field how index
+        → Operates (field_meaning C files site.next how named) (field_meaning D files site.next how named)
     access_does access.GetStatic i =
         either_does (member_eq named system_out) (Some (system_out_meaning C site.next)) (option_and_then (if_field is_static_field files (get_static_of C files site.next)) (find_field files named)) (Some (system_out_meaning D site.next)) (option_and_then (if_field is_static_field files (get_static_of D files site.next)) (find_field files named))
         (λ e. does (GetSystemOut index i))
@@ -179,17 +193,20 @@ module _ {A B : Type 0} (C : Carrier A) (D : Carrier B) (files : Program) (site 
 
   -- ---- calls
 
-  method_does : (test : MethodTree → Bool) (o : Option Member) (v : Member → MeaningOf A) (w : Member → MeaningOf B) → ((m : FoundMethod files test o) → Operates (Some (v m.method)) (Some (w m.method)))
+  method_does : (test : MethodTree → Bool) (o : Option Member) (v : Member → MeaningOf A) (w : Member → MeaningOf B)
+      → ((m : FoundMethod files test o) → Operates (Some (v m.method)) (Some (w m.method)))
       → Operates (option_and_then (if_method test files v) o) (option_and_then (if_method test files w) o)
   method_does test o v w h =
       then_does o (if_method test files v) (if_method test files w) (λ method found. if_does (is_one test files method) (v method) (w method) (λ passes. h (record { method = method; found = found; passes = passes })))
 
-  virtual_does : (call : NamedCall site invocation.Virtual) → Operates (invoke_virtual_meaning C files site call.named) (invoke_virtual_meaning D files site call.named)
+  virtual_does : (call : NamedCall site invocation.Virtual)
+      → Operates (invoke_virtual_meaning C files site call.named) (invoke_virtual_meaning D files site call.named)
   virtual_does call =
       either_does (member_eq call.named println_int) (Some (println_meaning C site.next)) (virtual_of C files site call.named) (Some (println_meaning D site.next)) (virtual_of D files site call.named) (λ e. does (Println call e))
       (λ e. method_does is_instance_one (find_method files call.named) (virtual_call C files site call.named.class) (virtual_call D files site call.named.class) (λ m. does (CallVirtual call e m)))
 
-  special_does : (call : NamedCall site invocation.Special) → Operates (special_of C files site call.named) (special_of D files site call.named)
+  special_does : (call : NamedCall site invocation.Special)
+      → Operates (special_of C files site call.named) (special_of D files site call.named)
   special_does call =
       either_does (name_eq call.named.name constructor_name) (if_method is_instance_one files (constructor_call C files site) call.named) (option_and_then (if_method is_instance_one files (special_call C files site call.named.class)) (find_method files call.named)) (if_method is_instance_one files (constructor_call D files site) call.named) (option_and_then (if_method is_instance_one files (special_call D files site call.named.class)) (find_method files call.named))
       (λ e. if_does (is_one is_instance_one files call.named) (constructor_call C files site call.named) (constructor_call D files site call.named) (λ passes. does (CallConstructor call e passes)))
@@ -199,7 +216,8 @@ module _ {A B : Type 0} (C : Carrier A) (D : Carrier B) (files : Program) (site 
   interface_does call =
       method_does is_instance_one (find_interface_method files call.named) (interface_call C files site call.named.class) (interface_call D files site call.named.class) (λ m. does (CallInterface call m))
 
-  invoke_does : (how : Invocation) (index : ℕ) → site.instr ≡ instr.Invoke how index → Operates (invoke_meaning C files site how index) (invoke_meaning D files site how index)
+  invoke_does : (how : Invocation) (index : ℕ) → site.instr ≡ instr.Invoke how index
+      → Operates (invoke_meaning C files site how index) (invoke_meaning D files site how index)
   invoke_does invocation.Virtual index i =
       then_does (method_at site.body.pool index) (invoke_virtual_meaning C files site) (invoke_virtual_meaning D files site) (λ named names. virtual_does (record { index = index; instruction = i; named = named; names = names }))
   invoke_does invocation.Special index i =
@@ -209,7 +227,8 @@ module _ {A B : Type 0} (C : Carrier A) (D : Carrier B) (files : Program) (site 
 
   -- ---- constants
 
-  constant_does : (index : ℕ) → site.instr ≡ instr.LoadConstant index → (entry : Entry) → entry_at site.body.pool index ≡ entry → Operates (constant_meaning C files site entry) (constant_meaning D files site entry)
+  constant_does : (index : ℕ) → site.instr ≡ instr.LoadConstant index → (entry : Entry) → entry_at site.body.pool index ≡ entry
+      → Operates (constant_meaning C files site entry) (constant_meaning D files site entry)
   constant_does index i (Utf8 text) e = nothing
   constant_does index i (Integer bits) e = nothing
   constant_does index i (Float bits) e = nothing
@@ -230,11 +249,14 @@ module _ {A B : Type 0} (C : Carrier A) (D : Carrier B) (files : Program) (site 
 
   -- ---- classes
 
-  class_does : (i : ℕ → Instr) (index : ℕ) → site.instr ≡ i index → (v : Name → MeaningOf A) (w : Name → MeaningOf B) → ((class : NamedClass site i) → Operates (Some (v class.name)) (Some (w class.name)))
+  class_does : (i : ℕ → Instr) (index : ℕ) → site.instr ≡ i index → (v : Name → MeaningOf A) (w : Name → MeaningOf B)
+      → ((class : NamedClass site i) → Operates (Some (v class.name)) (Some (w class.name)))
       → Operates (option_map v (class_name_at site.body.pool index)) (option_map w (class_name_at site.body.pool index))
   class_does i index e v w h = map_does (class_name_at site.body.pool index) v w (λ name names. h (record { index = index; instruction = e; name = name; names = names }))
 
-  new_does : (index : ℕ) → site.instr ≡ instr.New index → Operates (option_and_then (new_named C files site) (class_name_at site.body.pool index)) (option_and_then (new_named D files site) (class_name_at site.body.pool index))
+  new_does : (index : ℕ) → site.instr ≡ instr.New index
+      → Operates (option_and_then (new_named C files site) (class_name_at site.body.pool index))
+      (option_and_then (new_named D files site) (class_name_at site.body.pool index))
   new_does index i =
       then_does (class_name_at site.body.pool index) (new_named C files site) (new_named D files site)
       (λ name names. map_does (class_of files name) (λ (file : FileTree). new_meaning C files site name) (λ (file : FileTree). new_meaning D files site name)
@@ -269,7 +291,8 @@ module _ {A B : Type 0} (C : Carrier A) (D : Carrier B) (files : Program) (site 
   pub operates_other : Operates (other_meaning C files site site.instr) (other_meaning D files site site.instr)
   operates_other = other_does site.instr refl
 
-  local_does : (o : Option Row) → local_row (integers_of site.body.pool) site.body.code.code site.offset site.next site.instr ≡ o → Operates (local_or C files site o) (local_or D files site o)
+  local_does : (o : Option Row) → local_row (integers_of site.body.pool) site.body.code.code site.offset site.next site.instr ≡ o
+      → Operates (local_or C files site o) (local_or D files site o)
   local_does (Some row) e = does (OfRow row e)
   local_does None e = operates_other
 
@@ -284,7 +307,8 @@ abbrev pub OfMeaning : {A : Type 0} → (MeaningOf A → Type 0) → Option (Mea
 OfMeaning P None = Unit {0}
 OfMeaning P (Some m) = P m
 
-module _ {A : Type 0} (C : Carrier A) (files : Program) (site : Site) (P : MeaningOf A → Type 0) (each : (o : Operation files site) → P (operation C files site o)) where
+module _ {A : Type 0} (C : Carrier A) (files : Program) (site : Site) (P : MeaningOf A → Type 0)
+    (each : (o : Operation files site) → P (operation C files site o)) where
   of_operation : {v w : Option (MeaningOf A)} → Operates C C files site v w → OfMeaning P v
   of_operation nothing = tt
   of_operation (does o) = each o

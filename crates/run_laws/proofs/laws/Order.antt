@@ -45,7 +45,8 @@ module _ (files : Program) where
   array_down (PrimitiveArray a) t p q = refl
   array_down (ReferenceArray a) t p q = refl
 
-  byte_down : (a b : Primitive) → (primitive_number a == primitive_number b) ≡ true → is_byte_or_boolean b ≡ true → is_byte_or_boolean a ≡ true
+  byte_down : (a b : Primitive) → (primitive_number a == primitive_number b) ≡ true → is_byte_or_boolean b ≡ true
+      → is_byte_or_boolean a ≡ true
   byte_down Boolean b p q = refl
   byte_down Byte b p q = refl
   byte_down Char Boolean p q = p
@@ -76,7 +77,8 @@ module _ (files : Program) where
   byte_array_down (ReferenceArray a) (ReferenceArray b) p q = q
 
   module _ (rooted : Rooted files) where
-    pub assignable_trans : (a b c : ReferenceType) → is_assignable files a b ≡ true → is_assignable files b c ≡ true → is_assignable files a c ≡ true
+    pub assignable_trans : (a b c : ReferenceType) → is_assignable files a b ≡ true → is_assignable files b c ≡ true
+        → is_assignable files a c ≡ true
     assignable_trans (ClassType a) (ClassType b) (ClassType c) p q = subclass_trans files rooted a b c p q
     assignable_trans (ClassType a) (ClassType b) (PrimitiveArray c) p q = absurd (false≢true q)
     assignable_trans (ClassType a) (ClassType b) (ReferenceArray c) p q = absurd (false≢true q)
@@ -98,12 +100,14 @@ module _ (files : Program) where
     assignable_trans (ReferenceArray a) (ReferenceArray b) (PrimitiveArray c) p q = absurd (false≢true q)
     assignable_trans (ReferenceArray a) (ReferenceArray b) (ReferenceArray c) p q = assignable_trans a b c p q
 
-    object_on : (o : Option ReferenceType) (s t : ReferenceType) → is_assignable files s t ≡ true → is_object_below files s o ≡ true → is_object_below files t o ≡ true
+    object_on : (o : Option ReferenceType) (s t : ReferenceType) → is_assignable files s t ≡ true → is_object_below files s o ≡ true
+        → is_object_below files t o ≡ true
     object_on None s t p q = q
     object_on (Some u) s t p q = assignable_trans u s t q p
 
     module _ (objects : List ReferenceType) where
-      below_on : (s t : ReferenceType) (v : Value) → is_assignable files s t ≡ true → is_value_below files objects s v ≡ true → is_value_below files objects t v ≡ true
+      below_on : (s t : ReferenceType) (v : Value) → is_assignable files s t ≡ true → is_value_below files objects s v ≡ true
+          → is_value_below files objects t v ≡ true
       below_on s t value.Unset p q = q
       below_on s t (value.Int bits) p q = q
       below_on s t value.Null p q = q
@@ -115,10 +119,12 @@ module _ (files : Program) where
       null_below t value.Null q = q
       null_below t (value.Reference r) q = absurd (false≢true q)
 
-      of_class : (c d : Name) (v : Value) → name_eq c d ≡ true → is_value_below files objects (ClassType c) v ≡ true → is_value_below files objects (ClassType d) v ≡ true
+      of_class : (c d : Name) (v : Value) → name_eq c d ≡ true → is_value_below files objects (ClassType c) v ≡ true
+          → is_value_below files objects (ClassType d) v ≡ true
       of_class c d v e q = subst (λ n. is_value_below files objects (ClassType n) v ≡ true) (names_same c d e) q
 
-      made_same : (at : ℕ) (c : Name) (s : VerificationType) (v : Value) → is_uninitialised at c s ≡ true → has_type files objects s v ≡ true → is_value_below files objects (ClassType c) v ≡ true
+      made_same : (at : ℕ) (c : Name) (s : VerificationType) (v : Value) → is_uninitialised at c s ≡ true
+          → has_type files objects s v ≡ true → is_value_below files objects (ClassType c) v ≡ true
       made_same at c Unusable v p q = absurd (false≢true p)
       made_same at c IntType v p q = absurd (false≢true p)
       made_same at c NullType v p q = absurd (false≢true p)
@@ -126,7 +132,8 @@ module _ (files : Program) where
       made_same at c (Uninitialised b d) v p q = of_class d c v (and_parts _ _ p).1 q
       made_same at c (UninitialisedThis d) v p q = absurd (false≢true p)
 
-      this_same : (c : Name) (s : VerificationType) (v : Value) → is_uninitialised_this c s ≡ true → has_type files objects s v ≡ true → is_value_below files objects (ClassType c) v ≡ true
+      this_same : (c : Name) (s : VerificationType) (v : Value) → is_uninitialised_this c s ≡ true → has_type files objects s v ≡ true
+          → is_value_below files objects (ClassType c) v ≡ true
       this_same c Unusable v p q = absurd (false≢true p)
       this_same c IntType v p q = absurd (false≢true p)
       this_same c NullType v p q = absurd (false≢true p)
@@ -150,7 +157,8 @@ module _ (files : Program) where
       null_from (Uninitialised at c) v p q = absurd (false≢true p)
       null_from (UninitialisedThis c) v p q = absurd (false≢true p)
 
-      of_from : (s : VerificationType) (t : ReferenceType) (v : Value) → is_of files t s ≡ true → has_type files objects s v ≡ true → is_value_below files objects t v ≡ true
+      of_from : (s : VerificationType) (t : ReferenceType) (v : Value) → is_of files t s ≡ true → has_type files objects s v ≡ true
+          → is_value_below files objects t v ≡ true
       of_from Unusable t v p q = absurd (false≢true p)
       of_from IntType t v p q = absurd (false≢true p)
       of_from NullType t v p q = null_below t v q
@@ -159,7 +167,8 @@ module _ (files : Program) where
       of_from (UninitialisedThis c) t v p q = absurd (false≢true p)
 
       -- what is of a type is of each type above it
-      pub stack_above : (s t : VerificationType) (v : Value) → is_stack_below files s t ≡ true → has_type files objects s v ≡ true → has_type files objects t v ≡ true
+      pub stack_above : (s t : VerificationType) (v : Value) → is_stack_below files s t ≡ true → has_type files objects s v ≡ true
+          → has_type files objects t v ≡ true
       stack_above s Unusable v p q = refl
       stack_above s IntType v p q = int_from s v p q
       stack_above s NullType v p q = null_from s v p q
@@ -167,7 +176,8 @@ module _ (files : Program) where
       stack_above s (Uninitialised at c) v p q = made_same at c s v p q
       stack_above s (UninitialisedThis c) v p q = this_same c s v p q
 
-      pub local_above : (s t : VerificationType) (v : Value) → is_local_below files s t ≡ true → has_type files objects s v ≡ true → has_type files objects t v ≡ true
+      pub local_above : (s t : VerificationType) (v : Value) → is_local_below files s t ≡ true → has_type files objects s v ≡ true
+          → has_type files objects t v ≡ true
       local_above s Unusable v p q = refl
       local_above s IntType v p q = int_from s v p q
       local_above s NullType v p q = null_from s v p q
@@ -187,7 +197,8 @@ module _ (files : Program) where
       is_reference_null value.Null q = q
       is_reference_null (value.Reference r) q = refl
 
-      reference_from : (s : VerificationType) (v : Value) → is_reference s ≡ true → has_type files objects s v ≡ true → is_reference_value v ≡ true
+      reference_from : (s : VerificationType) (v : Value) → is_reference s ≡ true → has_type files objects s v ≡ true
+          → is_reference_value v ≡ true
       reference_from Unusable v p q = absurd (false≢true p)
       reference_from IntType v p q = absurd (false≢true p)
       reference_from NullType v p q = is_reference_null v q
@@ -201,16 +212,19 @@ module _ (files : Program) where
       super_above (Some s) c d e q =
           within_subclass files rooted 1 c d (or_right (name_eq c d) _ (subst (λ o. option_map_or (λ s. is_within files 0 s d) o false ≡ true) (sym e) q))
 
-      receiver_from : (class : Name) (s : VerificationType) (v : Value) → is_receiver files class s ≡ true → has_type files objects s v ≡ true → is_value_below files objects (ClassType class) v ≡ true
+      receiver_from : (class : Name) (s : VerificationType) (v : Value) → is_receiver files class s ≡ true
+          → has_type files objects s v ≡ true → is_value_below files objects (ClassType class) v ≡ true
       receiver_from class Unusable v p q = absurd (false≢true p)
       receiver_from class IntType v p q = absurd (false≢true p)
       receiver_from class NullType v p q = absurd (false≢true p)
       receiver_from class (OfType t) v p q = absurd (false≢true p)
       receiver_from class (Uninitialised at c) v p q = of_class c class v p q
       receiver_from class (UninitialisedThis c) v p q =
-          ⊎_elim (λ e. of_class c class v e q) (λ e. below_on (ClassType c) (ClassType class) v (super_above (superclass_of files c) c class refl e) q) (or_cases _ _ p)
+          ⊎_elim (λ e. of_class c class v e q) (λ e. below_on (ClassType c) (ClassType class)
+          v (super_above (superclass_of files c) c class refl e) q) (or_cases _ _ p)
 
-      owner_from : (class : Name) (s : VerificationType) (v : Value) → is_instance_or_this files class s ≡ true → has_type files objects s v ≡ true → is_value_below files objects (ClassType class) v ≡ true
+      owner_from : (class : Name) (s : VerificationType) (v : Value) → is_instance_or_this files class s ≡ true
+          → has_type files objects s v ≡ true → is_value_below files objects (ClassType class) v ≡ true
       owner_from class Unusable v p q = absurd (false≢true p)
       owner_from class IntType v p q = absurd (false≢true p)
       owner_from class NullType v p q = null_below (ClassType class) v q
@@ -219,11 +233,13 @@ module _ (files : Program) where
       owner_from class (UninitialisedThis c) v p q = of_class c class v p q
 
       module _ (test : ReferenceType → Bool) (down : (u t : ReferenceType) → is_assignable files u t ≡ true → test t ≡ true → test u ≡ true) where
-        object_with : (o : Option ReferenceType) (t : ReferenceType) → test t ≡ true → is_object_below files t o ≡ true → option_map_or test o false ≡ true
+        object_with : (o : Option ReferenceType) (t : ReferenceType) → test t ≡ true → is_object_below files t o ≡ true
+            → option_map_or test o false ≡ true
         object_with None t p q = absurd (false≢true q)
         object_with (Some u) t p q = down u t q p
 
-        below_with : (t : ReferenceType) (v : Value) → test t ≡ true → is_value_below files objects t v ≡ true → is_value_with objects test v ≡ true
+        below_with : (t : ReferenceType) (v : Value) → test t ≡ true → is_value_below files objects t v ≡ true
+            → is_value_with objects test v ≡ true
         below_with t value.Unset p q = q
         below_with t (value.Int bits) p q = q
         below_with t value.Null p q = q
@@ -235,7 +251,8 @@ module _ (files : Program) where
         null_with value.Null q = q
         null_with (value.Reference r) q = absurd (false≢true q)
 
-        with_from : (s : VerificationType) (v : Value) → has_type_with test s ≡ true → has_type files objects s v ≡ true → is_value_with objects test v ≡ true
+        with_from : (s : VerificationType) (v : Value) → has_type_with test s ≡ true → has_type files objects s v ≡ true
+            → is_value_with objects test v ≡ true
         with_from Unusable v p q = absurd (false≢true p)
         with_from IntType v p q = absurd (false≢true p)
         with_from NullType v p q = null_with v q
@@ -244,7 +261,8 @@ module _ (files : Program) where
         with_from (UninitialisedThis c) v p q = absurd (false≢true p)
 
       -- where the verifier finds what is wanted, the run does
-      pub meets_both : (w : Want) (s : VerificationType) (v : Value) → type_meets files w s ≡ true → has_type files objects s v ≡ true → value_meets files objects w v ≡ true
+      pub meets_both : (w : Want) (s : VerificationType) (v : Value) → type_meets files w s ≡ true → has_type files objects s v ≡ true
+          → value_meets files objects w v ≡ true
       meets_both AnyWord s v p q = refl
       meets_both AnInt s v p q = int_from s v p q
       meets_both AnyReference s v p q = reference_from s v p q
@@ -255,10 +273,12 @@ module _ (files : Program) where
       meets_both AByteArray s v p q = with_from is_byte_array_type byte_array_down s v p q
 
       -- what is forgotten or initialised goes on being of its type
-      pub forgotten_typed : (offset : ℕ) (s : VerificationType) (v : Value) → has_type files objects s v ≡ true → has_type files objects (forgotten offset s) v ≡ true
+      pub forgotten_typed : (offset : ℕ) (s : VerificationType) (v : Value) → has_type files objects s v ≡ true
+          → has_type files objects (forgotten offset s) v ≡ true
       forgotten_typed offset s v q = cond_both (is_made_at offset s) _ _ (λ t. has_type files objects t v ≡ true) (λ e. refl) (λ e. q)
 
-      pub initialised_typed : (of s : VerificationType) (v : Value) → has_type files objects s v ≡ true → has_type files objects (initialised of s) v ≡ true
+      pub initialised_typed : (of s : VerificationType) (v : Value) → has_type files objects s v ≡ true
+          → has_type files objects (initialised of s) v ≡ true
       initialised_typed Unusable s v q = q
       initialised_typed IntType s v q = q
       initialised_typed NullType s v q = q
@@ -268,17 +288,20 @@ module _ (files : Program) where
 
 -- ---- more objects change nothing of what has a type
 
-object_more : (files : Program) (os ps : List ReferenceType) → Extends os ps → (r : ℕ) (t : ReferenceType) (o : Option ReferenceType) → slice_get os r ≡ o → is_object_below files t o ≡ true → is_object_below files t (slice_get ps r) ≡ true
+object_more : (files : Program) (os ps : List ReferenceType) → Extends os ps → (r : ℕ) (t : ReferenceType) (o : Option ReferenceType)
+    → slice_get os r ≡ o → is_object_below files t o ≡ true → is_object_below files t (slice_get ps r) ≡ true
 object_more files os ps x r t None e q = absurd (false≢true q)
 object_more files os ps x r t (Some u) e q = subst (λ o. is_object_below files t o ≡ true) (sym (x.keeps r u e)) q
 
-below_more : (files : Program) (os ps : List ReferenceType) → Extends os ps → (t : ReferenceType) (v : Value) → is_value_below files os t v ≡ true → is_value_below files ps t v ≡ true
+below_more : (files : Program) (os ps : List ReferenceType) → Extends os ps → (t : ReferenceType) (v : Value)
+    → is_value_below files os t v ≡ true → is_value_below files ps t v ≡ true
 below_more files os ps x t value.Unset q = q
 below_more files os ps x t (value.Int bits) q = q
 below_more files os ps x t value.Null q = q
 below_more files os ps x t (value.Reference r) q = object_more files os ps x r t (slice_get os r) refl q
 
-pub has_type_more : (files : Program) (os ps : List ReferenceType) → Extends os ps → (t : VerificationType) (v : Value) → has_type files os t v ≡ true → has_type files ps t v ≡ true
+pub has_type_more : (files : Program) (os ps : List ReferenceType) → Extends os ps → (t : VerificationType) (v : Value)
+    → has_type files os t v ≡ true → has_type files ps t v ≡ true
 has_type_more files os ps x Unusable v q = q
 has_type_more files os ps x IntType v q = q
 has_type_more files os ps x NullType v q = q

@@ -25,13 +25,18 @@ taken true xs leads h = refl
 taken false xs leads h = absurd cc
 
 module _ (files : Program) (rooted : Rooted files) (os : List ReferenceType) where
-  finds_by : (f : Frame) (body : Body) (t : FrameType) (leads : List (ℕ × FrameType)) (z : Sized) (o : Option (MeaningOf Value)) → AreTyped files os t.slots f.place.slots → flow_by files (site_with f.method body f.place.offset z) t o ≡ Some leads → finds_operands files os body.code.max_stack f o ≡ true
+  finds_by : (f : Frame) (body : Body) (t : FrameType) (leads : List (ℕ × FrameType)) (z : Sized) (o : Option (MeaningOf Value))
+      → AreTyped files os t.slots f.place.slots → flow_by files (site_with f.method body f.place.offset z) t o ≡ Some leads
+      → finds_operands files os body.code.max_stack f o ≡ true
   finds_by f body t leads z None typed h = absurd cc
   finds_by f body t leads z (Some meaning) typed h =
       let test = taken (may_stand (site_with f.method body f.place.offset z) t (site_with f.method body f.place.offset z).instr && is_ready (type_meets files) over_types meaning.wants body.code.max_stack t.slots) _ leads h in
       ready_both files rooted os meaning.wants body.code.max_stack t.slots f.place.slots (slots_of files os t.slots f.place.slots typed) (and_parts _ _ test).1
 
-  finds_sized : (f : Frame) (body : Body) (t : FrameType) (leads : List (ℕ × FrameType)) (o : Option Sized) → AreTyped files os t.slots f.place.slots → flow_at files t (option_map (site_with f.method body f.place.offset) o) ≡ Some leads → finds_operands files os body.code.max_stack f (option_and_then (meaning_of values files) (option_map (site_with f.method body f.place.offset) o)) ≡ true
+  finds_sized : (f : Frame) (body : Body) (t : FrameType) (leads : List (ℕ × FrameType)) (o : Option Sized)
+      → AreTyped files os t.slots f.place.slots → flow_at files t (option_map (site_with f.method body f.place.offset) o) ≡ Some leads
+      → finds_operands files os body.code.max_stack
+      f (option_and_then (meaning_of values files) (option_map (site_with f.method body f.place.offset) o)) ≡ true
   finds_sized f body t leads None typed h = absurd cc
   finds_sized f body t leads (Some z) typed h = finds_by f body t leads z (meaning_of values files (site_with f.method body f.place.offset z)) typed h
 
@@ -51,19 +56,22 @@ module _ (files : Program) (rooted : Rooted files) (os : List ReferenceType) whe
   right_on None (Initialisation class phase ∷ stack) h = refl
   right_on (Some exception) (Initialisation class phase ∷ stack) h = refl
 
-  right_by : (pending : Option ℕ) (stack : StackOf Value) (status : ThreadStatus) → IsStackTyped files os pending stack status → is_wrong_by files os pending stack status ≡ false
+  right_by : (pending : Option ℕ) (stack : StackOf Value) (status : ThreadStatus) → IsStackTyped files os pending stack status
+      → is_wrong_by files os pending stack status ≡ false
   right_by pending stack Running h = right_on pending stack h
   right_by pending stack (Waiting object count) h = refl
   right_by pending stack (Relock object count cause) h = refl
   right_by pending stack (Ended exception) h = refl
 
-  right_of : (threads : List Thread) (stacks : List (StackOf Value)) → AreThreadsTyped files os threads stacks → (t : ℕ) → is_wrong_of files os (slice_get threads t) (slice_get stacks t) ≡ false
+  right_of : (threads : List Thread) (stacks : List (StackOf Value)) → AreThreadsTyped files os threads stacks → (t : ℕ)
+      → is_wrong_of files os (slice_get threads t) (slice_get stacks t) ≡ false
   right_of [] stacks h t = refl
   right_of (thread ∷ threads) [] h t = absurd h
   right_of (thread ∷ threads) (stack ∷ stacks) h zero = right_by thread.pending stack thread.status h.0.stack_typed
   right_of (thread ∷ threads) (stack ∷ stacks) h (suc t) = right_of threads stacks h.1 t
 
 -- a well-typed state has no wrong kind
-pub well_typed_right : (files : Program) → Rooted files → (state : State) → IsWellTyped files state → (t : ℕ) → has_wrong_kind files state t ≡ false
+pub well_typed_right : (files : Program) → Rooted files → (state : State) → IsWellTyped files state → (t : ℕ)
+    → has_wrong_kind files state t ≡ false
 well_typed_right files rooted state h t =
     right_of files rooted (types_of state.world.heap) state.world.threads state.stacks h.threads t

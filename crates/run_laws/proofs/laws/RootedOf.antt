@@ -41,17 +41,20 @@ module _ (files : Program) where
   NoWayBack d = (m : ℕ) (s : Name) → suc m ≤ length (classes_of files) → superclass_of files d ≡ Some s → is_within files m s d ≡ true → ⊥
 
   -- a superclass by its steps is above the class
-  above_first : (n : ℕ) (d s e : Name) → superclass_of files d ≡ Some s → (name_eq s e || is_above files n s e) ≡ true → is_above files (suc n) d e ≡ true
+  above_first : (n : ℕ) (d s e : Name) → superclass_of files d ≡ Some s → (name_eq s e || is_above files n s e) ≡ true
+      → is_above files (suc n) d e ≡ true
   above_first n d s e q h =
       subst (λ o. list_any (λ x. name_eq x e || is_above files n x e) (option_to_list o ++ superinterfaces_of files d) ≡ true) (sym q)
       (or_left (name_eq s e || is_above files n s e) _ h)
 
   -- on to the superclass, where there is one
-  pub on_super_of : (P : Name → Bool) (s : Name) (Q : Type 0) → ((x : Name) → superclass_of files s ≡ Some x → P x ≡ true → Q) → (o : Option Name) → superclass_of files s ≡ o → option_map_or P o false ≡ true → Q
+  pub on_super_of : (P : Name → Bool) (s : Name) (Q : Type 0) → ((x : Name) → superclass_of files s ≡ Some x → P x ≡ true → Q)
+      → (o : Option Name) → superclass_of files s ≡ o → option_map_or P o false ≡ true → Q
   on_super_of P s Q f None q w = absurd (false≢true w)
   on_super_of P s Q f (Some x) q w = f x q w
 
-  above_way : (m n : ℕ) (d s e : Name) → suc m ≤ n → superclass_of files d ≡ Some s → is_within files m s e ≡ true → is_above files n d e ≡ true
+  above_way : (m n : ℕ) (d s e : Name) → suc m ≤ n → superclass_of files d ≡ Some s → is_within files m s e ≡ true
+      → is_above files n d e ≡ true
   above_way m zero d s e l q w = absurd (omega (arith, l))
   above_way zero (suc n) d s e l q w = above_first n d s e q (or_left (name_eq s e) _ w)
   above_way (suc m) (suc n) d s e l q w =
@@ -67,7 +70,8 @@ module _ (files : Program) where
   pub ends_above : (k : ℕ) (d s : Name) → superclass_of files d ≡ Some s → ends files (suc k) d ≡ true → ends files k s ≡ true
   ends_above k d s q e = subst (λ o. option_map_or (λ x. ends files k x) o true ≡ true) q e
 
-  kept_true : (P Q : Name → Bool) (o : Option Name) → ((x : Name) → P x ≡ true → Q x ≡ true) → option_map_or P o true ≡ true → option_map_or Q o true ≡ true
+  kept_true : (P Q : Name → Bool) (o : Option Name) → ((x : Name) → P x ≡ true → Q x ≡ true) → option_map_or P o true ≡ true
+      → option_map_or Q o true ≡ true
   kept_true P Q None f h = h
   kept_true P Q (Some x) f h = f x h
 
@@ -89,7 +93,8 @@ module _ (files : Program) where
 
   -- ---- what has no way back is not met twice
 
-  super_all : (P : Name → Type 0) (f : Name → List Name) (o : Option Name) → ((x : Name) → o ≡ Some x → AllByRecursion P (f x)) → AllByRecursion P (option_map_or f o [])
+  super_all : (P : Name → Type 0) (f : Name → List Name) (o : Option Name) → ((x : Name) → o ≡ Some x → AllByRecursion P (f x))
+      → AllByRecursion P (option_map_or f o [])
   super_all P f None h = tt
   super_all P f (Some x) h = h x refl
 
@@ -106,14 +111,16 @@ module _ (files : Program) where
   )
 
   module _ (no_way_back : (d : Name) → NoWayBack d) where
-    apart : (n : ℕ) (c : Name) → n ≤ length (classes_of files) → (s : Name) → superclass_of files c ≡ Some s → AllByRecursion (λ y. name_eq c y ≡ false) (lineage_of files n s)
+    apart : (n : ℕ) (c : Name) → n ≤ length (classes_of files) → (s : Name) → superclass_of files c ≡ Some s
+        → AllByRecursion (λ y. name_eq c y ≡ false) (lineage_of files n s)
     apart zero c l s q = tt
     apart (suc m) c l s q =
         every_weaken (λ y. is_within files m s y ≡ true) (λ y. name_eq c y ≡ false) (lineage_of files (suc m) s)
         (λ y w. false_from_ne_true (name_eq c y) (λ h. no_way_back c m s l q (subst (λ z. is_within files m s z ≡ true) (sym (names_same c y h)) w)))
         (lineage_within (suc m) m s (omega arith))
 
-    distinct_super : (o : Option Name) (n : ℕ) → ((x : Name) → IsDistinct name_eq (lineage_of files n x)) → IsDistinct name_eq (option_map_or (λ x. lineage_of files n x) o [])
+    distinct_super : (o : Option Name) (n : ℕ) → ((x : Name) → IsDistinct name_eq (lineage_of files n x))
+        → IsDistinct name_eq (option_map_or (λ x. lineage_of files n x) o [])
     unfolding IsDistinct
     distinct_super None n h = tt
     distinct_super (Some x) n h = h x
@@ -128,7 +135,8 @@ module _ (files : Program) where
 
   -- ---- superclasses that do not end are as many as one likes, and each has a class
 
-  length_super : (o : Option Name) (n : ℕ) → ((x : Name) → ends files n x ≡ false → length (lineage_of files n x) ≡ n) → option_map_or (λ x. ends files n x) o true ≡ false → length (option_map_or (λ x. lineage_of files n x) o []) ≡ n
+  length_super : (o : Option Name) (n : ℕ) → ((x : Name) → ends files n x ≡ false → length (lineage_of files n x) ≡ n)
+      → option_map_or (λ x. ends files n x) o true ≡ false → length (option_map_or (λ x. lineage_of files n x) o []) ≡ n
   length_super None n h e = absurd (true≢false e)
   length_super (Some x) n h e = h x e
 
@@ -139,7 +147,8 @@ module _ (files : Program) where
   abbrev names : List Name
   names = map name_of (classes_of files)
 
-  named_among : (fs : List FileTree) (c : Name) (file : FileTree) → find (is_named c) fs ≡ Some file → list_any (name_eq c) (map name_of fs) ≡ true
+  named_among : (fs : List FileTree) (c : Name) (file : FileTree) → find (is_named c) fs ≡ Some file
+      → list_any (name_eq c) (map name_of fs) ≡ true
   named_among [] c file e = absurd cc
   named_among (f ∷ fs) c file e =
       ⊎_elim (λ t. or_left (name_eq c (name_of f)) _ (name_turned (name_of f) c t))
@@ -149,11 +158,15 @@ module _ (files : Program) where
   has_name : (c s : Name) → superclass_of files c ≡ Some s → list_any (name_eq c) names ≡ true
   has_name c s q = let f = some_from super_name_of (class_of files c) s q in named_among (classes_of files) c f.0 f.1
 
-  names_super : (c : Name) (o : Option Name) (n : ℕ) → superclass_of files c ≡ o → ((x : Name) → ends files n x ≡ false → AllByRecursion (λ y. list_any (name_eq y) names ≡ true) (lineage_of files n x)) → option_map_or (λ x. ends files n x) o true ≡ false → AllByRecursion (λ y. list_any (name_eq y) names ≡ true) (c ∷ option_map_or (λ x. lineage_of files n x) o [])
+  names_super : (c : Name) (o : Option Name) (n : ℕ) → superclass_of files c ≡ o
+      → ((x : Name) → ends files n x ≡ false → AllByRecursion (λ y. list_any (name_eq y) names ≡ true) (lineage_of files n x))
+      → option_map_or (λ x. ends files n x) o true ≡ false
+      → AllByRecursion (λ y. list_any (name_eq y) names ≡ true) (c ∷ option_map_or (λ x. lineage_of files n x) o [])
   names_super c None n q h e = absurd (true≢false e)
   names_super c (Some x) n q h e = (has_name c x q, h x e)
 
-  lineage_named : (n : ℕ) (c : Name) → ends files n c ≡ false → AllByRecursion (λ y. list_any (name_eq y) names ≡ true) (lineage_of files n c)
+  lineage_named : (n : ℕ) (c : Name) → ends files n c ≡ false
+      → AllByRecursion (λ y. list_any (name_eq y) names ≡ true) (lineage_of files n c)
   lineage_named zero c e = tt
   lineage_named (suc n) c e = names_super c (superclass_of files c) n refl (λ x h. lineage_named n x h) e
 

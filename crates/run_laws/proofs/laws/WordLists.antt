@@ -41,13 +41,15 @@ module _ {A B : Type 0} (f : A → B) where
 
 -- ---- what is no int is by its word what it refers to
 
-pub below_referent : (files : Program) (os : List ReferenceType) (t : ReferenceType) (v : Value) → is_value_below files os t v ≡ true → word_reference (word_of v) ≡ reference_of v
+pub below_referent : (files : Program) (os : List ReferenceType) (t : ReferenceType) (v : Value) → is_value_below files os t v ≡ true
+    → word_reference (word_of v) ≡ reference_of v
 below_referent files os t value.Unset e = refl
 below_referent files os t (value.Int bits) e = absurd (false≢true e)
 below_referent files os t value.Null e = refl
 below_referent files os t (value.Reference r) e = refl
 
-pub with_referent : (os : List ReferenceType) (test : ReferenceType → Bool) (v : Value) → is_value_with os test v ≡ true → word_reference (word_of v) ≡ reference_of v
+pub with_referent : (os : List ReferenceType) (test : ReferenceType → Bool) (v : Value) → is_value_with os test v ≡ true
+    → word_reference (word_of v) ≡ reference_of v
 with_referent os test value.Unset e = refl
 with_referent os test (value.Int bits) e = absurd (false≢true e)
 with_referent os test value.Null e = refl
@@ -63,7 +65,8 @@ is_object_want (AnOwner class) = true
 is_object_want AnArray = true
 is_object_want AByteArray = true
 
-pub wanted_referent : (files : Program) (os : List ReferenceType) (want : Want) (v : Value) → is_object_want want ≡ true → value_meets files os want v ≡ true → word_reference (word_of v) ≡ reference_of v
+pub wanted_referent : (files : Program) (os : List ReferenceType) (want : Want) (v : Value) → is_object_want want ≡ true
+    → value_meets files os want v ≡ true → word_reference (word_of v) ≡ reference_of v
 wanted_referent files os AnyWord v w e = absurd (false≢true w)
 wanted_referent files os AnInt v w e = absurd (false≢true w)
 wanted_referent files os AnyReference v w e = absurd (false≢true w)
@@ -89,7 +92,8 @@ out_words ops (Copy k) = map_index word_of ops k value.Unset
 out_words ops (Number f) = refl
 out_words ops Null = refl
 
-written_words : (ops : List Value) (ws : List (ℕ × Out)) (ls : List Value) → written over_words (map word_of ops) ws (map word_of ls) ≡ map word_of (written over_values ops ws ls)
+written_words : (ops : List Value) (ws : List (ℕ × Out)) (ls : List Value)
+    → written over_words (map word_of ops) ws (map word_of ls) ≡ map word_of (written over_values ops ws ls)
 written_words ops [] ls = refl
 written_words ops (w ∷ ws) ls =
     ap (λ x. written over_words (map word_of ops) ws (slice_set (map word_of ls) w.0 x)) (out_words ops w.1)

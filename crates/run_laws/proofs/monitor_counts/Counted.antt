@@ -12,14 +12,16 @@ use Rattle.run_laws.specs.monitor_counts.Counts.{is_fat_after, Returns, IsStatus
 -- ---- lists
 
 -- what holds at each place
-at_set : {A : Type 0} (P : ℕ → A → Type 0) (xs : List A) (d : A) (j : ℕ) (x : A) → ((k : ℕ) → P k (slice_index_or xs k d)) → P j x → (k : ℕ) → P k (slice_index_or (slice_set xs j x) k d)
+at_set : {A : Type 0} (P : ℕ → A → Type 0) (xs : List A) (d : A) (j : ℕ) (x : A) → ((k : ℕ) → P k (slice_index_or xs k d)) → P j x
+    → (k : ℕ) → P k (slice_index_or (slice_set xs j x) k d)
 at_set P [] d j x h p k = h k
 at_set P (y ∷ ys) d zero x h p zero = p
 at_set P (y ∷ ys) d zero x h p (suc k) = h (suc k)
 at_set P (y ∷ ys) d (suc j) x h p zero = h zero
 at_set P (y ∷ ys) d (suc j) x h p (suc k) = at_set (λ n. P (suc n)) ys d j x (λ n. h (suc n)) p k
 
-at_push : {A : Type 0} (P : ℕ → A → Type 0) (xs : List A) (d x : A) → ((k : ℕ) → P k (slice_index_or xs k d)) → ((k : ℕ) → P k x) → (k : ℕ) → P k (slice_index_or (xs ++ x ∷ []) k d)
+at_push : {A : Type 0} (P : ℕ → A → Type 0) (xs : List A) (d x : A) → ((k : ℕ) → P k (slice_index_or xs k d)) → ((k : ℕ) → P k x) → (k : ℕ)
+    → P k (slice_index_or (xs ++ x ∷ []) k d)
 at_push P [] d x h p zero = p zero
 at_push P [] d x h p (suc k) = h (suc k)
 at_push P (y ∷ ys) d x h p zero = h zero
@@ -101,15 +103,18 @@ module _ (fat : ℕ → Bool) (object : ℕ) where
   pub enter_counted : (t : ℕ) (m : Monitor) → IsMonitorCounted fat object m → IsMonitorCounted fat object (monitor_enter t m).after
   enter_counted t m h = by m.owner
     where
-      by : (o : Option ℕ) → IsMonitorCounted fat object (as_entrant t o m (answers_done (owned m t 1)) (answers_done (owned m t (m.count + 1)))).after
+      by : (o : Option ℕ) → IsMonitorCounted fat
+          object (as_entrant t o m (answers_done (owned m t 1)) (answers_done (owned m t (m.count + 1)))).after
       by None = owned_counted m t 1 (omega arith) h
       by (Some owner) =
           cond_both (owner == t) _ _ (λ (a : Answered Monitor). IsMonitorCounted fat object a.after) (λ e. owned_counted m t (m.count + 1) (omega arith) h) (λ e. h)
 
-  pub as_owner_counted : (t : ℕ) (m after : Monitor) → (owns t m.owner ≡ true → IsMonitorCounted fat object after) → IsMonitorCounted fat object m → IsMonitorCounted fat object (as_owner t m after).after
+  pub as_owner_counted : (t : ℕ) (m after : Monitor) → (owns t m.owner ≡ true → IsMonitorCounted fat object after)
+      → IsMonitorCounted fat object m → IsMonitorCounted fat object (as_owner t m after).after
   as_owner_counted t m after g h = cond_both (owns t m.owner) _ _ (λ (a : Answered Monitor). IsMonitorCounted fat object a.after) g (λ e. h)
 
-  released_counted : (m : Monitor) (t count : ℕ) → owns t m.owner ≡ true → IsMonitorCounted fat object m → IsMonitorCounted fat object (released m count)
+  released_counted : (m : Monitor) (t count : ℕ) → owns t m.owner ≡ true → IsMonitorCounted fat object m
+      → IsMonitorCounted fat object (released m count)
   released_counted m t count own h =
       cond_both (count == 0) _ _ (IsMonitorCounted fat object)
       (λ e. record { owner = refl; waiters = h.waiters })
@@ -122,7 +127,8 @@ module _ (fat : ℕ → Bool) (object : ℕ) where
   pub exit_counted : (t : ℕ) (m : Monitor) → IsMonitorCounted fat object m → IsMonitorCounted fat object (monitor_exit t m).after
   exit_counted t m h = as_owner_counted t m (released m (m.count - 1)) (λ own. released_counted m t (m.count - 1) own h) h
 
-  pub wait_counted : (t : ℕ) (m : Monitor) → fat object ≡ true → IsMonitorCounted fat object m → IsMonitorCounted fat object (monitor_wait t m).after
+  pub wait_counted : (t : ℕ) (m : Monitor) → fat object ≡ true → IsMonitorCounted fat object m
+      → IsMonitorCounted fat object (monitor_wait t m).after
   wait_counted t m is h =
       as_owner_counted t m (record { owner = None; count = 0; waiters = m.waiters ++ record { thread = t; count = m.count } ∷ [] })
       (λ own. record {
@@ -131,7 +137,8 @@ module _ (fat : ℕ → Bool) (object : ℕ) where
             (record { entries = owner_entries m.owner t m.count own h.owner; lock = is });
       }) h
 
-  pub notify_counted : (t pick : ℕ) (m : Monitor) → IsMonitorCounted fat object m → IsMonitorCounted fat object (monitor_notify t pick m).after
+  pub notify_counted : (t pick : ℕ) (m : Monitor) → IsMonitorCounted fat object m
+      → IsMonitorCounted fat object (monitor_notify t pick m).after
   notify_counted t pick m h =
       as_owner_counted t m (record m { waiters = remove m.waiters pick }) (λ own. record { owner = h.owner; waiters = each_remove (λ (w : Waiter). Returns fat object w.count) m.waiters pick h.waiters }) h
 
@@ -141,7 +148,8 @@ module _ (fat : ℕ → Bool) (object : ℕ) where
   pub interrupt_counted : (t : ℕ) (m : Monitor) → IsMonitorCounted fat object m → IsMonitorCounted fat object (monitor_interrupt t m).after
   interrupt_counted t m h = record { owner = h.owner; waiters = each_without (λ (w : Waiter). Returns fat object w.count) t m.waiters h.waiters }
 
-  pub relock_counted : (t count : ℕ) (m : Monitor) → 0 < count → IsMonitorCounted fat object m → IsMonitorCounted fat object (monitor_relock t count m).after
+  pub relock_counted : (t count : ℕ) (m : Monitor) → 0 < count → IsMonitorCounted fat object m
+      → IsMonitorCounted fat object (monitor_relock t count m).after
   relock_counted t count m p h = by m.owner
     where
       by : (o : Option ℕ) → IsMonitorCounted fat object (relock_from o m (answers_done (owned m t count))).after
@@ -151,7 +159,8 @@ module _ (fat : ℕ → Bool) (object : ℕ) where
 -- ---- the monitors and the threads
 
 module _ (fat : ℕ → Bool) where
-  pub with_monitor : (ms : List Monitor) (ths : List Thread) (object : ℕ) (m : Monitor) → IsMonitorCounted fat object m → AreCounted fat ms ths → AreCounted fat (slice_set ms object m) ths
+  pub with_monitor : (ms : List Monitor) (ths : List Thread) (object : ℕ) (m : Monitor) → IsMonitorCounted fat object m
+      → AreCounted fat ms ths → AreCounted fat (slice_set ms object m) ths
   with_monitor ms ths object m p h =
       record { monitors_are = at_set (IsMonitorCounted fat) ms unlocked object m h.monitors_are p; statuses_are = h.statuses_are }
 
@@ -159,17 +168,22 @@ module _ (fat : ℕ → Bool) where
   more_monitors ms ths h =
       record { monitors_are = at_push (IsMonitorCounted fat) ms unlocked unlocked h.monitors_are (unlocked_counted fat); statuses_are = h.statuses_are }
 
-  pub with_one : (ms : List Monitor) (ths : List Thread) (t : ℕ) (thread : Thread) → IsStatusCounted fat thread.status → AreCounted fat ms ths → AreCounted fat ms (slice_set ths t thread)
+  pub with_one : (ms : List Monitor) (ths : List Thread) (t : ℕ) (thread : Thread) → IsStatusCounted fat thread.status
+      → AreCounted fat ms ths → AreCounted fat ms (slice_set ths t thread)
   with_one ms ths t thread p h =
       record { monitors_are = h.monitors_are; statuses_are = at_set (λ k (th : Thread). IsStatusCounted fat th.status) ths no_thread t thread h.statuses_are p }
 
-  pub more_threads : (ms : List Monitor) (ths : List Thread) (object : ℕ) → AreCounted fat ms ths → AreCounted fat ms (ths ++ new_thread object ∷ [])
+  pub more_threads : (ms : List Monitor) (ths : List Thread) (object : ℕ) → AreCounted fat ms ths
+      → AreCounted fat ms (ths ++ new_thread object ∷ [])
   more_threads ms ths object h =
       record { monitors_are = h.monitors_are; statuses_are = at_push (λ k (th : Thread). IsStatusCounted fat th.status) ths no_thread (new_thread object) h.statuses_are (λ k. tt) }
 
   -- a thread of which no more is changed than its status stays, or is this one
-  pub with_same : (ms : List Monitor) (ths : List Thread) (t : ℕ) (thread : Thread) → thread.status ≡ (slice_index_or ths t no_thread).status → AreCounted fat ms ths → AreCounted fat ms (slice_set ths t thread)
+  pub with_same : (ms : List Monitor) (ths : List Thread) (t : ℕ) (thread : Thread)
+      → thread.status ≡ (slice_index_or ths t no_thread).status → AreCounted fat ms ths → AreCounted fat ms (slice_set ths t thread)
   with_same ms ths t thread e h = with_one ms ths t thread (subst (IsStatusCounted fat) (sym e) (h.statuses_are t)) h
 
-  pub called : (ms : List Monitor) (ths : List Thread) (object : ℕ) (call : Monitor → Answered Monitor) → ((m : Monitor) → IsMonitorCounted fat object m → IsMonitorCounted fat object (call m).after) → AreCounted fat ms ths → AreCounted fat (at_object object call ms).after ths
+  pub called : (ms : List Monitor) (ths : List Thread) (object : ℕ) (call : Monitor → Answered Monitor)
+      → ((m : Monitor) → IsMonitorCounted fat object m → IsMonitorCounted fat object (call m).after) → AreCounted fat ms ths
+      → AreCounted fat (at_object object call ms).after ths
   called ms ths object call k h = with_monitor ms ths object (call (monitor_at ms object)).after (k (monitor_at ms object) (h.monitors_are object)) h

@@ -48,7 +48,8 @@ module _ {A : Type 0} where
     begun_keeps : (world : WorldOf A) (t : ℕ) → AreMonitorsCounted fat world → AreMonitorsCounted fat (with_begun world t)
     begun_keeps world t h = with_same fat world.monitors world.threads t (record (thread_at world t) { begun = true }) refl h
 
-    pending_keeps : (world : WorldOf A) (t exception : ℕ) → AreMonitorsCounted fat world → AreMonitorsCounted fat (with_pending world t exception)
+    pending_keeps : (world : WorldOf A) (t exception : ℕ) → AreMonitorsCounted fat world
+        → AreMonitorsCounted fat (with_pending world t exception)
     pending_keeps world t exception h = with_same fat world.monitors world.threads t (record (thread_at world t) { pending = Some exception }) refl h
 
     caught_keeps : (world : WorldOf A) (t : ℕ) → AreMonitorsCounted fat world → AreMonitorsCounted fat (with_caught world t)
@@ -56,21 +57,25 @@ module _ {A : Type 0} where
 
     -- ---- exceptions, calls and returns
 
-    raised_counted : (t : ℕ) (fault : MachineException) (world : WorldOf A) (stack : StackOf A) → AreMonitorsCounted fat world → Counted fat (raised t fault world stack)
+    raised_counted : (t : ℕ) (fault : MachineException) (world : WorldOf A) (stack : StackOf A) → AreMonitorsCounted fat world
+        → Counted fat (raised t fault world stack)
     raised_counted t fault world stack h =
         pending_keeps (allocated world (Instance (exception_class fault) [])) t _ (more_monitors fat world.monitors world.threads h)
 
-    entering_counted : (t : ℕ) (world : WorldOf A) (rest : StackOf A) (frame : FrameOf A) (o : Option ℕ) → AreMonitorsCounted fat world → Counted fat (entering t world rest frame o)
+    entering_counted : (t : ℕ) (world : WorldOf A) (rest : StackOf A) (frame : FrameOf A) (o : Option ℕ) → AreMonitorsCounted fat world
+        → Counted fat (entering t world rest frame o)
     entering_counted t world rest frame None h = h
     entering_counted t world rest frame (Some object) h =
         enabled_counted (may_enter world t object) (Next (entry_cost world object) (part (with_entry world t object) (Invocation frame ∷ rest))) (entry_counted fat world h t object)
 
-    pushed_counted : (frames t : ℕ) (world after : WorldOf A) (stack rest : StackOf A) (frame : FrameOf A) → AreMonitorsCounted fat world → AreMonitorsCounted fat after → Counted fat (pushed frames t world after stack rest frame)
+    pushed_counted : (frames t : ℕ) (world after : WorldOf A) (stack rest : StackOf A) (frame : FrameOf A) → AreMonitorsCounted fat world
+        → AreMonitorsCounted fat after → Counted fat (pushed frames t world after stack rest frame)
     pushed_counted frames t world after stack rest frame h k =
         either_part (nat_lt (frame_count stack) frames) (entering t after rest frame frame.entered) (raised t StackOverflow world stack)
         (entering_counted t after rest frame frame.entered k) (raised_counted t StackOverflow world stack h)
 
-    leaving_counted : (t : ℕ) (o : Option ℕ) (world : WorldOf A) (rest stack : StackOf A) → AreMonitorsCounted fat world → Counted fat (leaving t o world rest stack)
+    leaving_counted : (t : ℕ) (o : Option ℕ) (world : WorldOf A) (rest stack : StackOf A) → AreMonitorsCounted fat world
+        → Counted fat (leaving t o world rest stack)
     leaving_counted t None world rest stack h = h
     leaving_counted t (Some object) world rest stack h =
         either_part (is_owner world t object) (on_to (with_exit world t object) rest) (raised t IllegalMonitorState world stack)
@@ -78,12 +83,14 @@ module _ {A : Type 0} where
 
     -- ---- the end of a thread
 
-    with_end_keeps : (world : WorldOf A) (t : ℕ) (over : Bool) → AreMonitorsCounted fat world → AreMonitorsCounted fat (with_end world t over)
+    with_end_keeps : (world : WorldOf A) (t : ℕ) (over : Bool) → AreMonitorsCounted fat world
+        → AreMonitorsCounted fat (with_end world t over)
     with_end_keeps world t true h =
         all_leave fat (with_thread world t (ended (thread_at world t))) (with_one fat world.monitors world.threads t (ended (thread_at world t)) tt h) (thread_at world t).object
     with_end_keeps world t false h = h
 
-    end_keeps : (t : ℕ) (world : WorldOf A) (stack : StackOf A) → AreMonitorsCounted fat world → AreMonitorsCounted fat (end_of t world stack)
+    end_keeps : (t : ℕ) (world : WorldOf A) (stack : StackOf A) → AreMonitorsCounted fat world
+        → AreMonitorsCounted fat (end_of t world stack)
     end_keeps t world [] h = with_end_keeps world t (is_over (thread_at world t)) h
     end_keeps t world (entry ∷ stack) h = h
 
@@ -95,34 +102,42 @@ module _ {A : Type 0} where
   module _ (C : Carrier A) (files : Program) (fat : ℕ → Bool) where
     -- ---- classes
 
-    constant_keeps : (class : Name) (pool : List Entry) (world : WorldOf A) (field : FieldTree) (o : Option A) → AreMonitorsCounted fat world
-        → AreMonitorsCounted fat (option_map_or (λ value. with_static world (field_member class pool field) (put_value C (field_member class pool field) value)) o world)
+    constant_keeps : (class : Name) (pool : List Entry) (world : WorldOf A) (field : FieldTree) (o : Option A)
+        → AreMonitorsCounted fat world
+        → AreMonitorsCounted fat (option_map_or
+        (λ value. with_static world (field_member class pool field) (put_value C (field_member class pool field) value)) o world)
     constant_keeps class pool world field None h = h
     constant_keeps class pool world field (Some value) h = h
 
-    constants_keep : (class : Name) (pool : List Entry) (world : WorldOf A) (fields : List FieldTree) → AreMonitorsCounted fat world → AreMonitorsCounted fat (with_constants C files class pool world fields)
+    constants_keep : (class : Name) (pool : List Entry) (world : WorldOf A) (fields : List FieldTree) → AreMonitorsCounted fat world
+        → AreMonitorsCounted fat (with_constants C files class pool world fields)
     constants_keep class pool world [] h = h
     constants_keep class pool world (field ∷ fields) h =
         constants_keep class pool (with_constant C files class pool world field) fields (constant_keeps class pool world field (constant_value C files pool field) h)
 
     class_keeps : (t : ℕ) (class : Name) (world : WorldOf A) (o : Option FileTree) → AreMonitorsCounted fat world
-        → AreMonitorsCounted fat (option_map_or (λ (file : FileTree). with_constants C files class file.pool (with_class_status world class (InProgress t)) file.fields) o (with_class_status world class (InProgress t)))
+        → AreMonitorsCounted fat (option_map_or
+        (λ (file : FileTree). with_constants C files class file.pool (with_class_status world class (InProgress t)) file.fields)
+        o (with_class_status world class (InProgress t)))
     class_keeps t class world None h = h
     class_keeps t class world (Some file) h = constants_keep class file.pool (with_class_status world class (InProgress t)) file.fields h
 
-    needing_counted : (t : ℕ) (class : Name) (look : Look) (world : WorldOf A) (stack : StackOf A) (x : SteppedOf (PartOf A)) → AreMonitorsCounted fat world → Counted fat x → Counted fat (needing C files t class look world stack x)
+    needing_counted : (t : ℕ) (class : Name) (look : Look) (world : WorldOf A) (stack : StackOf A) (x : SteppedOf (PartOf A))
+        → AreMonitorsCounted fat world → Counted fat x → Counted fat (needing C files t class look world stack x)
     needing_counted t class IsReady world stack x h k = k
     needing_counted t class IsNew world stack x h k = class_keeps t class world (class_of files class) h
     needing_counted t class IsHeld world stack x h k = tt
     needing_counted t class HasFailed world stack x h k = raised_counted fat t NoClassDefFound world stack h
 
-    needing_class_counted : (t : ℕ) (class : Option Name) (world : WorldOf A) (stack : StackOf A) (x : SteppedOf (PartOf A)) → AreMonitorsCounted fat world → Counted fat x → Counted fat (needing_class C files t class world stack x)
+    needing_class_counted : (t : ℕ) (class : Option Name) (world : WorldOf A) (stack : StackOf A) (x : SteppedOf (PartOf A))
+        → AreMonitorsCounted fat world → Counted fat x → Counted fat (needing_class C files t class world stack x)
     needing_class_counted t None world stack x h k = k
     needing_class_counted t (Some class) world stack x h k = needing_counted t class (look_by t (status_of world class)) world stack x h k
 
     -- ---- an instruction
 
-    become_counted : (frames t : ℕ) (world : WorldOf A) (frame : FrameOf A) (stack : StackOf A) (o : OutcomeOf A) → AreMonitorsCounted fat world → OutcomeCounted fat o → Counted fat (become files frames t world frame stack o)
+    become_counted : (frames t : ℕ) (world : WorldOf A) (frame : FrameOf A) (stack : StackOf A) (o : OutcomeOf A)
+        → AreMonitorsCounted fat world → OutcomeCounted fat o → Counted fat (become files frames t world frame stack o)
     become_counted frames t world frame stack (Goes cost after slots to) h k = k
     become_counted frames t world frame stack (Raises fault) h k = raised_counted fat t fault world (Invocation frame ∷ stack) h
     become_counted frames t world frame stack (Throws exception) h k = pending_keeps fat world t exception h
@@ -135,7 +150,8 @@ module _ {A : Type 0} where
     become_counted frames t world frame stack (Waits cost after rest) h k = k
 
     module _ (frames : ℕ) (event : Event) (world : WorldOf A) (h : AreMonitorsCounted fat world) where
-      bytecode_by_counted : (frame : FrameOf A) (stack : StackOf A) (max_stack : ℕ) (o : Option (MeaningOf A)) → OfMeaning Counts o → Counted fat (bytecode_by C files frames event world frame stack max_stack o)
+      bytecode_by_counted : (frame : FrameOf A) (stack : StackOf A) (max_stack : ℕ) (o : Option (MeaningOf A)) → OfMeaning Counts o
+          → Counted fat (bytecode_by C files frames event world frame stack max_stack o)
       bytecode_by_counted frame stack max_stack None k = enabled_counted fat (event.pick == 0) WrongKind tt
       bytecode_by_counted frame stack max_stack (Some m) k =
           let slots = frame.place.slots in
@@ -149,18 +165,21 @@ module _ {A : Type 0} where
       meant_counts None = tt
       meant_counts (Some site) = meaning_counts C files site
 
-      bytecode_counted : (frame : FrameOf A) (stack : StackOf A) (o : Option Body) → Counted fat (bytecode_in C files frames event world frame stack o)
+      bytecode_counted : (frame : FrameOf A) (stack : StackOf A) (o : Option Body)
+          → Counted fat (bytecode_in C files frames event world frame stack o)
       bytecode_counted frame stack None = enabled_counted fat (event.pick == 0) WrongKind tt
       bytecode_counted frame stack (Some body) =
           bytecode_by_counted frame stack body.code.max_stack (option_and_then (meaning_of C files) (site_at frame.method body frame.place.offset)) (meant_counts (site_at frame.method body frame.place.offset))
 
       -- ---- classes that are initialised, and threads that begin
 
-      initialiser_counted : (t : ℕ) (m : Member) (stack : StackOf A) (o : Option Body) → Counted fat (initialiser_event C frames t m world stack o)
+      initialiser_counted : (t : ℕ) (m : Member) (stack : StackOf A) (o : Option Body)
+          → Counted fat (initialiser_event C frames t m world stack o)
       initialiser_counted t m stack None = h
       initialiser_counted t m stack (Some body) = pushed_counted fat frames t world world stack stack (frame_with C m [] None body) h h
 
-      initialisation_counted : (t : ℕ) (class : Name) (phase : Phase) (stack : StackOf A) → Counted fat (initialisation_event C files frames t class phase world stack)
+      initialisation_counted : (t : ℕ) (class : Name) (phase : Phase) (stack : StackOf A)
+          → Counted fat (initialisation_event C files frames t class phase world stack)
       initialisation_counted t class Super stack =
           needing_class_counted t (before files class) world (Initialisation class Super ∷ stack) _ h
           (initialiser_counted t (initialiser_of class) (Initialisation class End ∷ stack) (body_of files (initialiser_of class)))
@@ -190,15 +209,18 @@ module _ {A : Type 0} where
 
       -- ---- pending exceptions, and threads that were woken
 
-      unwound_counted : (t exception : ℕ) (frame : FrameOf A) (stack : StackOf A) (o : Option ExceptionEntry) → Counted fat (unwound C t exception world frame stack o)
+      unwound_counted : (t exception : ℕ) (frame : FrameOf A) (stack : StackOf A) (o : Option ExceptionEntry)
+          → Counted fat (unwound C t exception world frame stack o)
       unwound_counted t exception frame stack None = leaving_counted fat t frame.entered world stack stack h
       unwound_counted t exception frame stack (Some entry) = caught_keeps fat world t h
 
-      failed_counted : (t : ℕ) (b : Bool) (class : Name) (stack : StackOf A) → Counted fat (failed t b (with_class_status world class Erroneous) stack)
+      failed_counted : (t : ℕ) (b : Bool) (class : Name) (stack : StackOf A)
+          → Counted fat (failed t b (with_class_status world class Erroneous) stack)
       failed_counted t true class stack = h
       failed_counted t false class stack = raised_counted fat t ExceptionInInitializer (with_class_status world class Erroneous) stack h
 
-      pending_counted : (t exception : ℕ) (thrown : Option ReferenceType) (stack : StackOf A) → Counted fat (pending_event C files t exception thrown world stack)
+      pending_counted : (t exception : ℕ) (thrown : Option ReferenceType) (stack : StackOf A)
+          → Counted fat (pending_event C files t exception thrown world stack)
       pending_counted t exception thrown [] = tt
       pending_counted t exception thrown (Invocation frame ∷ stack) =
           unwound_counted t exception frame stack (option_and_then (handler_in files frame.place.offset thrown) (body_of files frame.method))
@@ -219,11 +241,13 @@ module _ {A : Type 0} where
           let thrown = slice_get (types_of world.heap) exception in
           enabled_counted fat (event.pick == 0) (pending_event C files event.thread exception thrown world stack) (pending_counted event.thread exception thrown stack)
 
-    after_wait_counted : (t : ℕ) (cause : WakeCause) (world : WorldOf A) (stack : StackOf A) → AreMonitorsCounted fat world → Counted fat (after_wait files t cause world stack)
+    after_wait_counted : (t : ℕ) (cause : WakeCause) (world : WorldOf A) (stack : StackOf A) → AreMonitorsCounted fat world
+        → Counted fat (after_wait files t cause world stack)
     after_wait_counted t Notified world stack h = h
     after_wait_counted t Interrupted world stack h = raised_counted fat t InterruptedWait (with_interrupted world t false) stack (interrupted_keeps fat world h t false)
 
-    event_counted : (frames : ℕ) (event : Event) (world : WorldOf A) (stack : StackOf A) (status : ThreadStatus) → AreMonitorsCounted fat world → IsStatusCounted fat status → Counted fat (thread_event C files frames event world stack status)
+    event_counted : (frames : ℕ) (event : Event) (world : WorldOf A) (stack : StackOf A) (status : ThreadStatus)
+        → AreMonitorsCounted fat world → IsStatusCounted fat status → Counted fat (thread_event C files frames event world stack status)
     event_counted frames event world stack Running h p = going_counted frames event world h stack (thread_at world event.thread).pending
     event_counted frames event world stack (Waiting object count) h p = tt
     event_counted frames event world stack (Relock object count cause) h p =
@@ -242,7 +266,8 @@ module _ {A : Type 0} where
   StateCounted fat WrongKind = Unit {0}
   StateCounted fat (Next cost next) = AreMonitorsCounted (is_fat_after cost fat) next.world
 
-  put_counted : (fat : ℕ → Bool) (state : StateOf A) (t : ℕ) (x : SteppedOf (PartOf A)) → Counted fat x → StateCounted fat (with_part state t x)
+  put_counted : (fat : ℕ → Bool) (state : StateOf A) (t : ℕ) (x : SteppedOf (PartOf A)) → Counted fat x
+      → StateCounted fat (with_part state t x)
   put_counted fat state t NotEnabled h = tt
   put_counted fat state t WrongKind h = tt
   put_counted fat state t (Next cost p) h = h

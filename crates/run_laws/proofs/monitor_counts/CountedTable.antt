@@ -55,36 +55,47 @@ module _ {A : Type 0} where
       left_counted true next t r slots rest = exit_keeps fat world h t r
       left_counted false next t r slots rest = tt
 
-      array_counted : (C : Carrier A) (negative : Bool) (next count : ℕ) (array : List A → ObjectOf A) (first : A) (slots : Slots A) (rest : List A) → OutcomeCounted fat (made_array C negative next count array first world slots rest)
+      array_counted : (C : Carrier A) (negative : Bool) (next count : ℕ) (array : List A → ObjectOf A) (first : A) (slots : Slots A)
+          (rest : List A) → OutcomeCounted fat (made_array C negative next count array first world slots rest)
       array_counted C true next count array first slots rest = tt
       array_counted C false next count array first slots rest = more_monitors fat world.monitors world.threads h
 
       module _ (C : Carrier A) (files : Program) (slots : Slots A) (ops rest : List A) where
         -- ---- arrays
 
-        loaded_counted : (next : ℕ) (first : A) → OutcomeCounted fat (not_null (referent C ops 1) (λ r. at_index (in_range world r (int_operand C ops 0)) (pushing next (element_at first world r (int_operand C ops 0) ∷ []) world slots rest)))
+        loaded_counted : (next : ℕ) (first : A)
+            → OutcomeCounted fat (not_null (referent C ops 1)
+            (λ r. at_index (in_range world r (int_operand C ops 0)) (pushing next (element_at first world r (int_operand C ops 0)
+            ∷ []) world slots rest)))
         loaded_counted next first = not_null_counted fat (referent C ops 1) _ (λ r. index_counted (in_range world r (int_operand C ops 0)) _ h)
 
-        stored_int_counted : (next : ℕ) → OutcomeCounted fat (not_null (referent C ops 2) (λ r. at_index (in_range world r (int_operand C ops 1)) (stored next world r (int_operand C ops 1) (kept_by C (object_at world r) (operand C ops 0)) slots rest)))
+        stored_int_counted : (next : ℕ) → OutcomeCounted
+            fat (not_null (referent C ops 2) (λ r. at_index (in_range world r (int_operand C ops 1))
+            (stored next world r (int_operand C ops 1) (kept_by C (object_at world r) (operand C ops 0)) slots rest)))
         stored_int_counted next = not_null_counted fat (referent C ops 2) _ (λ r. index_counted (in_range world r (int_operand C ops 1)) _ h)
 
-        stored_reference_counted : (site : Site) (event : Event) → OutcomeCounted fat ((store_reference_meaning C files site).does event world slots ops rest)
+        stored_reference_counted : (site : Site) (event : Event)
+            → OutcomeCounted fat ((store_reference_meaning C files site).does event world slots ops rest)
         stored_reference_counted site event =
             not_null_counted fat (referent C ops 2) _
             (λ r. index_counted (in_range world r (int_operand C ops 1)) _ (storable_counted (may_stand_in C files world (object_at world r) (operand C ops 0)) _ h))
 
         -- ---- calls
 
-        runs_counted : (site : Site) (event : Event) (object : ℕ) (method : Member) (o : Option Body) → OutcomeCounted fat (runs C files site event world slots ops rest object method o)
+        runs_counted : (site : Site) (event : Event) (object : ℕ) (method : Member) (o : Option Body)
+            → OutcomeCounted fat (runs C files site event world slots ops rest object method o)
         runs_counted site event object method None = built_in_counted fat world h C (built_in_method method) site.next event slots ops rest
         runs_counted site event object method (Some body) = tt
 
-        pub invoked_counted : (site : Site) (event : Event) (object : ℕ) (chosen : Chosen) → OutcomeCounted fat (invoked C files site event world slots ops rest object chosen)
+        pub invoked_counted : (site : Site) (event : Event) (object : ℕ) (chosen : Chosen)
+            → OutcomeCounted fat (invoked C files site event world slots ops rest object chosen)
         invoked_counted site event object (Fails fault) = tt
         invoked_counted site event object (Runs method) = runs_counted site event object method (body_of files method)
 
         pub called_counted : (site : Site) (event : Event) (method : Member) (choose : WorldOf A → ℕ → Chosen)
-            → OutcomeCounted fat (invoked C files site event world slots ops rest (unwrap_or (C.referent (operand C ops (parameter_count method))) 0) (of_receiver (C.referent (operand C ops (parameter_count method))) (choose world)))
+            → OutcomeCounted fat (invoked C files site event world slots ops
+            rest (unwrap_or (C.referent (operand C ops (parameter_count method))) 0)
+            (of_receiver (C.referent (operand C ops (parameter_count method))) (choose world)))
         called_counted site event method choose =
             let r = C.referent (operand C ops (parameter_count method)) in
             invoked_counted site event (unwrap_or r 0) (of_receiver r (choose world))
@@ -117,8 +128,11 @@ module _ {A : Type 0} where
     return_counts descriptor returned.Int event world slots ops rest fat h = h
     return_counts descriptor returned.Reference event world slots ops rest fat h = h
 
-    calls : (site : Site) (method : Member) (choose : WorldOf A → ℕ → Chosen) (event : Event) (world : WorldOf A) (slots : Slots A) (ops rest : List A) (fat : ℕ → Bool) → AreMonitorsCounted fat world
-        → OutcomeCounted fat (invoked C files site event world slots ops rest (unwrap_or (C.referent (operand C ops (parameter_count method))) 0) (of_receiver (C.referent (operand C ops (parameter_count method))) (choose world)))
+    calls : (site : Site) (method : Member) (choose : WorldOf A → ℕ → Chosen) (event : Event) (world : WorldOf A) (slots : Slots A)
+        (ops rest : List A) (fat : ℕ → Bool) → AreMonitorsCounted fat world
+        → OutcomeCounted fat (invoked C files site event world slots ops
+        rest (unwrap_or (C.referent (operand C ops (parameter_count method))) 0)
+        (of_receiver (C.referent (operand C ops (parameter_count method))) (choose world)))
     calls site method choose event world slots ops rest fat h = called_counted fat world h C files slots ops rest site event method choose
 
     -- ---- the table

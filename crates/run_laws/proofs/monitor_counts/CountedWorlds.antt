@@ -24,12 +24,14 @@ OutcomeCounted fat (Returns after results) = AreMonitorsCounted fat after
 OutcomeCounted fat (Waits cost after rest) = AreMonitorsCounted (is_fat_after cost fat) after
 
 module _ {A : Type 0} where
-  pub not_null_counted : (fat : ℕ → Bool) (o : Option ℕ) (go : ℕ → OutcomeOf A) → ((r : ℕ) → OutcomeCounted fat (go r)) → OutcomeCounted fat (not_null o go)
+  pub not_null_counted : (fat : ℕ → Bool) (o : Option ℕ) (go : ℕ → OutcomeOf A) → ((r : ℕ) → OutcomeCounted fat (go r))
+      → OutcomeCounted fat (not_null o go)
   not_null_counted fat None go h = tt
   not_null_counted fat (Some r) go h = h r
 
   -- what an event takes inflates no lock that another one needs thin
-  pub at_cost : (cost : Cost) (fat : ℕ → Bool) (world : WorldOf A) → AreMonitorsCounted fat world → AreMonitorsCounted (is_fat_after cost fat) world
+  pub at_cost : (cost : Cost) (fat : ℕ → Bool) (world : WorldOf A) → AreMonitorsCounted fat world
+      → AreMonitorsCounted (is_fat_after cost fat) world
   at_cost cost fat world h = counted_more fat (is_fat_after cost fat) (fat_still cost fat) world.monitors world.threads h
 
   module _ (fat : ℕ → Bool) (world : WorldOf A) (h : AreMonitorsCounted fat world) where
@@ -44,7 +46,8 @@ module _ {A : Type 0} where
     pub exit_keeps : (t r : ℕ) → AreMonitorsCounted fat (with_exit world t r)
     exit_keeps t r = called fat world.monitors world.threads r (monitors.monitor_exit t) (exit_counted fat r t) h
 
-    pub relock_keeps : (t r count : ℕ) → ReturnsTo fat r count → AreMonitorsCounted fat (with_monitors world (monitors.relock r t count world.monitors))
+    pub relock_keeps : (t r count : ℕ) → ReturnsTo fat r count
+        → AreMonitorsCounted fat (with_monitors world (monitors.relock r t count world.monitors))
     relock_keeps t r count p = called fat world.monitors world.threads r (monitors.monitor_relock t count) (λ m. relock_counted fat r t count m p.entries) h
 
     -- ---- threads
@@ -56,7 +59,9 @@ module _ {A : Type 0} where
     interrupted_keeps t b = with_same fat world.monitors world.threads t (record (thread_at world t) { interrupted = b }) refl h
 
   -- members of a wait set that leave it are to enter again
-  pub all_woken_keeps : (fat : ℕ → Bool) (object : ℕ) (cause : WakeCause) (ws : List Waiter) (world : WorldOf A) → AreMonitorsCounted fat world → Each (λ (w : Waiter). ReturnsTo fat object w.count) ws → AreMonitorsCounted fat (all_woken object cause world ws)
+  pub all_woken_keeps : (fat : ℕ → Bool) (object : ℕ) (cause : WakeCause) (ws : List Waiter) (world : WorldOf A)
+      → AreMonitorsCounted fat world → Each (λ (w : Waiter). ReturnsTo fat object w.count) ws
+      → AreMonitorsCounted fat (all_woken object cause world ws)
   all_woken_keeps fat object cause [] world h each = h
   all_woken_keeps fat object cause (w ∷ ws) world h each =
       all_woken_keeps fat object cause ws (woken object cause world w) (status_keeps fat world h w.thread (Relock object w.count cause) (each zero w refl)) (λ k. each (suc k))
@@ -64,7 +69,8 @@ module _ {A : Type 0} where
   -- ---- wait, notify, notifyAll, interrupt, and the end of a thread (JLS 17.2)
 
   module _ (fat : ℕ → Bool) (world : WorldOf A) (h : AreMonitorsCounted fat world) where
-    notified_one_keeps : (after : WorldOf A) (object : ℕ) (o : Option Waiter) → AreMonitorsCounted fat after → ((w : Waiter) → o ≡ Some w → ReturnsTo fat object w.count) → AreMonitorsCounted fat (notified_one after object o)
+    notified_one_keeps : (after : WorldOf A) (object : ℕ) (o : Option Waiter) → AreMonitorsCounted fat after
+        → ((w : Waiter) → o ≡ Some w → ReturnsTo fat object w.count) → AreMonitorsCounted fat (notified_one after object o)
     notified_one_keeps after object None k p = k
     notified_one_keeps after object (Some w) k p = status_keeps fat after k w.thread (Relock object w.count Notified) (p w refl)
 
@@ -80,13 +86,15 @@ module _ {A : Type 0} where
         (called fat world.monitors world.threads object (monitors.monitor_notify_all t) (λ m k. as_owner_counted fat object t m (record m { waiters = [] }) (λ own. emptied_counted fat object m k) k) h)
         (h.monitors_are object).waiters
 
-    pub all_leave : (object : ℕ) → AreMonitorsCounted fat (all_woken object Notified (with_monitors world (monitors.wake_all object world.monitors)) (waiters_of world object))
+    pub all_leave : (object : ℕ) → AreMonitorsCounted
+        fat (all_woken object Notified (with_monitors world (monitors.wake_all object world.monitors)) (waiters_of world object))
     all_leave object =
         all_woken_keeps fat object Notified (waiters_of world object) (with_monitors world (monitors.wake_all object world.monitors))
         (called fat world.monitors world.threads object monitors.monitor_wake_all (emptied_counted fat object) h)
         (h.monitors_are object).waiters
 
-    interrupted_in_keeps : (t : ℕ) (status : ThreadStatus) → IsStatusCounted fat status → AreMonitorsCounted fat (interrupted_in world t status)
+    interrupted_in_keeps : (t : ℕ) (status : ThreadStatus) → IsStatusCounted fat status
+        → AreMonitorsCounted fat (interrupted_in world t status)
     interrupted_in_keeps t Running p = interrupted_keeps fat world h t true
     interrupted_in_keeps t (Waiting object count) p =
         let left = with_monitors world (monitors.interrupt object t world.monitors) in
@@ -100,7 +108,8 @@ module _ {A : Type 0} where
     interrupted_on_keeps (Some t) = interrupted_in_keeps t (thread_at world t).status (h.statuses_are t)
 
     -- the thread joins the wait set with its entries, of which there are some
-    waiting_keeps : (t object : ℕ) → is_owner world t object ≡ true → AreMonitorsCounted (is_fat_after (Joins object) fat) (waiting world t object)
+    waiting_keeps : (t object : ℕ) → is_owner world t object ≡ true
+        → AreMonitorsCounted (is_fat_after (Joins object) fat) (waiting world t object)
     waiting_keeps t object own =
         let is = is_fat_after (Joins object) fat in
         let m = monitor_at world.monitors object in
@@ -112,7 +121,8 @@ module _ {A : Type 0} where
 
     -- ---- methods of the machine
 
-    wait_by_counted : (owns interrupted : Bool) (t object : ℕ) (rest : List A) → is_owner world t object ≡ owns → OutcomeCounted fat (wait_by owns interrupted t object world rest)
+    wait_by_counted : (owns interrupted : Bool) (t object : ℕ) (rest : List A) → is_owner world t object ≡ owns
+        → OutcomeCounted fat (wait_by owns interrupted t object world rest)
     wait_by_counted false interrupted t object rest e = tt
     wait_by_counted true true t object rest e = tt
     wait_by_counted true false t object rest e = waiting_keeps t object e
@@ -121,7 +131,8 @@ module _ {A : Type 0} where
     owner_counted true x k = k
     owner_counted false x k = tt
 
-    start_counted : (started : Bool) (next object : ℕ) (slots : Slots A) (rest : List A) → OutcomeCounted fat (start_by started next object world slots rest)
+    start_counted : (started : Bool) (next object : ℕ) (slots : Slots A) (rest : List A)
+        → OutcomeCounted fat (start_by started next object world slots rest)
     start_counted true next object slots rest = tt
     start_counted false next object slots rest = more_threads fat world.monitors world.threads object h
 
@@ -129,7 +140,8 @@ module _ {A : Type 0} where
     join_counted true next slots rest = tt
     join_counted false next slots rest = h
 
-    pub built_in_counted : (C : Carrier A) (method : BuiltInMethod) (next : ℕ) (event : Event) (slots : Slots A) (ops rest : List A) → OutcomeCounted fat (built_in_does C method next event world slots ops rest)
+    pub built_in_counted : (C : Carrier A) (method : BuiltInMethod) (next : ℕ) (event : Event) (slots : Slots A) (ops rest : List A)
+        → OutcomeCounted fat (built_in_does C method next event world slots ops rest)
     built_in_counted C Construct next event slots ops rest = h
     built_in_counted C ConstructWithTarget next event slots ops rest = h
     built_in_counted C ObjectWait next event slots ops rest =

@@ -21,7 +21,8 @@ use Rattle.run_laws.proofs.monitor_counts.CountedSteps.{StateCounted, stepped_co
 
 -- ---- the opening state
 
-all_unlocked : {X : Type 0} (fat : ℕ → Bool) (object : ℕ) (xs : List X) (k : ℕ) → IsMonitorCounted fat object (slice_index_or (map (λ x. unlocked) xs) k unlocked)
+all_unlocked : {X : Type 0} (fat : ℕ → Bool) (object : ℕ) (xs : List X) (k : ℕ)
+    → IsMonitorCounted fat object (slice_index_or (map (λ x. unlocked) xs) k unlocked)
 all_unlocked fat object [] k = unlocked_counted fat object
 all_unlocked fat object (x ∷ xs) zero = unlocked_counted fat object
 all_unlocked fat object (x ∷ xs) (suc k) = all_unlocked fat object xs k
@@ -53,17 +54,20 @@ or_one true b h = refl
 or_one false true h = h refl
 or_one false false h = refl
 
-with_one : (objects : List ℕ) (new object : ℕ) → is_inflated (with_inflated new objects) object ≡ (is_inflated objects object || (new == object))
+with_one : (objects : List ℕ) (new object : ℕ)
+    → is_inflated (with_inflated new objects) object ≡ (is_inflated objects object || (new == object))
 with_one objects new object =
     cond_both (is_inflated objects new) _ _ (λ os. is_inflated os object ≡ (is_inflated objects object || (new == object)))
     (λ e. or_one _ _ (λ q. subst (λ o. is_inflated objects o ≡ true) (eqb-true new object q) e))
     (λ e. or_swap (new == object) (is_inflated objects object))
 
-with_entry : (b : Bool) (objects : List ℕ) (new object : ℕ) → is_inflated (if b then with_inflated new objects else objects) object ≡ (is_inflated objects object || (b && (new == object)))
+with_entry : (b : Bool) (objects : List ℕ) (new object : ℕ)
+    → is_inflated (if b then with_inflated new objects else objects) object ≡ (is_inflated objects object || (b && (new == object)))
 with_entry true objects new object = with_one objects new object
 with_entry false objects new object = or_none (is_inflated objects object)
 
-pub inflated_are : (cost : Cost) (objects : List ℕ) (object : ℕ) → is_inflated (inflated_by cost objects) object ≡ is_fat_after cost (is_inflated objects) object
+pub inflated_are : (cost : Cost) (objects : List ℕ) (object : ℕ)
+    → is_inflated (inflated_by cost objects) object ≡ is_fat_after cost (is_inflated objects) object
 inflated_are Free objects object = refl
 inflated_are (Makes cells) objects object = refl
 inflated_are Starts objects object = refl
@@ -77,7 +81,8 @@ module _ (files : Program) (frames : ℕ) where
   abbrev Goes : State → List Event → List ℕ → State → List ℕ → Type 0
   Goes state events objects last after = (run_from files frames state events ≡ Some last) × (inflated_from files frames state events objects ≡ after)
 
-  one_goes : (state : State) (event : Event) (cost : Cost) (next : State) (objects : List ℕ) → stepped values files frames state event ≡ Next cost next → Goes state (event ∷ []) objects next (inflated_by cost objects)
+  one_goes : (state : State) (event : Event) (cost : Cost) (next : State) (objects : List ℕ)
+      → stepped values files frames state event ≡ Next cost next → Goes state (event ∷ []) objects next (inflated_by cost objects)
   one_goes state event cost next objects e = (
     ap (λ x. option_and_then (λ next. Some next) (next_by x)) e,
     ap (λ x. if_next x objects (λ cost next. inflated_by cost objects)) e,
@@ -92,25 +97,32 @@ module _ (files : Program) (frames : ℕ) where
   longer (first ∷ events) state objects last event cost next r e =
       by (λ s os q. longer events s os last event cost next q e) (stepped values files frames state first) r
     where
-      by : ((s : State) (os : List ℕ) → run_from files frames s events ≡ Some last → Goes s (events ++ event ∷ []) os next (inflated_by cost (inflated_from files frames s events os)))
+      by : ((s : State) (os : List ℕ) → run_from files frames s events ≡ Some last
+          → Goes s (events ++ event ∷ []) os next (inflated_by cost (inflated_from files frames s events os)))
           → (x : SteppedOf State) → option_and_then (λ s. run_from files frames s events) (next_by x) ≡ Some last
           → (option_and_then (λ s. run_from files frames s (events ++ event ∷ [])) (next_by x) ≡ Some next)
-          × (if_next x objects (λ c s. inflated_from files frames s (events ++ event ∷ []) (inflated_by c objects)) ≡ inflated_by cost (if_next x objects (λ c s. inflated_from files frames s events (inflated_by c objects))))
+          × (if_next x objects (λ c s. inflated_from files frames s (events ++ event ∷ []) (inflated_by c objects))
+          ≡ inflated_by cost (if_next x objects (λ c s. inflated_from files frames s events (inflated_by c objects))))
       by rest NotEnabled r = absurd cc
       by rest WrongKind r = absurd cc
       by rest (Next c s) r = rest s (inflated_by c objects) r
 
-  counted_from : (events : List Event) (state : State) (objects : List ℕ) (last : State) → AreMonitorsCounted (is_inflated objects) state.world
-      → run_from files frames state events ≡ Some last → AreMonitorsCounted (is_inflated (inflated_from files frames state events objects)) last.world
+  counted_from : (events : List Event) (state : State) (objects : List ℕ) (last : State)
+      → AreMonitorsCounted (is_inflated objects) state.world
+      → run_from files frames state events ≡ Some last
+      → AreMonitorsCounted (is_inflated (inflated_from files frames state events objects)) last.world
   counted_from [] state objects last h r =
       let is : state ≡ last = same_Some state last r in
       subst (λ (s : State). AreMonitorsCounted (is_inflated objects) s.world) is h
   counted_from (first ∷ events) state objects last h r =
       by (λ s os k q. counted_from events s os last k q) (stepped values files frames state first) (stepped_counted values files frames state first (is_inflated objects) h) r
     where
-      by : ((s : State) (os : List ℕ) → AreMonitorsCounted (is_inflated os) s.world → run_from files frames s events ≡ Some last → AreMonitorsCounted (is_inflated (inflated_from files frames s events os)) last.world)
-          → (x : SteppedOf State) → StateCounted (is_inflated objects) x → option_and_then (λ s. run_from files frames s events) (next_by x) ≡ Some last
-          → AreMonitorsCounted (is_inflated (if_next x objects (λ c s. inflated_from files frames s events (inflated_by c objects)))) last.world
+      by : ((s : State) (os : List ℕ) → AreMonitorsCounted (is_inflated os) s.world → run_from files frames s events ≡ Some last
+          → AreMonitorsCounted (is_inflated (inflated_from files frames s events os)) last.world)
+          → (x : SteppedOf State) → StateCounted (is_inflated objects) x
+          → option_and_then (λ s. run_from files frames s events) (next_by x) ≡ Some last
+          → AreMonitorsCounted (is_inflated (if_next x objects (λ c s. inflated_from files frames s events (inflated_by c objects))))
+          last.world
       by rest NotEnabled k r = absurd cc
       by rest WrongKind k r = absurd cc
       by rest (Next c s) k r =

@@ -28,7 +28,8 @@ built_in_count : length built_in_classes ≡ 30
 unfolding built_in_classes
 built_in_count = refl
 
-opened_count : {A : Type 0} (C : Carrier A) (files : Program) → length (opening_heap C files) ≡ 33 + length files + length (string_texts files)
+opened_count : {A : Type 0} (C : Carrier A) (files : Program)
+    → length (opening_heap C files) ≡ 33 + length files + length (string_texts files)
 unfolding opening_heap
 opened_count {A} C files =
     let classes : List (ObjectOf A) = map (λ file. Instance java_lang_class []) (classes_of files) in
@@ -56,7 +57,8 @@ no_limit false c o h = refl
 
 module _ (files : Program) (bounds : Bounds) where
   -- an event that no limit forbids makes no object past the limit
-  grown : (crowded : ℕ → Bool) (state : State) (cost : Cost) (n : ℕ) → is_none (limit_of files bounds crowded state cost) ≡ true → n ≡ length state.world.heap + made cost
+  grown : (crowded : ℕ → Bool) (state : State) (cost : Cost) (n : ℕ) → is_none (limit_of files bounds crowded state cost) ≡ true
+      → n ≡ length state.world.heap + made cost
       → length state.world.heap ≤ opening_count files + bounds.objects → n ≤ opening_count files + bounds.objects
   grown crowded state Free n h e b = omega (arith, e, b)
   grown crowded state (Makes cells) n h e b =
@@ -66,17 +68,23 @@ module _ (files : Program) (bounds : Bounds) where
   grown crowded state (Enters object count) n h e b = omega (arith, e, b)
   grown crowded state (Joins object) n h e b = omega (arith, e, b)
 
-  bounded : (events : List Event) (state : State) (inflated : List ℕ) (last : State) → length state.world.heap ≤ opening_count files + bounds.objects
-      → within_limits_from files bounds state events inflated ≡ true → run_from files bounds.frames state events ≡ Some last → length last.world.heap ≤ opening_count files + bounds.objects
+  bounded : (events : List Event) (state : State) (inflated : List ℕ) (last : State)
+      → length state.world.heap ≤ opening_count files + bounds.objects
+      → within_limits_from files bounds state events inflated ≡ true → run_from files bounds.frames state events ≡ Some last
+      → length last.world.heap ≤ opening_count files + bounds.objects
   bounded [] state inflated last b w e =
       let is : state ≡ last = same_Some state last e in
       subst (λ (s : State). length s.world.heap ≤ opening_count files + bounds.objects) is b
   bounded (event ∷ events) state inflated last b w e = by (λ next inflated c. bounded events next inflated last c) (stepped values files bounds.frames state event) (stepped_counted values files bounds.frames state event) w e
     where
-      by : ((next : State) (inflated : List ℕ) → length next.world.heap ≤ opening_count files + bounds.objects → within_limits_from files bounds next events inflated ≡ true → run_from files bounds.frames next events ≡ Some last → length last.world.heap ≤ opening_count files + bounds.objects)
+      by : ((next : State) (inflated : List ℕ) → length next.world.heap ≤ opening_count files + bounds.objects
+          → within_limits_from files bounds next events inflated ≡ true → run_from files bounds.frames next events ≡ Some last
+          → length last.world.heap ≤ opening_count files + bounds.objects)
           → (x : SteppedOf State) → StateCounted (length state.world.heap) x
-          → if_next x true (λ cost next. is_none (limit_of files bounds (is_crowded bounds.monitors inflated) state cost) && within_limits_from files bounds next events (inflated_by cost inflated)) ≡ true
-          → option_and_then (λ next. run_from files bounds.frames next events) (next_by x) ≡ Some last → length last.world.heap ≤ opening_count files + bounds.objects
+          → if_next x true (λ cost next. is_none (limit_of files bounds (is_crowded bounds.monitors inflated) state cost) &&
+          within_limits_from files bounds next events (inflated_by cost inflated)) ≡ true
+          → option_and_then (λ next. run_from files bounds.frames next events) (next_by x) ≡ Some last
+          → length last.world.heap ≤ opening_count files + bounds.objects
       by rest NotEnabled c w e = absurd cc
       by rest WrongKind c w e = absurd cc
       by rest (Next cost next) c w e =

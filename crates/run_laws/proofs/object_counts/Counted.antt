@@ -34,11 +34,13 @@ OutcomeCounted n (Returns after results) = length after.heap ≡ n
 OutcomeCounted n (Waits cost after rest) = length after.heap ≡ n + made cost
 
 module _ {A : Type 0} where
-  pub not_null_counted : (n : ℕ) (o : Option ℕ) (go : ℕ → OutcomeOf A) → ((r : ℕ) → OutcomeCounted n (go r)) → OutcomeCounted n (not_null o go)
+  pub not_null_counted : (n : ℕ) (o : Option ℕ) (go : ℕ → OutcomeOf A) → ((r : ℕ) → OutcomeCounted n (go r))
+      → OutcomeCounted n (not_null o go)
   not_null_counted n None go h = tt
   not_null_counted n (Some r) go h = h r
 
-  pub either_counted : (n : ℕ) (b : Bool) (x y : OutcomeOf A) → OutcomeCounted n x → OutcomeCounted n y → OutcomeCounted n (if b then x else y)
+  pub either_counted : (n : ℕ) (b : Bool) (x y : OutcomeOf A) → OutcomeCounted n x → OutcomeCounted n y
+      → OutcomeCounted n (if b then x else y)
   either_counted n true x y h g = h
   either_counted n false x y h g = g
 
@@ -47,7 +49,8 @@ module _ {A : Type 0} where
   pub object_count : (world : WorldOf A) (r : ℕ) (o : ObjectOf A) → length (with_object world r o).heap ≡ length world.heap
   object_count world r o = length-set world.heap r o
 
-  pub woken_count : (object : ℕ) (cause : WakeCause) (world : WorldOf A) (ws : List Waiter) → length (all_woken object cause world ws).heap ≡ length world.heap
+  pub woken_count : (object : ℕ) (cause : WakeCause) (world : WorldOf A) (ws : List Waiter)
+      → length (all_woken object cause world ws).heap ≡ length world.heap
   woken_count object cause world [] = refl
   woken_count object cause world (w ∷ ws) = woken_count object cause (woken object cause world w) ws
 
@@ -67,7 +70,8 @@ module _ {A : Type 0} where
 
   -- ---- methods of the machine
 
-  wait_counted : (owns interrupted : Bool) (t object : ℕ) (world : WorldOf A) (rest : List A) → OutcomeCounted (length world.heap) (wait_by owns interrupted t object world rest)
+  wait_counted : (owns interrupted : Bool) (t object : ℕ) (world : WorldOf A) (rest : List A)
+      → OutcomeCounted (length world.heap) (wait_by owns interrupted t object world rest)
   wait_counted false interrupted t object world rest = tt
   wait_counted true true t object world rest = tt
   wait_counted true false t object world rest = unchanged (length world.heap)
@@ -76,15 +80,18 @@ module _ {A : Type 0} where
   owner_counted n true x h = h
   owner_counted n false x h = tt
 
-  start_counted : (started : Bool) (next object : ℕ) (world : WorldOf A) (slots : Slots A) (rest : List A) → OutcomeCounted (length world.heap) (start_by started next object world slots rest)
+  start_counted : (started : Bool) (next object : ℕ) (world : WorldOf A) (slots : Slots A) (rest : List A)
+      → OutcomeCounted (length world.heap) (start_by started next object world slots rest)
   start_counted true next object world slots rest = tt
   start_counted false next object world slots rest = unchanged (length world.heap)
 
-  join_counted : (alive : Bool) (next : ℕ) (world : WorldOf A) (slots : Slots A) (rest : List A) → OutcomeCounted (length world.heap) (join_by alive next world slots rest)
+  join_counted : (alive : Bool) (next : ℕ) (world : WorldOf A) (slots : Slots A) (rest : List A)
+      → OutcomeCounted (length world.heap) (join_by alive next world slots rest)
   join_counted true next world slots rest = tt
   join_counted false next world slots rest = unchanged (length world.heap)
 
-  pub built_in_counted : (C : Carrier A) (method : BuiltInMethod) (next : ℕ) (event : Event) (world : WorldOf A) (slots : Slots A) (ops rest : List A) → OutcomeCounted (length world.heap) (built_in_does C method next event world slots ops rest)
+  pub built_in_counted : (C : Carrier A) (method : BuiltInMethod) (next : ℕ) (event : Event) (world : WorldOf A) (slots : Slots A)
+      (ops rest : List A) → OutcomeCounted (length world.heap) (built_in_does C method next event world slots ops rest)
   built_in_counted C Construct next event world slots ops rest = unchanged (length world.heap)
   built_in_counted C ConstructWithTarget next event world slots ops rest =
       let o = object_of C ops 1 in

@@ -44,25 +44,29 @@ module _ {A : Type 0} where
 
   -- ---- exceptions, calls and returns
 
-  raised_counted : (t : ℕ) (fault : MachineException) (world : WorldOf A) (stack : StackOf A) → Counted (length world.heap) (raised t fault world stack)
+  raised_counted : (t : ℕ) (fault : MachineException) (world : WorldOf A) (stack : StackOf A)
+      → Counted (length world.heap) (raised t fault world stack)
   raised_counted t fault world stack = length_push world.heap (Instance (exception_class fault) [])
 
   on_counted : (n : ℕ) (world : WorldOf A) (stack : StackOf A) → length world.heap ≡ n → Counted n (on_to world stack)
   on_counted n world stack e = same_count (length world.heap) n e
 
-  entering_counted : (t : ℕ) (world : WorldOf A) (rest : StackOf A) (frame : FrameOf A) (o : Option ℕ) → Counted (length world.heap) (entering t world rest frame o)
+  entering_counted : (t : ℕ) (world : WorldOf A) (rest : StackOf A) (frame : FrameOf A) (o : Option ℕ)
+      → Counted (length world.heap) (entering t world rest frame o)
   entering_counted t world rest frame None = on_counted (length world.heap) world (Invocation frame ∷ rest) refl
   entering_counted t world rest frame (Some object) =
       enabled_counted (length world.heap) (may_enter world t object) (Next (entry_cost world object) (part (with_entry world t object) (Invocation frame ∷ rest)))
       (same_count (length world.heap) (length world.heap) refl)
 
-  pushed_counted : (frames t : ℕ) (world after : WorldOf A) (stack rest : StackOf A) (frame : FrameOf A) → length after.heap ≡ length world.heap → Counted (length world.heap) (pushed frames t world after stack rest frame)
+  pushed_counted : (frames t : ℕ) (world after : WorldOf A) (stack rest : StackOf A) (frame : FrameOf A)
+      → length after.heap ≡ length world.heap → Counted (length world.heap) (pushed frames t world after stack rest frame)
   pushed_counted frames t world after stack rest frame e =
       either_part (length world.heap) (nat_lt (frame_count stack) frames) (entering t after rest frame frame.entered) (raised t StackOverflow world stack)
       (subst (λ n. Counted n (entering t after rest frame frame.entered)) e (entering_counted t after rest frame frame.entered))
       (raised_counted t StackOverflow world stack)
 
-  leaving_counted : (n t : ℕ) (o : Option ℕ) (world : WorldOf A) (rest stack : StackOf A) → length world.heap ≡ n → Counted n (leaving t o world rest stack)
+  leaving_counted : (n t : ℕ) (o : Option ℕ) (world : WorldOf A) (rest stack : StackOf A) → length world.heap ≡ n
+      → Counted n (leaving t o world rest stack)
   leaving_counted n t None world rest stack e = on_counted n world rest e
   leaving_counted n t (Some object) world rest stack e =
       either_part n (is_owner world t object) (on_to (with_exit world t object) rest) (raised t IllegalMonitorState world stack)
@@ -91,34 +95,40 @@ module _ {A : Type 0} where
     -- ---- classes
 
     constant_count : (class : Name) (pool : List Entry) (world : WorldOf A) (field : FieldTree) (o : Option A)
-        → length (option_map_or (λ value. with_static world (field_member class pool field) (put_value C (field_member class pool field) value)) o world).heap ≡ length world.heap
+        → length (option_map_or (λ value. with_static
+        world (field_member class pool field) (put_value C (field_member class pool field) value)) o world).heap ≡ length world.heap
     constant_count class pool world field None = refl
     constant_count class pool world field (Some value) = refl
 
-    constants_count : (class : Name) (pool : List Entry) (world : WorldOf A) (fields : List FieldTree) → length (with_constants C files class pool world fields).heap ≡ length world.heap
+    constants_count : (class : Name) (pool : List Entry) (world : WorldOf A) (fields : List FieldTree)
+        → length (with_constants C files class pool world fields).heap ≡ length world.heap
     constants_count class pool world [] = refl
     constants_count class pool world (field ∷ fields) =
         constants_count class pool (with_constant C files class pool world field) fields ∙ constant_count class pool world field (constant_value C files pool field)
 
     begun_count : (t : ℕ) (class : Name) (world : WorldOf A) (o : Option FileTree)
-        → length (option_map_or (λ (file : FileTree). with_constants C files class file.pool (with_class_status world class (InProgress t)) file.fields) o (with_class_status world class (InProgress t))).heap ≡ length world.heap
+        → length (option_map_or (λ (file : FileTree). with_constants C files class file.pool (with_class_status world class (InProgress t))
+        file.fields) o (with_class_status world class (InProgress t))).heap ≡ length world.heap
     begun_count t class world None = refl
     begun_count t class world (Some file) = constants_count class file.pool (with_class_status world class (InProgress t)) file.fields
 
-    needing_counted : (t : ℕ) (class : Name) (look : Look) (world : WorldOf A) (stack : StackOf A) (x : SteppedOf (PartOf A)) → Counted (length world.heap) x → Counted (length world.heap) (needing C files t class look world stack x)
+    needing_counted : (t : ℕ) (class : Name) (look : Look) (world : WorldOf A) (stack : StackOf A) (x : SteppedOf (PartOf A))
+        → Counted (length world.heap) x → Counted (length world.heap) (needing C files t class look world stack x)
     needing_counted t class IsReady world stack x h = h
     needing_counted t class IsNew world stack x h =
         on_counted (length world.heap) (with_class_begun C files t class world) (Initialisation class Super ∷ stack) (begun_count t class world (class_of files class))
     needing_counted t class IsHeld world stack x h = tt
     needing_counted t class HasFailed world stack x h = raised_counted t NoClassDefFound world stack
 
-    needing_class_counted : (t : ℕ) (class : Option Name) (world : WorldOf A) (stack : StackOf A) (x : SteppedOf (PartOf A)) → Counted (length world.heap) x → Counted (length world.heap) (needing_class C files t class world stack x)
+    needing_class_counted : (t : ℕ) (class : Option Name) (world : WorldOf A) (stack : StackOf A) (x : SteppedOf (PartOf A))
+        → Counted (length world.heap) x → Counted (length world.heap) (needing_class C files t class world stack x)
     needing_class_counted t None world stack x h = h
     needing_class_counted t (Some class) world stack x h = needing_counted t class (look_by t (status_of world class)) world stack x h
 
     -- ---- an instruction
 
-    become_counted : (frames t : ℕ) (world : WorldOf A) (frame : FrameOf A) (stack : StackOf A) (o : OutcomeOf A) → OutcomeCounted (length world.heap) o → Counted (length world.heap) (become files frames t world frame stack o)
+    become_counted : (frames t : ℕ) (world : WorldOf A) (frame : FrameOf A) (stack : StackOf A) (o : OutcomeOf A)
+        → OutcomeCounted (length world.heap) o → Counted (length world.heap) (become files frames t world frame stack o)
     become_counted frames t world frame stack (Goes cost after slots to) h = h
     become_counted frames t world frame stack (Raises fault) h = raised_counted t fault world (Invocation frame ∷ stack)
     become_counted frames t world frame stack (Throws exception) h = same_count (length world.heap) (length world.heap) refl
@@ -129,7 +139,9 @@ module _ {A : Type 0} where
         leaving_counted (length world.heap) t frame.entered after (returned files results stack) (Invocation frame ∷ stack) h
     become_counted frames t world frame stack (Waits cost after rest) h = h
 
-    bytecode_by_counted : (frames : ℕ) (event : Event) (world : WorldOf A) (frame : FrameOf A) (stack : StackOf A) (max_stack : ℕ) (o : Option (MeaningOf A)) → OfMeaning Counts o → Counted (length world.heap) (bytecode_by C files frames event world frame stack max_stack o)
+    bytecode_by_counted : (frames : ℕ) (event : Event) (world : WorldOf A) (frame : FrameOf A) (stack : StackOf A) (max_stack : ℕ)
+        (o : Option (MeaningOf A)) → OfMeaning Counts o
+        → Counted (length world.heap) (bytecode_by C files frames event world frame stack max_stack o)
     bytecode_by_counted frames event world frame stack max_stack None h = enabled_counted (length world.heap) (event.pick == 0) WrongKind tt
     bytecode_by_counted frames event world frame stack max_stack (Some m) h =
         let slots = frame.place.slots in
@@ -143,34 +155,40 @@ module _ {A : Type 0} where
     meant_counts None = tt
     meant_counts (Some site) = meaning_counts C files site
 
-    bytecode_counted : (frames : ℕ) (event : Event) (world : WorldOf A) (frame : FrameOf A) (stack : StackOf A) (o : Option Body) → Counted (length world.heap) (bytecode_in C files frames event world frame stack o)
+    bytecode_counted : (frames : ℕ) (event : Event) (world : WorldOf A) (frame : FrameOf A) (stack : StackOf A) (o : Option Body)
+        → Counted (length world.heap) (bytecode_in C files frames event world frame stack o)
     bytecode_counted frames event world frame stack None = enabled_counted (length world.heap) (event.pick == 0) WrongKind tt
     bytecode_counted frames event world frame stack (Some body) =
         bytecode_by_counted frames event world frame stack body.code.max_stack (option_and_then (meaning_of C files) (site_at frame.method body frame.place.offset)) (meant_counts (site_at frame.method body frame.place.offset))
 
     -- ---- classes that are initialised, and threads that begin
 
-    initialiser_counted : (frames t : ℕ) (m : Member) (world : WorldOf A) (stack : StackOf A) (o : Option Body) → Counted (length world.heap) (initialiser_event C frames t m world stack o)
+    initialiser_counted : (frames t : ℕ) (m : Member) (world : WorldOf A) (stack : StackOf A) (o : Option Body)
+        → Counted (length world.heap) (initialiser_event C frames t m world stack o)
     initialiser_counted frames t m world stack None = on_counted (length world.heap) world stack refl
     initialiser_counted frames t m world stack (Some body) = pushed_counted frames t world world stack stack (frame_with C m [] None body) refl
 
-    initialisation_counted : (frames t : ℕ) (class : Name) (phase : Phase) (world : WorldOf A) (stack : StackOf A) → Counted (length world.heap) (initialisation_event C files frames t class phase world stack)
+    initialisation_counted : (frames t : ℕ) (class : Name) (phase : Phase) (world : WorldOf A) (stack : StackOf A)
+        → Counted (length world.heap) (initialisation_event C files frames t class phase world stack)
     initialisation_counted frames t class Super world stack =
         needing_class_counted t (before files class) world (Initialisation class Super ∷ stack) _
         (initialiser_counted frames t (initialiser_of class) world (Initialisation class End ∷ stack) (body_of files (initialiser_of class)))
     initialisation_counted frames t class End world stack = same_count (length world.heap) (length world.heap) refl
 
-    main_counted : (frames : ℕ) (world : WorldOf A) (main : Member) (o : Option Body) → Counted (length world.heap) (main_frame C files frames world main o)
+    main_counted : (frames : ℕ) (world : WorldOf A) (main : Member) (o : Option Body)
+        → Counted (length world.heap) (main_frame C files frames world main o)
     main_counted frames world main None = tt
     main_counted frames world main (Some body) =
         pushed_counted frames 0 world (with_begun world 0) [] [] (frame_with C main (C.reference arguments_reference ∷ []) (entered_by files main (class_reference files main.class)) body) refl
 
-    run_frame_counted : (frames t : ℕ) (world : WorldOf A) (object : ℕ) (m : Member) (o : Option Body) → Counted (length world.heap) (run_frame C files frames t world object m o)
+    run_frame_counted : (frames t : ℕ) (world : WorldOf A) (object : ℕ) (m : Member) (o : Option Body)
+        → Counted (length world.heap) (run_frame C files frames t world object m o)
     run_frame_counted frames t world object m None = raised_counted t AbstractMethod world []
     run_frame_counted frames t world object m (Some body) =
         pushed_counted frames t world (with_begun world t) [] [] (frame_with C m (C.reference object ∷ []) (entered_by files m object) body) refl
 
-    run_counted : (frames t : ℕ) (world : WorldOf A) (object : ℕ) (o : Option Member) → Counted (length world.heap) (run_of C files frames t world object o)
+    run_counted : (frames t : ℕ) (world : WorldOf A) (object : ℕ) (o : Option Member)
+        → Counted (length world.heap) (run_of C files frames t world object o)
     run_counted frames t world object None = raised_counted t AbstractMethod world []
     run_counted frames t world object (Some m) = run_frame_counted frames t world object m (body_of files m)
 
@@ -184,7 +202,8 @@ module _ {A : Type 0} where
 
     -- ---- pending exceptions, and threads that were woken
 
-    unwound_counted : (t exception : ℕ) (world : WorldOf A) (frame : FrameOf A) (stack : StackOf A) (o : Option ExceptionEntry) → Counted (length world.heap) (unwound C t exception world frame stack o)
+    unwound_counted : (t exception : ℕ) (world : WorldOf A) (frame : FrameOf A) (stack : StackOf A) (o : Option ExceptionEntry)
+        → Counted (length world.heap) (unwound C t exception world frame stack o)
     unwound_counted t exception world frame stack None = leaving_counted (length world.heap) t frame.entered world stack stack refl
     unwound_counted t exception world frame stack (Some entry) = same_count (length world.heap) (length world.heap) refl
 
@@ -192,14 +211,16 @@ module _ {A : Type 0} where
     failed_counted t true world stack = on_counted (length world.heap) world stack refl
     failed_counted t false world stack = raised_counted t ExceptionInInitializer world stack
 
-    pending_counted : (t exception : ℕ) (thrown : Option ReferenceType) (world : WorldOf A) (stack : StackOf A) → Counted (length world.heap) (pending_event C files t exception thrown world stack)
+    pending_counted : (t exception : ℕ) (thrown : Option ReferenceType) (world : WorldOf A) (stack : StackOf A)
+        → Counted (length world.heap) (pending_event C files t exception thrown world stack)
     pending_counted t exception thrown world [] = tt
     pending_counted t exception thrown world (Invocation frame ∷ stack) =
         unwound_counted t exception world frame stack (option_and_then (handler_in files frame.place.offset thrown) (body_of files frame.method))
     pending_counted t exception thrown world (Initialisation class phase ∷ stack) =
         failed_counted t (is_object_of files (ClassType java_lang_error) thrown) (with_class_status world class Erroneous) stack
 
-    after_wait_counted : (t : ℕ) (cause : WakeCause) (world : WorldOf A) (stack : StackOf A) → Counted (length world.heap) (after_wait files t cause world stack)
+    after_wait_counted : (t : ℕ) (cause : WakeCause) (world : WorldOf A) (stack : StackOf A)
+        → Counted (length world.heap) (after_wait files t cause world stack)
     after_wait_counted t Notified world stack = on_counted (length world.heap) world (returned files [] stack) refl
     after_wait_counted t Interrupted world stack = raised_counted t InterruptedWait (with_interrupted world t false) stack
 
@@ -212,13 +233,15 @@ module _ {A : Type 0} where
       running_counted (Initialisation class phase ∷ stack) =
           enabled_counted (length world.heap) (event.pick == 0) (initialisation_event C files frames event.thread class phase world stack) (initialisation_counted frames event.thread class phase world stack)
 
-      going_counted : (stack : StackOf A) (pending : Option ℕ) → Counted (length world.heap) (going_event C files frames event world stack pending)
+      going_counted : (stack : StackOf A) (pending : Option ℕ)
+          → Counted (length world.heap) (going_event C files frames event world stack pending)
       going_counted stack None = running_counted stack
       going_counted stack (Some exception) =
           let thrown = slice_get (types_of world.heap) exception in
           enabled_counted (length world.heap) (event.pick == 0) (pending_event C files event.thread exception thrown world stack) (pending_counted event.thread exception thrown world stack)
 
-      event_counted : (stack : StackOf A) (status : ThreadStatus) → Counted (length world.heap) (thread_event C files frames event world stack status)
+      event_counted : (stack : StackOf A) (status : ThreadStatus)
+          → Counted (length world.heap) (thread_event C files frames event world stack status)
       event_counted stack Running = going_counted stack (thread_at world event.thread).pending
       event_counted stack (Waiting object count) = tt
       event_counted stack (Relock object count cause) =

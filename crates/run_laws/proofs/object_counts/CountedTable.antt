@@ -32,7 +32,8 @@ module _ {A : Type 0} where
 
   -- ---- what is done by a test
 
-  cast_counted : (b : Bool) (next : ℕ) (v : A) (world : WorldOf A) (slots : Slots A) (rest : List A) → OutcomeCounted (length world.heap) (cast b next v world slots rest)
+  cast_counted : (b : Bool) (next : ℕ) (v : A) (world : WorldOf A) (slots : Slots A) (rest : List A)
+      → OutcomeCounted (length world.heap) (cast b next v world slots rest)
   cast_counted true next v world slots rest = unchanged (length world.heap)
   cast_counted false next v world slots rest = tt
 
@@ -44,18 +45,21 @@ module _ {A : Type 0} where
   storable_counted n true x h = h
   storable_counted n false x h = tt
 
-  left_counted : (b : Bool) (next t r : ℕ) (world : WorldOf A) (slots : Slots A) (rest : List A) → OutcomeCounted (length world.heap) (left b next t r world slots rest)
+  left_counted : (b : Bool) (next t r : ℕ) (world : WorldOf A) (slots : Slots A) (rest : List A)
+      → OutcomeCounted (length world.heap) (left b next t r world slots rest)
   left_counted true next t r world slots rest = unchanged (length world.heap)
   left_counted false next t r world slots rest = tt
 
   put_counted : (world : WorldOf A) (r : ℕ) (o : ObjectOf A) → length (with_object world r o).heap ≡ length world.heap + 0
   put_counted world r o = same_count (length (with_object world r o).heap) (length world.heap) (object_count world r o)
 
-  stored_counted : (next : ℕ) (world : WorldOf A) (r index : ℕ) (v : A) (slots : Slots A) (rest : List A) → OutcomeCounted (length world.heap) (stored next world r index v slots rest)
+  stored_counted : (next : ℕ) (world : WorldOf A) (r index : ℕ) (v : A) (slots : Slots A) (rest : List A)
+      → OutcomeCounted (length world.heap) (stored next world r index v slots rest)
   stored_counted next world r index v slots rest = put_counted world r (with_element index v (object_at world r))
 
   module _ (C : Carrier A) (files : Program) where
-    array_counted : (negative : Bool) (next count : ℕ) (array : List A → ObjectOf A) (first : A) (world : WorldOf A) (slots : Slots A) (rest : List A) → OutcomeCounted (length world.heap) (made_array C negative next count array first world slots rest)
+    array_counted : (negative : Bool) (next count : ℕ) (array : List A → ObjectOf A) (first : A) (world : WorldOf A) (slots : Slots A)
+        (rest : List A) → OutcomeCounted (length world.heap) (made_array C negative next count array first world slots rest)
     array_counted true next count array first world slots rest = tt
     array_counted false next count array first world slots rest = length_push world.heap _
 
@@ -78,12 +82,16 @@ module _ {A : Type 0} where
     -- ---- objects, arrays and monitors
 
     loaded_counted : (next : ℕ) (first : A) (world : WorldOf A) (slots : Slots A) (ops rest : List A)
-        → OutcomeCounted (length world.heap) (not_null (referent C ops 1) (λ r. at_index (in_range world r (int_operand C ops 0)) (pushing next (element_at first world r (int_operand C ops 0) ∷ []) world slots rest)))
+        → OutcomeCounted (length world.heap) (not_null (referent C ops 1)
+        (λ r. at_index (in_range world r (int_operand C ops 0)) (pushing next (element_at first world r (int_operand C ops 0)
+        ∷ []) world slots rest)))
     loaded_counted next first world slots ops rest =
         not_null_counted (length world.heap) (referent C ops 1) _ (λ r. index_counted (length world.heap) (in_range world r (int_operand C ops 0)) _ (unchanged (length world.heap)))
 
     stored_int_counted : (next : ℕ) (world : WorldOf A) (slots : Slots A) (ops rest : List A)
-        → OutcomeCounted (length world.heap) (not_null (referent C ops 2) (λ r. at_index (in_range world r (int_operand C ops 1)) (stored next world r (int_operand C ops 1) (kept_by C (object_at world r) (operand C ops 0)) slots rest)))
+        → OutcomeCounted (length world.heap) (not_null (referent C ops 2)
+        (λ r. at_index (in_range world r (int_operand C ops 1))
+        (stored next world r (int_operand C ops 1) (kept_by C (object_at world r) (operand C ops 0)) slots rest)))
     stored_int_counted next world slots ops rest =
         not_null_counted (length world.heap) (referent C ops 2) _
         (λ r. index_counted (length world.heap) (in_range world r (int_operand C ops 1)) _
@@ -116,16 +124,21 @@ module _ {A : Type 0} where
 
     -- ---- calls and returns
 
-    runs_counted : (site : Site) (event : Event) (world : WorldOf A) (slots : Slots A) (ops rest : List A) (object : ℕ) (method : Member) (o : Option Body) → OutcomeCounted (length world.heap) (runs C files site event world slots ops rest object method o)
+    runs_counted : (site : Site) (event : Event) (world : WorldOf A) (slots : Slots A) (ops rest : List A) (object : ℕ) (method : Member)
+        (o : Option Body) → OutcomeCounted (length world.heap) (runs C files site event world slots ops rest object method o)
     runs_counted site event world slots ops rest object method None = built_in_counted C (built_in_method method) site.next event world slots ops rest
     runs_counted site event world slots ops rest object method (Some body) = tt
 
-    invoked_counted : (site : Site) (event : Event) (world : WorldOf A) (slots : Slots A) (ops rest : List A) (object : ℕ) (chosen : Chosen) → OutcomeCounted (length world.heap) (invoked C files site event world slots ops rest object chosen)
+    invoked_counted : (site : Site) (event : Event) (world : WorldOf A) (slots : Slots A) (ops rest : List A) (object : ℕ)
+        (chosen : Chosen) → OutcomeCounted (length world.heap) (invoked C files site event world slots ops rest object chosen)
     invoked_counted site event world slots ops rest object (Fails fault) = tt
     invoked_counted site event world slots ops rest object (Runs method) = runs_counted site event world slots ops rest object method (body_of files method)
 
-    called_counted : (site : Site) (method : Member) (choose : WorldOf A → ℕ → Chosen) (event : Event) (world : WorldOf A) (slots : Slots A) (ops rest : List A)
-        → OutcomeCounted (length world.heap) (invoked C files site event world slots ops rest (unwrap_or (C.referent (operand C ops (parameter_count method))) 0) (of_receiver (C.referent (operand C ops (parameter_count method))) (choose world)))
+    called_counted : (site : Site) (method : Member) (choose : WorldOf A → ℕ → Chosen) (event : Event) (world : WorldOf A)
+        (slots : Slots A) (ops rest : List A)
+        → OutcomeCounted (length world.heap) (invoked C files site event world slots ops
+        rest (unwrap_or (C.referent (operand C ops (parameter_count method))) 0)
+        (of_receiver (C.referent (operand C ops (parameter_count method))) (choose world)))
     called_counted site method choose event world slots ops rest =
         let r = C.referent (operand C ops (parameter_count method)) in
         invoked_counted site event world slots ops rest (unwrap_or r 0) (of_receiver r (choose world))

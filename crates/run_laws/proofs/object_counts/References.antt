@@ -14,12 +14,14 @@ use Rattle.model.specs.WellTyped.{is_null_value}
 use Rattle.run_laws.specs.object_counts.Bounds.{is_reference_in, AreReferencesThere, AreReferencesInRange}
 use Rattle.run_laws.proofs.object_counts.Bounded.{objects_fit}
 
-there_is : (files : Program) (type : ReferenceType) (objects : List ReferenceType) (r : ℕ) → is_object_below files type (slice_get objects r) ≡ true → r < length objects
+there_is : (files : Program) (type : ReferenceType) (objects : List ReferenceType) (r : ℕ)
+    → is_object_below files type (slice_get objects r) ≡ true → r < length objects
 there_is files type [] r h = absurd (false≢true h)
 there_is files type (x ∷ objects) zero h = omega arith
 there_is files type (x ∷ objects) (suc r) h = omega (arith, there_is files type objects r h)
 
-below_in : (files : Program) (heap : List (ObjectOf Value)) (type : ReferenceType) (v : Value) → is_value_below files (types_of heap) type v ≡ true → is_reference_in (length heap) v ≡ true
+below_in : (files : Program) (heap : List (ObjectOf Value)) (type : ReferenceType) (v : Value)
+    → is_value_below files (types_of heap) type v ≡ true → is_reference_in (length heap) v ≡ true
 below_in files heap type value.Unset h = h
 below_in files heap type (value.Int bits) h = h
 below_in files heap type value.Null h = refl

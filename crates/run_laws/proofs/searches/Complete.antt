@@ -44,23 +44,28 @@ module _ (files : List (List ℕ)) (trees : Program) (accepted : IsAccepted file
     goes : step trees frames other event ≡ Some then
     same : words_of then ≡ words_of next
 
-  alike : (one other : State) → IsWellTyped trees one → IsWellTyped trees other → words_of other ≡ words_of one → (event : Event) (next : State) → step trees frames one event ≡ Some next → IsAlike one other event next
+  alike : (one other : State) → IsWellTyped trees one → IsWellTyped trees other → words_of other ≡ words_of one → (event : Event)
+      (next : State) → step trees frames one event ≡ Some next → IsAlike one other event next
   alike one other h g same event next e = by_one (stepped values trees frames one event) refl (stepped values trees frames other event) refl e
     where
-      carried_over : map_stepped words_of (stepped values trees frames other event) ≡ map_stepped words_of (stepped values trees frames one event)
+      carried_over : map_stepped words_of (stepped values trees frames other event)
+          ≡ map_stepped words_of (stepped values trees frames one event)
       carried_over =
           sym (carries frames other event g) ∙ (ap (λ (w : StateOf ℕ). stepped words trees frames w event) same ∙ carries frames one event h)
 
-      by_other : (cost : Cost) → stepped values trees frames one event ≡ Next cost next → (y : SteppedOf State) → stepped values trees frames other event ≡ y → IsAlike one other event next
+      by_other : (cost : Cost) → stepped values trees frames one event ≡ Next cost next → (y : SteppedOf State)
+          → stepped values trees frames other event ≡ y → IsAlike one other event next
       by_other cost p y q =
           by_answer y q (sym (ap (map_stepped words_of) q) ∙ (carried_over ∙ ap (map_stepped words_of) p))
         where
-          by_answer : (y : SteppedOf State) → stepped values trees frames other event ≡ y → map_stepped words_of y ≡ Next cost (words_of next) → IsAlike one other event next
+          by_answer : (y : SteppedOf State) → stepped values trees frames other event ≡ y
+              → map_stepped words_of y ≡ Next cost (words_of next) → IsAlike one other event next
           by_answer NotEnabled q r = absurd cc
           by_answer WrongKind q r = absurd cc
           by_answer (Next taken then) q r = record { then = then; goes = ap next_by q; same = same_next taken cost (words_of then) (words_of next) r }
 
-      by_one : (x : SteppedOf State) → stepped values trees frames one event ≡ x → (y : SteppedOf State) → stepped values trees frames other event ≡ y → next_by x ≡ Some next → IsAlike one other event next
+      by_one : (x : SteppedOf State) → stepped values trees frames one event ≡ x → (y : SteppedOf State)
+          → stepped values trees frames other event ≡ y → next_by x ≡ Some next → IsAlike one other event next
       by_one NotEnabled p y q e = absurd (none-some next e)
       by_one WrongKind p y q e = absurd (none-some next e)
       by_one (Next cost s) p y q e = by_other cost (p ∙ ap (λ (z : State). Next cost z) (same_Some s next e)) y q
@@ -72,12 +77,14 @@ module _ (files : List (List ℕ)) (trees : Program) (accepted : IsAccepted file
     typed : IsWellTyped trees then
     same : words_of then ≡ words_of last
 
-  runs_alike : (events : List Event) (one other last : State) → IsWellTyped trees one → IsWellTyped trees other → words_of other ≡ words_of one → run_from trees frames one events ≡ Some last → RunsAlike other events last
+  runs_alike : (events : List Event) (one other last : State) → IsWellTyped trees one → IsWellTyped trees other
+      → words_of other ≡ words_of one → run_from trees frames one events ≡ Some last → RunsAlike other events last
   runs_alike [] one other last h g same r = record { then = other; runs = refl; typed = g; same = same ∙ ap words_of (same_Some one last r) }
   runs_alike (event ∷ events) one other last h g same r = by (step trees frames one event) refl r (λ m n hm hn s y. runs_alike events m n last hm hn s y)
     where
       by : (o : Option State) → step trees frames one event ≡ o → option_and_then (λ next. run_from trees frames next events) o ≡ Some last
-          → ((m n : State) → IsWellTyped trees m → IsWellTyped trees n → words_of n ≡ words_of m → run_from trees frames m events ≡ Some last → RunsAlike n events last)
+          → ((m n : State) → IsWellTyped trees m → IsWellTyped trees n → words_of n ≡ words_of m
+          → run_from trees frames m events ≡ Some last → RunsAlike n events last)
           → RunsAlike other (event ∷ events) last
       by None p y rest = absurd (none-some last y)
       by (Some m) p y rest =
@@ -89,13 +96,15 @@ module _ (files : List (List ℕ)) (trees : Program) (accepted : IsAccepted file
   told : (s : State) → IsWellTyped trees s → IsReportedAs words trees frames (words_of s) s
   told s h = reported trees rooted carries frames (words_of s) s (record { typed = h; are = refl })
 
-  same_quiet : (one other : State) → IsWellTyped trees one → IsWellTyped trees other → words_of other ≡ words_of one → is_quiet trees frames other ≡ is_quiet trees frames one
+  same_quiet : (one other : State) → IsWellTyped trees one → IsWellTyped trees other → words_of other ≡ words_of one
+      → is_quiet trees frames other ≡ is_quiet trees frames one
   same_quiet one other h g same =
       let t = told one h in
       let u : IsReportedAs words trees frames (words_of one) other = reported trees rooted carries frames (words_of one) other (record { typed = g; are = sym same }) in
       sym u.quiet ∙ t.quiet
 
-  same_outcome : (one other : State) → IsWellTyped trees one → IsWellTyped trees other → words_of other ≡ words_of one → outcome_of trees frames other ≡ outcome_of trees frames one
+  same_outcome : (one other : State) → IsWellTyped trees one → IsWellTyped trees other → words_of other ≡ words_of one
+      → outcome_of trees frames other ≡ outcome_of trees frames one
   same_outcome one other h g same =
       let t = told one h in
       let u : IsReportedAs words trees frames (words_of one) other = reported trees rooted carries frames (words_of one) other (record { typed = g; are = sym same }) in
@@ -110,7 +119,8 @@ module _ (files : List (List ℕ)) (trees : Program) (accepted : IsAccepted file
     typed : IsWellTyped trees then
     runs : run_from trees frames then others ≡ Some last
 
-  shortened : (threads : List ℕ) (events : List Event) (state then last : State) → IsWellTyped trees state → is_quiet trees frames last ≡ true → AreLocal trees threads state then
+  shortened : (threads : List ℕ) (events : List Event) (state then last : State) → IsWellTyped trees state
+      → is_quiet trees frames last ≡ true → AreLocal trees threads state then
       → run_from trees frames state events ≡ Some last → Shortened events then last
   shortened [] events state then last h q l r =
       subst (λ (z : State). Shortened events z last) l (record { others = events; no_longer = omega arith; typed = h; runs = r })
@@ -132,15 +142,18 @@ module _ (files : List (List ℕ)) (trees : Program) (accepted : IsAccepted file
         → IsFollowed trees frames schedules state → Has outcomes (outcome_of trees frames last)
 
     -- so does each from a state to which a schedule led
-    from_met : (n : ℕ) → Below n → (schedule : List Event) (met : State) → Has schedules schedule → run trees frames schedule ≡ Some met → IsWellTyped trees met
-        → (events : List Event) (last : State) → length events ≤ n → run_from trees frames met events ≡ Some last → is_quiet trees frames last ≡ true → Has outcomes (outcome_of trees frames last)
+    from_met : (n : ℕ) → Below n → (schedule : List Event) (met : State) → Has schedules schedule → run trees frames schedule ≡ Some met
+        → IsWellTyped trees met
+        → (events : List Event) (last : State) → length events ≤ n → run_from trees frames met events ≡ Some last
+        → is_quiet trees frames last ≡ true → Has outcomes (outcome_of trees frames last)
     from_met n below schedule met has leads h [] last le r q =
         let same = same_Some met last r in
         subst (λ (z : State). Has outcomes (outcome_of trees frames z)) same
         (s.listed schedule met has leads (subst (λ (z : State). is_quiet trees frames z ≡ true) (sym same) q))
     from_met n below schedule met has leads h (event ∷ events) last le r q = by (step trees frames met event) refl r
       where
-        by : (o : Option State) → step trees frames met event ≡ o → option_and_then (λ next. run_from trees frames next events) o ≡ Some last → Has outcomes (outcome_of trees frames last)
+        by : (o : Option State) → step trees frames met event ≡ o
+            → option_and_then (λ next. run_from trees frames next events) o ≡ Some last → Has outcomes (outcome_of trees frames last)
         by None p y = absurd (none-some last y)
         by (Some next) p y =
             let lt : length events < n = omega (arith, le) in

@@ -62,7 +62,8 @@ module _ {A : Type 0} where
     abbrev MayLower : BuiltInMethod → Type 0
     MayLower b =
         (t k next : ℕ) (world : WorldOf A) (ops : List A) → built_in_may C b (event_at t (suc k)) world ops ≡ true
-        → (built_in_may C b (event_at t k) world ops ≡ true) × ((slots : Slots A) (rest : List A) → Stays (built_in_does C b next (event_at t k) world slots ops rest))
+        → (built_in_may C b (event_at t k) world ops ≡ true)
+        × ((slots : Slots A) (rest : List A) → Stays (built_in_does C b next (event_at t k) world slots ops rest))
 
     notify_may : (b : Bool) (n k : ℕ) → (if b then nat_lt (suc k) n else (suc k == 0)) ≡ true → (if b then nat_lt k n else (k == 0)) ≡ true
     notify_may true n k e = below k n e
@@ -88,13 +89,17 @@ module _ {A : Type 0} where
     built_in_lower PrintStreamPrintln t k next world ops e = none_past k e
 
     module _ (files : Program) (site : Site) where
-      run_lower : (method : Member) (o : Option Body) (t k : ℕ) (world : WorldOf A) (ops : List A) (object : ℕ) → may_run C (event_at t (suc k)) world ops method o ≡ true
-          → (may_run C (event_at t k) world ops method o ≡ true) × ((slots : Slots A) (rest : List A) → Stays (runs C files site (event_at t k) world slots ops rest object method o))
+      run_lower : (method : Member) (o : Option Body) (t k : ℕ) (world : WorldOf A) (ops : List A) (object : ℕ)
+          → may_run C (event_at t (suc k)) world ops method o ≡ true
+          → (may_run C (event_at t k) world ops method o ≡ true)
+          × ((slots : Slots A) (rest : List A) → Stays (runs C files site (event_at t k) world slots ops rest object method o))
       run_lower method None t k world ops object e = built_in_lower (built_in_method method) t k site.next world ops e
       run_lower method (Some body) t k world ops object e = none_past k e
 
-      invoke_lower : (chosen : Chosen) (t k : ℕ) (world : WorldOf A) (ops : List A) (object : ℕ) → may_invoke C files (event_at t (suc k)) world ops chosen ≡ true
-          → (may_invoke C files (event_at t k) world ops chosen ≡ true) × ((slots : Slots A) (rest : List A) → Stays (invoked C files site (event_at t k) world slots ops rest object chosen))
+      invoke_lower : (chosen : Chosen) (t k : ℕ) (world : WorldOf A) (ops : List A) (object : ℕ)
+          → may_invoke C files (event_at t (suc k)) world ops chosen ≡ true
+          → (may_invoke C files (event_at t k) world ops chosen ≡ true)
+          × ((slots : Slots A) (rest : List A) → Stays (invoked C files site (event_at t k) world slots ops rest object chosen))
       invoke_lower (Fails fault) t k world ops object e = none_past k e
       invoke_lower (Runs method) t k world ops object e = run_lower method (body_of files method) t k world ops object e
 
@@ -149,7 +154,8 @@ module _ {A : Type 0} where
     -- ---- an event
 
     module _ (files : Program) (frames : ℕ) where
-      become_next : (t : ℕ) (world : WorldOf A) (frame : FrameOf A) (stack : StackOf A) (o : OutcomeOf A) → Stays o → is_enabled_by (become files frames t world frame stack o) ≡ true
+      become_next : (t : ℕ) (world : WorldOf A) (frame : FrameOf A) (stack : StackOf A) (o : OutcomeOf A) → Stays o
+          → is_enabled_by (become files frames t world frame stack o) ≡ true
       become_next t world frame stack (Goes cost after slots to) h = refl
       become_next t world frame stack (Raises fault) h = refl
       become_next t world frame stack (Throws exception) h = refl
@@ -158,19 +164,24 @@ module _ {A : Type 0} where
       become_next t world frame stack (Returns after results) h = absurd h
       become_next t world frame stack (Waits cost after rest) h = refl
 
-      needing_next : (t : ℕ) (class : Name) (look : Look) (world : WorldOf A) (stack : StackOf A) (x y : SteppedOf (PartOf A)) → is_enabled_by y ≡ true
-          → is_enabled_by (needing C files t class look world stack x) ≡ true → is_enabled_by (needing C files t class look world stack y) ≡ true
+      needing_next : (t : ℕ) (class : Name) (look : Look) (world : WorldOf A) (stack : StackOf A) (x y : SteppedOf (PartOf A))
+          → is_enabled_by y ≡ true
+          → is_enabled_by (needing C files t class look world stack x) ≡ true
+          → is_enabled_by (needing C files t class look world stack y) ≡ true
       needing_next t class IsReady world stack x y h e = h
       needing_next t class IsNew world stack x y h e = refl
       needing_next t class IsHeld world stack x y h e = e
       needing_next t class HasFailed world stack x y h e = refl
 
-      class_next : (t : ℕ) (class : Option Name) (world : WorldOf A) (stack : StackOf A) (x y : SteppedOf (PartOf A)) → is_enabled_by y ≡ true
-          → is_enabled_by (needing_class C files t class world stack x) ≡ true → is_enabled_by (needing_class C files t class world stack y) ≡ true
+      class_next : (t : ℕ) (class : Option Name) (world : WorldOf A) (stack : StackOf A) (x y : SteppedOf (PartOf A))
+          → is_enabled_by y ≡ true
+          → is_enabled_by (needing_class C files t class world stack x) ≡ true
+          → is_enabled_by (needing_class C files t class world stack y) ≡ true
       class_next t None world stack x y h e = h
       class_next t (Some class) world stack x y h e = needing_next t class (look_by t (status_of world class)) world stack x y h e
 
-      enabled_next : (b c : Bool) (x y : SteppedOf (PartOf A)) → (b ≡ true → c ≡ true) → (b ≡ true → is_enabled_by x ≡ true → is_enabled_by y ≡ true)
+      enabled_next : (b c : Bool) (x y : SteppedOf (PartOf A)) → (b ≡ true → c ≡ true)
+          → (b ≡ true → is_enabled_by x ≡ true → is_enabled_by y ≡ true)
           → is_enabled_by (enabled_if b x) ≡ true → is_enabled_by (enabled_if c y) ≡ true
       enabled_next true c x y h g e = subst (λ (d : Bool). is_enabled_by (enabled_if d y) ≡ true) (sym (h refl)) (g refl e)
       enabled_next false c x y h g e = absurd (false≢true e)
@@ -181,8 +192,12 @@ module _ {A : Type 0} where
       module _ (t k : ℕ) (world : WorldOf A) where
         module _ (frame : FrameOf A) (stack : StackOf A) where
           by_finds : (b : Bool) (m : MeaningOf A) → Lower m
-              → is_enabled_by (if b then enabled_if (m.may (event_at t (suc k)) world (ops_of C m frame.place.slots)) (needing_class C files t m.looks world (Invocation frame ∷ stack) (done C files frames (event_at t (suc k)) world frame stack m)) else unpicked (event_at t (suc k)) WrongKind) ≡ true
-              → is_enabled_by (if b then enabled_if (m.may (event_at t k) world (ops_of C m frame.place.slots)) (needing_class C files t m.looks world (Invocation frame ∷ stack) (done C files frames (event_at t k) world frame stack m)) else unpicked (event_at t k) WrongKind) ≡ true
+              → is_enabled_by (if b then enabled_if (m.may (event_at t (suc k)) world (ops_of C m frame.place.slots))
+              (needing_class C files t m.looks world (Invocation frame
+              ∷ stack) (done C files frames (event_at t (suc k)) world frame stack m)) else unpicked (event_at t (suc k)) WrongKind) ≡ true
+              → is_enabled_by (if b then enabled_if (m.may (event_at t k) world (ops_of C m frame.place.slots))
+              (needing_class C files t m.looks world (Invocation frame
+              ∷ stack) (done C files frames (event_at t k) world frame stack m)) else unpicked (event_at t k) WrongKind) ≡ true
           by_finds true m h e =
               let ops = ops_of C m frame.place.slots in
               enabled_next (m.may (event_at t (suc k)) world ops) (m.may (event_at t k) world ops)
@@ -194,7 +209,8 @@ module _ {A : Type 0} where
           by_finds false m h e = unpicked_past t k WrongKind e
 
           by_meaning : (max_stack : ℕ) (o : Option (MeaningOf A)) → OfMeaning Lower o
-              → is_enabled_by (bytecode_by C files frames (event_at t (suc k)) world frame stack max_stack o) ≡ true → is_enabled_by (bytecode_by C files frames (event_at t k) world frame stack max_stack o) ≡ true
+              → is_enabled_by (bytecode_by C files frames (event_at t (suc k)) world frame stack max_stack o) ≡ true
+              → is_enabled_by (bytecode_by C files frames (event_at t k) world frame stack max_stack o) ≡ true
           by_meaning max_stack None h e = unpicked_past t k WrongKind e
           by_meaning max_stack (Some m) h e = by_finds (C.finds files (types_of world.heap) m.wants max_stack frame.place.slots) m h e
 
@@ -202,21 +218,27 @@ module _ {A : Type 0} where
           of_site None = tt
           of_site (Some site) = each_meaning C files site Lower (lower files site)
 
-          by_body : (o : Option Body) → is_enabled_by (bytecode_in C files frames (event_at t (suc k)) world frame stack o) ≡ true → is_enabled_by (bytecode_in C files frames (event_at t k) world frame stack o) ≡ true
+          by_body : (o : Option Body) → is_enabled_by (bytecode_in C files frames (event_at t (suc k)) world frame stack o) ≡ true
+              → is_enabled_by (bytecode_in C files frames (event_at t k) world frame stack o) ≡ true
           by_body None e = unpicked_past t k WrongKind e
           by_body (Some body) e =
               by_meaning body.code.max_stack (option_and_then (meaning_of C files) (site_at frame.method body frame.place.offset)) (of_site (site_at frame.method body frame.place.offset)) e
 
-        by_stack : (stack : StackOf A) → is_enabled_by (running_event C files frames (event_at t (suc k)) world stack) ≡ true → is_enabled_by (running_event C files frames (event_at t k) world stack) ≡ true
+        by_stack : (stack : StackOf A) → is_enabled_by (running_event C files frames (event_at t (suc k)) world stack) ≡ true
+            → is_enabled_by (running_event C files frames (event_at t k) world stack) ≡ true
         by_stack [] e = unpicked_past t k _ e
         by_stack (Invocation frame ∷ stack) e = by_body frame stack (body_of files frame.method) e
         by_stack (Initialisation class phase ∷ stack) e = unpicked_past t k _ e
 
-        by_pending : (stack : StackOf A) (o : Option ℕ) → is_enabled_by (going_event C files frames (event_at t (suc k)) world stack o) ≡ true → is_enabled_by (going_event C files frames (event_at t k) world stack o) ≡ true
+        by_pending : (stack : StackOf A) (o : Option ℕ)
+            → is_enabled_by (going_event C files frames (event_at t (suc k)) world stack o) ≡ true
+            → is_enabled_by (going_event C files frames (event_at t k) world stack o) ≡ true
         by_pending stack None e = by_stack stack e
         by_pending stack (Some exception) e = unpicked_past t k _ e
 
-        by_status : (stack : StackOf A) (s : ThreadStatus) → is_enabled_by (thread_event C files frames (event_at t (suc k)) world stack s) ≡ true → is_enabled_by (thread_event C files frames (event_at t k) world stack s) ≡ true
+        by_status : (stack : StackOf A) (s : ThreadStatus)
+            → is_enabled_by (thread_event C files frames (event_at t (suc k)) world stack s) ≡ true
+            → is_enabled_by (thread_event C files frames (event_at t k) world stack s) ≡ true
         by_status stack Running e = by_pending stack (thread_at world t).pending e
         by_status stack (Waiting object count) e = absurd (false≢true e)
         by_status stack (Relock object count cause) e = unpicked_past t k _ e
@@ -232,7 +254,9 @@ module _ {A : Type 0} where
       put_same state t WrongKind = refl
       put_same state t (Next cost p) = refl
 
-      by_there : (state : StateOf A) (t k : ℕ) (o : Option (StackOf A)) → is_enabled_by (event_of C files frames state (event_at t (suc k)) o) ≡ true → is_enabled_by (event_of C files frames state (event_at t k) o) ≡ true
+      by_there : (state : StateOf A) (t k : ℕ) (o : Option (StackOf A))
+          → is_enabled_by (event_of C files frames state (event_at t (suc k)) o) ≡ true
+          → is_enabled_by (event_of C files frames state (event_at t k) o) ≡ true
       by_there state t k None e = absurd (false≢true e)
       by_there state t k (Some stack) e =
           let status = (thread_at state.world t).status in
@@ -241,11 +265,13 @@ module _ {A : Type 0} where
           put_same state t (settled t less)
           ∙ (settled_same t less ∙ by_status t k state.world stack status (sym (settled_same t more) ∙ (sym (put_same state t (settled t more)) ∙ e)))
 
-      pub one_lower : (state : StateOf A) (t k : ℕ) → is_enabled_by (stepped C files frames state (event_at t (suc k))) ≡ true → is_enabled_by (stepped C files frames state (event_at t k)) ≡ true
+      pub one_lower : (state : StateOf A) (t k : ℕ) → is_enabled_by (stepped C files frames state (event_at t (suc k))) ≡ true
+          → is_enabled_by (stepped C files frames state (event_at t k)) ≡ true
       one_lower state t k e = by_there state t k (slice_get state.stacks t) e
 
 -- a pick is at or below another one, or one more
-step_down : (low high : ℕ) (b : Bool) → (low == suc high) ≡ b → low ≤ suc high → (P : ℕ → Type 0) → P (suc high) → (low ≤ high → P low) → P low
+step_down : (low high : ℕ) (b : Bool) → (low == suc high) ≡ b → low ≤ suc high → (P : ℕ → Type 0) → P (suc high) → (low ≤ high → P low)
+    → P low
 step_down low high true q le P h rest = subst P (grind (arith, nat_tests, q)) h
 step_down low high false q le P h rest = rest (grind (arith, nat_tests, q, le))
 

@@ -50,7 +50,8 @@ module _ (files : Program) (linked : Linked files) (accepted : AreTyped files) (
       start : At files event.thread world world thread
       start = self_at files event.thread world thread fits there (idle_running thread runs)
 
-      running_typed : (stack : StackOf Value) → thread.pending ≡ None → IsRunning files (types_of world.heap) None stack → OnPart files event.thread world (running_event values files frames event world stack)
+      running_typed : (stack : StackOf Value) → thread.pending ≡ None → IsRunning files (types_of world.heap) None stack
+          → OnPart files event.thread world (running_event values files frames event world stack)
       running_typed [] none h =
           unpicked_typed files event.thread world event (begin_event values files frames world event.thread)
           (begin_typed files linked accepted frames world fits (begun_keeps files linked) event.thread thread there start runs none object)
@@ -60,13 +61,17 @@ module _ (files : Program) (linked : Linked files) (accepted : AreTyped files) (
           unpicked_typed files event.thread world event (initialisation_event values files frames event.thread class phase world stack)
           (initialisation_typed files linked event.thread world thread there start accepted (begun_keeps files linked) frames runs none class phase stack h)
 
-      going_on_typed : (stack : StackOf Value) (pending : Option ℕ) → thread.pending ≡ pending → IsRunning files (types_of world.heap) pending stack → OnPart files event.thread world (going_event values files frames event world stack pending)
+      going_on_typed : (stack : StackOf Value) (pending : Option ℕ) → thread.pending ≡ pending
+          → IsRunning files (types_of world.heap) pending stack
+          → OnPart files event.thread world (going_event values files frames event world stack pending)
       going_on_typed stack None e h = running_typed stack e h
       going_on_typed stack (Some exception) e h =
           unpicked_typed files event.thread world event (pending_event values files event.thread exception (slice_get (types_of world.heap) exception) world stack)
           (pending_event_typed files linked event.thread world thread there start runs exception e h.0 (slice_get (types_of world.heap) exception) refl stack h.1)
 
-    pub by_status : (stack : StackOf Value) (status : ThreadStatus) → thread.status ≡ status → IsStackTyped files (types_of world.heap) thread.pending stack status → OnPart files event.thread world (thread_event values files frames event world stack status)
+    pub by_status : (stack : StackOf Value) (status : ThreadStatus) → thread.status ≡ status
+        → IsStackTyped files (types_of world.heap) thread.pending stack status
+        → OnPart files event.thread world (thread_event values files frames event world stack status)
     by_status stack Running e h =
         let is = ap (λ (th : Thread). th.pending) (get_or_from_slice_get world.threads event.thread thread no_thread there) in
         subst (λ p. OnPart files event.thread world (going_event values files frames event world stack p)) (sym is) (going_on_typed e stack thread.pending refl h)
@@ -82,12 +87,14 @@ module _ (files : Program) (linked : Linked files) (accepted : AreTyped files) (
   OnState (Next cost state) = IsWellTyped files state
 
   module _ (state : State) (h : IsWellTyped files state) (event : Event) where
-    put_back_typed : (stack : StackOf Value) → slice_get state.stacks event.thread ≡ Some stack → (x : SteppedOf (PartOf Value)) → OnPart files event.thread state.world x → OnState (with_part state event.thread x)
+    put_back_typed : (stack : StackOf Value) → slice_get state.stacks event.thread ≡ Some stack → (x : SteppedOf (PartOf Value))
+        → OnPart files event.thread state.world x → OnState (with_part state event.thread x)
     put_back_typed stack e NotEnabled x = tt
     put_back_typed stack e WrongKind x = tt
     put_back_typed stack e (Next cost p) x = put_typed files state h event.thread stack e p x
 
-    event_typed : (o : Option (StackOf Value)) → slice_get state.stacks event.thread ≡ o → OnState (event_of values files frames state event o)
+    event_typed : (o : Option (StackOf Value)) → slice_get state.stacks event.thread ≡ o
+        → OnState (event_of values files frames state event o)
     event_typed None e = tt
     event_typed (Some stack) e =
         let at = thread_there files (types_of state.world.heap) state.world.threads state.stacks event.thread stack h.threads e in
@@ -110,16 +117,20 @@ module _ (files : Program) (linked : Linked files) (accepted : AreTyped files) (
 
   -- ---- runs
 
-  run_typed : (events : List Event) (state : State) → IsWellTyped files state → (last : State) → run_from files frames state events ≡ Some last → IsWellTyped files last
+  run_typed : (events : List Event) (state : State) → IsWellTyped files state → (last : State)
+      → run_from files frames state events ≡ Some last → IsWellTyped files last
   run_typed [] state h last e = let is : state ≡ last = same_Some state last e in subst (IsWellTyped files) is h
   run_typed (event ∷ events) state h last e = by (λ next g. run_typed events next g last) (step files frames state event) refl e
     where
-      by : ((next : State) → IsWellTyped files next → run_from files frames next events ≡ Some last → IsWellTyped files last) → (o : Option State) → step files frames state event ≡ o → option_and_then (λ next. run_from files frames next events) o ≡ Some last → IsWellTyped files last
+      by : ((next : State) → IsWellTyped files next → run_from files frames next events ≡ Some last → IsWellTyped files last)
+          → (o : Option State) → step files frames state event ≡ o
+          → option_and_then (λ next. run_from files frames next events) o ≡ Some last → IsWellTyped files last
       by rest None q r = absurd cc
       by rest (Some next) q r = rest next (step_typed state h event next q) r
 
   -- no thread of a state that a run reaches has a wrong kind
-  pub run_right : (events : List Event) (state : State) → run files frames events ≡ Some state → (t : ℕ) → has_wrong_kind files state t ≡ false
+  pub run_right : (events : List Event) (state : State) → run files frames events ≡ Some state → (t : ℕ)
+      → has_wrong_kind files state t ≡ false
   run_right events state e t =
       well_typed_right files linked.rooted state (run_typed events (opening values files) (opening_typed files) state e) t
 
@@ -132,14 +143,17 @@ module _ (files : List (List ℕ)) (trees : Program) (accepted : IsAccepted file
   pub instructs : InstructionsTyped trees
   instructs = meaning_typed trees (built_in_typed trees links)
 
-  pub kept : (frames : ℕ) (state : State) (event : Event) (next : State) → IsWellTyped trees state → step trees frames state event ≡ Some next → IsWellTyped trees next
+  pub kept : (frames : ℕ) (state : State) (event : Event) (next : State) → IsWellTyped trees state
+      → step trees frames state event ≡ Some next → IsWellTyped trees next
   kept frames state event next h e = step_typed trees links accepted.typed instructs frames state h event next e
 
-  pub right : (frames : ℕ) (events : List Event) (state : State) → run trees frames events ≡ Some state → (t : ℕ) → has_wrong_kind trees state t ≡ false
+  pub right : (frames : ℕ) (events : List Event) (state : State) → run trees frames events ≡ Some state → (t : ℕ)
+      → has_wrong_kind trees state t ≡ false
   right frames events state e t = run_right trees links accepted.typed instructs frames events state e t
 
   -- no event of a run is answered by a wrong kind
-  pub unanswered : (frames : ℕ) (events : List Event) (state : State) (event : Event) → run trees frames events ≡ Some state → is_wrong (stepped values trees frames state event) ≡ false
+  pub unanswered : (frames : ℕ) (events : List Event) (state : State) (event : Event) → run trees frames events ≡ Some state
+      → is_wrong (stepped values trees frames state event) ≡ false
   unanswered frames events state event e =
       never_wrong trees links.rooted (record { body = links.main.body; is_body = links.main.is_body }) frames state event (run_typed trees links accepted.typed instructs frames events (opening values trees) (opening_typed trees) state e)
 

@@ -55,23 +55,27 @@ record HoldsInts (heap : List (ObjectOf Value)) (r : ℕ) : Type 0 where
 holds_more : (heap : List (ObjectOf Value)) (o : ObjectOf Value) (r : ℕ) → HoldsInts heap r → HoldsInts (o ∷ heap) (suc r)
 holds_more heap o r h = record { object = h.object; there = h.there; ints = h.ints }
 
-found_ints : (test : ReferenceType → Bool) → ((u : ReferenceType) → test u ≡ true → holds_ints u ≡ true) → (heap : List (ObjectOf Value)) (r : ℕ) → option_map_or test (slice_get (types_of heap) r) false ≡ true → HoldsInts heap r
+found_ints : (test : ReferenceType → Bool) → ((u : ReferenceType) → test u ≡ true → holds_ints u ≡ true) → (heap : List (ObjectOf Value))
+    (r : ℕ) → option_map_or test (slice_get (types_of heap) r) false ≡ true → HoldsInts heap r
 found_ints test only [] r e = absurd (false≢true e)
 found_ints test only (o ∷ heap) zero e = record { object = o; there = refl; ints = only (type_of o) e }
 found_ints test only (o ∷ heap) (suc r) e = holds_more heap o r (found_ints test only heap r e)
 
 module _ (files : Program) (os : List ReferenceType) where
-  ints_of : (o : ObjectOf Value) → holds_ints (type_of o) ≡ true → is_object_typed files os o ≡ true → list_all is_int_value (elements_of o) ≡ true
+  ints_of : (o : ObjectOf Value) → holds_ints (type_of o) ≡ true → is_object_typed files os o ≡ true
+      → list_all is_int_value (elements_of o) ≡ true
   ints_of (Instance class fields) n h = refl
   ints_of (Primitives of elements) n h = h
   ints_of (References of elements) n h = absurd (false≢true n)
 
-  kept_typed : (i : ℕ) (v : Value) (o : ObjectOf Value) → holds_ints (type_of o) ≡ true → is_object_typed files os o ≡ true → is_object_typed files os (with_element i (kept_by values o v) o) ≡ true
+  kept_typed : (i : ℕ) (v : Value) (o : ObjectOf Value) → holds_ints (type_of o) ≡ true → is_object_typed files os o ≡ true
+      → is_object_typed files os (with_element i (kept_by values o v) o) ≡ true
   kept_typed i v (Instance class fields) n h = h
   kept_typed i v (Primitives of elements) n h = all_set is_int_value elements i (kept_value values of v) h refl
   kept_typed i v (References of elements) n h = absurd (false≢true n)
 
-below_primitive : (files : Program) (p : Primitive) (u : ReferenceType) → is_assignable files u (PrimitiveArray p) ≡ true → holds_ints u ≡ true
+below_primitive : (files : Program) (p : Primitive) (u : ReferenceType) → is_assignable files u (PrimitiveArray p) ≡ true
+    → holds_ints u ≡ true
 below_primitive files p (ClassType c) e = absurd (false≢true e)
 below_primitive files p (PrimitiveArray of) e = refl
 below_primitive files p (ReferenceArray of) e = absurd (false≢true e)
@@ -82,7 +86,9 @@ byte_holds (PrimitiveArray of) e = refl
 byte_holds (ReferenceArray of) e = absurd (false≢true e)
 
 -- the second of two operands is of its type
-second_typed : (accepts : Want → VerificationType → Bool) (R : VerificationType → Value → Bool) (a b : Want) (xs : List VerificationType) (vs : List Value) → Pairwise accepts (a ∷ b ∷ []) xs → Pairwise R xs vs → R (slice_index_or xs 1 NullType) (slice_index_or vs 1 value.Unset) ≡ true
+second_typed : (accepts : Want → VerificationType → Bool) (R : VerificationType → Value → Bool) (a b : Want) (xs : List VerificationType)
+    (vs : List Value) → Pairwise accepts (a ∷ b ∷ []) xs → Pairwise R xs vs
+    → R (slice_index_or xs 1 NullType) (slice_index_or vs 1 value.Unset) ≡ true
 second_typed accepts R a b [] vs p q = absurd p
 second_typed accepts R a b (x ∷ []) vs p q = absurd p.1
 second_typed accepts R a b (x ∷ y ∷ xs) [] p q = absurd q
@@ -95,7 +101,12 @@ module _ (files : Program) (event : Event) (w : World) (f : Frame) (site : Site)
 
   -- ---- newarray, anewarray
 
-  made_typed : (type : ReferenceType) (array : List Value → ObjectOf Value) (first : Value) → ((n : ℕ) (os : List ReferenceType) → is_object_typed files os (array (replicate n first)) ≡ true) → ((n : ℕ) → type_of (array (replicate n first)) ≡ type) → (a : Allows files f h.ready.stopped.stands site (array_meaning values files site type array first)) (n : ℕ) (b : Bool) → OutcomeTyped files event.thread w f (made_array values b site.next n array first w f.place.slots (under (array_meaning values files site type array first).wants f.place.slots))
+  made_typed : (type : ReferenceType) (array : List Value → ObjectOf Value) (first : Value)
+      → ((n : ℕ) (os : List ReferenceType) → is_object_typed files os (array (replicate n first)) ≡ true)
+      → ((n : ℕ) → type_of (array (replicate n first)) ≡ type)
+      → (a : Allows files f h.ready.stopped.stands site (array_meaning values files site type array first)) (n : ℕ) (b : Bool)
+      → OutcomeTyped files event.thread w f (made_array values b site.next n array first w
+      f.place.slots (under (array_meaning values files site type array first).wants f.place.slots))
   made_typed type array first typed is a n true = tt
   made_typed type array first typed is a n false =
       let o = array (replicate n first) in
@@ -104,19 +115,23 @@ module _ (files : Program) (event : Event) (w : World) (f : Frame) (site : Site)
       (allocated_keeps files w h.fits o (typed n os))
       (and_from _ _ (stack_above files h.linked.rooted os (OfType (type_of o)) (OfType (made_type files type)) (value.Reference (length w.heap)) (subst (λ u. is_assignable files u (made_type files type) ≡ true) (sym (is n)) (made_above files h.linked type)) (added_below files w.heap h.fits.heap o)) refl)
 
-  pub primitive_array_typed : (of : Primitive) → Allows files f h.ready.stopped.stands site (primitive_array_meaning values files site of) → Does files event w f (primitive_array_meaning values files site of)
+  pub primitive_array_typed : (of : Primitive) → Allows files f h.ready.stopped.stands site (primitive_array_meaning values files site of)
+      → Does files event w f (primitive_array_meaning values files site of)
   primitive_array_typed of a =
       let n = int_operand values (ops_of values (primitive_array_meaning values files site of) f.place.slots) 0 in
       made_typed (PrimitiveArray of) (λ elements. Primitives of elements) (value.Int 0) (λ n os. all_replicate is_int_value n (value.Int 0) refl) (λ n. refl) a n (is_negative n)
 
-  pub reference_array_typed : (of : ReferenceType) → Allows files f h.ready.stopped.stands site (reference_array_meaning values files site of) → Does files event w f (reference_array_meaning values files site of)
+  pub reference_array_typed : (of : ReferenceType)
+      → Allows files f h.ready.stopped.stands site (reference_array_meaning values files site of)
+      → Does files event w f (reference_array_meaning values files site of)
   reference_array_typed of a =
       let n = int_operand values (ops_of values (reference_array_meaning values files site of) f.place.slots) 0 in
       made_typed (ReferenceArray of) (λ elements. References of elements) value.Null (λ n os. nulls_typed files os of n) (λ n. refl) a n (is_negative n)
 
   -- ---- arraylength
 
-  pub array_length_typed : Allows files f h.ready.stopped.stands site (array_length_meaning values site) → Does files event w f (array_length_meaning values site)
+  pub array_length_typed : Allows files f h.ready.stopped.stands site (array_length_meaning values site)
+      → Does files event w f (array_length_meaning values site)
   array_length_typed a =
       not_null_any files event.thread w f site h (operand values (ops_of values (array_length_meaning values site) f.place.slots) 0)
       (λ r. pushing site.next (value.Int (length (elements_of (object_at w r))) ∷ []) w f.place.slots (under (array_length_meaning values site).wants f.place.slots))
@@ -124,7 +139,8 @@ module _ (files : Program) (event : Event) (w : World) (f : Frame) (site : Site)
 
   -- ---- loads
 
-  at_index_typed : (b : Bool) (o : OutcomeOf Value) → OutcomeTyped files event.thread w f o → OutcomeTyped files event.thread w f (at_index b o)
+  at_index_typed : (b : Bool) (o : OutcomeOf Value) → OutcomeTyped files event.thread w f o
+      → OutcomeTyped files event.thread w f (at_index b o)
   at_index_typed true o k = k
   at_index_typed false o k = tt
 
@@ -148,7 +164,9 @@ module _ (files : Program) (event : Event) (w : World) (f : Frame) (site : Site)
   object_here : (r : ℕ) → is_object_typed files (types_of w.heap) (object_at w r) ≡ true
   object_here r = at_typed files (types_of w.heap) w.heap r h.fits.heap
 
-  load_int_typed : (want : Want) → WantsInts want → Allows files f h.ready.stopped.stands site (load_meaning values site want (value.Int 0) an_int) → Does files event w f (load_meaning values site want (value.Int 0) an_int)
+  load_int_typed : (want : Want) → WantsInts want
+      → Allows files f h.ready.stopped.stands site (load_meaning values site want (value.Int 0) an_int)
+      → Does files event w f (load_meaning values site want (value.Int 0) an_int)
   unfolding WantsInts
   load_int_typed want ints a =
       let os = types_of w.heap in
@@ -163,14 +181,18 @@ module _ (files : Program) (event : Event) (w : World) (f : Frame) (site : Site)
       (pushes files event.thread w f site h _ a (IntType ∷ []) _ a.leads.0 Free w (element_at (value.Int 0) w r i ∷ []) same
       (and_from _ _ (all_index is_int_value (elements_of (object_at w r)) i (value.Int 0) (ints_of files os (object_at w r) (ints_at r k) (object_here r)) refl) refl)))
 
-  loaded_typed : (b : ReferenceType) (o : ObjectOf Value) (i : ℕ) → is_assignable files (type_of o) (ReferenceArray b) ≡ true → is_object_typed files (types_of w.heap) o ≡ true → has_type files (types_of w.heap) (OfType (made_type files b)) (slice_index_or (elements_of o) i value.Null) ≡ true
+  loaded_typed : (b : ReferenceType) (o : ObjectOf Value) (i : ℕ) → is_assignable files (type_of o) (ReferenceArray b) ≡ true
+      → is_object_typed files (types_of w.heap) o ≡ true
+      → has_type files (types_of w.heap) (OfType (made_type files b)) (slice_index_or (elements_of o) i value.Null) ≡ true
   loaded_typed b (Instance class fields) i e q = absurd (false≢true e)
   loaded_typed b (Primitives of elements) i e q = absurd (false≢true e)
   loaded_typed b (References of elements) i e q =
       stack_above files h.linked.rooted (types_of w.heap) (OfType (made_type files of)) (OfType (made_type files b)) (slice_index_or elements i value.Null) (made_monotone files h.linked of b e)
       (all_index (has_type files (types_of w.heap) (OfType (made_type files of))) elements i value.Null q refl)
 
-  component_typed : (type : VerificationType) (r i : ℕ) → is_of files (ReferenceArray any_object) type ≡ true → has_type files (types_of w.heap) type (value.Reference r) ≡ true → has_type files (types_of w.heap) (component_type files type) (element_at value.Null w r i) ≡ true
+  component_typed : (type : VerificationType) (r i : ℕ) → is_of files (ReferenceArray any_object) type ≡ true
+      → has_type files (types_of w.heap) type (value.Reference r) ≡ true
+      → has_type files (types_of w.heap) (component_type files type) (element_at value.Null w r i) ≡ true
   component_typed Unusable r i e q = absurd (false≢true e)
   component_typed IntType r i e q = absurd (false≢true e)
   component_typed NullType r i e q = absurd (false≢true q)
@@ -182,7 +204,8 @@ module _ (files : Program) (event : Event) (w : World) (f : Frame) (site : Site)
   component_typed (Uninitialised at c) r i e q = absurd (false≢true e)
   component_typed (UninitialisedThis c) r i e q = absurd (false≢true e)
 
-  load_reference_typed : Allows files f h.ready.stopped.stands site (load_of values files site array_kind.Reference) → Does files event w f (load_of values files site array_kind.Reference)
+  load_reference_typed : Allows files f h.ready.stopped.stands site (load_of values files site array_kind.Reference)
+      → Does files event w f (load_of values files site array_kind.Reference)
   load_reference_typed a =
       let os = types_of w.heap in
       let m = load_of values files site array_kind.Reference in
@@ -200,7 +223,8 @@ module _ (files : Program) (event : Event) (w : World) (f : Frame) (site : Site)
       (pushes files event.thread w f site h _ a (component_type files array ∷ []) _ a.leads.0 Free w (element_at value.Null w r i ∷ []) same
       (and_from _ _ (component_typed array r i wanted (subst (λ v. has_type files os array v ≡ true) e typed)) refl)))
 
-  pub load_typed : (kind : ArrayKind) → Allows files f h.ready.stopped.stands site (load_of values files site kind) → Does files event w f (load_of values files site kind)
+  pub load_typed : (kind : ArrayKind) → Allows files f h.ready.stopped.stands site (load_of values files site kind)
+      → Does files event w f (load_of values files site kind)
   load_typed array_kind.Int a = load_int_typed (AReference (PrimitiveArray Int)) (primitive_ints Int) a
   load_typed array_kind.Reference a = load_reference_typed a
   load_typed array_kind.ByteOrBoolean a = load_int_typed AByteArray byte_ints a
@@ -209,7 +233,8 @@ module _ (files : Program) (event : Event) (w : World) (f : Frame) (site : Site)
 
   -- ---- stores
 
-  store_int_typed : (want : Want) → WantsInts want → Allows files f h.ready.stopped.stands site (store_int_meaning values site want) → Does files event w f (store_int_meaning values site want)
+  store_int_typed : (want : Want) → WantsInts want → Allows files f h.ready.stopped.stands site (store_int_meaning values site want)
+      → Does files event w f (store_int_meaning values site want)
   unfolding WantsInts
   store_int_typed want ints a =
       let os = types_of w.heap in
@@ -227,20 +252,25 @@ module _ (files : Program) (event : Event) (w : World) (f : Frame) (site : Site)
       (object_keeps files w h.fits r (object_at w r) new (at_there w.heap r k.object k.there) (with_element_same i (kept_by values (object_at w r) v) (object_at w r)) (kept_typed files os i v (object_at w r) (ints_at r k) (object_here r)))
       refl))
 
-  storable_typed : (o : ObjectOf Value) (i : ℕ) (v : Value) → may_stand_in values files w o v ≡ true → is_object_typed files (types_of w.heap) o ≡ true → is_object_typed files (types_of w.heap) (with_element i v o) ≡ true
+  storable_typed : (o : ObjectOf Value) (i : ℕ) (v : Value) → may_stand_in values files w o v ≡ true
+      → is_object_typed files (types_of w.heap) o ≡ true → is_object_typed files (types_of w.heap) (with_element i v o) ≡ true
   storable_typed (Instance class fields) i v e q = q
   storable_typed (Primitives of elements) i v e q = absurd (false≢true e)
   storable_typed (References of elements) i v e q =
       all_set (has_type files (types_of w.heap) (OfType (made_type files of))) elements i v q (instance_below files h.linked (types_of w.heap) of v e)
 
-  storing : (a : Allows files f h.ready.stopped.stands site (store_reference_meaning values files site)) (r i : ℕ) (v : Value) (o : ObjectOf Value) → slice_get w.heap r ≡ Some o → (b : Bool) → may_stand_in values files w (object_at w r) v ≡ b → OutcomeTyped files event.thread w f (if_storable b (stored site.next w r i v f.place.slots (under (store_reference_meaning values files site).wants f.place.slots)))
+  storing : (a : Allows files f h.ready.stopped.stands site (store_reference_meaning values files site)) (r i : ℕ) (v : Value)
+      (o : ObjectOf Value) → slice_get w.heap r ≡ Some o → (b : Bool) → may_stand_in values files w (object_at w r) v ≡ b
+      → OutcomeTyped files event.thread w f (if_storable
+      b (stored site.next w r i v f.place.slots (under (store_reference_meaning values files site).wants f.place.slots)))
   storing a r i v o there true e =
       pushes files event.thread w f site h _ a [] _ a.leads.0 Free (with_object w r (with_element i v (object_at w r))) []
       (object_keeps files w h.fits r (object_at w r) (with_element i v (object_at w r)) (at_there w.heap r o there) (with_element_same i v (object_at w r)) (storable_typed (object_at w r) i v e (object_here r)))
       refl
   storing a r i v o there false e = tt
 
-  store_reference_typed : Allows files f h.ready.stopped.stands site (store_reference_meaning values files site) → Does files event w f (store_reference_meaning values files site)
+  store_reference_typed : Allows files f h.ready.stopped.stands site (store_reference_meaning values files site)
+      → Does files event w f (store_reference_meaning values files site)
   store_reference_typed a =
       let os = types_of w.heap in
       let m = store_reference_meaning values files site in
@@ -254,7 +284,8 @@ module _ (files : Program) (event : Event) (w : World) (f : Frame) (site : Site)
       at_index_typed (in_range w r i) (if_storable (may_stand_in values files w (object_at w r) v) (stored site.next w r i v f.place.slots (under m.wants f.place.slots)))
       (storing a r i v o.0 o.1 (may_stand_in values files w (object_at w r) v) refl))
 
-  pub store_typed : (kind : ArrayKind) → Allows files f h.ready.stopped.stands site (store_of values files site kind) → Does files event w f (store_of values files site kind)
+  pub store_typed : (kind : ArrayKind) → Allows files f h.ready.stopped.stands site (store_of values files site kind)
+      → Does files event w f (store_of values files site kind)
   store_typed array_kind.Int a = store_int_typed (AReference (PrimitiveArray Int)) (primitive_ints Int) a
   store_typed array_kind.Reference a = store_reference_typed a
   store_typed array_kind.ByteOrBoolean a = store_int_typed AByteArray byte_ints a

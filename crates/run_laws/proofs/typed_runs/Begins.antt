@@ -32,7 +32,9 @@ use Rattle.run_laws.proofs.typed_runs.Entering.{BegunKeeps, pushed_typed, needin
 
 module _ (files : Program) (linked : Linked files) (accepted : AreTyped files) (frames : ℕ) (world : World) (fits : Fits files world) where
   -- main of the initial class, with the array of arguments
-  main_frame_typed : (thread : Thread) (there : slice_get world.threads 0 ≡ Some thread) → At files 0 world world thread → thread.status ≡ Running → thread.pending ≡ None → (o : Option Body) → body_of files (main_of (initial_class files)) ≡ o → OnPart files 0 world (main_frame values files frames world (main_of (initial_class files)) o)
+  main_frame_typed : (thread : Thread) (there : slice_get world.threads 0 ≡ Some thread) → At files 0 world world thread
+      → thread.status ≡ Running → thread.pending ≡ None → (o : Option Body) → body_of files (main_of (initial_class files)) ≡ o
+      → OnPart files 0 world (main_frame values files frames world (main_of (initial_class files)) o)
   main_frame_typed thread there start runs none None e = tt
   main_frame_typed thread there start runs none (Some body) e =
       let main = main_of (initial_class files) in
@@ -48,14 +50,19 @@ module _ (files : Program) (linked : Linked files) (accepted : AreTyped files) (
       (opened_ready files linked.rooted (types_of world.heap) main body (value.Reference arguments_reference ∷ []) (entered_by files main (class_reference files main.class)) e (accepted main body e) (main_arguments files (types_of world.heap) (initial_class files) arguments_reference static arguments), tt)
 
   module _ (begun_keeps : BegunKeeps files) where
-    main_typed : (thread : Thread) (there : slice_get world.threads 0 ≡ Some thread) → At files 0 world world thread → thread.status ≡ Running → thread.pending ≡ None → OnPart files 0 world (main_event values files frames world)
+    main_typed : (thread : Thread) (there : slice_get world.threads 0 ≡ Some thread) → At files 0 world world thread
+        → thread.status ≡ Running → thread.pending ≡ None → OnPart files 0 world (main_event values files frames world)
     main_typed thread there start runs none =
         needing_class_typed files linked.rooted 0 world thread there begun_keeps (Some (initial_class files)) world thread [] _ start runs none tt
         (main_frame_typed thread there start runs none (body_of files (main_of (initial_class files))) refl)
 
     -- run of a Thread object
     module _ (t : ℕ) (thread : Thread) (there : slice_get world.threads t ≡ Some thread) (start : At files t world world thread) (runs : thread.status ≡ Running) (none : thread.pending ≡ None) where
-      run_frame_typed : (object : ℕ) (class : Name) → option_map_or is_selectable (method_of files (in_class class thread_run)) false ≡ true → is_value_below files (types_of world.heap) (ClassType class) (value.Reference object) ≡ true → (o : Option Body) → body_of files (in_class class thread_run) ≡ o → OnPart files t world (run_frame values files frames t world object (in_class class thread_run) o)
+      run_frame_typed : (object : ℕ) (class : Name)
+          → option_map_or is_selectable (method_of files (in_class class thread_run)) false ≡ true
+          → is_value_below files (types_of world.heap) (ClassType class) (value.Reference object) ≡ true → (o : Option Body)
+          → body_of files (in_class class thread_run) ≡ o
+          → OnPart files t world (run_frame values files frames t world object (in_class class thread_run) o)
       run_frame_typed object class selectable below None e =
           raised_typed files t world thread there linked.rooted AbstractMethod world thread [] start runs tt
       run_frame_typed object class selectable below (Some body) e =
@@ -70,13 +77,17 @@ module _ (files : Program) (linked : Linked files) (accepted : AreTyped files) (
           (opened_ready files linked.rooted (types_of world.heap) method body (value.Reference object ∷ []) (entered_by files method object) e (accepted method body e) (run_arguments files (types_of world.heap) class (value.Reference object) selectable below), tt)
 
       -- the class of a Thread object, and each class above it
-      below_thread : (object : ℕ) (class : Name) (o : ObjectOf Value) → slice_get world.heap object ≡ Some o → is_assignable files (type_of o) (ClassType java_lang_thread) ≡ true → is_subclass files (class_of_object o) class ≡ true → is_value_below files (types_of world.heap) (ClassType class) (value.Reference object) ≡ true
+      below_thread : (object : ℕ) (class : Name) (o : ObjectOf Value) → slice_get world.heap object ≡ Some o
+          → is_assignable files (type_of o) (ClassType java_lang_thread) ≡ true → is_subclass files (class_of_object o) class ≡ true
+          → is_value_below files (types_of world.heap) (ClassType class) (value.Reference object) ≡ true
       below_thread object class (Instance c fields) e h above =
           subst (λ o. is_object_below files (ClassType class) o ≡ true) (sym (get_map type_of world.heap object (Instance c fields) e)) above
       below_thread object class (Primitives of elements) e h above = absurd (false≢true h)
       below_thread object class (References of elements) e h above = absurd (false≢true h)
 
-      run_of_typed : (object : ℕ) → is_object_in files (types_of world.heap) java_lang_thread object ≡ true → (o : Option Member) → select files (class_of_object (object_at world object)) thread_run ≡ o → OnPart files t world (run_of values files frames t world object o)
+      run_of_typed : (object : ℕ) → is_object_in files (types_of world.heap) java_lang_thread object ≡ true → (o : Option Member)
+          → select files (class_of_object (object_at world object)) thread_run ≡ o
+          → OnPart files t world (run_of values files frames t world object o)
       run_of_typed object typed None e = raised_typed files t world thread there linked.rooted AbstractMethod world thread [] start runs tt
       run_of_typed object typed (Some method) e =
           let found = selected files (class_of_object (object_at world object)) thread_run method e in
@@ -88,7 +99,9 @@ module _ (files : Program) (linked : Linked files) (accepted : AreTyped files) (
           subst (λ m. OnPart files t world (run_frame values files frames t world object m (body_of files m))) (sym found.is)
           (run_frame_typed object method.class selectable below (body_of files (in_class method.class thread_run)) refl)
 
-    pub begin_typed : (t : ℕ) (thread : Thread) (there : slice_get world.threads t ≡ Some thread) → At files t world world thread → thread.status ≡ Running → thread.pending ≡ None → is_object_in files (types_of world.heap) java_lang_thread thread.object ≡ true → OnPart files t world (begin_event values files frames world t)
+    pub begin_typed : (t : ℕ) (thread : Thread) (there : slice_get world.threads t ≡ Some thread) → At files t world world thread
+        → thread.status ≡ Running → thread.pending ≡ None → is_object_in files (types_of world.heap) java_lang_thread thread.object ≡ true
+        → OnPart files t world (begin_event values files frames world t)
     begin_typed zero thread there start runs none typed = main_typed thread there start runs none
     begin_typed (suc t) thread there start runs none typed =
         let object = (thread_at world (suc t)).object in

@@ -54,7 +54,8 @@ module _ (files : Program) where
   unfolding method_type parameters_at field_at element_at field_type
   bit_results name = refl
 
-  thread_results : result_types files (of_thread (codes "currentThread") (codes "()Ljava/lang/Thread;")) ≡ OfType (ClassType java_lang_thread) ∷ []
+  thread_results : result_types files (of_thread (codes "currentThread") (codes "()Ljava/lang/Thread;"))
+      ≡ OfType (ClassType java_lang_thread) ∷ []
   unfolding method_type parameters_at field_at element_at field_type built_in_classes
   thread_results = refl
 
@@ -86,7 +87,8 @@ module _ (files : Program) where
   unfolding method_type parameters_at field_at element_at field_type
   no_parameters class name = refl
 
-  target_arguments : argument_types files (of_thread constructor_name (codes "(Ljava/lang/Runnable;)V")) ≡ UninitialisedThis java_lang_thread ∷ OfType (made_type files (ClassType java_lang_runnable)) ∷ []
+  target_arguments : argument_types files (of_thread constructor_name (codes "(Ljava/lang/Runnable;)V"))
+      ≡ UninitialisedThis java_lang_thread ∷ OfType (made_type files (ClassType java_lang_runnable)) ∷ []
   unfolding method_type parameters_at field_at element_at field_type built_in_classes
   target_arguments = refl
 
@@ -104,46 +106,56 @@ module _ (files : Program) where
 
 -- ---- a thread that is started
 
-front_waits : (threads : List Thread) (new : Thread) (object u : ℕ) → waits threads object u ≡ true → waits (threads ++ new ∷ []) object u ≡ true
+front_waits : (threads : List Thread) (new : Thread) (object u : ℕ) → waits threads object u ≡ true
+    → waits (threads ++ new ∷ []) object u ≡ true
 front_waits [] new object u h = absurd (false≢true h)
 front_waits (x ∷ xs) new object zero h = h
 front_waits (x ∷ xs) new object (suc u) h = front_waits xs new object u h
 
-last_is : (threads : List Thread) (new : Thread) (u : ℕ) (thread : Thread) → slice_get threads u ≡ None → slice_get (threads ++ new ∷ []) u ≡ Some thread → new ≡ thread
+last_is : (threads : List Thread) (new : Thread) (u : ℕ) (thread : Thread) → slice_get threads u ≡ None
+    → slice_get (threads ++ new ∷ []) u ≡ Some thread → new ≡ thread
 last_is [] new zero thread n e = cc
 last_is [] new (suc u) thread n e = absurd cc
 last_is (x ∷ xs) new zero thread n e = absurd cc
 last_is (x ∷ xs) new (suc u) thread n e = last_is xs new u thread n e
 
-started_go : (files : Program) (os : List ReferenceType) (t : ℕ) (threads : List Thread) (object : ℕ) → is_object_in files os java_lang_thread object ≡ true → Go files os t threads (threads ++ new_thread object ∷ [])
+started_go : (files : Program) (os : List ReferenceType) (t : ℕ) (threads : List Thread) (object : ℕ)
+    → is_object_in files os java_lang_thread object ≡ true → Go files os t threads (threads ++ new_thread object ∷ [])
 started_go files os t threads object h =
     record {
       still = λ u thread e. record { thread = thread; there = get_front threads (new_thread object ∷ []) u thread e; object = refl; kept = λ q. kept_self thread };
       started = λ u thread n e. subst (Started files os) (last_is threads (new_thread object) u thread n e) (record { pending = refl; status = refl; object = h });
     }
 
-module _ (files : Program) (linked : Linked files) (event : Event) (w : World) (f : Frame) (next : ℕ) (method : Member) (ops rest : List Value) (c : Called files event w f next method ops rest) where
+module _ (files : Program) (linked : Linked files) (event : Event) (w : World) (f : Frame) (next : ℕ) (method : Member)
+    (ops rest : List Value) (c : Called files event w f next method ops rest) where
   -- ---- how the frame goes on
 
-  ready_after : (after : World) (vs : List Value) → Extends (types_of w.heap) (types_of after.heap) → are_typed files (types_of after.heap) (result_types files method) vs ≡ true → Ready files (types_of after.heap) (at_offset f next (record { locals = f.place.slots.locals; stack = vs ++ rest }))
+  ready_after : (after : World) (vs : List Value) → Extends (types_of w.heap) (types_of after.heap)
+      → are_typed files (types_of after.heap) (result_types files method) vs ≡ true
+      → Ready files (types_of after.heap) (at_offset f next (record { locals = f.place.slots.locals; stack = vs ++ rest }))
   ready_after after vs x typed =
       subst (λ to. Ready files (types_of after.heap) (at_offset f to (record { locals = f.place.slots.locals; stack = vs ++ rest }))) (sym c.next_is)
       (resumed files linked.rooted (types_of after.heap) (result_types files method) (at_call f rest) vs (awaits_more files (types_of w.heap) (types_of after.heap) x (result_types files method) (at_call f rest) c.awaits) typed)
 
-  carries : (ts : List VerificationType) (after : World) (vs : List Value) → result_types files method ≡ ts → Keeps files w after → are_typed files (types_of after.heap) ts vs ≡ true → OutcomeTyped files event.thread w f (pushing next vs after f.place.slots rest)
+  carries : (ts : List VerificationType) (after : World) (vs : List Value) → result_types files method ≡ ts → Keeps files w after
+      → are_typed files (types_of after.heap) ts vs ≡ true → OutcomeTyped files event.thread w f (pushing next vs after f.place.slots rest)
   carries ts after vs e k typed =
       goes_on files event.thread w after f Free (record { locals = f.place.slots.locals; stack = vs ++ rest }) next c.live k
       (ready_after after vs k.extends (subst (λ l. are_typed files (types_of after.heap) l vs ≡ true) (sym e) typed))
 
   -- ---- operands
 
-  typed_operand : (ts : List VerificationType) → argument_types files method ≡ ts → (k : ℕ) → has_type files (types_of w.heap) (slice_index_or (reverse ts) k Unusable) (operand values ops k) ≡ true
+  typed_operand : (ts : List VerificationType) → argument_types files method ≡ ts → (k : ℕ)
+      → has_type files (types_of w.heap) (slice_index_or (reverse ts) k Unusable) (operand values ops k) ≡ true
   typed_operand ts e k =
       let R = has_type files (types_of w.heap) in
       let p = pair_reverse R ts (reverse ops) (pairs_of R ts (reverse ops) (subst (λ l. are_typed files (types_of w.heap) l (reverse ops) ≡ true) e c.arguments)) in
       pair_get R (reverse ts) ops Unusable value.Unset (subst (λ l. Pairwise R (reverse ts) l) (reverse-reverse ops) p) refl k
 
-  receiver_in : (class : Name) (k : ℕ) → has_no_receiver files method ≡ false → parameter_count method ≡ k → is_value_below files (types_of w.heap) (ClassType class) (operand values ops k) ≡ true → is_object_in files (types_of w.heap) class (object_of values ops k) ≡ true
+  receiver_in : (class : Name) (k : ℕ) → has_no_receiver files method ≡ false → parameter_count method ≡ k
+      → is_value_below files (types_of w.heap) (ClassType class) (operand values ops k) ≡ true
+      → is_object_in files (types_of w.heap) class (object_of values ops k) ≡ true
   receiver_in class k has count below =
       let r = c.receiver has in
       let at = subst (λ n. operand values ops n ≡ value.Reference r.0) count r.1 in
@@ -154,7 +166,8 @@ module _ (files : Program) (linked : Linked files) (event : Event) (w : World) (
   abbrev Typed : BuiltInMethod → Type 0
   Typed b = OutcomeTyped files event.thread w f (built_in_does values b next event w f.place.slots ops rest)
 
-  waited : method ≡ of_object (codes "wait") → (b interrupted : Bool) → is_owner w event.thread (object_of values ops 0) ≡ b → OutcomeTyped files event.thread w f (wait_by b interrupted event.thread (object_of values ops 0) w rest)
+  waited : method ≡ of_object (codes "wait") → (b interrupted : Bool) → is_owner w event.thread (object_of values ops 0) ≡ b
+      → OutcomeTyped files event.thread w f (wait_by b interrupted event.thread (object_of values ops 0) w rest)
   waited e false interrupted q = tt
   waited e true true q = tt
   waited e true false q =
@@ -162,11 +175,13 @@ module _ (files : Program) (linked : Linked files) (event : Event) (w : World) (
       let x = waiting_changes files w c.fits event.thread (object_of values ops 0) q c.live in
       (x, (waits_on files w c.fits event.thread (object_of values ops 0) c.live object, subst (λ ts. Awaits files (types_of w.heap) ts (at_call f rest)) (ap (result_types files) e ∙ void_results files java_lang_object (codes "wait")) c.awaits))
 
-  owner_typed : (b : Bool) (o : OutcomeOf Value) → (b ≡ true → OutcomeTyped files event.thread w f o) → OutcomeTyped files event.thread w f (if_owner b o)
+  owner_typed : (b : Bool) (o : OutcomeOf Value) → (b ≡ true → OutcomeTyped files event.thread w f o)
+      → OutcomeTyped files event.thread w f (if_owner b o)
   owner_typed true o k = k refl
   owner_typed false o k = tt
 
-  started : method ≡ of_thread (codes "start") (codes "()V") → (b : Bool) → OutcomeTyped files event.thread w f (start_by b next (object_of values ops 0) w f.place.slots rest)
+  started : method ≡ of_thread (codes "start") (codes "()V") → (b : Bool)
+      → OutcomeTyped files event.thread w f (start_by b next (object_of values ops 0) w f.place.slots rest)
   started e true = tt
   started e false =
       let r = object_of values ops 0 in
@@ -201,7 +216,8 @@ module _ (files : Program) (linked : Linked files) (event : Event) (w : World) (
       carries [] (with_object w r (with_field thread_target v (object_at w r))) [] (ap (result_types files) e ∙ target_results files)
       (object_keeps files w c.fits r (object_at w r) (with_field thread_target v (object_at w r)) (at_there w.heap r o.0 o.1) (with_field_same thread_target v (object_at w r)) (with_field_typed files os thread_target v (object_at w r) typed (at_typed files os w.heap r c.fits.heap))) refl
 
-  joined : method ≡ of_thread (codes "join") (codes "()V") → (b : Bool) → OutcomeTyped files event.thread w f (join_by b next w f.place.slots rest)
+  joined : method ≡ of_thread (codes "join") (codes "()V") → (b : Bool)
+      → OutcomeTyped files event.thread w f (join_by b next w f.place.slots rest)
   joined e true = tt
   joined e false = carries [] w [] (ap (result_types files) e ∙ void_results files java_lang_thread (codes "join")) (self_keeps files w c.fits) refl
 
@@ -251,13 +267,16 @@ module _ (files : Program) (linked : Linked files) (event : Event) (w : World) (
   constructed : method.descriptor ≡ codes "()V" → Typed Construct
   constructed e = carries [] w [] (ap (λ d. result_types files (record { class = method.class; name = method.name; descriptor = d })) e ∙ void_results files method.class method.name) (self_keeps files w c.fits) refl
 
-  walk : (rows : List (Member × BuiltInMethod)) → AllByRecursion (λ (row : Member × BuiltInMethod). method ≡ row.0 → Typed row.1) rows → (list_any (is_row_of method) rows ≡ false → Typed Construct) → Typed (unwrap_or (option_map (λ (row : Member × BuiltInMethod). row.1) (find (is_row_of method) rows)) Construct)
+  walk : (rows : List (Member × BuiltInMethod)) → AllByRecursion (λ (row : Member × BuiltInMethod). method ≡ row.0 → Typed row.1) rows
+      → (list_any (is_row_of method) rows ≡ false → Typed Construct)
+      → Typed (unwrap_or (option_map (λ (row : Member × BuiltInMethod). row.1) (find (is_row_of method) rows)) Construct)
   walk [] h k = k refl
   walk (row ∷ rows) h k =
       cond_both (is_row_of method row) (Some row) (find (is_row_of method) rows) (λ o. Typed (unwrap_or (option_map (λ (r : Member × BuiltInMethod). r.1) o) Construct))
       (λ q. h.0 (sym (members_same row.0 method q))) (λ q. walk rows h.1 (λ n. k (or_from (is_row_of method row) (list_any (is_row_of method) rows) q n)))
 
-  built_in_case : OutcomeTyped files event.thread w f (built_in_does values (BuiltInMethods.built_in_method method) next event w f.place.slots ops rest)
+  built_in_case : OutcomeTyped files event.thread w
+      f (built_in_does values (BuiltInMethods.built_in_method method) next event w f.place.slots ops rest)
   built_in_case =
       walk built_in_methods on_rows
       (λ n. constructed (⊎_elim (λ q. absurd (false≢true (sym n ∙ q))) (λ q. names_same method.descriptor (codes "()V") (and_parts _ _ q).1) (or_cases (list_any (is_row_of method) built_in_methods) _ c.machine)))

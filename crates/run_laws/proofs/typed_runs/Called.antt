@@ -20,7 +20,8 @@ use Rattle.run_laws.proofs.typed_runs.Changes.{Fits, Live, OutcomeTyped}
 use Rattle.run_laws.proofs.laws.Linked.{is_of_the_machine}
 
 -- the operands, the top first, are the arguments of the method; the frame, without them, awaits its results
-pub record Called (files : Program) (event : Event) (world : World) (frame : Frame) (next : ℕ) (method : Member) (ops rest : List Value) : Type 0 where
+pub record Called (files : Program) (event : Event) (world : World) (frame : Frame) (next : ℕ) (method : Member)
+    (ops rest : List Value) : Type 0 where
   pub machine : is_of_the_machine method ≡ true
   pub fits : Fits files world
   pub live : Live world event.thread
@@ -36,4 +37,5 @@ abbrev pub BuiltInTyped : Program → Type 0
 BuiltInTyped files =
     (event : Event) (world : World) (frame : Frame) (next : ℕ) (method : Member) (ops rest : List Value)
     → Called files event world frame next method ops rest
-    → OutcomeTyped files event.thread world frame (built_in_does values (built_in_method method) next event world frame.place.slots ops rest)
+    → OutcomeTyped files event.thread world
+    frame (built_in_does values (built_in_method method) next event world frame.place.slots ops rest)

@@ -61,13 +61,16 @@ split R (w ∷ xs) x (z ∷ zs) h =
 -- ---- arguments
 
 module _ (files : Program) (os : List ReferenceType) where
-  wanted_typed : (ps : List DeclaredType) (vs : List Value) → Pairwise (value_meets files os) (map (declared_want files) ps) vs → are_typed files os (map (verification_type files) ps) vs ≡ true
+  wanted_typed : (ps : List DeclaredType) (vs : List Value) → Pairwise (value_meets files os) (map (declared_want files) ps) vs
+      → are_typed files os (map (verification_type files) ps) vs ≡ true
   wanted_typed [] [] h = refl
   wanted_typed [] (v ∷ vs) h = absurd h
   wanted_typed (p ∷ ps) [] h = absurd h
   wanted_typed (p ∷ ps) (v ∷ vs) h = and_from _ _ (declared_met files os p v h.0) (wanted_typed ps vs h.1)
 
-  parameters_typed : (method : Member) (vs : List Value) → Pairwise (value_meets files os) (reverse (map (declared_want files) (parameters_declared method.descriptor))) vs → are_typed files os (parameter_types files method) (reverse vs) ≡ true
+  parameters_typed : (method : Member) (vs : List Value)
+      → Pairwise (value_meets files os) (reverse (map (declared_want files) (parameters_declared method.descriptor))) vs
+      → are_typed files os (parameter_types files method) (reverse vs) ≡ true
   parameters_typed method vs h =
       let ws = map (declared_want files) (parameters_declared method.descriptor) in
       wanted_typed (parameters_declared method.descriptor) (reverse vs)
@@ -78,7 +81,8 @@ module _ (files : Program) (os : List ReferenceType) where
   append_nothing (x ∷ xs) = ap (λ l. x ∷ l) (append_nothing xs)
 
   -- of a static method
-  pub static_arguments : (method : Member) (ops : List Value) → Pairwise (value_meets files os) (argument_wants files method []) ops → are_typed files os (parameter_types files method) (reverse ops) ≡ true
+  pub static_arguments : (method : Member) (ops : List Value) → Pairwise (value_meets files os) (argument_wants files method []) ops
+      → are_typed files os (parameter_types files method) (reverse ops) ≡ true
   static_arguments method ops h = parameters_typed method ops (subst (λ l. Pairwise (value_meets files os) l ops) (append_nothing (reverse (map (declared_want files) (parameters_declared method.descriptor)))) h)
 
   -- of a method with a receiver
@@ -87,7 +91,9 @@ module _ (files : Program) (os : List ReferenceType) where
     pub are : reverse ops ≡ operand values ops (parameter_count method) ∷ arguments
     pub typed : are_typed files os (parameter_types files method) arguments ≡ true
 
-  pub given : (method : Member) (receiver : Want) (ops : List Value) → Pairwise (value_meets files os) (argument_wants files method (receiver ∷ [])) ops → Given method ops × (value_meets files os receiver (operand values ops (parameter_count method)) ≡ true)
+  pub given : (method : Member) (receiver : Want) (ops : List Value)
+      → Pairwise (value_meets files os) (argument_wants files method (receiver ∷ [])) ops
+      → Given method ops × (value_meets files os receiver (operand values ops (parameter_count method)) ≡ true)
   given method receiver ops h =
       let ps = parameters_declared method.descriptor in
       let ws = map (declared_want files) ps in
@@ -115,7 +121,11 @@ pub record Runnable (files : Program) (os : List ReferenceType) (method : Member
 
 module _ (files : Program) (os : List ReferenceType) where
   -- a method with a receiver that is below the class that declares it
-  pub instance_runnable : (method callee : Member) (ops : List Value) (tree : MethodTree) (r : ℕ) → callee.descriptor ≡ method.descriptor → method_of files callee ≡ Some tree → is_abstract_method tree ≡ false → is_static_of files callee ≡ false → name_eq callee.name initialiser_name ≡ false → Given files os method ops → operand values ops (parameter_count method) ≡ value.Reference r → is_value_below files os (ClassType callee.class) (value.Reference r) ≡ true → Runnable files os callee ops
+  pub instance_runnable : (method callee : Member) (ops : List Value) (tree : MethodTree) (r : ℕ) → callee.descriptor ≡ method.descriptor
+      → method_of files callee ≡ Some tree → is_abstract_method tree ≡ false → is_static_of files callee ≡ false
+      → name_eq callee.name initialiser_name ≡ false → Given files os method ops
+      → operand values ops (parameter_count method) ≡ value.Reference r
+      → is_value_below files os (ClassType callee.class) (value.Reference r) ≡ true → Runnable files os callee ops
   instance_runnable method callee ops tree r same is_method concrete static name g at below =
       let no = or_from (is_static_of files callee) (name_eq callee.name initialiser_name) static name in
       let receiver = cond_both (is_constructor callee) (UninitialisedThis callee.class) (OfType (ClassType callee.class)) (λ t. has_type files os t (value.Reference r) ≡ true) (λ q. below) (λ q. below) in
@@ -135,18 +145,22 @@ module _ (files : Program) (os : List ReferenceType) where
 
 module _ (files : Program) (linked : Linked files) where
   -- an object is below the classes from which its methods are selected
-  pub object_below_class : (o : ObjectOf Value) (d : Name) → is_subclass files (class_of_object o) d ≡ true → is_assignable files (type_of o) (ClassType d) ≡ true
+  pub object_below_class : (o : ObjectOf Value) (d : Name) → is_subclass files (class_of_object o) d ≡ true
+      → is_assignable files (type_of o) (ClassType d) ≡ true
   object_below_class (Instance class fields) d e = e
   object_below_class (Primitives of elements) d e = subst (λ n. name_eq n java_lang_object ≡ true) (above_object files d e) (name_self java_lang_object)
   object_below_class (References of elements) d e = subst (λ n. name_eq n java_lang_object ≡ true) (above_object files d e) (name_self java_lang_object)
 
   -- what is of a class, as the verifier makes it, is of the classes above it
-  pub named_below : (current named above : Name) → is_subclass files current named ≡ true → is_interface files named ≡ false → is_subclass files named above ≡ true → is_assignable files (made_type files (ClassType current)) (ClassType above) ≡ true
+  pub named_below : (current named above : Name) → is_subclass files current named ≡ true → is_interface files named ≡ false
+      → is_subclass files named above ≡ true → is_assignable files (made_type files (ClassType current)) (ClassType above) ≡ true
   named_below current named above up class more =
       subclass_trans files linked.rooted _ named above
       (subst (λ b. is_subclass files (if is_interface files current then java_lang_object else current) (if b then java_lang_object else named) ≡ true) class (made_monotone files linked (ClassType current) (ClassType named) up)) more
 
-  super_below : (current named above : Name) (o : Option Name) → superclass_of files current ≡ o → is_subclass files current named ≡ true → is_interface files named ≡ false → is_subclass files (unwrap_or o named) above ≡ true → is_assignable files (made_type files (ClassType current)) (ClassType above) ≡ true
+  super_below : (current named above : Name) (o : Option Name) → superclass_of files current ≡ o → is_subclass files current named ≡ true
+      → is_interface files named ≡ false → is_subclass files (unwrap_or o named) above ≡ true
+      → is_assignable files (made_type files (ClassType current)) (ClassType above) ≡ true
   super_below current named above None e up class more = named_below current named above up class more
   super_below current named above (Some s) e up class more =
       cond_both (is_interface files current) java_lang_object current (λ n. is_subclass files n above ≡ true)
@@ -157,7 +171,9 @@ module _ (files : Program) (linked : Linked files) where
       same_super i = same_Some s java_lang_object (sym e ∙ linked.interface_super current i)
 
   -- the receiver of invokespecial is below what its selection finds
-  pub special_below : (current named above : Name) → is_subclass files current named ≡ true → is_interface files named ≡ false → is_subclass files (special_class files current named) above ≡ true → is_assignable files (made_type files (ClassType current)) (ClassType above) ≡ true
+  pub special_below : (current named above : Name) → is_subclass files current named ≡ true → is_interface files named ≡ false
+      → is_subclass files (special_class files current named) above ≡ true
+      → is_assignable files (made_type files (ClassType current)) (ClassType above) ≡ true
   special_below current named above up class more =
       cond_both (not (name_eq current named) && is_subclass files current named) (unwrap_or (superclass_of files current) named) named (λ n. is_subclass files n above ≡ true → is_assignable files (made_type files (ClassType current)) (ClassType above) ≡ true)
       (λ q m. super_below current named above (superclass_of files current) refl up class m)
@@ -174,11 +190,13 @@ module _ (files : Program) (m : Member) where
   declared_same : (test : MethodTree → Bool) (class : Name) (x : Member) → method_in_class files test m class ≡ Some x → x.name ≡ m.name
   declared_same test class x e = sym (ap (λ (y : Member). y.name) (where_same (option_map_or test (method_of files (in_class class m)) false) (in_class class m) x e))
 
-  either_same : (a b : Option Member) (x : Member) → ((y : Member) → a ≡ Some y → y.name ≡ m.name) → ((y : Member) → b ≡ Some y → y.name ≡ m.name) → option_or a b ≡ Some x → x.name ≡ m.name
+  either_same : (a b : Option Member) (x : Member) → ((y : Member) → a ≡ Some y → y.name ≡ m.name)
+      → ((y : Member) → b ≡ Some y → y.name ≡ m.name) → option_or a b ≡ Some x → x.name ≡ m.name
   either_same None b x p q e = q x e
   either_same (Some y) b x p q e = p x e
 
-  first_same : (test : MethodTree → Bool) (classes : List Name) (x : Member) → first_found (method_in_class files test m) classes ≡ Some x → x.name ≡ m.name
+  first_same : (test : MethodTree → Bool) (classes : List Name) (x : Member) → first_found (method_in_class files test m) classes ≡ Some x
+      → x.name ≡ m.name
   first_same test [] x e = absurd cc
   first_same test (c ∷ cs) x e = either_same (method_in_class files test m c) (first_found (method_in_class files test m) cs) x (declared_same test c) (first_same test cs) e
 

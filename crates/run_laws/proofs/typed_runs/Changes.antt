@@ -31,7 +31,8 @@ pub record Fits (files : Program) (world : World) : Type 0 where
 -- an event of another thread leaves a status as it is, or wakes a thread that waits
 pub data Moved (before after : ThreadStatus) : Type 0 where
   Same : (is : after ≡ before) → Moved before after
-  Wakes : (object count again : ℕ) (cause : WakeCause) (was : before ≡ Waiting object count) (is : after ≡ Relock object again cause) → Moved before after
+  Wakes : (object count again : ℕ) (cause : WakeCause) (was : before ≡ Waiting object count) (is : after ≡ Relock object again cause)
+      → Moved before after
 
 -- what an event of another thread keeps of a thread
 pub record Kept (before after : Thread) : Type 0 where

@@ -32,15 +32,19 @@ module _ (files : Program) (t : ℕ) (before : World) where
   pub unpicked_typed : (event : Event) (x : SteppedOf (PartOf Value)) → OnPart files t before x → OnPart files t before (unpicked event x)
   unpicked_typed event x h = enabled_typed (event.pick == 0) x h
 
-module _ (files : Program) (rooted : Rooted files) (t : ℕ) (before : World) (first : Thread) (was : slice_get before.threads t ≡ Some first) where
+module _ (files : Program) (rooted : Rooted files) (t : ℕ) (before : World) (first : Thread)
+    (was : slice_get before.threads t ≡ Some first) where
   -- a running thread without a pending exception goes on with a stack
-  pub going_typed : (world : World) (thread : Thread) (stack : StackOf Value) → At files t before world thread → thread.status ≡ Running → thread.pending ≡ None → Beneath files (types_of world.heap) Instruction stack → PartTyped files t before (part world stack)
+  pub going_typed : (world : World) (thread : Thread) (stack : StackOf Value) → At files t before world thread → thread.status ≡ Running
+      → thread.pending ≡ None → Beneath files (types_of world.heap) Instruction stack → PartTyped files t before (part world stack)
   going_typed world thread stack at runs none h =
       on_typed files t before first was world thread stack at runs (subst (λ p. IsRunning files (types_of world.heap) p stack) (sym none) h)
 
   -- ---- calls
 
-  entering_typed : (world : World) (thread : Thread) (rest : StackOf Value) (frame : Frame) (o : Option ℕ) → At files t before world thread → thread.status ≡ Running → thread.pending ≡ None → Beneath files (types_of world.heap) Instruction (Invocation frame ∷ rest) → OnPart files t before (entering t world rest frame o)
+  entering_typed : (world : World) (thread : Thread) (rest : StackOf Value) (frame : Frame) (o : Option ℕ) → At files t before world thread
+      → thread.status ≡ Running → thread.pending ≡ None → Beneath files (types_of world.heap) Instruction (Invocation frame ∷ rest)
+      → OnPart files t before (entering t world rest frame o)
   entering_typed world thread rest frame None at runs none h = going_typed world thread (Invocation frame ∷ rest) at runs none h
   entering_typed world thread rest frame (Some object) at runs none h =
       let x = entry_keeps files world at.changes.fits t object in
@@ -48,7 +52,10 @@ module _ (files : Program) (rooted : Rooted files) (t : ℕ) (before : World) (f
       (going_typed (with_entry world t object) thread (Invocation frame ∷ rest) (at_same files t before first was world (with_entry world t object) thread at x refl) runs none h)
 
   -- a frame on a stack, or an exception over another stack, from the world where it is made
-  pub pushed_typed : (frames : ℕ) (world after : World) (thread new : Thread) (stack rest : StackOf Value) (frame : Frame) → At files t before world thread → thread.status ≡ Running → At files t before after new → new.status ≡ Running → new.pending ≡ None → Failing files (types_of world.heap) stack → Beneath files (types_of after.heap) Instruction (Invocation frame ∷ rest) → OnPart files t before (pushed frames t world after stack rest frame)
+  pub pushed_typed : (frames : ℕ) (world after : World) (thread new : Thread) (stack rest : StackOf Value) (frame : Frame)
+      → At files t before world thread → thread.status ≡ Running → At files t before after new → new.status ≡ Running → new.pending ≡ None
+      → Failing files (types_of world.heap) stack → Beneath files (types_of after.heap) Instruction (Invocation frame ∷ rest)
+      → OnPart files t before (pushed frames t world after stack rest frame)
   pushed_typed frames world after thread new stack rest frame at runs later runs_later none failing h =
       cond_both (nat_lt (frame_count stack) frames) _ _ (OnPart files t before)
       (λ q. entering_typed after new rest frame frame.entered later runs_later none h)
@@ -56,7 +63,9 @@ module _ (files : Program) (rooted : Rooted files) (t : ℕ) (before : World) (f
 
   -- ---- the end of an invocation
 
-  pub leaving_typed : (o : Option ℕ) (world : World) (thread : Thread) (rest stack : StackOf Value) → At files t before world thread → thread.status ≡ Running → IsRunning files (types_of world.heap) thread.pending rest → Failing files (types_of world.heap) stack → OnPart files t before (leaving t o world rest stack)
+  pub leaving_typed : (o : Option ℕ) (world : World) (thread : Thread) (rest stack : StackOf Value) → At files t before world thread
+      → thread.status ≡ Running → IsRunning files (types_of world.heap) thread.pending rest → Failing files (types_of world.heap) stack
+      → OnPart files t before (leaving t o world rest stack)
   leaving_typed None world thread rest stack at runs h failing = on_typed files t before first was world thread rest at runs h
   leaving_typed (Some object) world thread rest stack at runs h failing =
       let x = exit_keeps files world at.changes.fits t object in
@@ -67,7 +76,10 @@ module _ (files : Program) (rooted : Rooted files) (t : ℕ) (before : World) (f
   -- ---- a class that is needed
 
   module _ (begun_keeps : BegunKeeps files) where
-    needing_typed : (class : Name) (look : Look) (world : World) (thread : Thread) (stack : StackOf Value) (rest : SteppedOf (PartOf Value)) → At files t before world thread → thread.status ≡ Running → thread.pending ≡ None → Beneath files (types_of world.heap) Instruction stack → OnPart files t before rest → OnPart files t before (needing values files t class look world stack rest)
+    needing_typed : (class : Name) (look : Look) (world : World) (thread : Thread) (stack : StackOf Value)
+        (rest : SteppedOf (PartOf Value)) → At files t before world thread → thread.status ≡ Running → thread.pending ≡ None
+        → Beneath files (types_of world.heap) Instruction stack → OnPart files t before rest
+        → OnPart files t before (needing values files t class look world stack rest)
     needing_typed class IsReady world thread stack rest at runs none h r = r
     needing_typed class IsNew world thread stack rest at runs none h r =
         let after = with_class_begun values files t class world in
@@ -78,7 +90,10 @@ module _ (files : Program) (rooted : Rooted files) (t : ℕ) (before : World) (f
     needing_typed class HasFailed world thread stack rest at runs none h r =
         raised_typed files t before first was rooted NoClassDefFound world thread stack at runs (failing_from files _ Instruction stack h)
 
-    pub needing_class_typed : (class : Option Name) (world : World) (thread : Thread) (stack : StackOf Value) (rest : SteppedOf (PartOf Value)) → At files t before world thread → thread.status ≡ Running → thread.pending ≡ None → Beneath files (types_of world.heap) Instruction stack → OnPart files t before rest → OnPart files t before (needing_class values files t class world stack rest)
+    pub needing_class_typed : (class : Option Name) (world : World) (thread : Thread) (stack : StackOf Value)
+        (rest : SteppedOf (PartOf Value)) → At files t before world thread → thread.status ≡ Running → thread.pending ≡ None
+        → Beneath files (types_of world.heap) Instruction stack → OnPart files t before rest
+        → OnPart files t before (needing_class values files t class world stack rest)
     needing_class_typed None world thread stack rest at runs none h r = r
     needing_class_typed (Some class) world thread stack rest at runs none h r =
         needing_typed class (look_by t (status_of world class)) world thread stack rest at runs none h r

@@ -32,7 +32,8 @@ InstructionsTyped files =
     → meaning_of values files site ≡ Some meaning
     → Allows files frame here.ready.stopped.stands site meaning
     → meaning.may event world (ops_of values meaning frame.place.slots) ≡ true
-    → OutcomeTyped files event.thread world frame (meaning.does event world frame.place.slots (ops_of values meaning frame.place.slots) (under meaning.wants frame.place.slots))
+    → OutcomeTyped files event.thread world
+    frame (meaning.does event world frame.place.slots (ops_of values meaning frame.place.slots) (under meaning.wants frame.place.slots))
 
 -- the instruction where a frame stands, and what its typing says
 pub record Flow (files : Program) (frame : Frame) (stands : Stands files frame) : Type 0 where
@@ -41,7 +42,8 @@ pub record Flow (files : Program) (frame : Frame) (stands : Stands files frame) 
   pub meaning : MeaningOf Value
   pub is_meaning : meaning_of values files (site_with frame.method stands.body frame.place.offset sized) ≡ Some meaning
   pub allows : Allows files frame stands (site_with frame.method stands.body frame.place.offset sized) meaning
-  pub handled : AllByRecursion (λ lead. Reaches files stands.typing lead.0 lead.1) (handlers_from files stands.body.pool frame.place.offset stands.type stands.body.code.exceptions)
+  pub handled : AllByRecursion (λ lead. Reaches files stands.typing lead.0 lead.1)
+      (handlers_from files stands.body.pool frame.place.offset stands.type stands.body.code.exceptions)
 
 -- a branch that was taken
 taken : (b : Bool) (xs leads : List (ℕ × FrameType)) → (if b then Some xs else None) ≡ Some leads → (b ≡ true) × (xs ≡ leads)
@@ -53,7 +55,11 @@ every_parts P [] ys h = (tt, h)
 every_parts P (x ∷ xs) ys h = let q = every_parts P xs ys h.1 in ((h.0, q.0), q.1)
 
 module _ (files : Program) (frame : Frame) (stands : Stands files frame) where
-  flow_meaning : (sized : Sized) (leads : List (ℕ × FrameType)) (o : Option (MeaningOf Value)) → sized_at stands.body.code.code frame.place.offset ≡ Some sized → meaning_of values files (site_with frame.method stands.body frame.place.offset sized) ≡ o → flow_by files (site_with frame.method stands.body frame.place.offset sized) stands.type o ≡ Some leads → AllByRecursion (λ lead. Reaches files stands.typing lead.0 lead.1) leads → Flow files frame stands
+  flow_meaning : (sized : Sized) (leads : List (ℕ × FrameType)) (o : Option (MeaningOf Value))
+      → sized_at stands.body.code.code frame.place.offset ≡ Some sized
+      → meaning_of values files (site_with frame.method stands.body frame.place.offset sized) ≡ o
+      → flow_by files (site_with frame.method stands.body frame.place.offset sized) stands.type o ≡ Some leads
+      → AllByRecursion (λ lead. Reaches files stands.typing lead.0 lead.1) leads → Flow files frame stands
   flow_meaning sized leads None e m h reached = absurd cc
   flow_meaning sized leads (Some meaning) e m h reached =
       let site = site_with frame.method stands.body frame.place.offset sized in
@@ -68,7 +74,9 @@ module _ (files : Program) (frame : Frame) (stands : Stands files frame) where
         handled = parts.1;
       }
 
-  flow_sized : (leads : List (ℕ × FrameType)) (o : Option Sized) → sized_at stands.body.code.code frame.place.offset ≡ o → flow_at files stands.type (option_map (site_with frame.method stands.body frame.place.offset) o) ≡ Some leads → AllByRecursion (λ lead. Reaches files stands.typing lead.0 lead.1) leads → Flow files frame stands
+  flow_sized : (leads : List (ℕ × FrameType)) (o : Option Sized) → sized_at stands.body.code.code frame.place.offset ≡ o
+      → flow_at files stands.type (option_map (site_with frame.method stands.body frame.place.offset) o) ≡ Some leads
+      → AllByRecursion (λ lead. Reaches files stands.typing lead.0 lead.1) leads → Flow files frame stands
   flow_sized leads None e h reached = absurd cc
   flow_sized leads (Some sized) e h reached =
       flow_meaning sized leads (meaning_of values files (site_with frame.method stands.body frame.place.offset sized)) e refl h reached
@@ -79,14 +87,19 @@ module _ (files : Program) (frame : Frame) (stands : Stands files frame) where
       flow_sized rule.leads (sized_at stands.body.code.code frame.place.offset) refl rule.flows rule.reached
 
   -- the offset after it
-  pub next_is : (sized : Sized) → sized_at stands.body.code.code frame.place.offset ≡ Some sized → frame.place.offset + sized.1 ≡ next_of files frame
+  pub next_is : (sized : Sized) → sized_at stands.body.code.code frame.place.offset ≡ Some sized
+      → frame.place.offset + sized.1 ≡ next_of files frame
   next_is sized e =
       let length = ap (λ (o : Option Sized). unwrap_or (option_map (λ (s : Sized). s.1) o) 0) e in
       let whole = ap (λ (o : Option Body). unwrap_or (option_and_then (λ (body : Body). length_at body.code.code frame.place.offset) o) 0) stands.is_body in
       ap (λ n. frame.place.offset + n) (sym (whole ∙ length))
 
 -- a frame that is ready is at its instruction
-abbrev pub here_of : (files : Program) → Linked files → typing.AreTyped files → (t : ℕ) (world : World) (frame : Frame) → Fits files world → Live world t → is_object_in files (types_of world.heap) java_lang_thread (thread_at world t).object ≡ true → (ready : Ready files (types_of world.heap) frame) → (sized : Sized) → sized_at ready.stopped.stands.body.code.code frame.place.offset ≡ Some sized → Here files t world frame (site_with frame.method ready.stopped.stands.body frame.place.offset sized)
+abbrev pub here_of : (files : Program) → Linked files → typing.AreTyped files → (t : ℕ) (world : World) (frame : Frame) → Fits files world
+    → Live world t → is_object_in files (types_of world.heap) java_lang_thread (thread_at world t).object ≡ true
+    → (ready : Ready files (types_of world.heap) frame) → (sized : Sized)
+    → sized_at ready.stopped.stands.body.code.code frame.place.offset ≡ Some sized
+    → Here files t world frame (site_with frame.method ready.stopped.stands.body frame.place.offset sized)
 here_of files linked accepted t world frame fits live self ready sized e =
     let stands = ready.stopped.stands in
     record {

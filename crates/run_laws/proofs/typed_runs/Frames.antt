@@ -18,18 +18,21 @@ use Rattle.run_laws.proofs.laws.Order.{local_above, stack_above}
 
 module _ (files : Program) (rooted : Rooted files) (os : List ReferenceType) where
   -- values of some types are of the types above them
-  locals_above : (ss ts : List VerificationType) (vs : List Value) → pairwise (is_local_below files) ss ts ≡ true → are_typed files os ss vs ≡ true → are_typed files os ts vs ≡ true
+  locals_above : (ss ts : List VerificationType) (vs : List Value) → pairwise (is_local_below files) ss ts ≡ true
+      → are_typed files os ss vs ≡ true → are_typed files os ts vs ≡ true
   locals_above ss ts vs b h =
       of_pairs (has_type files os) ts vs
       (pair_through (is_local_below files) (has_type files os) (has_type files os) ss ts vs (λ s t v p q. local_above files rooted os s t v p q) (pairs_of _ ss ts b) (pairs_of _ ss vs h))
 
-  stack_types_above : (ss ts : List VerificationType) (vs : List Value) → pairwise (is_stack_below files) ss ts ≡ true → are_typed files os ss vs ≡ true → are_typed files os ts vs ≡ true
+  stack_types_above : (ss ts : List VerificationType) (vs : List Value) → pairwise (is_stack_below files) ss ts ≡ true
+      → are_typed files os ss vs ≡ true → are_typed files os ts vs ≡ true
   stack_types_above ss ts vs b h =
       of_pairs (has_type files os) ts vs
       (pair_through (is_stack_below files) (has_type files os) (has_type files os) ss ts vs (λ s t v p q. stack_above files rooted os s t v p q) (pairs_of _ ss ts b) (pairs_of _ ss vs h))
 
   -- a frame that goes on at an offset which its typing reaches
-  pub arrive : (f : Frame) (stands : Stands files f) (to : ℕ) (t : FrameType) (vs : Slots Value) → Reaches files stands.typing to t → AreTyped files os t.slots vs → Ready files os (at_offset f to vs)
+  pub arrive : (f : Frame) (stands : Stands files f) (to : ℕ) (t : FrameType) (vs : Slots Value) → Reaches files stands.typing to t
+      → AreTyped files os t.slots vs → Ready files os (at_offset f to vs)
   arrive f stands to t vs r h =
       let above = and_parts _ _ r.above in
       let stack = and_parts _ _ above.1 in
@@ -41,12 +44,15 @@ module _ (files : Program) (rooted : Rooted files) (os : List ReferenceType) whe
         stack = stack_types_above t.slots.stack r.there.slots.stack vs.stack stack.0 h.stack;
       }
 
-  pub are_appended : (ss ts : List VerificationType) (us vs : List Value) → are_typed files os ss us ≡ true → are_typed files os ts vs ≡ true → are_typed files os (ss ++ ts) (us ++ vs) ≡ true
+  pub are_appended : (ss ts : List VerificationType) (us vs : List Value) → are_typed files os ss us ≡ true
+      → are_typed files os ts vs ≡ true → are_typed files os (ss ++ ts) (us ++ vs) ≡ true
   are_appended ss ts us vs h g =
       of_pairs (has_type files os) (ss ++ ts) (us ++ vs) (pair_append (has_type files os) ss us ts vs (pairs_of _ ss us h) (pairs_of _ ts vs g))
 
   -- with its results a frame that waits at a call is ready
-  pub resumed : (types : List VerificationType) (f : Frame) (vs : List Value) → Awaits files os types f → are_typed files os types vs ≡ true → Ready files os (at_offset f (next_of files f) (record { locals = f.place.slots.locals; stack = vs ++ f.place.slots.stack }))
+  pub resumed : (types : List VerificationType) (f : Frame) (vs : List Value) → Awaits files os types f
+      → are_typed files os types vs ≡ true → Ready files
+      os (at_offset f (next_of files f) (record { locals = f.place.slots.locals; stack = vs ++ f.place.slots.stack }))
   resumed types f vs h g =
       arrive f h.stopped.stands (next_of files f) h.after (record { locals = f.place.slots.locals; stack = vs ++ f.place.slots.stack }) h.goes_on
       (record {
@@ -55,7 +61,8 @@ module _ (files : Program) (rooted : Rooted files) (os : List ReferenceType) whe
       })
 
   -- results go to the frame on top
-  pub returned_typed : (types : List VerificationType) (stack : StackOf Value) (vs : List Value) → Beneath files os (Results types) stack → are_typed files os types vs ≡ true → Beneath files os Instruction (returned files vs stack)
+  pub returned_typed : (types : List VerificationType) (stack : StackOf Value) (vs : List Value) → Beneath files os (Results types) stack
+      → are_typed files os types vs ≡ true → Beneath files os Instruction (returned files vs stack)
   returned_typed types [] vs h g = tt
   returned_typed types (Invocation f ∷ stack) vs h g = (resumed types f vs h.0 g, h.1)
   returned_typed types (Initialisation class phase ∷ stack) vs h g = h

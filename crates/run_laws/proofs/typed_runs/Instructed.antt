@@ -39,12 +39,14 @@ coded_pool : (pool : List Entry) (o : Option CodeTree) (body : Body) → option_
 coded_pool pool None body e = absurd cc
 coded_pool pool (Some code) body e = sym (ap (λ (b : Body). b.pool) (same_Some (with_pool pool code) body e))
 
-file_of : (files : Program) (method : Member) (body : Body) (o : Option FileTree) → class_of files method.class ≡ o → option_and_then (body_in method.name method.descriptor) o ≡ Some body → FileOf files method body
+file_of : (files : Program) (method : Member) (body : Body) (o : Option FileTree) → class_of files method.class ≡ o
+    → option_and_then (body_in method.name method.descriptor) o ≡ Some body → FileOf files method body
 file_of files method body None q e = absurd cc
 file_of files method body (Some file) q e =
     record { file = file; is = q; pool = coded_pool file.pool (option_and_then (λ (m : MethodTree). code_in m.parts) (declared_in file method.name method.descriptor)) body e }
 
-module _ (files : Program) (built_ins : BuiltInTyped files) (event : Event) (w : World) (f : Frame) (site : Site) (h : Here files event.thread w f site) where
+module _ (files : Program) (built_ins : BuiltInTyped files) (event : Event) (w : World) (f : Frame) (site : Site)
+    (h : Here files event.thread w f site) where
   -- an instruction that the event may do brings about what its typing says
   abbrev Done : MeaningOf Value → Type 0
   Done m = Allows files f h.ready.stopped.stands site m → m.may event w (ops_of values m f.place.slots) ≡ true → Does files event w f m

@@ -41,16 +41,19 @@ abbrev pub Does : Program → Event → World → Frame → MeaningOf Value → 
 Does files event w f m = OutcomeTyped files event.thread w f (m.does event w f.place.slots (ops_of values m f.place.slots) (under m.wants f.place.slots))
 
 -- what is wanted as a declared type is of it
-pub declared_met : (files : Program) (os : List ReferenceType) (d : DeclaredType) (v : Value) → value_meets files os (declared_want files d) v ≡ true → has_type files os (verification_type files d) v ≡ true
+pub declared_met : (files : Program) (os : List ReferenceType) (d : DeclaredType) (v : Value)
+    → value_meets files os (declared_want files d) v ≡ true → has_type files os (verification_type files d) v ≡ true
 declared_met files os DeclaredInt v h = h
 declared_met files os (DeclaredReference type) v h = h
 
-fields_typed : (files : Program) (os : List ReferenceType) (o : ObjectOf Value) → is_object_typed files os o ≡ true → list_all (is_field_typed files os) (fields_of o) ≡ true
+fields_typed : (files : Program) (os : List ReferenceType) (o : ObjectOf Value) → is_object_typed files os o ≡ true
+    → list_all (is_field_typed files os) (fields_of o) ≡ true
 fields_typed files os (Instance class fields) h = h
 fields_typed files os (Primitives of elements) h = refl
 fields_typed files os (References of elements) h = refl
 
-pub with_field_typed : (files : Program) (os : List ReferenceType) (field : Member) (v : Value) (o : ObjectOf Value) → is_field_typed files os (field, v) ≡ true → is_object_typed files os o ≡ true → is_object_typed files os (with_field field v o) ≡ true
+pub with_field_typed : (files : Program) (os : List ReferenceType) (field : Member) (v : Value) (o : ObjectOf Value)
+    → is_field_typed files os (field, v) ≡ true → is_object_typed files os o ≡ true → is_object_typed files os (with_field field v o) ≡ true
 with_field_typed files os field v (Instance class fields) q h = with_value_typed files os field v fields q h
 with_field_typed files os field v (Primitives of elements) q h = h
 with_field_typed files os field v (References of elements) q h = h
@@ -61,13 +64,17 @@ with_field_same field v (Primitives of elements) = refl
 with_field_same field v (References of elements) = refl
 
 -- the object of a reference is as its type says
-pub at_typed : (files : Program) (os : List ReferenceType) (heap : List (ObjectOf Value)) (r : ℕ) → list_all (is_object_typed files os) heap ≡ true → is_object_typed files os (slice_index_or heap r no_object) ≡ true
+pub at_typed : (files : Program) (os : List ReferenceType) (heap : List (ObjectOf Value)) (r : ℕ)
+    → list_all (is_object_typed files os) heap ≡ true → is_object_typed files os (slice_index_or heap r no_object) ≡ true
 at_typed files os heap r h = all_index (is_object_typed files os) heap r no_object h refl
 
-pub at_there : (heap : List (ObjectOf Value)) (r : ℕ) (o : ObjectOf Value) → slice_get heap r ≡ Some o → slice_get heap r ≡ Some (slice_index_or heap r no_object)
+pub at_there : (heap : List (ObjectOf Value)) (r : ℕ) (o : ObjectOf Value) → slice_get heap r ≡ Some o
+    → slice_get heap r ≡ Some (slice_index_or heap r no_object)
 at_there heap r o e = e ∙ ap (λ x. Some x) (sym (get_or_from_slice_get heap r o no_object e))
 
-owned_below : (files : Program) (os : List ReferenceType) (b : Bool) (named : Name) (v : Value) → value_meets files os (if b then AnOwner named else of_class files named) v ≡ true → (type : ReferenceType) × (is_value_below files os type v ≡ true)
+owned_below : (files : Program) (os : List ReferenceType) (b : Bool) (named : Name) (v : Value)
+    → value_meets files os (if b then AnOwner named else of_class files named) v ≡ true
+    → (type : ReferenceType) × (is_value_below files os type v ≡ true)
 owned_below files os true named v h = (ClassType named, h)
 owned_below files os false named v h = (made_type files (ClassType named), h)
 
@@ -77,7 +84,11 @@ module _ (files : Program) (event : Event) (w : World) (f : Frame) (site : Site)
 
   -- ---- local instructions
 
-  row_on : (row : Row) (constructed : Bool) (b : Bool) → AllByRecursion (λ (to : ℕ). Reaches files h.ready.stopped.stands.typing to (record { slots = after_row over_types row h.ready.stopped.stands.type.slots; constructed = constructed })) (row.to ∷ row.others) → OutcomeTyped files event.thread w f (if b then Raises Arithmetic else Goes Free w (after_row over_values row f.place.slots) (row_target row (values.words (operands over_values (row_wants row) f.place.slots))))
+  row_on : (row : Row) (constructed : Bool) (b : Bool)
+      → AllByRecursion (λ (to : ℕ). Reaches files h.ready.stopped.stands.typing
+      to (record { slots = after_row over_types row h.ready.stopped.stands.type.slots; constructed = constructed })) (row.to ∷ row.others)
+      → OutcomeTyped files event.thread w f (if b then Raises Arithmetic else Goes Free
+      w (after_row over_values row f.place.slots) (row_target row (values.words (operands over_values (row_wants row) f.place.slots))))
   row_on row constructed true on = tt
   row_on row constructed false on =
       let to = row_target row (values.words (operands over_values (row_wants row) f.place.slots)) in
@@ -87,7 +98,8 @@ module _ (files : Program) (event : Event) (w : World) (f : Frame) (site : Site)
       (every_get _ row.to row.others (row.choose (values.words (operands over_values (row_wants row) f.place.slots))) on)
       (of_slots files (types_of w.heap) _ _ (after_row_both files h.linked.rooted (types_of w.heap) row ts f.place.slots (slots_here files event.thread w f site h))))
 
-  pub row_typed : (row : Row) → Allows files f h.ready.stopped.stands site (local_meaning values row) → Does files event w f (local_meaning values row)
+  pub row_typed : (row : Row) → Allows files f h.ready.stopped.stands site (local_meaning values row)
+      → Does files event w f (local_meaning values row)
   row_typed row a =
       let mark = h.ready.stopped.stands.type.constructed || constructs_this site (operands over_types (row_wants row) h.ready.stopped.stands.type.slots) site.instr in
       let after = after_row over_types row h.ready.stopped.stands.type.slots in
@@ -97,12 +109,14 @@ module _ (files : Program) (event : Event) (w : World) (f : Frame) (site : Site)
 
   -- ---- static fields
 
-  pub get_static_typed : (field : Member) → Allows files f h.ready.stopped.stands site (get_static_of values files site.next field) → Does files event w f (get_static_of values files site.next field)
+  pub get_static_typed : (field : Member) → Allows files f h.ready.stopped.stands site (get_static_of values files site.next field)
+      → Does files event w f (get_static_of values files site.next field)
   get_static_typed field a =
       pushes files event.thread w f site h _ a (verification_type files (field_declared field.descriptor) ∷ []) _ a.leads.0 Free w (value_in (first_of values field) field w.statics ∷ []) same
       (and_from _ _ (value_in_typed files (types_of w.heap) field w.statics h.fits.statics) refl)
 
-  pub put_static_typed : (field : Member) → Allows files f h.ready.stopped.stands site (put_static_of values files site.next field) → Does files event w f (put_static_of values files site.next field)
+  pub put_static_typed : (field : Member) → Allows files f h.ready.stopped.stands site (put_static_of values files site.next field)
+      → Does files event w f (put_static_of values files site.next field)
   put_static_typed field a =
       let v = operand values (ops_of values (put_static_of values files site.next field) f.place.slots) 0 in
       pushes files event.thread w f site h _ a [] _ a.leads.0 Free (with_static w field (put_value values field v)) []
@@ -112,7 +126,9 @@ module _ (files : Program) (event : Event) (w : World) (f : Frame) (site : Site)
 
   -- ---- fields of objects
 
-  pub get_field_typed : (named : Name) (field : Member) → Allows files f h.ready.stopped.stands site (get_field_of values files site.next named field) → Does files event w f (get_field_of values files site.next named field)
+  pub get_field_typed : (named : Name) (field : Member)
+      → Allows files f h.ready.stopped.stands site (get_field_of values files site.next named field)
+      → Does files event w f (get_field_of values files site.next named field)
   get_field_typed named field a =
       not_null_typed files event.thread w f site h (made_type files (ClassType named)) (operand values (ops_of values (get_field_of values files site.next named field) f.place.slots) 0)
       (λ r. pushing site.next (value_in (first_of values field) field (fields_of (object_at w r)) ∷ []) w f.place.slots (under (get_field_of values files site.next named field).wants f.place.slots))
@@ -121,7 +137,9 @@ module _ (files : Program) (event : Event) (w : World) (f : Frame) (site : Site)
       pushes files event.thread w f site h _ a (verification_type files (field_declared field.descriptor) ∷ []) _ a.leads.0 Free w (value_in (first_of values field) field (fields_of (object_at w r)) ∷ []) same
       (and_from _ _ (value_in_typed files (types_of w.heap) field (fields_of (object_at w r)) (fields_typed files (types_of w.heap) (object_at w r) (at_typed files (types_of w.heap) w.heap r h.fits.heap))) refl))
 
-  pub put_field_typed : (named : Name) (field : Member) → Allows files f h.ready.stopped.stands site (put_field_of values files site.next named field) → Does files event w f (put_field_of values files site.next named field)
+  pub put_field_typed : (named : Name) (field : Member)
+      → Allows files f h.ready.stopped.stands site (put_field_of values files site.next named field)
+      → Does files event w f (put_field_of values files site.next named field)
   put_field_typed named field a =
       let os = types_of w.heap in
       let ops = ops_of values (put_field_of values files site.next named field) f.place.slots in
@@ -138,7 +156,8 @@ module _ (files : Program) (event : Event) (w : World) (f : Frame) (site : Site)
 
   -- ---- println, athrow, monitors
 
-  pub println_typed : Allows files f h.ready.stopped.stands site (println_meaning values site.next) → Does files event w f (println_meaning values site.next)
+  pub println_typed : Allows files f h.ready.stopped.stands site (println_meaning values site.next)
+      → Does files event w f (println_meaning values site.next)
   println_typed a =
       let bits = int_operand values (ops_of values (println_meaning values site.next) f.place.slots) 0 in
       not_null_typed files event.thread w f site h (ClassType java_io_print_stream) (operand values (ops_of values (println_meaning values site.next) f.place.slots) 1)
@@ -152,18 +171,22 @@ module _ (files : Program) (event : Event) (w : World) (f : Frame) (site : Site)
       let m = met files event.thread w f site h _ a 0 in
       not_null_typed files event.thread w f site h (ClassType java_lang_throwable) v (λ r. Throws r) m (λ r o q e b. subst (λ x. is_value_below files (types_of w.heap) (ClassType java_lang_throwable) x ≡ true) q m)
 
-  pub monitor_enter_typed : Allows files f h.ready.stopped.stands site (monitor_enter_meaning values site) → Does files event w f (monitor_enter_meaning values site)
+  pub monitor_enter_typed : Allows files f h.ready.stopped.stands site (monitor_enter_meaning values site)
+      → Does files event w f (monitor_enter_meaning values site)
   monitor_enter_typed a =
       not_null_typed files event.thread w f site h any_object (operand values (ops_of values (monitor_enter_meaning values site) f.place.slots) 0)
       (λ r. pushing_at (entry_cost w r) site.next [] (with_entry w event.thread r) f.place.slots (under (monitor_enter_meaning values site).wants f.place.slots))
       (met files event.thread w f site h _ a 0)
       (λ r o q e b. pushes files event.thread w f site h _ a [] _ a.leads.0 (entry_cost w r) (with_entry w event.thread r) [] (entry_keeps files w h.fits event.thread r) refl)
 
-  left_typed : (a : Allows files f h.ready.stopped.stands site (monitor_exit_meaning values site)) (r : ℕ) (b : Bool) → OutcomeTyped files event.thread w f (left b site.next event.thread r w f.place.slots (under (monitor_exit_meaning values site).wants f.place.slots))
+  left_typed : (a : Allows files f h.ready.stopped.stands site (monitor_exit_meaning values site)) (r : ℕ) (b : Bool)
+      → OutcomeTyped files event.thread w f (left b site.next event.thread r w
+      f.place.slots (under (monitor_exit_meaning values site).wants f.place.slots))
   left_typed a r true = pushes files event.thread w f site h _ a [] _ a.leads.0 Free (with_exit w event.thread r) [] (exit_keeps files w h.fits event.thread r) refl
   left_typed a r false = tt
 
-  pub monitor_exit_typed : Allows files f h.ready.stopped.stands site (monitor_exit_meaning values site) → Does files event w f (monitor_exit_meaning values site)
+  pub monitor_exit_typed : Allows files f h.ready.stopped.stands site (monitor_exit_meaning values site)
+      → Does files event w f (monitor_exit_meaning values site)
   monitor_exit_typed a =
       not_null_typed files event.thread w f site h any_object (operand values (ops_of values (monitor_exit_meaning values site) f.place.slots) 0)
       (λ r. left (is_owner w event.thread r) site.next event.thread r w f.place.slots (under (monitor_exit_meaning values site).wants f.place.slots))

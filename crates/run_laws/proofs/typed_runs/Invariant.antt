@@ -19,7 +19,8 @@ pub stop : (files : Program) (os : List ReferenceType) (f : Frame) → Ready fil
 stop files os f h = h.stopped
 
 -- what runs, or waits for results, may fail there
-pub failing_from : (files : Program) (os : List ReferenceType) (above : Above) (stack : StackOf Value) → Beneath files os above stack → Failing files os stack
+pub failing_from : (files : Program) (os : List ReferenceType) (above : Above) (stack : StackOf Value) → Beneath files os above stack
+    → Failing files os stack
 failing_from files os above [] h = tt
 failing_from files os (Results types) (Invocation f ∷ stack) h = (h.0.stopped, h.1)
 failing_from files os Instruction (Invocation f ∷ stack) h = (h.0.stopped, h.1)
@@ -29,7 +30,8 @@ module _ (files : Program) (os ps : List ReferenceType) (x : Extends os ps) wher
   pub typed_more : (ts : List VerificationType) (vs : List Value) → are_typed files os ts vs ≡ true → are_typed files ps ts vs ≡ true
   typed_more ts vs h = pairwise_weaken (has_type files os) (has_type files ps) ts vs (has_type_more files os ps x) h
 
-  pub fields_more : (fields : List (Member × Value)) → list_all (is_field_typed files os) fields ≡ true → list_all (is_field_typed files ps) fields ≡ true
+  pub fields_more : (fields : List (Member × Value)) → list_all (is_field_typed files os) fields ≡ true
+      → list_all (is_field_typed files ps) fields ≡ true
   fields_more fields h =
       all_weaken (is_field_typed files os) (is_field_typed files ps) fields (λ field q. has_type_more files os ps x (verification_type files (field_declared field.0.descriptor)) field.1 q) h
 
@@ -78,10 +80,12 @@ module _ (files : Program) (os ps : List ReferenceType) (x : Extends os ps) wher
   running_more None stack h = beneath_more Instruction stack h
   running_more (Some exception) stack h = (object_in_more _ exception h.0, failing_more stack h.1)
 
-  waiting_more : (pending : Option ℕ) (object : ℕ) (stack : StackOf Value) → IsWaiting files os pending object stack → IsWaiting files ps pending object stack
+  waiting_more : (pending : Option ℕ) (object : ℕ) (stack : StackOf Value) → IsWaiting files os pending object stack
+      → IsWaiting files ps pending object stack
   waiting_more pending object stack h = (h.0, (object_in_more _ object h.1.0, beneath_more (Results []) stack h.1.1))
 
-  stack_more : (pending : Option ℕ) (stack : StackOf Value) (status : ThreadStatus) → IsStackTyped files os pending stack status → IsStackTyped files ps pending stack status
+  stack_more : (pending : Option ℕ) (stack : StackOf Value) (status : ThreadStatus) → IsStackTyped files os pending stack status
+      → IsStackTyped files ps pending stack status
   stack_more pending stack Running h = running_more pending stack h
   stack_more pending stack (Waiting object count) h = waiting_more pending object stack h
   stack_more pending stack (Relock object count cause) h = waiting_more pending object stack h
@@ -91,7 +95,8 @@ module _ (files : Program) (os ps : List ReferenceType) (x : Extends os ps) wher
   thread_more thread stack h =
       record { object = object_in_more _ thread.object h.object; stack_typed = stack_more thread.pending stack thread.status h.stack_typed }
 
-  pub threads_more : (threads : List Thread) (stacks : List (StackOf Value)) → AreThreadsTyped files os threads stacks → AreThreadsTyped files ps threads stacks
+  pub threads_more : (threads : List Thread) (stacks : List (StackOf Value)) → AreThreadsTyped files os threads stacks
+      → AreThreadsTyped files ps threads stacks
   threads_more [] [] h = tt
   threads_more [] (stack ∷ stacks) h = absurd h
   threads_more (thread ∷ threads) [] h = absurd h

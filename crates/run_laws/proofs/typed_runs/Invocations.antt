@@ -34,7 +34,8 @@ use Rattle.run_laws.proofs.typed_runs.Instructions.{Does}
 use Rattle.run_laws.proofs.typed_runs.Callees.{static_arguments, given, instance_runnable, named_below, special_below, found_name, interface_found_name}
 use Rattle.run_laws.proofs.typed_runs.Calls.{one_of, not_static, Chooses, invoked_typed, call_typed, selected_chosen, goes_up, own_class, sized_as, awaits_next}
 
-module _ (files : Program) (built_ins : BuiltInTyped files) (event : Event) (w : World) (f : Frame) (site : Site) (h : Here files event.thread w f site) where
+module _ (files : Program) (built_ins : BuiltInTyped files) (event : Event) (w : World) (f : Frame) (site : Site)
+    (h : Here files event.thread w f site) where
   -- an instruction that the event may do brings about what its typing says
   abbrev Done : MeaningOf Value → Type 0
   Done m = Allows files f h.ready.stopped.stands site m → m.may event w (ops_of values m f.place.slots) ≡ true → Does files event w f m
@@ -67,7 +68,9 @@ module _ (files : Program) (built_ins : BuiltInTyped files) (event : Event) (w :
 
   -- ---- invokevirtual
 
-  pub virtual_typed : (index : ℕ) (named method : Member) → site.instr ≡ Invoke invocation.Virtual index → method_at site.body.pool index ≡ Some named → find_method files named ≡ Some method → is_one is_instance_one files method ≡ true → Done (virtual_call values files site named.class method)
+  pub virtual_typed : (index : ℕ) (named method : Member) → site.instr ≡ Invoke invocation.Virtual index
+      → method_at site.body.pool index ≡ Some named → find_method files named ≡ Some method → is_one is_instance_one files method ≡ true
+      → Done (virtual_call values files site named.class method)
   virtual_typed index named method i e found instance a may =
       let m = virtual_call values files site named.class method in
       let ops = ops_of values m f.place.slots in
@@ -85,11 +88,15 @@ module _ (files : Program) (built_ins : BuiltInTyped files) (event : Event) (w :
 
   -- ---- invokeinterface
 
-  implements_chosen : (results : List VerificationType) (ops : List Value) (b : Bool) (chosen : Chosen) → Chooses files built_ins event w f site h results ops chosen → Chooses files built_ins event w f site h results ops (if_implements b chosen)
+  implements_chosen : (results : List VerificationType) (ops : List Value) (b : Bool) (chosen : Chosen)
+      → Chooses files built_ins event w f site h results ops chosen
+      → Chooses files built_ins event w f site h results ops (if_implements b chosen)
   implements_chosen results ops true chosen c = c
   implements_chosen results ops false chosen c = tt
 
-  pub interface_typed : (index count last : ℕ) (named method : Member) → site.instr ≡ InvokeInterface index count last → interface_method_at site.body.pool index ≡ Some named → find_interface_method files named ≡ Some method → is_one is_instance_one files method ≡ true → Done (interface_call values files site named.class method)
+  pub interface_typed : (index count last : ℕ) (named method : Member) → site.instr ≡ InvokeInterface index count last
+      → interface_method_at site.body.pool index ≡ Some named → find_interface_method files named ≡ Some method
+      → is_one is_instance_one files method ≡ true → Done (interface_call values files site named.class method)
   interface_typed index count last named method i e found instance a may =
       let m = interface_call values files site named.class method in
       let ops = ops_of values m f.place.slots in
@@ -108,7 +115,9 @@ module _ (files : Program) (built_ins : BuiltInTyped files) (event : Event) (w :
 
   -- ---- invokespecial
 
-  pub special_typed : (index : ℕ) (named method : Member) → site.instr ≡ Invoke invocation.Special index → method_at site.body.pool index ≡ Some named → name_eq named.name constructor_name ≡ false → find_method files named ≡ Some method → is_one is_instance_one files method ≡ true → Done (special_call values files site named.class method)
+  pub special_typed : (index : ℕ) (named method : Member) → site.instr ≡ Invoke invocation.Special index
+      → method_at site.body.pool index ≡ Some named → name_eq named.name constructor_name ≡ false → find_method files named ≡ Some method
+      → is_one is_instance_one files method ≡ true → Done (special_call values files site named.class method)
   special_typed index named method i e plain found instance a may =
       let m = special_call values files site named.class method in
       let ops = ops_of values m f.place.slots in
@@ -130,7 +139,8 @@ module _ (files : Program) (built_ins : BuiltInTyped files) (event : Event) (w :
   not_initialiser : (name : Name) → name_eq name constructor_name ≡ true → name_eq name initialiser_name ≡ false
   not_initialiser name e = subst (λ n. name_eq n initialiser_name ≡ false) (sym (names_same name constructor_name e)) refl
 
-  pub constructor_typed : (method : Member) → name_eq method.name constructor_name ≡ true → is_one is_instance_one files method ≡ true → Done (constructor_call values files site method)
+  pub constructor_typed : (method : Member) → name_eq method.name constructor_name ≡ true → is_one is_instance_one files method ≡ true
+      → Done (constructor_call values files site method)
   constructor_typed method name instance a may =
       let os = types_of w.heap in
       let m = constructor_call values files site method in

@@ -26,7 +26,8 @@ use Rattle.run_laws.proofs.laws.Order.{assignable_self}
 use Rattle.run_laws.proofs.typed_runs.Frames.{arrive}
 
 module _ (files : Program) (rooted : Rooted files) (os : List ReferenceType) where
-  entry_locals : (max : ℕ) (ts : List VerificationType) (vs : List Value) → are_typed files os ts vs ≡ true → are_typed files os (ts ++ replicate (max - length ts) Unusable) (locals_with value.Unset max vs) ≡ true
+  entry_locals : (max : ℕ) (ts : List VerificationType) (vs : List Value) → are_typed files os ts vs ≡ true
+      → are_typed files os (ts ++ replicate (max - length ts) Unusable) (locals_with value.Unset max vs) ≡ true
   entry_locals max ts vs h =
       let p = pairs_of (has_type files os) ts vs h in
       let n = pair_length (has_type files os) ts vs p in
@@ -36,7 +37,9 @@ module _ (files : Program) (rooted : Rooted files) (os : List ReferenceType) whe
       (pair_replicate (has_type files os) (max - length ts) Unusable value.Unset refl)))
 
   -- a frame that is opened with arguments of the declared types
-  pub opened_ready : (method : Member) (body : Body) (args : List Value) (entered : Option ℕ) → body_of files method ≡ Some body → HasTyping files method body → are_typed files os (argument_types files method) args ≡ true → Ready files os (frame_with values method args entered body)
+  pub opened_ready : (method : Member) (body : Body) (args : List Value) (entered : Option ℕ) → body_of files method ≡ Some body
+      → HasTyping files method body → are_typed files os (argument_types files method) args ≡ true
+      → Ready files os (frame_with values method args entered body)
   opened_ready method body args entered is_body typed h =
       let begins = typed.holds.begins in
       arrive files rooted os (frame_with values method args entered body)
@@ -53,11 +56,13 @@ pub record Selected (files : Program) (class : Name) (m found : Member) : Type 0
   pub selectable : option_map_or is_selectable (method_of files found) false ≡ true
 
 -- what is found was found in one of the classes
-found_in : (P : Name → Type 0) (look : Name → Option Member) (names : List Name) (x : Member) → AllByRecursion P names → first_found look names ≡ Some x → (c : Name) × (P c × (look c ≡ Some x))
+found_in : (P : Name → Type 0) (look : Name → Option Member) (names : List Name) (x : Member) → AllByRecursion P names
+    → first_found look names ≡ Some x → (c : Name) × (P c × (look c ≡ Some x))
 found_in P look [] x h e = absurd cc
 found_in P look (c ∷ names) x h e = by (λ r. found_in P look names x h.1 r) (look c) refl e
   where
-    by : (first_found look names ≡ Some x → (d : Name) × (P d × (look d ≡ Some x))) → (o : Option Member) → look c ≡ o → option_or o (first_found look names) ≡ Some x → (d : Name) × (P d × (look d ≡ Some x))
+    by : (first_found look names ≡ Some x → (d : Name) × (P d × (look d ≡ Some x))) → (o : Option Member) → look c ≡ o
+        → option_or o (first_found look names) ≡ Some x → (d : Name) × (P d × (look d ≡ Some x))
     by later None q r = later r
     by later (Some y) q r = (c, (h.0, q ∙ r))
 
@@ -70,7 +75,9 @@ module _ (files : Program) where
   in_lineage zero c = tt
   in_lineage (suc n) c = (subclass_self files (suc n) c, above (λ s. in_lineage n s) (superclass_of files c) refl)
     where
-      above : ((s : Name) → AllByRecursion (λ d. is_within files n s d ≡ true) (lineage_of files n s)) → (o : Option Name) → superclass_of files c ≡ o → AllByRecursion (λ d. is_within files (suc n) c d ≡ true) (option_map_or (λ s. lineage_of files n s) o [])
+      above : ((s : Name) → AllByRecursion (λ d. is_within files n s d ≡ true) (lineage_of files n s)) → (o : Option Name)
+          → superclass_of files c ≡ o → AllByRecursion (λ d. is_within files (suc n) c d
+          ≡ true) (option_map_or (λ s. lineage_of files n s) o [])
       above rest None e = tt
       above rest (Some s) e =
           every_weaken (λ d. is_within files n s d ≡ true) (λ d. is_within files (suc n) c d ≡ true) (lineage_of files n s)
@@ -96,7 +103,9 @@ module _ (files : Program) where
 
   module _ (os : List ReferenceType) where
     -- run of a Thread object
-    pub run_arguments : (class : Name) (v : Value) → option_map_or is_selectable (method_of files (in_class class thread_run)) false ≡ true → is_value_below files os (ClassType class) v ≡ true → are_typed files os (argument_types files (in_class class thread_run)) (v ∷ []) ≡ true
+    pub run_arguments : (class : Name) (v : Value) → option_map_or is_selectable (method_of files (in_class class thread_run)) false ≡ true
+        → is_value_below files os (ClassType class) v ≡ true
+        → are_typed files os (argument_types files (in_class class thread_run)) (v ∷ []) ≡ true
     unfolding method_type parameters_at field_at element_at
     run_arguments class v s h =
         cond_both (has_no_receiver files (in_class class thread_run)) _ _ (λ ts. are_typed files os ts (v ∷ []) ≡ true)
@@ -104,7 +113,9 @@ module _ (files : Program) where
         (λ q. and_from _ _ h refl)
 
     -- main
-    pub main_arguments : (class : Name) (r : ℕ) → is_static_of files (main_of class) ≡ true → slice_get os r ≡ Some (ReferenceArray (ClassType java_lang_string)) → are_typed files os (argument_types files (main_of class)) (value.Reference r ∷ []) ≡ true
+    pub main_arguments : (class : Name) (r : ℕ) → is_static_of files (main_of class) ≡ true
+        → slice_get os r ≡ Some (ReferenceArray (ClassType java_lang_string))
+        → are_typed files os (argument_types files (main_of class)) (value.Reference r ∷ []) ≡ true
     unfolding method_type parameters_at field_at element_at built_in_classes
     main_arguments class r s there =
         cond_both (has_no_receiver files (main_of class)) _ _ (λ ts. are_typed files os ts (value.Reference r ∷ []) ≡ true)

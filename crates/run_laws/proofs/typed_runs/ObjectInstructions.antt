@@ -59,18 +59,22 @@ short_results : (descriptor : Name) → Short (results_declared descriptor)
 short_results descriptor = short_method (method_type descriptor)
 
 module _ (files : Program) (os : List ReferenceType) where
-  nothing_returned : (rs : List DeclaredType) → is_nothing (returned_by rs) ≡ true → are_typed files os (map (verification_type files) rs) [] ≡ true
+  nothing_returned : (rs : List DeclaredType) → is_nothing (returned_by rs) ≡ true
+      → are_typed files os (map (verification_type files) rs) [] ≡ true
   nothing_returned [] e = refl
   nothing_returned (DeclaredInt ∷ rs) e = absurd (false≢true e)
   nothing_returned (DeclaredReference t ∷ rs) e = absurd (false≢true e)
 
-  int_returned : (rs : List DeclaredType) (v : Value) → Short rs → is_int_returned (returned_by rs) ≡ true → is_int_value v ≡ true → are_typed files os (map (verification_type files) rs) (v ∷ []) ≡ true
+  int_returned : (rs : List DeclaredType) (v : Value) → Short rs → is_int_returned (returned_by rs) ≡ true → is_int_value v ≡ true
+      → are_typed files os (map (verification_type files) rs) (v ∷ []) ≡ true
   int_returned [] v n e h = absurd (false≢true e)
   int_returned (DeclaredInt ∷ []) v n e h = and_from _ _ h refl
   int_returned (DeclaredInt ∷ d ∷ rs) v n e h = absurd n
   int_returned (DeclaredReference t ∷ rs) v n e h = absurd (false≢true e)
 
-  reference_returned : (rs : List DeclaredType) (v : Value) → Short rs → is_reference_returned (returned_by rs) ≡ true → value_meets files os (slice_index_or (map (declared_want files) rs) 0 AnyWord) v ≡ true → are_typed files os (map (verification_type files) rs) (v ∷ []) ≡ true
+  reference_returned : (rs : List DeclaredType) (v : Value) → Short rs → is_reference_returned (returned_by rs) ≡ true
+      → value_meets files os (slice_index_or (map (declared_want files) rs) 0 AnyWord) v ≡ true
+      → are_typed files os (map (verification_type files) rs) (v ∷ []) ≡ true
   reference_returned [] v n e h = absurd (false≢true e)
   reference_returned (DeclaredInt ∷ rs) v n e h = absurd (false≢true e)
   reference_returned (DeclaredReference t ∷ []) v n e h = and_from _ _ h refl
@@ -80,27 +84,36 @@ module _ (files : Program) (event : Event) (w : World) (f : Frame) (site : Site)
   same : Keeps files w w
   same = self_keeps files w h.fits
 
-  opened_object : (class : Name) (r : ℕ) → slice_get (types_of (opening_heap values files)) r ≡ Some (ClassType class) → is_object_in files (types_of w.heap) class r ≡ true
+  opened_object : (class : Name) (r : ℕ) → slice_get (types_of (opening_heap values files)) r ≡ Some (ClassType class)
+      → is_object_in files (types_of w.heap) class r ≡ true
   opened_object class r e =
       subst (λ o. is_object_below files (ClassType class) o ≡ true) (sym (h.fits.opened.keeps r (ClassType class) e)) (assignable_self files (ClassType class))
 
-  there_typed : (class : Name) (r : ℕ) → slice_get (types_of (opening_heap values files)) r ≡ Some (ClassType class) → Allows files f h.ready.stopped.stands site (object_meaning values site class r) → Does files event w f (object_meaning values site class r)
+  there_typed : (class : Name) (r : ℕ) → slice_get (types_of (opening_heap values files)) r ≡ Some (ClassType class)
+      → Allows files f h.ready.stopped.stands site (object_meaning values site class r)
+      → Does files event w f (object_meaning values site class r)
   there_typed class r e a =
       pushes files event.thread w f site h _ a (OfType (ClassType class) ∷ []) _ a.leads.0 Free w (value.Reference r ∷ []) same (and_from _ _ (opened_object class r e) refl)
 
-  pub class_constant_typed : (class : Name) (file : FileTree) → class_of files class ≡ Some file → Allows files f h.ready.stopped.stands site (object_meaning values site java_lang_class (class_reference files class)) → Does files event w f (object_meaning values site java_lang_class (class_reference files class))
+  pub class_constant_typed : (class : Name) (file : FileTree) → class_of files class ≡ Some file
+      → Allows files f h.ready.stopped.stands site (object_meaning values site java_lang_class (class_reference files class))
+      → Does files event w f (object_meaning values site java_lang_class (class_reference files class))
   class_constant_typed class file e a = there_typed java_lang_class (class_reference files class) (class_there files class (found_any (is_named class) (is_named class) (classes_of files) file e (found_passes (is_named class) (classes_of files) file e))) a
 
-  pub string_constant_typed : (text : List ℕ) → list_any (name_eq text) (string_texts files) ≡ true → Allows files f h.ready.stopped.stands site (object_meaning values site java_lang_string (string_reference files text)) → Does files event w f (object_meaning values site java_lang_string (string_reference files text))
+  pub string_constant_typed : (text : List ℕ) → list_any (name_eq text) (string_texts files) ≡ true
+      → Allows files f h.ready.stopped.stands site (object_meaning values site java_lang_string (string_reference files text))
+      → Does files event w f (object_meaning values site java_lang_string (string_reference files text))
   string_constant_typed text e a = there_typed java_lang_string (string_reference files text) (string_there files text e) a
 
-  pub system_out_typed : Allows files f h.ready.stopped.stands site (system_out_meaning values site.next) → Does files event w f (system_out_meaning values site.next)
+  pub system_out_typed : Allows files f h.ready.stopped.stands site (system_out_meaning values site.next)
+      → Does files event w f (system_out_meaning values site.next)
   system_out_typed a =
       pushes files event.thread w f site h _ a (OfType (ClassType java_io_print_stream) ∷ []) _ a.leads.0 Free w (value.Reference print_stream_reference ∷ []) same (and_from _ _ (opened_object java_io_print_stream print_stream_reference (print_stream_there files)) refl)
 
   -- ---- new, checkcast, instanceof
 
-  pub new_typed : (class : Name) → Allows files f h.ready.stopped.stands site (new_meaning values files site class) → Does files event w f (new_meaning values files site class)
+  pub new_typed : (class : Name) → Allows files f h.ready.stopped.stands site (new_meaning values files site class)
+      → Does files event w f (new_meaning values files site class)
   new_typed class a =
       let os = types_of w.heap in
       let o = new_instance values files class in
@@ -111,37 +124,47 @@ module _ (files : Program) (event : Event) (w : World) (f : Frame) (site : Site)
       (allocated_keeps files w h.fits o (new_instance_typed files (types_of (w.heap ++ o ∷ [])) class))
       (and_from _ _ (added_below files w.heap h.fits.heap o) refl)
 
-  cast_typed : (type : ReferenceType) (a : Allows files f h.ready.stopped.stands site (check_cast_meaning values files site type)) (v : Value) (b : Bool) → is_value_of files (types_of w.heap) type v ≡ b → OutcomeTyped files event.thread w f (cast b site.next v w f.place.slots (under (check_cast_meaning values files site type).wants f.place.slots))
+  cast_typed : (type : ReferenceType) (a : Allows files f h.ready.stopped.stands site (check_cast_meaning values files site type))
+      (v : Value) (b : Bool) → is_value_of files (types_of w.heap) type v ≡ b
+      → OutcomeTyped files event.thread w f (cast b site.next v w
+      f.place.slots (under (check_cast_meaning values files site type).wants f.place.slots))
   cast_typed type a v true e =
       pushes files event.thread w f site h _ a (OfType (made_type files type) ∷ []) _ a.leads.0 Free w (v ∷ []) same (and_from _ _ (instance_below files h.linked (types_of w.heap) type v e) refl)
   cast_typed type a v false e = tt
 
-  pub check_cast_typed : (type : ReferenceType) → Allows files f h.ready.stopped.stands site (check_cast_meaning values files site type) → Does files event w f (check_cast_meaning values files site type)
+  pub check_cast_typed : (type : ReferenceType) → Allows files f h.ready.stopped.stands site (check_cast_meaning values files site type)
+      → Does files event w f (check_cast_meaning values files site type)
   check_cast_typed type a = cast_typed type a (operand values (ops_of values (check_cast_meaning values files site type) f.place.slots) 0) _ refl
 
-  pub instance_of_typed : (type : ReferenceType) → Allows files f h.ready.stopped.stands site (instance_of_meaning values files site type) → Does files event w f (instance_of_meaning values files site type)
+  pub instance_of_typed : (type : ReferenceType) → Allows files f h.ready.stopped.stands site (instance_of_meaning values files site type)
+      → Does files event w f (instance_of_meaning values files site type)
   instance_of_typed type a = pushes files event.thread w f site h _ a (IntType ∷ []) _ a.leads.0 Free w (value.Int _ ∷ []) same refl
 
   -- ---- returns
 
-  results_here : (rs : List DeclaredType) → results_declared site.method.descriptor ≡ rs → (vs : List Value) → are_typed files (types_of w.heap) (map (verification_type files) rs) vs ≡ true → are_typed files (types_of w.heap) (result_types files f.method) vs ≡ true
+  results_here : (rs : List DeclaredType) → results_declared site.method.descriptor ≡ rs → (vs : List Value)
+      → are_typed files (types_of w.heap) (map (verification_type files) rs) vs ≡ true
+      → are_typed files (types_of w.heap) (result_types files f.method) vs ≡ true
   results_here rs e vs q =
       subst (λ m. are_typed files (types_of w.heap) (result_types files m) vs ≡ true) h.method_is
       (subst (λ ds. are_typed files (types_of w.heap) (map (verification_type files) ds) vs ≡ true) (sym e) q)
 
-  pub return_typed : Allows files f h.ready.stopped.stands site (return_meaning site.method.descriptor) → Does files event w f (return_meaning site.method.descriptor)
+  pub return_typed : Allows files f h.ready.stopped.stands site (return_meaning site.method.descriptor)
+      → Does files event w f (return_meaning site.method.descriptor)
   return_typed a =
       gives_back files event.thread w f [] h.fits h.live
       (results_here (results_declared site.method.descriptor) refl [] (nothing_returned files (types_of w.heap) (results_declared site.method.descriptor) (and_parts _ _ a.finds).0))
 
-  pub int_return_typed : Allows files f h.ready.stopped.stands site (int_return_meaning values site.method.descriptor) → Does files event w f (int_return_meaning values site.method.descriptor)
+  pub int_return_typed : Allows files f h.ready.stopped.stands site (int_return_meaning values site.method.descriptor)
+      → Does files event w f (int_return_meaning values site.method.descriptor)
   int_return_typed a =
       let v = operand values (ops_of values (int_return_meaning values site.method.descriptor) f.place.slots) 0 in
       let rs = results_declared site.method.descriptor in
       gives_back files event.thread w f (v ∷ []) h.fits h.live
       (results_here rs refl (v ∷ []) (int_returned files (types_of w.heap) rs v (short_results site.method.descriptor) (and_parts _ _ a.finds).0 (met files event.thread w f site h _ a 0)))
 
-  pub reference_return_typed : Allows files f h.ready.stopped.stands site (reference_return_meaning values files site.method.descriptor) → Does files event w f (reference_return_meaning values files site.method.descriptor)
+  pub reference_return_typed : Allows files f h.ready.stopped.stands site (reference_return_meaning values files site.method.descriptor)
+      → Does files event w f (reference_return_meaning values files site.method.descriptor)
   reference_return_typed a =
       let v = operand values (ops_of values (reference_return_meaning values files site.method.descriptor) f.place.slots) 0 in
       let rs = results_declared site.method.descriptor in

@@ -31,7 +31,8 @@ ObjectV = ObjectOf Value
 
 -- ---- tests of all elements of a list
 
-pub all_set : {A : Type 0} (p : A → Bool) (xs : List A) (k : ℕ) (x : A) → list_all p xs ≡ true → p x ≡ true → list_all p (slice_set xs k x) ≡ true
+pub all_set : {A : Type 0} (p : A → Bool) (xs : List A) (k : ℕ) (x : A) → list_all p xs ≡ true → p x ≡ true
+    → list_all p (slice_set xs k x) ≡ true
 all_set p [] k x h q = refl
 all_set p (y ∷ ys) zero x h q = and_from _ _ q (and_parts _ _ h).1
 all_set p (y ∷ ys) (suc k) x h q = let g = and_parts _ _ h in and_from _ _ g.0 (all_set p ys k x g.1 q)
@@ -49,7 +50,8 @@ all_at p [] k x h e = absurd cc
 all_at p (y ∷ ys) zero x h e = let q : y ≡ x = cc in subst (λ z. p z ≡ true) q (and_parts _ _ h).0
 all_at p (y ∷ ys) (suc k) x h e = all_at p ys k x (and_parts _ _ h).1 e
 
-pub all_index : {A : Type 0} (p : A → Bool) (xs : List A) (k : ℕ) (d : A) → list_all p xs ≡ true → p d ≡ true → p (slice_index_or xs k d) ≡ true
+pub all_index : {A : Type 0} (p : A → Bool) (xs : List A) (k : ℕ) (d : A) → list_all p xs ≡ true → p d ≡ true
+    → p (slice_index_or xs k d) ≡ true
 all_index p [] k d h q = q
 all_index p (y ∷ ys) zero d h q = (and_parts _ _ h).0
 all_index p (y ∷ ys) (suc k) d h q = all_index p ys k d (and_parts _ _ h).1 q
@@ -67,7 +69,8 @@ module _ (files : Program) (os : List ReferenceType) where
   same_descriptor : (a b : Member) → member_eq a b ≡ true → a.descriptor ≡ b.descriptor
   same_descriptor a b h = names_same a.descriptor b.descriptor (and_parts _ _ (and_parts _ _ h).1).1
 
-  pub value_in_typed : (field : Member) (fields : List (Member × Value)) → list_all (is_field_typed files os) fields ≡ true → is_field_typed files os (field, value_in (first_of values field) field fields) ≡ true
+  pub value_in_typed : (field : Member) (fields : List (Member × Value)) → list_all (is_field_typed files os) fields ≡ true
+      → is_field_typed files os (field, value_in (first_of values field) field fields) ≡ true
   value_in_typed field [] h = first_of_typed field
   value_in_typed field (f ∷ fields) h =
       let g = and_parts _ _ h in
@@ -75,7 +78,8 @@ module _ (files : Program) (os : List ReferenceType) where
       (λ q. subst (λ d. has_type files os (verification_type files (field_declared d)) f.1 ≡ true) (same_descriptor f.0 field q) g.0)
       (λ q. value_in_typed field fields g.1)
 
-  pub with_value_typed : (field : Member) (v : Value) (fields : List (Member × Value)) → is_field_typed files os (field, v) ≡ true → list_all (is_field_typed files os) fields ≡ true → list_all (is_field_typed files os) (with_value field v fields) ≡ true
+  pub with_value_typed : (field : Member) (v : Value) (fields : List (Member × Value)) → is_field_typed files os (field, v) ≡ true
+      → list_all (is_field_typed files os) fields ≡ true → list_all (is_field_typed files os) (with_value field v fields) ≡ true
   with_value_typed field v [] q h = refl
   with_value_typed field v (f ∷ fields) q h =
       let g = and_parts _ _ h in
@@ -88,7 +92,8 @@ module _ (files : Program) (os : List ReferenceType) where
 
   -- ---- what is kept of a value
 
-  element_kept_typed : (e : ElementType) (v : Value) → has_type files os (verification_type files (element_declared e)) v ≡ true → has_type files os (verification_type files (element_declared e)) (element_kept values e v) ≡ true
+  element_kept_typed : (e : ElementType) (v : Value) → has_type files os (verification_type files (element_declared e)) v ≡ true
+      → has_type files os (verification_type files (element_declared e)) (element_kept values e v) ≡ true
   element_kept_typed descriptors.Byte v h = refl
   element_kept_typed descriptors.Char v h = refl
   element_kept_typed descriptors.Double v h = h
@@ -99,19 +104,23 @@ module _ (files : Program) (os : List ReferenceType) where
   element_kept_typed descriptors.Short v h = refl
   element_kept_typed descriptors.Boolean v h = refl
 
-  kept_with : (n : ℕ) (e : ElementType) (v : Value) → has_type files os (verification_type files (declared_with n e)) v ≡ true → has_type files os (verification_type files (declared_with n e)) (if n == 0 then element_kept values e v else v) ≡ true
+  kept_with : (n : ℕ) (e : ElementType) (v : Value) → has_type files os (verification_type files (declared_with n e)) v ≡ true
+      → has_type files os (verification_type files (declared_with n e)) (if n == 0 then element_kept values e v else v) ≡ true
   kept_with zero e v h = element_kept_typed e v h
   kept_with (suc n) e v h =
       cond_both (suc n == 0) _ _ (λ u. has_type files os (verification_type files (declared_with (suc n) e)) u ≡ true)
       (λ q. let none : suc n ≡ 0 = eqb-true (suc n) 0 q in absurd (omega arith))
       (λ q. h)
 
-  kept_typed : (t : Option FieldType) (v : Value) → has_type files os (verification_type files (option_map_or declared_of t DeclaredInt)) v ≡ true → has_type files os (verification_type files (option_map_or declared_of t DeclaredInt)) (type_kept values t v) ≡ true
+  kept_typed : (t : Option FieldType) (v : Value)
+      → has_type files os (verification_type files (option_map_or declared_of t DeclaredInt)) v ≡ true
+      → has_type files os (verification_type files (option_map_or declared_of t DeclaredInt)) (type_kept values t v) ≡ true
   kept_typed None v h = h
   kept_typed (Some t) v h = kept_with t.dimensions t.element v h
 
   -- a put keeps the declared type
-  pub put_value_typed : (field : Member) (v : Value) → is_field_typed files os (field, v) ≡ true → is_field_typed files os (field, put_value values field v) ≡ true
+  pub put_value_typed : (field : Member) (v : Value) → is_field_typed files os (field, v) ≡ true
+      → is_field_typed files os (field, put_value values field v) ≡ true
   put_value_typed field v h = kept_typed (field_type field.descriptor) v h
 
   -- ---- arrays
@@ -122,7 +131,9 @@ module _ (files : Program) (os : List ReferenceType) where
 -- ---- the heap
 
 -- what is below a type is an object
-pub object_found : (files : Program) (heap : List ObjectV) (r : ℕ) (t : ReferenceType) → is_object_below files t (slice_get (types_of heap) r) ≡ true → (o : ObjectV) × (slice_get heap r ≡ Some o) × (is_assignable files (type_of o) t ≡ true)
+pub object_found : (files : Program) (heap : List ObjectV) (r : ℕ) (t : ReferenceType)
+    → is_object_below files t (slice_get (types_of heap) r) ≡ true
+    → (o : ObjectV) × (slice_get heap r ≡ Some o) × (is_assignable files (type_of o) t ≡ true)
 object_found files [] r t h = absurd (false≢true h)
 object_found files (o ∷ heap) zero t h = (o, refl, h)
 object_found files (o ∷ heap) (suc r) t h = object_found files heap r t h

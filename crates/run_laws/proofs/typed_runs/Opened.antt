@@ -26,7 +26,8 @@ heap_typed files =
     (all_map (is_object_typed files os) (λ file. Instance java_lang_class []) (classes_of files) (λ file. refl))
     (all_map (is_object_typed files os) (λ text. Instance java_lang_string []) (string_texts files) (λ text. refl)))))
 
-none_wait : (threads : List Thread) (k : ℕ) (objects : List (ObjectOf Value)) → are_wait_sets threads k (map (λ object. unlocked) objects) ≡ true
+none_wait : (threads : List Thread) (k : ℕ) (objects : List (ObjectOf Value))
+    → are_wait_sets threads k (map (λ object. unlocked) objects) ≡ true
 none_wait threads k [] = refl
 none_wait threads k (object ∷ objects) = none_wait threads (suc k) objects
 

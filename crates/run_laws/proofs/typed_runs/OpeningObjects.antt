@@ -33,11 +33,13 @@ get_behind (x ∷ xs) ys k =
     subst (λ n. slice_get (x ∷ (xs ++ ys)) n ≡ slice_get ys k) e (get_behind xs ys k)
 
 -- behind the three objects that stand first, an object of a list, and of the list behind it
-in_first : {A B : Type 0} (f : A → ObjectOf Value) (g : B → ObjectOf Value) (xs : List A) (ys : List B) (k : ℕ) (x : A) → slice_get xs k ≡ Some x → slice_get (types_of (map f xs ++ map g ys)) k ≡ Some (type_of (f x))
+in_first : {A B : Type 0} (f : A → ObjectOf Value) (g : B → ObjectOf Value) (xs : List A) (ys : List B) (k : ℕ) (x : A)
+    → slice_get xs k ≡ Some x → slice_get (types_of (map f xs ++ map g ys)) k ≡ Some (type_of (f x))
 in_first f g xs ys k x e =
     get_map type_of (map f xs ++ map g ys) k (f x) (get_front (map f xs) (map g ys) k (f x) (get_map f xs k x e))
 
-in_second : {A B : Type 0} (f : A → ObjectOf Value) (g : B → ObjectOf Value) (xs : List A) (ys : List B) (k : ℕ) (y : B) → slice_get ys k ≡ Some y → slice_get (types_of (map f xs ++ map g ys)) (length xs + k) ≡ Some (type_of (g y))
+in_second : {A B : Type 0} (f : A → ObjectOf Value) (g : B → ObjectOf Value) (xs : List A) (ys : List B) (k : ℕ) (y : B)
+    → slice_get ys k ≡ Some y → slice_get (types_of (map f xs ++ map g ys)) (length xs + k) ≡ Some (type_of (g y))
 in_second f g xs ys k y e =
     let there = subst (λ n. slice_get (map f xs ++ map g ys) (n + k) ≡ Some (g y)) (length-map xs f) (get_behind (map f xs) (map g ys) k ∙ get_map g ys k y e) in
     get_map type_of (map f xs ++ map g ys) (length xs + k) (g y) there
@@ -47,12 +49,14 @@ module _ (files : Program) where
   unfolding opening_heap
   print_stream_there = refl
 
-  pub arguments_there : slice_get (types_of (opening_heap values files)) arguments_reference ≡ Some (ReferenceArray (ClassType java_lang_string))
+  pub arguments_there : slice_get (types_of (opening_heap values files)) arguments_reference
+      ≡ Some (ReferenceArray (ClassType java_lang_string))
   unfolding opening_heap
   arguments_there = refl
 
   -- the Class object of a class that is there
-  pub class_there : (name : Name) → list_any (is_named name) (classes_of files) ≡ true → slice_get (types_of (opening_heap values files)) (class_reference files name) ≡ Some (ClassType java_lang_class)
+  pub class_there : (name : Name) → list_any (is_named name) (classes_of files) ≡ true
+      → slice_get (types_of (opening_heap values files)) (class_reference files name) ≡ Some (ClassType java_lang_class)
   unfolding opening_heap
   class_there name h =
       let n = position_or_len (is_named name) (classes_of files) in
@@ -62,7 +66,8 @@ module _ (files : Program) where
       (in_first (λ (file : FileTree). Instance java_lang_class []) (λ (text : List ℕ). Instance java_lang_string []) (classes_of files) (string_texts files) n at.0 at.1)
 
   -- the String object of a text that a constant has
-  pub string_there : (text : List ℕ) → list_any (name_eq text) (string_texts files) ≡ true → slice_get (types_of (opening_heap values files)) (string_reference files text) ≡ Some (ClassType java_lang_string)
+  pub string_there : (text : List ℕ) → list_any (name_eq text) (string_texts files) ≡ true
+      → slice_get (types_of (opening_heap values files)) (string_reference files text) ≡ Some (ClassType java_lang_string)
   unfolding opening_heap
   string_there text h =
       let n = length (classes_of files) in

@@ -104,7 +104,8 @@ module _ (files : Program) (t : ℕ) (before : World) (first : Thread) (was : sl
       }
 
   -- its threads are the same
-  pub at_same : (a b : World) (thread : Thread) → At files t before a thread → Keeps files a b → b.threads ≡ a.threads → At files t before b thread
+  pub at_same : (a b : World) (thread : Thread) → At files t before a thread → Keeps files a b → b.threads ≡ a.threads
+      → At files t before b thread
   at_same a b thread at x e =
       record {
         changes = changes_trans files t before a b first was at.changes (changes_of files t a b x);
@@ -113,7 +114,8 @@ module _ (files : Program) (t : ℕ) (before : World) (first : Thread) (was : sl
       }
 
   -- the thread itself is changed
-  pub own_at : (a : World) (thread new : Thread) → At files t before a thread → new.object ≡ (thread_at a t).object → IsIdle new → At files t before (with_thread a t new) new
+  pub own_at : (a : World) (thread new : Thread) → At files t before a thread → new.object ≡ (thread_at a t).object → IsIdle new
+      → At files t before (with_thread a t new) new
   own_at a thread new at o idle =
       let is = get_or_from_slice_get a.threads t thread no_thread at.there in
       record {
@@ -124,7 +126,8 @@ module _ (files : Program) (t : ℕ) (before : World) (first : Thread) (was : sl
 
   -- ---- what is left
 
-  pub on_typed : (world : World) (thread : Thread) (stack : StackOf Value) → At files t before world thread → thread.status ≡ Running → IsRunning files (types_of world.heap) thread.pending stack → PartTyped files t before (part world stack)
+  pub on_typed : (world : World) (thread : Thread) (stack : StackOf Value) → At files t before world thread → thread.status ≡ Running
+      → IsRunning files (types_of world.heap) thread.pending stack → PartTyped files t before (part world stack)
   on_typed world thread stack at runs h =
       record {
         changes = at.changes;
@@ -136,33 +139,42 @@ module _ (files : Program) (t : ℕ) (before : World) (first : Thread) (was : sl
 
   module _ (rooted : Rooted files) where
     -- an exception is pending
-    pub pending_typed : (world : World) (thread : Thread) (exception : ℕ) (stack : StackOf Value) → At files t before world thread → thread.status ≡ Running → is_object_in files (types_of world.heap) java_lang_throwable exception ≡ true → Failing files (types_of world.heap) stack → PartTyped files t before (part (with_pending world t exception) stack)
+    pub pending_typed : (world : World) (thread : Thread) (exception : ℕ) (stack : StackOf Value) → At files t before world thread
+        → thread.status ≡ Running → is_object_in files (types_of world.heap) java_lang_throwable exception ≡ true
+        → Failing files (types_of world.heap) stack → PartTyped files t before (part (with_pending world t exception) stack)
     pending_typed world thread exception stack at runs h failing =
         let new = record (thread_at world t) { pending = Some exception } in
         let status = ap (λ (th : Thread). th.status) (get_or_from_slice_get world.threads t thread no_thread at.there) ∙ runs in
         on_typed (with_thread world t new) new stack (own_at world thread new at refl (idle_running new status)) status (h, failing)
 
-    fault_typed : (fault : MachineException) (world : World) (fits : Fits files world) → is_object_in files (types_of (world.heap ++ Instance (exception_class fault) [] ∷ [])) java_lang_throwable (length world.heap) ≡ true
+    fault_typed : (fault : MachineException) (world : World) (fits : Fits files world)
+        → is_object_in files (types_of (world.heap ++ Instance (exception_class fault) [] ∷ [])) java_lang_throwable (length world.heap)
+        ≡ true
     fault_typed fault world fits =
         stack_above files rooted (types_of (world.heap ++ Instance (exception_class fault) [] ∷ [])) (OfType (ClassType (exception_class fault))) (OfType (ClassType java_lang_throwable)) (value.Reference (length world.heap)) (within_subclass files rooted 5 (exception_class fault) java_lang_throwable (fault_within files fault)) (added_below files world.heap fits.heap (Instance (exception_class fault) []))
 
     -- the machine makes an exception
-    pub raised_typed : (fault : MachineException) (world : World) (thread : Thread) (stack : StackOf Value) → At files t before world thread → thread.status ≡ Running → Failing files (types_of world.heap) stack → OnPart files t before (raised t fault world stack)
+    pub raised_typed : (fault : MachineException) (world : World) (thread : Thread) (stack : StackOf Value)
+        → At files t before world thread → thread.status ≡ Running → Failing files (types_of world.heap) stack
+        → OnPart files t before (raised t fault world stack)
     raised_typed fault world thread stack at runs failing =
         let o = Instance (exception_class fault) [] in
         let x = allocated_keeps files world at.changes.fits o refl in
         pending_typed (allocated world o) thread (length world.heap) stack (at_same world (allocated world o) thread at x refl) runs (fault_typed fault world at.changes.fits) (failing_more files _ _ x.extends stack failing)
 
-    pub interrupted_typed : (world : World) (thread : Thread) (stack : StackOf Value) → At files t before world thread → thread.status ≡ Running → Failing files (types_of world.heap) stack → OnPart files t before (raised_by_interrupt t world stack)
+    pub interrupted_typed : (world : World) (thread : Thread) (stack : StackOf Value) → At files t before world thread
+        → thread.status ≡ Running → Failing files (types_of world.heap) stack → OnPart files t before (raised_by_interrupt t world stack)
     interrupted_typed world thread stack at runs failing =
         let new = record (thread_at world t) { interrupted = false } in
         let status = ap (λ (th : Thread). th.status) (get_or_from_slice_get world.threads t thread no_thread at.there) ∙ runs in
         raised_typed InterruptedWait (with_interrupted world t false) new stack (own_at world thread new at refl (idle_running new status)) status failing
 
-pub self_at : (files : Program) (t : ℕ) (world : World) (thread : Thread) → Fits files world → slice_get world.threads t ≡ Some thread → IsIdle thread → At files t world world thread
+pub self_at : (files : Program) (t : ℕ) (world : World) (thread : Thread) → Fits files world → slice_get world.threads t ≡ Some thread
+    → IsIdle thread → At files t world world thread
 self_at files t world thread fits there idle =
     record { changes = changes_of files t world world (self_keeps files world fits); there = there; idle = idle }
 
-pub live_at : (files : Program) (t : ℕ) (before world : World) → Changes files t before world → (live : Live world t) → At files t before world live.thread
+pub live_at : (files : Program) (t : ℕ) (before world : World) → Changes files t before world → (live : Live world t)
+    → At files t before world live.thread
 live_at files t before world changes live =
     record { changes = changes; there = live.there; idle = idle_running live.thread live.status }

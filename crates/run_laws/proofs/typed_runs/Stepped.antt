@@ -27,7 +27,8 @@ use Rattle.run_laws.proofs.typed_runs.StepParts.{At, OnPart, pending_typed, rais
 use Rattle.run_laws.proofs.typed_runs.Entering.{BegunKeeps, unpicked_typed, going_typed, pushed_typed, leaving_typed, needing_class_typed}
 
 -- an event that is enabled may rest on that
-enabled_by : (files : Program) (t : ℕ) (world : World) (b : Bool) (x : SteppedOf (PartOf Value)) → (b ≡ true → OnPart files t world x) → OnPart files t world (enabled_if b x)
+enabled_by : (files : Program) (t : ℕ) (world : World) (b : Bool) (x : SteppedOf (PartOf Value)) → (b ≡ true → OnPart files t world x)
+    → OnPart files t world (enabled_if b x)
 enabled_by files t world true x h = h refl
 enabled_by files t world false x h = tt
 
@@ -35,7 +36,9 @@ module _ (files : Program) (linked : Linked files) (t : ℕ) (world : World) (fi
   start : At files t world world live.thread
   start = self_at files t world live.thread fits live.there (idle_running live.thread live.status)
 
-  pub become_typed : (frames : ℕ) (frame : Frame) (stack : StackOf Value) → Ready files (types_of world.heap) frame → Beneath files (types_of world.heap) (Results (result_types files frame.method)) stack → (o : OutcomeOf Value) → OutcomeTyped files t world frame o → OnPart files t world (become files frames t world frame stack o)
+  pub become_typed : (frames : ℕ) (frame : Frame) (stack : StackOf Value) → Ready files (types_of world.heap) frame
+      → Beneath files (types_of world.heap) (Results (result_types files frame.method)) stack → (o : OutcomeOf Value)
+      → OutcomeTyped files t world frame o → OnPart files t world (become files frames t world frame stack o)
   become_typed frames frame stack ready beneath (Goes cost after slots to) h =
       let more = beneath_more files _ _ h.0.extends (Results (result_types files frame.method)) stack beneath in
       going_typed files linked.rooted t world live.thread live.there after h.1.0.thread (Invocation (at_offset frame to slots) ∷ stack) (live_at files t world after h.0 h.1.0) h.1.0.status h.1.0.pending (h.1.1, more)
@@ -66,13 +69,21 @@ module _ (files : Program) (linked : Linked files) (t : ℕ) (world : World) (fi
       }
 
 -- an event of a running thread at the instruction of the frame on top
-module _ (files : Program) (linked : Linked files) (accepted : AreTyped files) (instructions : InstructionsTyped files) (begun_keeps : BegunKeeps files) (event : Event) (world : World) (fits : Fits files world) (live : Live world event.thread) (self : is_object_in files (types_of world.heap) java_lang_thread (thread_at world event.thread).object ≡ true) where
-  done_typed : (frames : ℕ) (frame : Frame) (stack : StackOf Value) (ready : Ready files (types_of world.heap) frame) → Beneath files (types_of world.heap) (Results (result_types files frame.method)) stack → (flow : Flow files frame ready.stopped.stands) → flow.meaning.may event world (ops_of values flow.meaning frame.place.slots) ≡ true → OnPart files event.thread world (done values files frames event world frame stack flow.meaning)
+module _ (files : Program) (linked : Linked files) (accepted : AreTyped files) (instructions : InstructionsTyped files)
+    (begun_keeps : BegunKeeps files) (event : Event) (world : World) (fits : Fits files world) (live : Live world event.thread)
+    (self : is_object_in files (types_of world.heap) java_lang_thread (thread_at world event.thread).object ≡ true) where
+  done_typed : (frames : ℕ) (frame : Frame) (stack : StackOf Value) (ready : Ready files (types_of world.heap) frame)
+      → Beneath files (types_of world.heap) (Results (result_types files frame.method)) stack
+      → (flow : Flow files frame ready.stopped.stands) → flow.meaning.may event world (ops_of values flow.meaning frame.place.slots) ≡ true
+      → OnPart files event.thread world (done values files frames event world frame stack flow.meaning)
   done_typed frames frame stack ready beneath flow may =
       become_typed files linked event.thread world fits live frames frame stack ready beneath (flow.meaning.does event world frame.place.slots (ops_of values flow.meaning frame.place.slots) (under flow.meaning.wants frame.place.slots))
       (instructions event world frame (site_with frame.method ready.stopped.stands.body frame.place.offset flow.sized) (here_of files linked accepted event.thread world frame fits live self ready flow.sized flow.is_sized) flow.meaning flow.is_meaning flow.allows may)
 
-  meant_typed : (frames : ℕ) (frame : Frame) (stack : StackOf Value) (ready : Ready files (types_of world.heap) frame) → Beneath files (types_of world.heap) (Results (result_types files frame.method)) stack → (max_stack : ℕ) (flow : Flow files frame ready.stopped.stands) → OnPart files event.thread world (bytecode_by values files frames event world frame stack max_stack (Some flow.meaning))
+  meant_typed : (frames : ℕ) (frame : Frame) (stack : StackOf Value) (ready : Ready files (types_of world.heap) frame)
+      → Beneath files (types_of world.heap) (Results (result_types files frame.method)) stack → (max_stack : ℕ)
+      (flow : Flow files frame ready.stopped.stands)
+      → OnPart files event.thread world (bytecode_by values files frames event world frame stack max_stack (Some flow.meaning))
   meant_typed frames frame stack ready beneath max_stack flow =
       let m = flow.meaning in
       cond_both (values.finds files (types_of world.heap) m.wants max_stack frame.place.slots) _ _ (OnPart files event.thread world)
@@ -81,7 +92,9 @@ module _ (files : Program) (linked : Linked files) (accepted : AreTyped files) (
       (self_at files event.thread world live.thread fits live.there (idle_running live.thread live.status)) live.status live.pending (ready, beneath) (done_typed frames frame stack ready beneath flow may)))
       (λ q. unpicked_typed files event.thread world event WrongKind tt)
 
-  pub bytecode_typed : (frames : ℕ) (frame : Frame) (stack : StackOf Value) → Ready files (types_of world.heap) frame → Beneath files (types_of world.heap) (Results (result_types files frame.method)) stack → OnPart files event.thread world (bytecode_event values files frames event world frame stack)
+  pub bytecode_typed : (frames : ℕ) (frame : Frame) (stack : StackOf Value) → Ready files (types_of world.heap) frame
+      → Beneath files (types_of world.heap) (Results (result_types files frame.method)) stack
+      → OnPart files event.thread world (bytecode_event values files frames event world frame stack)
   bytecode_typed frames frame stack ready beneath =
       let stands = ready.stopped.stands in
       let flow = flow_of files frame stands in

@@ -15,7 +15,8 @@ use Rattle.run_laws.proofs.laws.Order.{assignable_self}
 use Rattle.run_laws.proofs.laws.Linked.{Linked}
 
 module _ (files : Program) (linked : Linked files) where
-  made_object : (d : Name) → name_eq d java_lang_object ≡ true → name_eq (if is_interface files d then java_lang_object else d) java_lang_object ≡ true
+  made_object : (d : Name) → name_eq d java_lang_object ≡ true
+      → name_eq (if is_interface files d then java_lang_object else d) java_lang_object ≡ true
   made_object d e = cond_both (is_interface files d) _ _ (λ n. name_eq n java_lang_object ≡ true) (λ q. name_self java_lang_object) (λ q. e)
 
   -- what is an instance of a type is below it for the verifier
@@ -36,23 +37,30 @@ module _ (files : Program) (linked : Linked files) where
   made_above (PrimitiveArray a) = assignable_self files (PrimitiveArray a)
   made_above (ReferenceArray a) = made_above a
 
-  object_instance : (t : ReferenceType) (o : Option ReferenceType) → is_object_of files t o ≡ true → is_object_below files (made_type files t) o ≡ true
+  object_instance : (t : ReferenceType) (o : Option ReferenceType) → is_object_of files t o ≡ true
+      → is_object_below files (made_type files t) o ≡ true
   object_instance t None e = e
   object_instance t (Some u) e = subtype_below u t e
 
-  pub instance_below : (os : List ReferenceType) (t : ReferenceType) (v : Value) → is_value_of files os t v ≡ true → is_value_below files os (made_type files t) v ≡ true
+  pub instance_below : (os : List ReferenceType) (t : ReferenceType) (v : Value) → is_value_of files os t v ≡ true
+      → is_value_below files os (made_type files t) v ≡ true
   instance_below os t value.Unset e = e
   instance_below os t (value.Int bits) e = e
   instance_below os t value.Null e = e
   instance_below os t (value.Reference r) e = object_instance t (slice_get os r) e
 
   -- above an interface there is Object alone
-  above_interface : (n : ℕ) (c d : Name) → is_interface files c ≡ true → (name_eq c d ≡ true → is_subclass files java_lang_object d ≡ true) → is_within files n c d ≡ true → is_subclass files java_lang_object d ≡ true
+  above_interface : (n : ℕ) (c d : Name) → is_interface files c ≡ true → (name_eq c d ≡ true → is_subclass files java_lang_object d ≡ true)
+      → is_within files n c d ≡ true → is_subclass files java_lang_object d ≡ true
   above_interface zero c d i k w = k w
   above_interface (suc n) c d i k w =
-      ⊎_elim k (λ q. within_subclass files linked.rooted n java_lang_object d (subst (λ o. option_map_or (λ s. is_within files n s d) o false ≡ true) (linked.interface_super c i) q)) (or_cases (name_eq c d) _ w)
+      ⊎_elim k (λ q. within_subclass files linked.rooted n java_lang_object
+      d (subst (λ o. option_map_or (λ s. is_within files n s d) o false
+      ≡ true) (linked.interface_super c i) q)) (or_cases (name_eq c d) _ w)
 
-  made_classes : (c d : Name) → is_subclass files c d ≡ true → is_subclass files (if is_interface files c then java_lang_object else c) (if is_interface files d then java_lang_object else d) ≡ true
+  made_classes : (c d : Name) → is_subclass files c d ≡ true
+      → is_subclass files (if is_interface files c then java_lang_object else c) (if is_interface files d then java_lang_object else d)
+      ≡ true
   made_classes c d e =
       let up : is_subclass files c (if is_interface files d then java_lang_object else d) ≡ true = linked.subtype_made c d (or_left (is_subclass files c d) _ e) in
       cond_both (is_interface files c) _ _ (λ n. is_subclass files n (if is_interface files d then java_lang_object else d) ≡ true)
@@ -64,7 +72,8 @@ module _ (files : Program) (linked : Linked files) where
       (λ i. up)
 
   -- the order of types is kept by what the verifier makes of them
-  pub made_monotone : (u t : ReferenceType) → is_assignable files u t ≡ true → is_assignable files (made_type files u) (made_type files t) ≡ true
+  pub made_monotone : (u t : ReferenceType) → is_assignable files u t ≡ true
+      → is_assignable files (made_type files u) (made_type files t) ≡ true
   made_monotone (ClassType c) (ClassType d) e = made_classes c d e
   made_monotone (ClassType c) (PrimitiveArray b) e = e
   made_monotone (ClassType c) (ReferenceArray b) e = e

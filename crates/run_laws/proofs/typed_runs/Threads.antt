@@ -91,10 +91,13 @@ go_of files objects t a b x = record { still = still; started = started }
 -- ---- one thread is changed
 
 -- any thread, whose pending exception and status stay
-pub set_stays : (threads : List Thread) (k : ℕ) (new : Thread) → new.object ≡ (slice_index_or threads k no_thread).object → Kept (slice_index_or threads k no_thread) new → AllStay threads (slice_set threads k new)
+pub set_stays : (threads : List Thread) (k : ℕ) (new : Thread) → new.object ≡ (slice_index_or threads k no_thread).object
+    → Kept (slice_index_or threads k no_thread) new → AllStay threads (slice_set threads k new)
 set_stays threads k new o q = record { still = still threads k o q; none = λ u e. set_none threads k u new e }
   where
-    still : (threads : List Thread) (k : ℕ) → new.object ≡ (slice_index_or threads k no_thread).object → Kept (slice_index_or threads k no_thread) new → (u : ℕ) (thread : Thread) → slice_get threads u ≡ Some thread → Stays (slice_set threads k new) u thread
+    still : (threads : List Thread) (k : ℕ) → new.object ≡ (slice_index_or threads k no_thread).object
+        → Kept (slice_index_or threads k no_thread) new → (u : ℕ) (thread : Thread) → slice_get threads u ≡ Some thread
+        → Stays (slice_set threads k new) u thread
     still [] k o q u thread e = absurd cc
     still (x ∷ xs) zero o q zero thread e =
         let same : x ≡ thread = cc in
@@ -105,10 +108,12 @@ set_stays threads k new o q = record { still = still threads k o q; none = λ u 
         let s = still xs k o q u thread e in record { thread = s.thread; there = s.there; object = s.object; kept = s.kept }
 
 -- the thread that moves
-pub own_go : (files : Program) (objects : List ReferenceType) (t : ℕ) (threads : List Thread) (old new : Thread) → slice_get threads t ≡ Some old → new.object ≡ old.object → Go files objects t threads (slice_set threads t new)
+pub own_go : (files : Program) (objects : List ReferenceType) (t : ℕ) (threads : List Thread) (old new : Thread)
+    → slice_get threads t ≡ Some old → new.object ≡ old.object → Go files objects t threads (slice_set threads t new)
 own_go files objects t threads old new there o = record { still = λ u thread e. still u thread e (u == t) refl; started = started }
   where
-    still : (u : ℕ) (thread : Thread) → slice_get threads u ≡ Some thread → (b : Bool) → (u == t) ≡ b → Still t (slice_set threads t new) u thread
+    still : (u : ℕ) (thread : Thread) → slice_get threads u ≡ Some thread → (b : Bool) → (u == t) ≡ b
+        → Still t (slice_set threads t new) u thread
     still u thread e true q =
         let same : u ≡ t = eqb-true u t q in
         let old_is : thread ≡ old = same_Some thread old (sym e ∙ (ap (slice_get threads) same ∙ there)) in
@@ -126,7 +131,8 @@ own_go files objects t threads old new there o = record { still = λ u thread e.
           kept = λ n. kept_self thread;
         }
 
-    started : (u : ℕ) (thread : Thread) → slice_get threads u ≡ None → slice_get (slice_set threads t new) u ≡ Some thread → Started files objects thread
+    started : (u : ℕ) (thread : Thread) → slice_get threads u ≡ None → slice_get (slice_set threads t new) u ≡ Some thread
+        → Started files objects thread
     started u thread n e = let none : slice_get (slice_set threads t new) u ≡ None = set_none threads t u new n in absurd cc
 
 -- ---- who waits
@@ -136,14 +142,17 @@ abbrev pub waits : List Thread → ℕ → ℕ → Bool
 waits threads object u = option_map_or (λ (thread : Thread). is_waiting_for object thread.status) (slice_get threads u) false
 
 -- who waited does so still
-pub wait_sets_weaken : (xs ys : List Thread) → ((object u : ℕ) → waits xs object u ≡ true → waits ys object u ≡ true) → (k : ℕ) (ms : List Monitor) → are_wait_sets xs k ms ≡ true → are_wait_sets ys k ms ≡ true
+pub wait_sets_weaken : (xs ys : List Thread) → ((object u : ℕ) → waits xs object u ≡ true → waits ys object u ≡ true) → (k : ℕ)
+    (ms : List Monitor) → are_wait_sets xs k ms ≡ true → are_wait_sets ys k ms ≡ true
 wait_sets_weaken xs ys w k [] h = refl
 wait_sets_weaken xs ys w k (m ∷ ms) h =
     let a = and_parts _ _ h in
     let b = and_parts _ _ a.0 in
     and_from _ _ (and_from _ _ (all_weaken (is_waiter xs k) (is_waiter ys k) m.waiters (λ waiter q. w k waiter.thread q) b.0) b.1) (wait_sets_weaken xs ys w (suc k) ms a.1)
 
-pub set_waits : (threads : List Thread) (k : ℕ) (new : Thread) → ((object : ℕ) → is_waiting_for object (slice_index_or threads k no_thread).status ≡ true → is_waiting_for object new.status ≡ true) → (object u : ℕ) → waits threads object u ≡ true → waits (slice_set threads k new) object u ≡ true
+pub set_waits : (threads : List Thread) (k : ℕ) (new : Thread)
+    → ((object : ℕ) → is_waiting_for object (slice_index_or threads k no_thread).status ≡ true → is_waiting_for object new.status ≡ true)
+    → (object u : ℕ) → waits threads object u ≡ true → waits (slice_set threads k new) object u ≡ true
 set_waits [] k new w object u h = h
 set_waits (x ∷ xs) zero new w object zero h = w object h
 set_waits (x ∷ xs) zero new w object (suc u) h = h
@@ -151,7 +160,9 @@ set_waits (x ∷ xs) (suc k) new w object zero h = h
 set_waits (x ∷ xs) (suc k) new w object (suc u) h = set_waits xs k new w object u h
 
 -- a monitor that keeps its waiters
-pub wait_sets_set : (threads : List Thread) (k : ℕ) (ms : List Monitor) (r : ℕ) (m : Monitor) → m.waiters ≡ (slice_index_or ms r unlocked).waiters → are_wait_sets threads k ms ≡ true → are_wait_sets threads k (slice_set ms r m) ≡ true
+pub wait_sets_set : (threads : List Thread) (k : ℕ) (ms : List Monitor) (r : ℕ) (m : Monitor)
+    → m.waiters ≡ (slice_index_or ms r unlocked).waiters → are_wait_sets threads k ms ≡ true
+    → are_wait_sets threads k (slice_set ms r m) ≡ true
 wait_sets_set threads k [] r m e h = refl
 wait_sets_set threads k (x ∷ ms) zero m e h =
     let a = and_parts _ _ h in
@@ -160,6 +171,7 @@ wait_sets_set threads k (x ∷ ms) (suc r) m e h =
     let a = and_parts _ _ h in and_from _ _ a.0 (wait_sets_set threads (suc k) ms r m e a.1)
 
 -- a new monitor
-pub wait_sets_new : (threads : List Thread) (k : ℕ) (ms : List Monitor) → are_wait_sets threads k ms ≡ true → are_wait_sets threads k (ms ++ unlocked ∷ []) ≡ true
+pub wait_sets_new : (threads : List Thread) (k : ℕ) (ms : List Monitor) → are_wait_sets threads k ms ≡ true
+    → are_wait_sets threads k (ms ++ unlocked ∷ []) ≡ true
 wait_sets_new threads k [] h = refl
 wait_sets_new threads k (m ∷ ms) h = let a = and_parts _ _ h in and_from _ _ a.0 (wait_sets_new threads (suc k) ms a.1)

@@ -39,7 +39,8 @@ all_remove p (x ∷ xs) zero h = (and_parts _ _ h).1
 all_remove p (x ∷ xs) (suc k) h = let q = and_parts _ _ h in and_from _ _ q.0 (all_remove p xs k q.1)
 
 -- of those that pass one test and not another
-all_weaken_none : {A : Type 0} (p t q : A → Bool) (xs : List A) → ((x : A) → p x ≡ true → t x ≡ false → q x ≡ true) → list_all p xs ≡ true → list_any t xs ≡ false → list_all q xs ≡ true
+all_weaken_none : {A : Type 0} (p t q : A → Bool) (xs : List A) → ((x : A) → p x ≡ true → t x ≡ false → q x ≡ true) → list_all p xs ≡ true
+    → list_any t xs ≡ false → list_all q xs ≡ true
 all_weaken_none p t q [] w h n = refl
 all_weaken_none p t q (x ∷ xs) w h n =
     let g = and_parts _ _ h in
@@ -56,7 +57,8 @@ distinct_remove (w ∷ ws) (suc k) h =
     let q = and_parts _ _ h in
     and_from _ _ (not_from_false _ (none_remove (is_of w.thread) ws k (not-true _ q.0))) (distinct_remove ws k q.1)
 
-pub removed_out : (ws : List Waiter) (k : ℕ) (w : Waiter) → slice_get ws k ≡ Some w → are_distinct ws ≡ true → list_any (is_of w.thread) (remove ws k) ≡ false
+pub removed_out : (ws : List Waiter) (k : ℕ) (w : Waiter) → slice_get ws k ≡ Some w → are_distinct ws ≡ true
+    → list_any (is_of w.thread) (remove ws k) ≡ false
 removed_out [] k w e h = absurd cc
 removed_out (x ∷ ws) zero w e h =
     let same : x ≡ w = cc in
@@ -94,14 +96,16 @@ without_out u (w ∷ ws) h =
 
 -- ---- members that join
 
-pub distinct_new : (ws : List Waiter) (w : Waiter) → are_distinct ws ≡ true → list_any (is_of w.thread) ws ≡ false → are_distinct (ws ++ w ∷ []) ≡ true
+pub distinct_new : (ws : List Waiter) (w : Waiter) → are_distinct ws ≡ true → list_any (is_of w.thread) ws ≡ false
+    → are_distinct (ws ++ w ∷ []) ≡ true
 distinct_new [] w h n = refl
 distinct_new (x ∷ ws) w h n =
     let q = and_parts _ _ h in
     let m = or_parts _ _ n in
     and_from _ _ (not_from_false _ (none_append (is_of x.thread) ws w (not-true _ q.0) (eq_sym_false x.thread w.thread m.0))) (distinct_new ws w q.1 m.1)
 
-pub none_waits : (threads : List Thread) (r u : ℕ) (ws : List Waiter) → waits threads r u ≡ false → list_all (is_waiter threads r) ws ≡ true → list_any (is_of u) ws ≡ false
+pub none_waits : (threads : List Thread) (r u : ℕ) (ws : List Waiter) → waits threads r u ≡ false
+    → list_all (is_waiter threads r) ws ≡ true → list_any (is_of u) ws ≡ false
 none_waits threads r u [] n h = refl
 none_waits threads r u (w ∷ ws) n h =
     let q = and_parts _ _ h in
@@ -114,7 +118,8 @@ pub record Members (threads : List Thread) (object : ℕ) (ws : List Waiter) : T
   pub wait : list_all (is_waiter threads object) ws ≡ true
   pub distinct : are_distinct ws ≡ true
 
-sets_from : (threads : List Thread) (k : ℕ) (ms : List Monitor) (i n : ℕ) → n ≡ k + i → are_wait_sets threads k ms ≡ true → Members threads n (slice_index_or ms i unlocked).waiters
+sets_from : (threads : List Thread) (k : ℕ) (ms : List Monitor) (i n : ℕ) → n ≡ k + i → are_wait_sets threads k ms ≡ true
+    → Members threads n (slice_index_or ms i unlocked).waiters
 sets_from threads k [] i n e h = record { wait = refl; distinct = refl }
 sets_from threads k (m ∷ ms) zero n e h =
     let same : k ≡ n = omega arith in
@@ -123,10 +128,12 @@ sets_from threads k (m ∷ ms) zero n e h =
 sets_from threads k (m ∷ ms) (suc i) n e h =
     let next : n ≡ suc k + i = omega arith in sets_from threads (suc k) ms i n next (and_parts _ _ h).1
 
-pub members_at : (threads : List Thread) (ms : List Monitor) (r : ℕ) → are_wait_sets threads 0 ms ≡ true → Members threads r (slice_index_or ms r unlocked).waiters
+pub members_at : (threads : List Thread) (ms : List Monitor) (r : ℕ) → are_wait_sets threads 0 ms ≡ true
+    → Members threads r (slice_index_or ms r unlocked).waiters
 members_at threads ms r h = let e : r ≡ 0 + r = omega arith in sets_from threads 0 ms r r e h
 
-put_from : (threads : List Thread) (k : ℕ) (ms : List Monitor) (i n : ℕ) (m : Monitor) → n ≡ k + i → Members threads n m.waiters → are_wait_sets threads k ms ≡ true → are_wait_sets threads k (slice_set ms i m) ≡ true
+put_from : (threads : List Thread) (k : ℕ) (ms : List Monitor) (i n : ℕ) (m : Monitor) → n ≡ k + i → Members threads n m.waiters
+    → are_wait_sets threads k ms ≡ true → are_wait_sets threads k (slice_set ms i m) ≡ true
 put_from threads k [] i n m e w h = refl
 put_from threads k (x ∷ ms) zero n m e w h =
     let same : n ≡ k = omega arith in
@@ -136,7 +143,8 @@ put_from threads k (x ∷ ms) (suc i) n m e w h =
     let next : n ≡ suc k + i = omega arith in
     and_from _ _ (and_parts _ _ h).0 (put_from threads (suc k) ms i n m next w (and_parts _ _ h).1)
 
-pub wait_sets_put : (threads : List Thread) (ms : List Monitor) (r : ℕ) (m : Monitor) → Members threads r m.waiters → are_wait_sets threads 0 ms ≡ true → are_wait_sets threads 0 (slice_set ms r m) ≡ true
+pub wait_sets_put : (threads : List Thread) (ms : List Monitor) (r : ℕ) (m : Monitor) → Members threads r m.waiters
+    → are_wait_sets threads 0 ms ≡ true → are_wait_sets threads 0 (slice_set ms r m) ≡ true
 wait_sets_put threads ms r m w h = let e : r ≡ 0 + r = omega arith in put_from threads 0 ms r r m e w h
 
 -- ---- a thread that leaves its wait set
@@ -151,7 +159,8 @@ waiting_one (Ended exception) p q h g = absurd (false≢true h)
 waits_one : (threads : List Thread) (u p q : ℕ) → waits threads p u ≡ true → waits threads q u ≡ true → p ≡ q
 waits_one threads u p q h g = by (slice_get threads u) h g
   where
-    by : (o : Option Thread) → option_map_or (λ (thread : Thread). is_waiting_for p thread.status) o false ≡ true → option_map_or (λ (thread : Thread). is_waiting_for q thread.status) o false ≡ true → p ≡ q
+    by : (o : Option Thread) → option_map_or (λ (thread : Thread). is_waiting_for p thread.status) o false ≡ true
+        → option_map_or (λ (thread : Thread). is_waiting_for q thread.status) o false ≡ true → p ≡ q
     by None h g = absurd (false≢true h)
     by (Some thread) h g = waiting_one thread.status p q h g
 
@@ -164,33 +173,40 @@ pub record WaitsThere (threads : List Thread) (r u : ℕ) : Type 0 where
 pub waits_there : (threads : List Thread) (r u : ℕ) → waits threads r u ≡ true → WaitsThere threads r u
 waits_there threads r u h = by (slice_get threads u) refl h
   where
-    of : (thread : Thread) (s : ThreadStatus) → slice_get threads u ≡ Some thread → thread.status ≡ s → is_waiting_for r s ≡ true → WaitsThere threads r u
+    of : (thread : Thread) (s : ThreadStatus) → slice_get threads u ≡ Some thread → thread.status ≡ s → is_waiting_for r s ≡ true
+        → WaitsThere threads r u
     of thread Running e q h = absurd (false≢true h)
     of thread (Waiting object count) e q h =
         record { thread = thread; there = e; count = count; status = q ∙ ap (λ o. Waiting o count) (eqb-true object r h) }
     of thread (Relock object count cause) e q h = absurd (false≢true h)
     of thread (Ended exception) e q h = absurd (false≢true h)
 
-    by : (o : Option Thread) → slice_get threads u ≡ o → option_map_or (λ (thread : Thread). is_waiting_for r thread.status) o false ≡ true → WaitsThere threads r u
+    by : (o : Option Thread) → slice_get threads u ≡ o → option_map_or (λ (thread : Thread). is_waiting_for r thread.status) o false ≡ true
+        → WaitsThere threads r u
     by None e h = absurd (false≢true h)
     by (Some thread) e h = of thread thread.status e refl h
 
 -- the others wait still
-pub waits_other : (threads : List Thread) (k : ℕ) (new : Thread) (r u : ℕ) → (u == k) ≡ false → waits threads r u ≡ true → waits (slice_set threads k new) r u ≡ true
+pub waits_other : (threads : List Thread) (k : ℕ) (new : Thread) (r u : ℕ) → (u == k) ≡ false → waits threads r u ≡ true
+    → waits (slice_set threads k new) r u ≡ true
 waits_other threads k new r u n h =
     subst (λ o. option_map_or (λ (thread : Thread). is_waiting_for r thread.status) o false ≡ true) (sym (get_set_other threads k u new (λ e. false≢true (sym n ∙ eq-eqb u k (sym e))))) h
 
-pub all_wait_other : (threads : List Thread) (k : ℕ) (new : Thread) (r : ℕ) (ws : List Waiter) → list_any (is_of k) ws ≡ false → list_all (is_waiter threads r) ws ≡ true → list_all (is_waiter (slice_set threads k new) r) ws ≡ true
+pub all_wait_other : (threads : List Thread) (k : ℕ) (new : Thread) (r : ℕ) (ws : List Waiter) → list_any (is_of k) ws ≡ false
+    → list_all (is_waiter threads r) ws ≡ true → list_all (is_waiter (slice_set threads k new) r) ws ≡ true
 all_wait_other threads k new r ws n h =
     all_weaken_none (is_waiter threads r) (is_of k) (is_waiter (slice_set threads k new) r) ws (λ w q m. waits_other threads k new r w.thread m q) h n
 
 module _ (threads : List Thread) (r u : ℕ) (new : Thread) (h : waits threads r u ≡ true) where
   -- it is in no other wait set, as it waits for this one
-  elsewhere : (object : ℕ) (ws : List Waiter) → (object ≡ r → ⊥) → list_all (is_waiter threads object) ws ≡ true → list_any (is_of u) ws ≡ false
+  elsewhere : (object : ℕ) (ws : List Waiter) → (object ≡ r → ⊥) → list_all (is_waiter threads object) ws ≡ true
+      → list_any (is_of u) ws ≡ false
   elsewhere object ws n all =
       none_waits threads object u ws (false_from_ne_true (waits threads object u) (λ q. n (waits_one threads u object r q h))) all
 
-  left_from : (k : ℕ) (ms : List Monitor) → ((i n : ℕ) → n ≡ k + i → n ≡ r → list_any (is_of u) (slice_index_or ms i unlocked).waiters ≡ false) → are_wait_sets threads k ms ≡ true → are_wait_sets (slice_set threads u new) k ms ≡ true
+  left_from : (k : ℕ) (ms : List Monitor)
+      → ((i n : ℕ) → n ≡ k + i → n ≡ r → list_any (is_of u) (slice_index_or ms i unlocked).waiters ≡ false)
+      → are_wait_sets threads k ms ≡ true → are_wait_sets (slice_set threads u new) k ms ≡ true
   left_from k [] out sets = refl
   left_from k (m ∷ ms) out sets =
       let q = and_parts _ _ sets in
@@ -203,6 +219,7 @@ module _ (threads : List Thread) (r u : ℕ) (new : Thread) (h : waits threads r
       gone false e all = elsewhere k m.waiters (λ same. false≢true (sym e ∙ eq-eqb k r same)) all
 
   -- where its monitor does not have it any more
-  pub wait_sets_left : (ms : List Monitor) → list_any (is_of u) (slice_index_or ms r unlocked).waiters ≡ false → are_wait_sets threads 0 ms ≡ true → are_wait_sets (slice_set threads u new) 0 ms ≡ true
+  pub wait_sets_left : (ms : List Monitor) → list_any (is_of u) (slice_index_or ms r unlocked).waiters ≡ false
+      → are_wait_sets threads 0 ms ≡ true → are_wait_sets (slice_set threads u new) 0 ms ≡ true
   wait_sets_left ms out sets =
       left_from 0 ms (λ i n e same. let is : r ≡ i = omega arith in subst (λ j. list_any (is_of u) (slice_index_or ms j unlocked).waiters ≡ false) is out) sets

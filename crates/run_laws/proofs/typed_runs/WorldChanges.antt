@@ -52,7 +52,8 @@ live_after files t a b x live =
     }
 
 -- one change after another, where the thread that moves was there
-pub changes_trans : (files : Program) (t : ℕ) (a b c : World) (thread : Thread) → slice_get a.threads t ≡ Some thread → Changes files t a b → Changes files t b c → Changes files t a c
+pub changes_trans : (files : Program) (t : ℕ) (a b c : World) (thread : Thread) → slice_get a.threads t ≡ Some thread → Changes files t a b
+    → Changes files t b c → Changes files t a c
 changes_trans files t a b c thread there x y =
     record { extends = extends_trans _ _ _ x.extends y.extends; fits = y.fits; go = record { still = still; started = started } }
   where
@@ -62,7 +63,8 @@ changes_trans files t a b c thread there x y =
         let z = y.go.still u s.thread s.there in
         record { thread = z.thread; there = z.there; object = z.object ∙ s.object; kept = λ q. kept_trans th s.thread z.thread (s.kept q) (z.kept q) }
 
-    new_before : (u : ℕ) (th m : Thread) → slice_get a.threads u ≡ None → slice_get b.threads u ≡ Some m → slice_get c.threads u ≡ Some th → (e : Bool) → (u == t) ≡ e → Started files (types_of c.heap) th
+    new_before : (u : ℕ) (th m : Thread) → slice_get a.threads u ≡ None → slice_get b.threads u ≡ Some m → slice_get c.threads u ≡ Some th
+        → (e : Bool) → (u == t) ≡ e → Started files (types_of c.heap) th
     new_before u th m n r w true q = let same : u ≡ t = eqb-true u t q in let no : slice_get a.threads t ≡ None = subst (λ k. slice_get a.threads k ≡ None) same n in absurd cc
     new_before u th m n r w false q =
         let s = x.go.started u m n r in
@@ -77,7 +79,8 @@ changes_trans files t a b c thread there x y =
           object = subst (λ o. is_object_in files (types_of c.heap) java_lang_thread o ≡ true) (sym z.object) object;
         })
 
-    new_by : (u : ℕ) (th : Thread) → slice_get a.threads u ≡ None → slice_get c.threads u ≡ Some th → (o : Option Thread) → slice_get b.threads u ≡ o → Started files (types_of c.heap) th
+    new_by : (u : ℕ) (th : Thread) → slice_get a.threads u ≡ None → slice_get c.threads u ≡ Some th → (o : Option Thread)
+        → slice_get b.threads u ≡ o → Started files (types_of c.heap) th
     new_by u th n w None r = y.go.started u th r w
     new_by u th n w (Some m) r = new_before u th m n r w (u == t) refl
 
@@ -86,7 +89,8 @@ changes_trans files t a b c thread there x y =
 
 -- ---- monitors that keep their waiters
 
-enter_waiters : (t : ℕ) (m : Monitor) (o : Option ℕ) (x y : Monitor) → x.waiters ≡ m.waiters → y.waiters ≡ m.waiters → (as_entrant t o m (answers_done x) (answers_done y)).after.waiters ≡ m.waiters
+enter_waiters : (t : ℕ) (m : Monitor) (o : Option ℕ) (x y : Monitor) → x.waiters ≡ m.waiters → y.waiters ≡ m.waiters
+    → (as_entrant t o m (answers_done x) (answers_done y)).after.waiters ≡ m.waiters
 enter_waiters t m None x y p q = p
 enter_waiters t m (Some owner) x y p q = cond_both (owner == t) _ _ (λ (a : Answered Monitor). a.after.waiters ≡ m.waiters) (λ e. q) (λ e. refl)
 
@@ -96,13 +100,15 @@ owner_waiters t m x p = cond_both (owns t m.owner) _ _ (λ (a : Answered Monitor
 released_waiters : (m : Monitor) (count : ℕ) → (released m count).waiters ≡ m.waiters
 released_waiters m count = cond_both (count == 0) _ _ (λ (n : Monitor). n.waiters ≡ m.waiters) (λ e. refl) (λ e. refl)
 
-relock_waiters : (m : Monitor) (o : Option ℕ) (x : Monitor) → x.waiters ≡ m.waiters → (relock_from o m (answers_done x)).after.waiters ≡ m.waiters
+relock_waiters : (m : Monitor) (o : Option ℕ) (x : Monitor) → x.waiters ≡ m.waiters
+    → (relock_from o m (answers_done x)).after.waiters ≡ m.waiters
 relock_waiters m None x p = p
 relock_waiters m (Some owner) x p = refl
 
 -- ---- changes
 
-length_new : {A B : Type 0} (xs : List A) (ys : List B) (x : A) (y : B) → length xs ≡ length ys → length (xs ++ x ∷ []) ≡ length (ys ++ y ∷ [])
+length_new : {A B : Type 0} (xs : List A) (ys : List B) (x : A) (y : B) → length xs ≡ length ys
+    → length (xs ++ x ∷ []) ≡ length (ys ++ y ∷ [])
 length_new [] [] x y e = refl
 length_new [] (b ∷ ys) x y e = absurd cc
 length_new (a ∷ xs) [] x y e = absurd cc
@@ -113,7 +119,8 @@ module _ (files : Program) (world : World) (fits : Fits files world) where
   self_keeps = record { extends = extends_self _; fits = fits; threads = stay_self world.threads }
 
   -- a new object
-  pub allocated_keeps : (o : ObjectOf Value) → is_object_typed files (types_of (world.heap ++ o ∷ [])) o ≡ true → Keeps files world (allocated world o)
+  pub allocated_keeps : (o : ObjectOf Value) → is_object_typed files (types_of (world.heap ++ o ∷ [])) o ≡ true
+      → Keeps files world (allocated world o)
   allocated_keeps o h =
       let x = added_extends files world.heap fits.heap o in
       record {
@@ -129,7 +136,8 @@ module _ (files : Program) (world : World) (fits : Fits files world) where
       }
 
   -- an object that goes on being of its type
-  pub object_keeps : (r : ℕ) (old new : ObjectOf Value) → slice_get world.heap r ≡ Some old → type_of new ≡ type_of old → is_object_typed files (types_of world.heap) new ≡ true → Keeps files world (with_object world r new)
+  pub object_keeps : (r : ℕ) (old new : ObjectOf Value) → slice_get world.heap r ≡ Some old → type_of new ≡ type_of old
+      → is_object_typed files (types_of world.heap) new ≡ true → Keeps files world (with_object world r new)
   object_keeps r old new e same h =
       let x = changed_extends files world.heap fits.heap r old new e same h in
       record {
@@ -144,7 +152,8 @@ module _ (files : Program) (world : World) (fits : Fits files world) where
         threads = stay_self world.threads;
       }
 
-  pub static_keeps : (field : Member) (v : Value) → is_field_typed files (types_of world.heap) (field, v) ≡ true → Keeps files world (with_static world field v)
+  pub static_keeps : (field : Member) (v : Value) → is_field_typed files (types_of world.heap) (field, v) ≡ true
+      → Keeps files world (with_static world field v)
   static_keeps field v h =
       record {
         extends = extends_self _;
@@ -175,7 +184,8 @@ module _ (files : Program) (world : World) (fits : Fits files world) where
       }
 
   -- a monitor that keeps its waiters
-  pub monitor_keeps : (r : ℕ) (m : Monitor) → m.waiters ≡ (monitor_at world.monitors r).waiters → Keeps files world (record world { monitors = slice_set world.monitors r m })
+  pub monitor_keeps : (r : ℕ) (m : Monitor) → m.waiters ≡ (monitor_at world.monitors r).waiters
+      → Keeps files world (record world { monitors = slice_set world.monitors r m })
   monitor_keeps r m e =
       record {
         extends = extends_self _;
@@ -205,7 +215,8 @@ module _ (files : Program) (world : World) (fits : Fits files world) where
       monitor_keeps r (monitor_relock t count m).after (relock_waiters m m.owner (owned m t count) refl)
 
   -- a thread, whose pending exception and status stay
-  pub thread_keeps : (u : ℕ) (new : Thread) → new.object ≡ (thread_at world u).object → new.pending ≡ (thread_at world u).pending → new.status ≡ (thread_at world u).status → Keeps files world (with_thread world u new)
+  pub thread_keeps : (u : ℕ) (new : Thread) → new.object ≡ (thread_at world u).object → new.pending ≡ (thread_at world u).pending
+      → new.status ≡ (thread_at world u).status → Keeps files world (with_thread world u new)
   thread_keeps u new o p s =
       record {
         extends = extends_self _;
@@ -226,7 +237,9 @@ module _ (files : Program) (world : World) (fits : Fits files world) where
   begun_keeps u = thread_keeps u (record (thread_at world u) { begun = true }) refl refl refl
 
   -- the thread that moves, which waits for nothing that it didn't wait for before
-  pub own_changes : (t : ℕ) (old new : Thread) → slice_get world.threads t ≡ Some old → new.object ≡ old.object → ((object : ℕ) → is_waiting_for object old.status ≡ true → is_waiting_for object new.status ≡ true) → Changes files t world (with_thread world t new)
+  pub own_changes : (t : ℕ) (old new : Thread) → slice_get world.threads t ≡ Some old → new.object ≡ old.object
+      → ((object : ℕ) → is_waiting_for object old.status ≡ true → is_waiting_for object new.status ≡ true)
+      → Changes files t world (with_thread world t new)
   own_changes t old new there o w =
       let is : thread_at world t ≡ old = get_or_from_slice_get world.threads t old no_thread there in
       record {
@@ -244,9 +257,13 @@ module _ (files : Program) (world : World) (fits : Fits files world) where
 -- ---- outcomes
 
 -- on to an offset where the frame is ready, in a world that is kept so
-pub goes_on : (files : Program) (t : ℕ) (world after : World) (frame : Frame) (cost : Cost) (slots : Slots Value) (to : ℕ) → Live world t → Keeps files world after → Ready files (types_of after.heap) (at_offset frame to slots) → OutcomeTyped files t world frame (Goes cost after slots to)
+pub goes_on : (files : Program) (t : ℕ) (world after : World) (frame : Frame) (cost : Cost) (slots : Slots Value) (to : ℕ) → Live world t
+    → Keeps files world after → Ready files (types_of after.heap) (at_offset frame to slots)
+    → OutcomeTyped files t world frame (Goes cost after slots to)
 goes_on files t world after frame cost slots to live x ready =
     (changes_of files t world after x, (live_after files t world after x live, ready))
 
-pub gives_back : (files : Program) (t : ℕ) (world : World) (frame : Frame) (results : List Value) → Fits files world → Live world t → are_typed files (types_of world.heap) (result_types files frame.method) results ≡ true → OutcomeTyped files t world frame (Returns world results)
+pub gives_back : (files : Program) (t : ℕ) (world : World) (frame : Frame) (results : List Value) → Fits files world → Live world t
+    → are_typed files (types_of world.heap) (result_types files frame.method) results ≡ true
+    → OutcomeTyped files t world frame (Returns world results)
 gives_back files t world frame results fits live h = (changes_of files t world world (self_keeps files world fits), (live, h))

@@ -38,12 +38,14 @@ Alive t NotEnabled = Unit {0}
 Alive t WrongKind = Unit {0}
 Alive t (Next cost p) = IsAlive t p.world
 
-set_alive : (threads : List Thread) (t : ℕ) (new : Thread) → has_ended new.status ≡ false → has_ended (slice_index_or (slice_set threads t new) t no_thread).status ≡ false
+set_alive : (threads : List Thread) (t : ℕ) (new : Thread) → has_ended new.status ≡ false
+    → has_ended (slice_index_or (slice_set threads t new) t no_thread).status ≡ false
 set_alive [] t new h = refl
 set_alive (x ∷ xs) zero new h = h
 set_alive (x ∷ xs) (suc t) new h = set_alive xs t new h
 
-pub status_alive : (world : World) (t : ℕ) (thread : Thread) → slice_get world.threads t ≡ Some thread → has_ended thread.status ≡ false → IsAlive t world
+pub status_alive : (world : World) (t : ℕ) (thread : Thread) → slice_get world.threads t ≡ Some thread → has_ended thread.status ≡ false
+    → IsAlive t world
 status_alive world t thread there h = ap (λ (th : Thread). has_ended th.status) (get_or_from_slice_get world.threads t thread no_thread there) ∙ h
 
 live_alive : (world : World) (t : ℕ) → Live world t → IsAlive t world
@@ -62,11 +64,13 @@ module _ (t : ℕ) where
 
   -- ---- calls and returns
 
-  entering_alive : (world : World) (rest : StackOf Value) (frame : Frame) (o : Option ℕ) → IsAlive t world → Alive t (entering t world rest frame o)
+  entering_alive : (world : World) (rest : StackOf Value) (frame : Frame) (o : Option ℕ) → IsAlive t world
+      → Alive t (entering t world rest frame o)
   entering_alive world rest frame None h = h
   entering_alive world rest frame (Some object) h = enabled_alive (may_enter world t object) _ (λ q. h)
 
-  pushed_alive : (frames : ℕ) (world after : World) (stack rest : StackOf Value) (frame : Frame) → IsAlive t world → IsAlive t after → Alive t (pushed frames t world after stack rest frame)
+  pushed_alive : (frames : ℕ) (world after : World) (stack rest : StackOf Value) (frame : Frame) → IsAlive t world → IsAlive t after
+      → Alive t (pushed frames t world after stack rest frame)
   pushed_alive frames world after stack rest frame h g =
       cond_both (nat_lt (frame_count stack) frames) _ _ (Alive t) (λ q. entering_alive after rest frame frame.entered g) (λ q. raised_alive StackOverflow world stack h)
 
@@ -77,11 +81,13 @@ module _ (t : ℕ) where
 
   -- ---- classes
 
-  constant_alive : (world : World) (field : Member) (o : Option Value) → IsAlive t world → IsAlive t (option_map_or (λ v. with_static world field (put_value values field v)) o world)
+  constant_alive : (world : World) (field : Member) (o : Option Value) → IsAlive t world
+      → IsAlive t (option_map_or (λ v. with_static world field (put_value values field v)) o world)
   constant_alive world field None h = h
   constant_alive world field (Some v) h = h
 
-  constants_alive : (files : Program) (class : Name) (pool : List Entry) (world : World) (fields : List FieldTree) → IsAlive t world → IsAlive t (with_constants values files class pool world fields)
+  constants_alive : (files : Program) (class : Name) (pool : List Entry) (world : World) (fields : List FieldTree) → IsAlive t world
+      → IsAlive t (with_constants values files class pool world fields)
   constants_alive files class pool world [] h = h
   constants_alive files class pool world (field ∷ fields) h =
       constants_alive files class pool (with_constant values files class pool world field) fields (constant_alive world (field_member class pool field) (constant_value values files pool field) h)
@@ -89,23 +95,28 @@ module _ (t : ℕ) where
   begun_alive : (files : Program) (class : Name) (world : World) → IsAlive t world → IsAlive t (with_class_begun values files t class world)
   begun_alive files class world h = by (class_of files class)
     where
-      by : (o : Option FileTree) → IsAlive t (option_map_or (λ (file : FileTree). with_constants values files class file.pool (with_class_status world class (InProgress t)) file.fields) o (with_class_status world class (InProgress t)))
+      by : (o : Option FileTree) → IsAlive t (option_map_or
+          (λ (file : FileTree). with_constants values files class file.pool (with_class_status world class (InProgress t)) file.fields)
+          o (with_class_status world class (InProgress t)))
       by None = h
       by (Some file) = constants_alive files class file.pool (with_class_status world class (InProgress t)) file.fields h
 
-  needing_alive : (files : Program) (class : Name) (look : Look) (world : World) (stack : StackOf Value) (rest : SteppedOf (PartOf Value)) → IsAlive t world → Alive t rest → Alive t (needing values files t class look world stack rest)
+  needing_alive : (files : Program) (class : Name) (look : Look) (world : World) (stack : StackOf Value) (rest : SteppedOf (PartOf Value))
+      → IsAlive t world → Alive t rest → Alive t (needing values files t class look world stack rest)
   needing_alive files class IsReady world stack rest h r = r
   needing_alive files class IsNew world stack rest h r = begun_alive files class world h
   needing_alive files class IsHeld world stack rest h r = tt
   needing_alive files class HasFailed world stack rest h r = raised_alive NoClassDefFound world stack h
 
-  needing_class_alive : (files : Program) (class : Option Name) (world : World) (stack : StackOf Value) (rest : SteppedOf (PartOf Value)) → IsAlive t world → Alive t rest → Alive t (needing_class values files t class world stack rest)
+  needing_class_alive : (files : Program) (class : Option Name) (world : World) (stack : StackOf Value) (rest : SteppedOf (PartOf Value))
+      → IsAlive t world → Alive t rest → Alive t (needing_class values files t class world stack rest)
   needing_class_alive files None world stack rest h r = r
   needing_class_alive files (Some class) world stack rest h r = needing_alive files class (look_by t (status_of world class)) world stack rest h r
 
   -- ---- instructions
 
-  become_alive : (files : Program) (frames : ℕ) (world : World) (frame : Frame) (stack : StackOf Value) (o : OutcomeOf Value) → IsAlive t world → OutcomeTyped files t world frame o → Alive t (become files frames t world frame stack o)
+  become_alive : (files : Program) (frames : ℕ) (world : World) (frame : Frame) (stack : StackOf Value) (o : OutcomeOf Value)
+      → IsAlive t world → OutcomeTyped files t world frame o → Alive t (become files frames t world frame stack o)
   become_alive files frames world frame stack (Goes cost after slots to) h x = live_alive after t x.1.0
   become_alive files frames world frame stack (Raises fault) h x = raised_alive fault world (Invocation frame ∷ stack) h
   become_alive files frames world frame stack (Throws exception) h x = set_alive world.threads t _ h
@@ -124,44 +135,53 @@ module _ (t : ℕ) where
   failed_alive true world stack h = h
   failed_alive false world stack h = raised_alive ExceptionInInitializer world stack h
 
-  unwound_alive : (exception : ℕ) (world : World) (frame : Frame) (stack : StackOf Value) (o : Option ExceptionEntry) → IsAlive t world → Alive t (unwound values t exception world frame stack o)
+  unwound_alive : (exception : ℕ) (world : World) (frame : Frame) (stack : StackOf Value) (o : Option ExceptionEntry) → IsAlive t world
+      → Alive t (unwound values t exception world frame stack o)
   unwound_alive exception world frame stack None h = leaving_alive frame.entered world stack stack h
   unwound_alive exception world frame stack (Some entry) h = set_alive world.threads t _ h
 
-  pending_alive : (files : Program) (exception : ℕ) (thrown : Option ReferenceType) (world : World) (stack : StackOf Value) → IsAlive t world → Alive t (pending_event values files t exception thrown world stack)
+  pending_alive : (files : Program) (exception : ℕ) (thrown : Option ReferenceType) (world : World) (stack : StackOf Value)
+      → IsAlive t world → Alive t (pending_event values files t exception thrown world stack)
   pending_alive files exception thrown world [] h = tt
   pending_alive files exception thrown world (Invocation frame ∷ stack) h =
       unwound_alive exception world frame stack (option_and_then (handler_in files frame.place.offset thrown) (body_of files frame.method)) h
   pending_alive files exception thrown world (Initialisation class phase ∷ stack) h =
       failed_alive (is_object_of files (ClassType java_lang_error) thrown) (with_class_status world class Erroneous) stack h
 
-  after_alive : (files : Program) (cause : WakeCause) (world : World) (stack : StackOf Value) → IsAlive t world → Alive t (after_wait files t cause world stack)
+  after_alive : (files : Program) (cause : WakeCause) (world : World) (stack : StackOf Value) → IsAlive t world
+      → Alive t (after_wait files t cause world stack)
   after_alive files Notified world stack h = h
   after_alive files Interrupted world stack h = interrupted_alive world stack h
 
-  relock_alive : (files : Program) (object count : ℕ) (cause : WakeCause) (world : World) (stack : StackOf Value) → Alive t (relock_event files t object count cause world stack)
+  relock_alive : (files : Program) (object count : ℕ) (cause : WakeCause) (world : World) (stack : StackOf Value)
+      → Alive t (relock_event files t object count cause world stack)
   relock_alive files object count cause world stack =
       enabled_alive (is_done (monitors.relock object t count world.monitors).answer) _
       (λ q. after_alive files cause (with_status (with_monitors world (monitors.relock object t count world.monitors)) t Running) stack (set_alive world.threads t _ refl))
 
-  initialiser_alive : (frames : ℕ) (initialiser : Member) (world : World) (stack : StackOf Value) (o : Option Body) → IsAlive t world → Alive t (initialiser_event values frames t initialiser world stack o)
+  initialiser_alive : (frames : ℕ) (initialiser : Member) (world : World) (stack : StackOf Value) (o : Option Body) → IsAlive t world
+      → Alive t (initialiser_event values frames t initialiser world stack o)
   initialiser_alive frames initialiser world stack None h = h
   initialiser_alive frames initialiser world stack (Some body) h = pushed_alive frames world world stack stack (frame_with values initialiser [] None body) h h
 
-  initialisation_alive : (files : Program) (frames : ℕ) (class : Name) (phase : Phase) (world : World) (stack : StackOf Value) → IsAlive t world → Alive t (initialisation_event values files frames t class phase world stack)
+  initialisation_alive : (files : Program) (frames : ℕ) (class : Name) (phase : Phase) (world : World) (stack : StackOf Value)
+      → IsAlive t world → Alive t (initialisation_event values files frames t class phase world stack)
   initialisation_alive files frames class Super world stack h =
       needing_class_alive files (before files class) world (Initialisation class Super ∷ stack) _ h (initialiser_alive frames (initialiser_of class) world (Initialisation class End ∷ stack) (body_of files (initialiser_of class)) h)
   initialisation_alive files frames class End world stack h = h
 
-  run_frame_alive : (files : Program) (frames : ℕ) (world : World) (object : ℕ) (method : Member) (o : Option Body) → IsAlive t world → Alive t (run_frame values files frames t world object method o)
+  run_frame_alive : (files : Program) (frames : ℕ) (world : World) (object : ℕ) (method : Member) (o : Option Body) → IsAlive t world
+      → Alive t (run_frame values files frames t world object method o)
   run_frame_alive files frames world object method None h = raised_alive AbstractMethod world [] h
   run_frame_alive files frames world object method (Some body) h = pushed_alive frames world (with_begun world t) [] [] _ h (set_alive world.threads t _ h)
 
-  run_of_alive : (files : Program) (frames : ℕ) (world : World) (object : ℕ) (o : Option Member) → IsAlive t world → Alive t (run_of values files frames t world object o)
+  run_of_alive : (files : Program) (frames : ℕ) (world : World) (object : ℕ) (o : Option Member) → IsAlive t world
+      → Alive t (run_of values files frames t world object o)
   run_of_alive files frames world object None h = raised_alive AbstractMethod world [] h
   run_of_alive files frames world object (Some method) h = run_frame_alive files frames world object method (body_of files method) h
 
-main_frame_alive : (files : Program) (frames : ℕ) (world : World) (main : Member) (o : Option Body) → IsAlive 0 world → Alive 0 (main_frame values files frames world main o)
+main_frame_alive : (files : Program) (frames : ℕ) (world : World) (main : Member) (o : Option Body) → IsAlive 0 world
+    → Alive 0 (main_frame values files frames world main o)
 main_frame_alive files frames world main None h = tt
 main_frame_alive files frames world main (Some body) h = pushed_alive 0 frames world (with_begun world 0) [] [] _ h (set_alive world.threads 0 _ h)
 
@@ -174,17 +194,21 @@ begin_alive files frames world (suc t) h =
 
 -- ---- an event
 
-module _ (files : Program) (linked : Linked files) (accepted : AreTyped files) (instructions : InstructionsTyped files) (frames : ℕ) (event : Event) (world : World) (fits : Fits files world) where
+module _ (files : Program) (linked : Linked files) (accepted : AreTyped files) (instructions : InstructionsTyped files) (frames : ℕ)
+    (event : Event) (world : World) (fits : Fits files world) where
   module _ (live : Live world event.thread) (self : is_object_in files (types_of world.heap) java_lang_thread (thread_at world event.thread).object ≡ true) (frame : Frame) (stack : StackOf Value) (ready : Ready files (types_of world.heap) frame) where
     alive : IsAlive event.thread world
     alive = live_alive world event.thread live
 
-    done_alive : (flow : Flow files frame ready.stopped.stands) → flow.meaning.may event world (ops_of values flow.meaning frame.place.slots) ≡ true → Alive event.thread (done values files frames event world frame stack flow.meaning)
+    done_alive : (flow : Flow files frame ready.stopped.stands)
+        → flow.meaning.may event world (ops_of values flow.meaning frame.place.slots) ≡ true
+        → Alive event.thread (done values files frames event world frame stack flow.meaning)
     done_alive flow may =
         become_alive event.thread files frames world frame stack (flow.meaning.does event world frame.place.slots (ops_of values flow.meaning frame.place.slots) (under flow.meaning.wants frame.place.slots)) alive
         (instructions event world frame (site_with frame.method ready.stopped.stands.body frame.place.offset flow.sized) (here_of files linked accepted event.thread world frame fits live self ready flow.sized flow.is_sized) flow.meaning flow.is_meaning flow.allows may)
 
-    meant_alive : (max_stack : ℕ) (flow : Flow files frame ready.stopped.stands) → Alive event.thread (bytecode_by values files frames event world frame stack max_stack (Some flow.meaning))
+    meant_alive : (max_stack : ℕ) (flow : Flow files frame ready.stopped.stands)
+        → Alive event.thread (bytecode_by values files frames event world frame stack max_stack (Some flow.meaning))
     meant_alive max_stack flow =
         let m = flow.meaning in
         cond_both (values.finds files (types_of world.heap) m.wants max_stack frame.place.slots) _ _ (Alive event.thread)
@@ -202,7 +226,8 @@ module _ (files : Program) (linked : Linked files) (accepted : AreTyped files) (
         (meant_alive stands.body.code.max_stack flow))
 
   module _ (thread : Thread) (there : slice_get world.threads event.thread ≡ Some thread) (self : is_object_in files (types_of world.heap) java_lang_thread (thread_at world event.thread).object ≡ true) where
-    running_alive : thread.status ≡ Running → thread.pending ≡ None → (stack : StackOf Value) → IsRunning files (types_of world.heap) None stack → Alive event.thread (running_event values files frames event world stack)
+    running_alive : thread.status ≡ Running → thread.pending ≡ None → (stack : StackOf Value)
+        → IsRunning files (types_of world.heap) None stack → Alive event.thread (running_event values files frames event world stack)
     running_alive runs none [] h =
         enabled_alive event.thread (event.pick == 0) _ (λ q. begin_alive files frames world event.thread (status_alive world event.thread thread there (ap has_ended runs)))
     running_alive runs none (Invocation frame ∷ stack) h =
@@ -210,12 +235,16 @@ module _ (files : Program) (linked : Linked files) (accepted : AreTyped files) (
     running_alive runs none (Initialisation class phase ∷ stack) h =
         enabled_alive event.thread (event.pick == 0) _ (λ q. initialisation_alive event.thread files frames class phase world stack (status_alive world event.thread thread there (ap has_ended runs)))
 
-    going_alive : thread.status ≡ Running → (stack : StackOf Value) (pending : Option ℕ) → thread.pending ≡ pending → IsRunning files (types_of world.heap) pending stack → Alive event.thread (going_event values files frames event world stack pending)
+    going_alive : thread.status ≡ Running → (stack : StackOf Value) (pending : Option ℕ) → thread.pending ≡ pending
+        → IsRunning files (types_of world.heap) pending stack
+        → Alive event.thread (going_event values files frames event world stack pending)
     going_alive runs stack None e h = running_alive runs e stack h
     going_alive runs stack (Some exception) e h =
         enabled_alive event.thread (event.pick == 0) _ (λ q. pending_alive event.thread files exception (slice_get (types_of world.heap) exception) world stack (status_alive world event.thread thread there (ap has_ended runs)))
 
-    pub thread_alive : (stack : StackOf Value) (status : ThreadStatus) → thread.status ≡ status → IsStackTyped files (types_of world.heap) thread.pending stack status → Alive event.thread (thread_event values files frames event world stack status)
+    pub thread_alive : (stack : StackOf Value) (status : ThreadStatus) → thread.status ≡ status
+        → IsStackTyped files (types_of world.heap) thread.pending stack status
+        → Alive event.thread (thread_event values files frames event world stack status)
     thread_alive stack Running e h =
         let is = ap (λ (th : Thread). th.pending) (get_or_from_slice_get world.threads event.thread thread no_thread there) in
         subst (λ p. Alive event.thread (going_event values files frames event world stack p)) (sym is) (going_alive e stack thread.pending refl h)

@@ -37,7 +37,8 @@ moved_end : (a : Option ℕ) (after : ThreadStatus) → Moved (Ended a) after �
 moved_end a after (Same e) = e
 moved_end a after (Wakes o n k c was is) = absurd cc
 
-moved_from : (before : ThreadStatus) (exception : ℕ) (after : ThreadStatus) → Moved before after → after ≡ Ended (Some exception) → before ≡ Ended (Some exception)
+moved_from : (before : ThreadStatus) (exception : ℕ) (after : ThreadStatus) → Moved before after → after ≡ Ended (Some exception)
+    → before ≡ Ended (Some exception)
 moved_from before exception after (Same e) q = sym e ∙ q
 moved_from before exception after (Wakes o n k c was is) q = absurd cc
 
@@ -64,7 +65,8 @@ module _ (files : Program) (t : ℕ) (before : World) (first : Thread) (was : sl
       object_in_more files (types_of world.heap) (types_of after.heap) x.extends java_lang_throwable exception
       (pending_in files (types_of world.heap) h.thread.pending [] h.thread.status h.stack_typed exception alive_at pending_at)
 
-  own_settled : (world : World) (stack : StackOf Value) → PartTyped files t before (part world stack) → IsAlive t world → EndsBy files (end_of t world stack) t
+  own_settled : (world : World) (stack : StackOf Value) → PartTyped files t before (part world stack) → IsAlive t world
+      → EndsBy files (end_of t world stack) t
   own_settled world [] h alive thread exception there is = own_end world (is_over (thread_at world t)) h alive thread exception there is
   own_settled world (entry ∷ stack) h alive thread exception there is =
       let status = ap (λ (th : Thread). th.status) (get_or_from_slice_get world.threads t thread no_thread there) ∙ is in
@@ -91,14 +93,18 @@ Ending files NotEnabled = Unit {0}
 Ending files WrongKind = Unit {0}
 Ending files (Next cost next) = (u : ℕ) → EndsBy files next.world u
 
-module _ (files : Program) (linked : Linked files) (accepted : AreTyped files) (instructions : InstructionsTyped files) (frames : ℕ) (state : State) (h : IsWellTyped files state) (kept : (u : ℕ) → EndsBy files state.world u) (event : Event) where
-  part_ends : (first : Thread) → slice_get state.world.threads event.thread ≡ Some first → (x : SteppedOf (PartOf Value)) → OnPart files event.thread state.world x → Alive event.thread x → OnPart files event.thread state.world (settled event.thread x) → Ending files (with_part state event.thread (settled event.thread x))
+module _ (files : Program) (linked : Linked files) (accepted : AreTyped files) (instructions : InstructionsTyped files) (frames : ℕ)
+    (state : State) (h : IsWellTyped files state) (kept : (u : ℕ) → EndsBy files state.world u) (event : Event) where
+  part_ends : (first : Thread) → slice_get state.world.threads event.thread ≡ Some first → (x : SteppedOf (PartOf Value))
+      → OnPart files event.thread state.world x → Alive event.thread x → OnPart files event.thread state.world (settled event.thread x)
+      → Ending files (with_part state event.thread (settled event.thread x))
   part_ends first was NotEnabled x alive s = tt
   part_ends first was WrongKind x alive s = tt
   part_ends first was (Next cost p) x alive s =
       λ u. each_ends files event.thread state.world first was kept (part (end_of event.thread p.world p.stack) p.stack) s (own_settled files event.thread state.world first was p.world p.stack x alive) u (u == event.thread) refl
 
-  event_ends : (o : Option (StackOf Value)) → slice_get state.stacks event.thread ≡ o → Ending files (event_of values files frames state event o)
+  event_ends : (o : Option (StackOf Value)) → slice_get state.stacks event.thread ≡ o
+      → Ending files (event_of values files frames state event o)
   event_ends None e = tt
   event_ends (Some stack) e =
       let at = thread_there files (types_of state.world.heap) state.world.threads state.stacks event.thread stack h.threads e in

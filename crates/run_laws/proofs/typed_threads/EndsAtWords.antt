@@ -14,7 +14,8 @@ use Rattle.run_laws.proofs.typed_threads.Steps.{stepped_at_values}
 use Rattle.run_laws.proofs.typed_threads.Ends.{EndsBy, Ending, step_ends}
 
 -- in the opening state no thread has ended
-none_ended : (t : ℕ) (thread : Thread) (exception : ℕ) → slice_get (new_thread main_thread_reference ∷ []) t ≡ Some thread → thread.status ≡ Ended (Some exception) → ⊥
+none_ended : (t : ℕ) (thread : Thread) (exception : ℕ) → slice_get (new_thread main_thread_reference ∷ []) t ≡ Some thread
+    → thread.status ≡ Ended (Some exception) → ⊥
 none_ended zero thread exception e is = absurd cc
 none_ended (suc t) thread exception e is = absurd cc
 

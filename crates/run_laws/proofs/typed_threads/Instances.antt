@@ -23,19 +23,22 @@ module _ {A : Type 0} (heap : List (ObjectOf A)) where
   within r t e = subst (λ n. r < n) (length-map heap type_of) (slice_get_within (types_of heap) r t e)
 
   -- what is below a type is there
-  pub below_there : (files : Program) (want : ReferenceType) (r : ℕ) (o : Option ReferenceType) → slice_get (types_of heap) r ≡ o → is_object_below files want o ≡ true → r < length heap
+  pub below_there : (files : Program) (want : ReferenceType) (r : ℕ) (o : Option ReferenceType) → slice_get (types_of heap) r ≡ o
+      → is_object_below files want o ≡ true → r < length heap
   below_there files want r None e h = absurd (false≢true h)
   below_there files want r (Some t) e h = within r t e
 
   -- only instances are below a class that is not Object
-  pub instance_of : (files : Program) (class : Name) → name_eq class java_lang_object ≡ false → (r : ℕ) (o : Option ReferenceType) → slice_get (types_of heap) r ≡ o → is_object_below files (ClassType class) o ≡ true → IsInstance files heap class r
+  pub instance_of : (files : Program) (class : Name) → name_eq class java_lang_object ≡ false → (r : ℕ) (o : Option ReferenceType)
+      → slice_get (types_of heap) r ≡ o → is_object_below files (ClassType class) o ≡ true → IsInstance files heap class r
   instance_of files class other r None e h = absurd (false≢true h)
   instance_of files class other r (Some (ClassType own)) e h = record { there = within r (ClassType own) e; own = own; type = e; below = h }
   instance_of files class other r (Some (PrimitiveArray of)) e h = absurd (false≢true (sym other ∙ h))
   instance_of files class other r (Some (ReferenceArray of)) e h = absurd (false≢true (sym other ∙ h))
 
   -- and what is an instance is below its class
-  pub instance_typed : (files : Program) (class : Name) (r : ℕ) → IsInstance files heap class r → is_object_in files (types_of heap) class r ≡ true
+  pub instance_typed : (files : Program) (class : Name) (r : ℕ) → IsInstance files heap class r
+      → is_object_in files (types_of heap) class r ≡ true
   instance_typed files class r h = subst (λ o. is_object_below files (ClassType class) o ≡ true) (sym h.type) h.below
 
 -- ---- objects that stay

@@ -19,7 +19,8 @@ use Rattle.run_laws.proofs.typed_threads.Instances.{types_are, keeps_of}
 opening_types : (files : Program) → types_of (opening_heap words files) ≡ types_of (opening_heap values files)
 opening_types files = ap (λ (s : StateOf ℕ). types_of s.world.heap) (opened_words files) ∙ types_words (opening_heap values files)
 
-main_thread_there : (files : Program) → slice_get (types_of (opening_heap values files)) main_thread_reference ≡ Some (ClassType java_lang_thread)
+main_thread_there : (files : Program) → slice_get (types_of (opening_heap values files)) main_thread_reference
+    ≡ Some (ClassType java_lang_thread)
 unfolding opening_heap
 main_thread_there files = refl
 

@@ -30,13 +30,15 @@ Extending state NotEnabled = Unit {0}
 Extending state WrongKind = Unit {0}
 Extending state (Next cost next) = Extends (types_of state.world.heap) (types_of next.world.heap)
 
-module _ (files : Program) (linked : Linked files) (accepted : AreTyped files) (instructions : InstructionsTyped files) (frames : ℕ) (state : State) (h : IsWellTyped files state) (event : Event) where
+module _ (files : Program) (linked : Linked files) (accepted : AreTyped files) (instructions : InstructionsTyped files) (frames : ℕ)
+    (state : State) (h : IsWellTyped files state) (event : Event) where
   part_extends : (x : SteppedOf (PartOf Value)) → OnPart files event.thread state.world x → Extending state (with_part state event.thread x)
   part_extends NotEnabled x = tt
   part_extends WrongKind x = tt
   part_extends (Next cost p) x = x.changes.extends
 
-  event_extends : (o : Option (StackOf Value)) → slice_get state.stacks event.thread ≡ o → Extending state (event_of values files frames state event o)
+  event_extends : (o : Option (StackOf Value)) → slice_get state.stacks event.thread ≡ o
+      → Extending state (event_of values files frames state event o)
   event_extends None e = tt
   event_extends (Some stack) e =
       let at = thread_there files (types_of state.world.heap) state.world.threads state.stacks event.thread stack h.threads e in
@@ -70,7 +72,9 @@ from_values (Next c after) cost next e = record { cost = c; after = after; is = 
     of_next : Next c (words_of after) ≡ Next cost next → words_of after ≡ next
     of_next e = cc
 
-pub stepped_at_values : (trees : Program) (linked : Linked trees) (frames : ℕ) (before : StateOf ℕ) (event : Event) (cost : Cost) (next : StateOf ℕ) (h : AreWellTypedWords trees before) → stepped words trees frames before event ≡ Next cost next → FromValues (stepped values trees frames h.0 event) next
+pub stepped_at_values : (trees : Program) (linked : Linked trees) (frames : ℕ) (before : StateOf ℕ) (event : Event) (cost : Cost)
+    (next : StateOf ℕ) (h : AreWellTypedWords trees before) → stepped words trees frames before event ≡ Next cost next
+    → FromValues (stepped values trees frames h.0 event) next
 stepped_at_values trees linked frames before event cost next h e =
     from_values (stepped values trees frames h.0 event) cost next
     (sym (carried trees linked.rooted frames h.0 event h.1.typed) ∙ subst (λ (w : StateOf ℕ). stepped words trees frames w event ≡ Next cost next) h.1.are e)

@@ -23,7 +23,9 @@ none_some x e = absurd cc
 
 module _ (files : Program) (os : List ReferenceType) where
   -- a thread that is there is typed with a stack
-  pub thread_typed : (threads : List Thread) (stacks : List (StackOf Value)) (t : ℕ) (thread : Thread) → AreThreadsTyped files os threads stacks → slice_get threads t ≡ Some thread → (stack : StackOf Value) × IsThreadTyped files os thread stack
+  pub thread_typed : (threads : List Thread) (stacks : List (StackOf Value)) (t : ℕ) (thread : Thread)
+      → AreThreadsTyped files os threads stacks → slice_get threads t ≡ Some thread
+      → (stack : StackOf Value) × IsThreadTyped files os thread stack
   thread_typed [] stacks t thread h e = absurd cc
   thread_typed (x ∷ xs) [] t thread h e = absurd h
   thread_typed (x ∷ xs) (stack ∷ stacks) zero thread h e =
@@ -31,7 +33,8 @@ module _ (files : Program) (os : List ReferenceType) where
       (stack, subst (λ th. IsThreadTyped files os th stack) same h.0)
   thread_typed (x ∷ xs) (stack ∷ stacks) (suc t) thread h e = thread_typed xs stacks t thread h.1 e
 
-  pub pending_in : (pending : Option ℕ) (stack : StackOf Value) (status : ThreadStatus) → IsStackTyped files os pending stack status → (exception : ℕ) → has_ended status ≡ false → pending ≡ Some exception → is_object_in files os java_lang_throwable exception ≡ true
+  pub pending_in : (pending : Option ℕ) (stack : StackOf Value) (status : ThreadStatus) → IsStackTyped files os pending stack status
+      → (exception : ℕ) → has_ended status ≡ false → pending ≡ Some exception → is_object_in files os java_lang_throwable exception ≡ true
   pending_in None stack Running h exception a e = absurd (none_some exception e)
   pending_in (Some found) stack Running h exception a e =
       subst (λ r. is_object_in files os java_lang_throwable r ≡ true) (same_Some found exception e) h.0
@@ -39,7 +42,8 @@ module _ (files : Program) (os : List ReferenceType) where
   pending_in pending stack (Relock object count cause) h exception a e = absurd (none_some exception (sym h.0 ∙ e))
   pending_in pending stack (Ended thrown) h exception a e = absurd (true≢false a)
 
-  waits_in : (pending : Option ℕ) (stack : StackOf Value) (status : ThreadStatus) → IsStackTyped files os pending stack status → (object : ℕ) → waits_for status ≡ Some object → (pending ≡ None) × (is_object_in files os java_lang_object object ≡ true)
+  waits_in : (pending : Option ℕ) (stack : StackOf Value) (status : ThreadStatus) → IsStackTyped files os pending stack status
+      → (object : ℕ) → waits_for status ≡ Some object → (pending ≡ None) × (is_object_in files os java_lang_object object ≡ true)
   waits_in pending stack Running h object e = absurd (none_some object e)
   waits_in pending stack (Waiting found count) h object e =
       (h.0, subst (λ r. is_object_in files os java_lang_object r ≡ true) (same_Some found object e) h.1.0)
@@ -48,15 +52,18 @@ module _ (files : Program) (os : List ReferenceType) where
   waits_in pending stack (Ended thrown) h object e = absurd (none_some object e)
 
 module _ (files : Program) (at : StateOf ℕ) (h : AreWellTypedWords files at) where
-  typed_at : (t : ℕ) (thread : Thread) → slice_get at.world.threads t ≡ Some thread → (stack : StackOf Value) × IsThreadTyped files (types_of h.0.world.heap) thread stack
+  typed_at : (t : ℕ) (thread : Thread) → slice_get at.world.threads t ≡ Some thread
+      → (stack : StackOf Value) × IsThreadTyped files (types_of h.0.world.heap) thread stack
   typed_at t thread e =
       thread_typed files (types_of h.0.world.heap) h.0.world.threads h.0.stacks t thread h.1.typed.threads
       (subst (λ (w : StateOf ℕ). slice_get w.world.threads t ≡ Some thread) h.1.are e)
 
-  object_at_words : (class : Name) (r : ℕ) → is_object_in files (types_of h.0.world.heap) class r ≡ true → is_object_in files (types_of at.world.heap) class r ≡ true
+  object_at_words : (class : Name) (r : ℕ) → is_object_in files (types_of h.0.world.heap) class r ≡ true
+      → is_object_in files (types_of at.world.heap) class r ≡ true
   object_at_words class r e = subst (λ os. is_object_in files os class r ≡ true) (sym (types_are files at h)) e
 
-  instance_at_words : (class : Name) → name_eq class java_lang_object ≡ false → (r : ℕ) → is_object_in files (types_of h.0.world.heap) class r ≡ true → IsInstance files at.world.heap class r
+  instance_at_words : (class : Name) → name_eq class java_lang_object ≡ false → (r : ℕ)
+      → is_object_in files (types_of h.0.world.heap) class r ≡ true → IsInstance files at.world.heap class r
   instance_at_words class other r e =
       instance_of at.world.heap files class other r (slice_get (types_of at.world.heap) r) refl (object_at_words class r e)
 

@@ -87,7 +87,8 @@ module _ (files : Program) where
     pub stack : AllByRecursion (IsLow files limit) s.stack
 
   module _ (limit : ℕ) where
-    operands_low : (w : Wants) (s : Slots VerificationType) → LowSlots limit s → AllByRecursion (IsLow files limit) (operands over_types w s)
+    operands_low : (w : Wants) (s : Slots VerificationType) → LowSlots limit s
+        → AllByRecursion (IsLow files limit) (operands over_types w s)
     operands_low w s l =
         every_append (IsLow files limit) _ _ (every_map (IsLow files limit) (λ r. slice_index_or s.locals r.0 Unusable) w.reads (λ r. every_index (IsLow files limit) s.locals Unusable l.locals tt r.0)) (every_take (IsLow files limit) (length w.pops) s.stack l.stack)
 
@@ -99,7 +100,9 @@ module _ (files : Program) where
     out_low ops l (Number f) = tt
     out_low ops l Null = tt
 
-    written_low : (ops : List VerificationType) → AllByRecursion (IsLow files limit) ops → (ws : List (ℕ × Out)) (ts : List VerificationType) → AllByRecursion (IsLow files limit) ts → AllByRecursion (IsLow files limit) (written over_types ops ws ts)
+    written_low : (ops : List VerificationType) → AllByRecursion (IsLow files limit) ops → (ws : List (ℕ × Out))
+        (ts : List VerificationType) → AllByRecursion (IsLow files limit) ts
+        → AllByRecursion (IsLow files limit) (written over_types ops ws ts)
     written_low ops l [] ts h = h
     written_low ops l (w ∷ ws) ts h = written_low ops l ws _ (every_set (IsLow files limit) ts w.0 _ h (out_low ops l w.1))
 
@@ -117,7 +120,8 @@ module _ (files : Program) where
     class_low : (c : Name) → suc (length (classes_of files)) ≤ limit → IsLow files limit (OfType (ClassType c))
     class_low c l = let b = above_bounded files (length (classes_of files)) c in omega (arith, l, b)
 
-    initialised_low : (of : VerificationType) → suc (length (classes_of files)) ≤ limit → (t : VerificationType) → IsLow files limit t → IsLow files limit (initialised of t)
+    initialised_low : (of : VerificationType) → suc (length (classes_of files)) ≤ limit → (t : VerificationType) → IsLow files limit t
+        → IsLow files limit (initialised of t)
     initialised_low Unusable m t l = l
     initialised_low IntType m t l = l
     initialised_low NullType m t l = l
@@ -159,7 +163,8 @@ module _ (files : Program) where
   rows_low : (row : Row) → StaysLow (row_wants row) (local_meaning values row).leads
   rows_low row = (0, λ limit m s l. each limit s l (row.to ∷ row.others))
     where
-      each : (limit : ℕ) (s : Slots VerificationType) → LowSlots limit s → (tos : List ℕ) → AllLow limit (map (λ to. (to, after_row over_types row s)) tos)
+      each : (limit : ℕ) (s : Slots VerificationType) → LowSlots limit s → (tos : List ℕ)
+          → AllLow limit (map (λ to. (to, after_row over_types row s)) tos)
       each limit s l [] = tt
       each limit s l (to ∷ tos) = (row_low limit row s l, each limit s l tos)
 
@@ -180,7 +185,8 @@ module _ (files : Program) where
         ),
   )
 
-  element_low : (site : Site) → StaysLow (load_of values files site array_kind.Reference).wants (load_of values files site array_kind.Reference).leads
+  element_low : (site : Site) → StaysLow (load_of values files site array_kind.Reference).wants
+      (load_of values files site array_kind.Reference).leads
   element_low site = (
     0,
     λ limit m s l.
@@ -204,7 +210,8 @@ module _ (files : Program) where
   slots_low : (limit : ℕ) (t : FrameType) → IsLowFrame files limit t → LowSlots limit t.slots
   slots_low limit t l = record { locals = l.locals; stack = l.stack }
 
-  marked_low : (limit : ℕ) (mark : Bool) (leads : List (ℕ × Slots VerificationType)) → AllLow limit leads → FramesLow limit (map (marked mark) leads)
+  marked_low : (limit : ℕ) (mark : Bool) (leads : List (ℕ × Slots VerificationType)) → AllLow limit leads
+      → FramesLow limit (map (marked mark) leads)
   marked_low limit mark [] h = tt
   marked_low limit mark (lead ∷ leads) h = (record { locals = h.0.locals; stack = h.0.stack }, marked_low limit mark leads h.1)
 
@@ -212,7 +219,8 @@ module _ (files : Program) where
   caught_needs pool [] = 0
   caught_needs pool (e ∷ es) = need (caught_type files pool e) + caught_needs pool es
 
-  handlers_low : (limit : ℕ) (pool : List Entry) (offset : ℕ) (t : FrameType) → IsLowFrame files limit t → (es : List ExceptionEntry) → caught_needs pool es ≤ limit → FramesLow limit (handlers_from files pool offset t es)
+  handlers_low : (limit : ℕ) (pool : List Entry) (offset : ℕ) (t : FrameType) → IsLowFrame files limit t → (es : List ExceptionEntry)
+      → caught_needs pool es ≤ limit → FramesLow limit (handlers_from files pool offset t es)
   unfolding caught_needs
   handlers_low limit pool offset t l [] m = tt
   handlers_low limit pool offset t l (e ∷ es) m =
@@ -235,7 +243,10 @@ module _ (files : Program) where
   by_low site (Some meaning) h =
       (h.0 + caught_needs site.body.pool site.body.code.exceptions, λ limit m t leads e l. found limit m t leads l (may_stand site t site.instr && is_ready (type_meets files) over_types meaning.wants site.body.code.max_stack t.slots) e)
     where
-      found : (limit : ℕ) → h.0 + caught_needs site.body.pool site.body.code.exceptions ≤ limit → (t : FrameType) (leads : List (ℕ × FrameType)) → IsLowFrame files limit t → (c : Bool) → cond c (Some (successors site meaning t ++ handlers_from files site.body.pool site.offset t site.body.code.exceptions)) None ≡ Some leads → FramesLow limit leads
+      found : (limit : ℕ) → h.0 + caught_needs site.body.pool site.body.code.exceptions ≤ limit → (t : FrameType)
+          (leads : List (ℕ × FrameType)) → IsLowFrame files limit t → (c : Bool)
+          → cond c (Some (successors site meaning t ++ handlers_from files site.body.pool site.offset t site.body.code.exceptions)) None
+          ≡ Some leads → FramesLow limit leads
       found limit m t leads l true e =
           subst (FramesLow limit) (same_Some _ leads e) (every_append (λ lead. IsLowFrame files limit lead.1) _ _ (marked_low limit _ _ (h.1 limit (omega (arith, m)) t.slots (slots_low limit t l))) (handlers_low limit site.body.pool site.offset t l site.body.code.exceptions (omega (arith, m))))
       found limit m t leads l false e = absurd cc

@@ -27,7 +27,13 @@ Leading = Slots VerificationType → List VerificationType → List Verification
 abbrev pub OfLeads : (Wants → Leading → Type 0) → Option (MeaningOf Value) → Type 0
 OfLeads P o = OfMeaning (λ (m : MeaningOf Value). P m.wants m.leads) o
 
-module _ (files : Program) (P : Wants → Leading → Type 0) (next : (to : ℕ) (pushed : List VerificationType) (w : Wants) → P w (to_next to pushed)) (nowhere : (w : Wants) → P w sites.nowhere) (row_leads : (row : Row) → P (row_wants row) (local_meaning values row).leads) (new : (site : Site) (class : Name) (w : Wants) → P w (new_leads site class)) (constructed : (site : Site) (method : Member) (w : Wants) → P w (constructed_leads site method)) (element : (site : Site) → P (load_of values files site array_kind.Reference).wants (load_of values files site array_kind.Reference).leads) where
+module _ (files : Program) (P : Wants → Leading → Type 0)
+    (next : (to : ℕ) (pushed : List VerificationType) (w : Wants) → P w (to_next to pushed)) (nowhere : (w : Wants) → P w sites.nowhere)
+    (row_leads : (row : Row) → P (row_wants row) (local_meaning values row).leads)
+    (new : (site : Site) (class : Name) (w : Wants) → P w (new_leads site class))
+    (constructed : (site : Site) (method : Member) (w : Wants) → P w (constructed_leads site method))
+    (element : (site : Site) → P (load_of values files site array_kind.Reference).wants
+    (load_of values files site array_kind.Reference).leads) where
   abbrev Of : MeaningOf Value → Type 0
   Of meaning = P meaning.wants meaning.leads
 

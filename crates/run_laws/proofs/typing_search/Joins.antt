@@ -33,7 +33,8 @@ module _ {A : Type 0} (R : A → A → Bool) where
 
   -- ---- place by place
 
-  both_front : (s t : A) (xs ys : List A) (o : Option A) (os : Option (List A)) → IsJoin R s t o → IsJoin (pairwise R) xs ys os → IsJoin (pairwise R) (s ∷ xs) (t ∷ ys) (in_front o os)
+  both_front : (s t : A) (xs ys : List A) (o : Option A) (os : Option (List A)) → IsJoin R s t o → IsJoin (pairwise R) xs ys os
+      → IsJoin (pairwise R) (s ∷ xs) (t ∷ ys) (in_front o os)
   both_front s t xs ys None os j z = never
     where
       never : (vs : List A) → pairwise R (s ∷ xs) vs ≡ true → pairwise R (t ∷ ys) vs ≡ true → ⊥
@@ -53,7 +54,8 @@ module _ {A : Type 0} (R : A → A → Bool) where
           let q = and_parts _ _ b in
           and_from _ _ (j.2 v p.0 q.0) (z.2 vs p.1 q.1)
 
-  pub pairwise_is : (f : A → A → Option A) → ((s t : A) → IsJoin R s t (f s t)) → (xs ys : List A) → IsJoin (pairwise R) xs ys (join_pairwise f xs ys)
+  pub pairwise_is : (f : A → A → Option A) → ((s t : A) → IsJoin R s t (f s t)) → (xs ys : List A)
+      → IsJoin (pairwise R) xs ys (join_pairwise f xs ys)
   pairwise_is f w [] [] = (refl, refl, λ vs a b. a)
   pairwise_is f w [] (y ∷ ys) = uneven
     where
@@ -78,12 +80,15 @@ module _ (files : Program) (rooted : Rooted files) where
       within_subclass files rooted 1 c s (or_right (name_eq c s) _ (subst (λ o. option_map_or (λ x. is_within files 0 x s) o false ≡ true) (sym e) (name_self s)))
 
   -- what is above a class is it, or above its superclass
-  pub up_one : (n : ℕ) (c v : Name) (o : Option Name) → superclass_of files c ≡ o → is_within files n c v ≡ true → (c ≡ v) ⊎ (option_map_or (λ s. is_subclass files s v) o false ≡ true)
+  pub up_one : (n : ℕ) (c v : Name) (o : Option Name) → superclass_of files c ≡ o → is_within files n c v ≡ true
+      → (c ≡ v) ⊎ (option_map_or (λ s. is_subclass files s v) o false ≡ true)
   up_one zero c v o e w = inl (names_same c v w)
   up_one (suc n) c v o e w =
-      ⊎_elim (λ q. inl (names_same c v q)) (λ q. inr (more o (subst (λ x. option_map_or (λ s. is_within files n s v) x false ≡ true) e q))) (or_cases (name_eq c v) _ w)
+      ⊎_elim (λ q. inl (names_same c v q)) (λ q. inr (more o (subst (λ x. option_map_or (λ s. is_within files n s v) x false
+      ≡ true) e q))) (or_cases (name_eq c v) _ w)
     where
-      more : (o : Option Name) → option_map_or (λ s. is_within files n s v) o false ≡ true → option_map_or (λ s. is_subclass files s v) o false ≡ true
+      more : (o : Option Name) → option_map_or (λ s. is_within files n s v) o false ≡ true
+          → option_map_or (λ s. is_subclass files s v) o false ≡ true
       more None q = q
       more (Some s) q = within_subclass files rooted n s v q
 
@@ -91,7 +96,8 @@ module _ (files : Program) (rooted : Rooted files) where
   Common c d o = IsJoin (is_subclass files) c d o
 
   -- a class that the other is not below, and its superclass
-  from_super : (c d s : Name) (o : Option Name) → superclass_of files c ≡ Some s → is_subclass files d c ≡ false → Common s d o → Common c d o
+  from_super : (c d s : Name) (o : Option Name) → superclass_of files c ≡ Some s → is_subclass files d c ≡ false → Common s d o
+      → Common c d o
   from_super c d s None e never j =
       λ v p q. ⊎_elim (λ x. absurd (false≢true (sym never ∙ subst (λ y. is_subclass files d y ≡ true) (sym x) q))) (λ x. j v x q) (up_one (length (classes_of files)) c v (Some s) e p)
   from_super c d s (Some u) e never j = (
@@ -105,7 +111,9 @@ module _ (files : Program) (rooted : Rooted files) where
   common_is (suc n) c d w =
       cond_both (is_subclass files d c) _ _ (Common c d) (λ e. (sub_self c, e, λ v p q. p)) (λ e. go (λ s x. common_is n s d x) (superclass_of files c) refl w e)
     where
-      go : ((s : Name) → ends files n s ≡ true → Common s d (common_within files n s d)) → (o : Option Name) → superclass_of files c ≡ o → option_map_or (λ s. ends files n s) o true ≡ true → is_subclass files d c ≡ false → Common c d (option_and_then (λ s. common_within files n s d) o)
+      go : ((s : Name) → ends files n s ≡ true → Common s d (common_within files n s d)) → (o : Option Name) → superclass_of files c ≡ o
+          → option_map_or (λ s. ends files n s) o true ≡ true → is_subclass files d c ≡ false
+          → Common c d (option_and_then (λ s. common_within files n s d) o)
       go rec None e x never =
           λ v p q. ⊎_elim (λ y. false≢true (sym never ∙ subst (λ z. is_subclass files d z ≡ true) (sym y) q)) (λ y. false≢true y) (up_one (length (classes_of files)) c v None e p)
       go rec (Some s) e x never = from_super c d s (common_within files n s d) e never (rec s x)
@@ -130,22 +138,27 @@ module _ (files : Program) (rooted : Rooted files) where
       never (ReferenceArray a) p q = false≢true p
   classes_is c d (Some u) j = (j.0, j.1, least)
     where
-      least : (v : ReferenceType) → is_assignable files (ClassType c) v ≡ true → is_assignable files (ClassType d) v ≡ true → is_assignable files (ClassType u) v ≡ true
+      least : (v : ReferenceType) → is_assignable files (ClassType c) v ≡ true → is_assignable files (ClassType d) v ≡ true
+          → is_assignable files (ClassType u) v ≡ true
       least (ClassType e) p q = j.2 e p q
       least (PrimitiveArray a) p q = p
       least (ReferenceArray a) p q = p
 
   -- a class, and a type that only Object is above of all classes
-  with_array : (c : Name) (t : ReferenceType) → is_assignable files t object ≡ true → ((v : ReferenceType) → is_assignable files (ClassType c) v ≡ true → is_assignable files t v ≡ true → v ≡ object) → Reference (ClassType c) t (object_above files c)
+  with_array : (c : Name) (t : ReferenceType) → is_assignable files t object ≡ true
+      → ((v : ReferenceType) → is_assignable files (ClassType c) v ≡ true → is_assignable files t v ≡ true → v ≡ object)
+      → Reference (ClassType c) t (object_above files c)
   with_array c t below only =
       cond_both (is_subclass files c java_lang_object) _ _ (Reference (ClassType c) t) (λ e. (e, below, λ v p q. subst (λ x. is_assignable files object x ≡ true) (sym (only v p q)) (sub_self java_lang_object))) (λ e v p q. false≢true (sym e ∙ subst (λ x. is_assignable files (ClassType c) x ≡ true) (only v p q) p))
 
-  only_primitives : (c : Name) (a : Primitive) (v : ReferenceType) → is_assignable files (ClassType c) v ≡ true → is_assignable files (PrimitiveArray a) v ≡ true → v ≡ object
+  only_primitives : (c : Name) (a : Primitive) (v : ReferenceType) → is_assignable files (ClassType c) v ≡ true
+      → is_assignable files (PrimitiveArray a) v ≡ true → v ≡ object
   only_primitives c a (ClassType d) p q = ap (λ x. ClassType x) (names_same d java_lang_object q)
   only_primitives c a (PrimitiveArray b) p q = absurd (false≢true p)
   only_primitives c a (ReferenceArray b) p q = absurd (false≢true p)
 
-  only_references : (c : Name) (a v : ReferenceType) → is_assignable files (ClassType c) v ≡ true → is_assignable files (ReferenceArray a) v ≡ true → v ≡ object
+  only_references : (c : Name) (a v : ReferenceType) → is_assignable files (ClassType c) v ≡ true
+      → is_assignable files (ReferenceArray a) v ≡ true → v ≡ object
   only_references c a (ClassType d) p q = ap (λ x. ClassType x) (names_same d java_lang_object q)
   only_references c a (PrimitiveArray b) p q = absurd (false≢true p)
   only_references c a (ReferenceArray b) p q = absurd (false≢true p)
@@ -154,11 +167,13 @@ module _ (files : Program) (rooted : Rooted files) where
   object_below : (d : Name) → name_eq d java_lang_object ≡ true → is_assignable files object (ClassType d) ≡ true
   object_below d e = subst (λ x. is_subclass files java_lang_object x ≡ true) (sym (names_same d java_lang_object e)) (sub_self java_lang_object)
 
-  primitives_is : (a b : Primitive) → Reference (PrimitiveArray a) (PrimitiveArray b) (reference_join files (PrimitiveArray a) (PrimitiveArray b))
+  primitives_is : (a b : Primitive) → Reference (PrimitiveArray a) (PrimitiveArray b)
+      (reference_join files (PrimitiveArray a) (PrimitiveArray b))
   primitives_is a b =
       cond_both (eqb (primitive_number a) (primitive_number b)) (PrimitiveArray a) object (λ x. Reference (PrimitiveArray a) (PrimitiveArray b) (Some x)) (λ e. (eq-eqb (primitive_number a) (primitive_number a) refl, eq-eqb (primitive_number b) (primitive_number a) (sym (eqb-true (primitive_number a) (primitive_number b) e)), λ v p q. p)) (λ e. (name_self java_lang_object, name_self java_lang_object, least e))
     where
-      least : eqb (primitive_number a) (primitive_number b) ≡ false → (v : ReferenceType) → is_assignable files (PrimitiveArray a) v ≡ true → is_assignable files (PrimitiveArray b) v ≡ true → is_assignable files object v ≡ true
+      least : eqb (primitive_number a) (primitive_number b) ≡ false → (v : ReferenceType) → is_assignable files (PrimitiveArray a) v ≡ true
+          → is_assignable files (PrimitiveArray b) v ≡ true → is_assignable files object v ≡ true
       least e (ClassType d) p q = object_below d p
       least e (PrimitiveArray x) p q =
           absurd (false≢true (sym e ∙ eq-eqb (primitive_number a) (primitive_number b) (eqb-true (primitive_number a) (primitive_number x) p ∙ sym (eqb-true (primitive_number b) (primitive_number x) q))))
@@ -167,21 +182,25 @@ module _ (files : Program) (rooted : Rooted files) where
   mixed_is : (a : Primitive) (b : ReferenceType) → Reference (PrimitiveArray a) (ReferenceArray b) (Some object)
   mixed_is a b = (name_self java_lang_object, name_self java_lang_object, least)
     where
-      least : (v : ReferenceType) → is_assignable files (PrimitiveArray a) v ≡ true → is_assignable files (ReferenceArray b) v ≡ true → is_assignable files object v ≡ true
+      least : (v : ReferenceType) → is_assignable files (PrimitiveArray a) v ≡ true → is_assignable files (ReferenceArray b) v ≡ true
+          → is_assignable files object v ≡ true
       least (ClassType d) p q = object_below d p
       least (PrimitiveArray x) p q = absurd (false≢true q)
       least (ReferenceArray x) p q = absurd (false≢true p)
 
-  arrays_is : (a b : ReferenceType) (o : Option ReferenceType) → Reference a b o → Reference (ReferenceArray a) (ReferenceArray b) (Some (option_map_or (λ t. ReferenceArray t) o object))
+  arrays_is : (a b : ReferenceType) (o : Option ReferenceType) → Reference a b o
+      → Reference (ReferenceArray a) (ReferenceArray b) (Some (option_map_or (λ t. ReferenceArray t) o object))
   arrays_is a b None j = (name_self java_lang_object, name_self java_lang_object, least)
     where
-      least : (v : ReferenceType) → is_assignable files (ReferenceArray a) v ≡ true → is_assignable files (ReferenceArray b) v ≡ true → is_assignable files object v ≡ true
+      least : (v : ReferenceType) → is_assignable files (ReferenceArray a) v ≡ true → is_assignable files (ReferenceArray b) v ≡ true
+          → is_assignable files object v ≡ true
       least (ClassType d) p q = object_below d p
       least (PrimitiveArray x) p q = absurd (false≢true p)
       least (ReferenceArray x) p q = absurd (j x p q)
   arrays_is a b (Some u) j = (j.0, j.1, least)
     where
-      least : (v : ReferenceType) → is_assignable files (ReferenceArray a) v ≡ true → is_assignable files (ReferenceArray b) v ≡ true → is_assignable files (ReferenceArray u) v ≡ true
+      least : (v : ReferenceType) → is_assignable files (ReferenceArray a) v ≡ true → is_assignable files (ReferenceArray b) v ≡ true
+          → is_assignable files (ReferenceArray u) v ≡ true
       least (ClassType d) p q = p
       least (PrimitiveArray x) p q = p
       least (ReferenceArray x) p q = j.2 x p q
@@ -237,10 +256,12 @@ module _ (files : Program) (rooted : Rooted files) where
   this_above c (UninitialisedThis d) p = sym (this_same d (UninitialisedThis c) p)
 
   -- the second has nothing but itself above it
-  alone_right : (s t : VerificationType) → ((v : VerificationType) → is_stack_below files t v ≡ true → v ≡ t) → is_stack_below files s t ≡ false → Stack s t None
+  alone_right : (s t : VerificationType) → ((v : VerificationType) → is_stack_below files t v ≡ true → v ≡ t)
+      → is_stack_below files s t ≡ false → Stack s t None
   alone_right s t up never = turned (is_stack_below files) t s None (alone (is_stack_below files) t s up (λ e. false≢true (sym never ∙ e)))
 
-  alone_left : (s t : VerificationType) → ((v : VerificationType) → is_stack_below files s v ≡ true → v ≡ s) → is_stack_below files t s ≡ false → Stack s t None
+  alone_left : (s t : VerificationType) → ((v : VerificationType) → is_stack_below files s v ≡ true → v ≡ s)
+      → is_stack_below files t s ≡ false → Stack s t None
   alone_left s t up never = alone (is_stack_below files) s t up (λ e. false≢true (sym never ∙ e))
 
   same_is : (s t : VerificationType) → t ≡ s → Stack s t (Some t)
@@ -270,7 +291,8 @@ module _ (files : Program) (rooted : Rooted files) where
   null_is (Uninitialised at c) = alone_right NullType (Uninitialised at c) (new_above at c) refl
   null_is (UninitialisedThis c) = alone_right NullType (UninitialisedThis c) (this_above c) refl
 
-  references_is : (s t : ReferenceType) (o : Option ReferenceType) → Reference s t o → Stack (OfType s) (OfType t) (option_map (λ u. OfType u) o)
+  references_is : (s t : ReferenceType) (o : Option ReferenceType) → Reference s t o
+      → Stack (OfType s) (OfType t) (option_map (λ u. OfType u) o)
   references_is s t None j = never
     where
       never : (v : VerificationType) → is_stack_below files (OfType s) v ≡ true → is_stack_below files (OfType t) v ≡ true → ⊥
@@ -282,7 +304,8 @@ module _ (files : Program) (rooted : Rooted files) where
       never (UninitialisedThis c) p q = false≢true p
   references_is s t (Some u) j = (j.0, j.1, least)
     where
-      least : (v : VerificationType) → is_stack_below files (OfType s) v ≡ true → is_stack_below files (OfType t) v ≡ true → is_stack_below files (OfType u) v ≡ true
+      least : (v : VerificationType) → is_stack_below files (OfType s) v ≡ true → is_stack_below files (OfType t) v ≡ true
+          → is_stack_below files (OfType u) v ≡ true
       least Unusable p q = p
       least IntType p q = p
       least NullType p q = p
@@ -319,11 +342,13 @@ module _ (files : Program) (rooted : Rooted files) where
     right_at None j = refl
     right_at (Some u) j = stack_local files t u j.1
 
-    least_at : (o : Option VerificationType) → Stack s t o → (v : VerificationType) → is_stack_below files s v ≡ true → is_stack_below files t v ≡ true → is_local_below files (unwrap_or o Unusable) v ≡ true
+    least_at : (o : Option VerificationType) → Stack s t o → (v : VerificationType) → is_stack_below files s v ≡ true
+        → is_stack_below files t v ≡ true → is_local_below files (unwrap_or o Unusable) v ≡ true
     least_at None j v p q = absurd (j v p q)
     least_at (Some u) j v p q = stack_local files u v (j.2 v p q)
 
-    local_least : (v : VerificationType) → is_local_below files s v ≡ true → is_local_below files t v ≡ true → is_local_below files (local_join files s t) v ≡ true
+    local_least : (v : VerificationType) → is_local_below files s v ≡ true → is_local_below files t v ≡ true
+        → is_local_below files (local_join files s t) v ≡ true
     local_least Unusable p q = refl
     local_least IntType p q = least_at (stack_join files s t) (stack_is s t) IntType p q
     local_least NullType p q = least_at (stack_join files s t) (stack_is s t) NullType p q
@@ -351,7 +376,9 @@ module _ (files : Program) (rooted : Rooted files) where
   marks_least false b v p q = p
 
   module _ (a b : FrameType) where
-    of_parts : (ls ss : Option (List VerificationType)) → IsJoin (pairwise (is_local_below files)) a.slots.locals b.slots.locals ls → IsJoin (pairwise (is_stack_below files)) a.slots.stack b.slots.stack ss → IsJoin (is_frame_below files) a b (frame_of_slots (a.constructed && b.constructed) ls ss)
+    of_parts : (ls ss : Option (List VerificationType)) → IsJoin (pairwise (is_local_below files)) a.slots.locals b.slots.locals ls
+        → IsJoin (pairwise (is_stack_below files)) a.slots.stack b.slots.stack ss
+        → IsJoin (is_frame_below files) a b (frame_of_slots (a.constructed && b.constructed) ls ss)
     of_parts None ss x y = λ v p q. x v.slots.locals (and_parts _ _ p).0 (and_parts _ _ q).0
     of_parts (Some ls) None x y =
         λ v p q. y v.slots.stack (and_parts _ _ (and_parts _ _ p).1).0 (and_parts _ _ (and_parts _ _ q).1).0

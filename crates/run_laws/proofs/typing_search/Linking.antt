@@ -36,7 +36,8 @@ module _ {A : Type 0} where
   found p q [] x h e = absurd cc
   found p q (y ∷ ys) x h e = by (p y) refl e (λ g. found p q ys x (and_parts _ _ h).1 g)
     where
-      by : (c : Bool) → p y ≡ c → cond c (Some y) (find p ys) ≡ Some x → (find p ys ≡ Some x → (p x ≡ true) × (q x ≡ true)) → (p x ≡ true) × (q x ≡ true)
+      by : (c : Bool) → p y ≡ c → cond c (Some y) (find p ys) ≡ Some x → (find p ys ≡ Some x → (p x ≡ true) × (q x ≡ true))
+          → (p x ≡ true) × (q x ≡ true)
       by true t e rest = let same = same_Some y x e in (ap p (sym same) ∙ t, ap q (sym same) ∙ (and_parts _ _ h).0)
       by false t e rest = rest e
 
@@ -51,18 +52,22 @@ module _ (files : Program) where
   its_class : (c s : Name) → superclass_of files c ≡ Some s → (file : FileTree) × (class_of files c ≡ Some file)
   its_class c s e = by (class_of files c) refl e
     where
-      by : (o : Option FileTree) → class_of files c ≡ o → option_and_then super_name_of o ≡ Some s → (file : FileTree) × (class_of files c ≡ Some file)
+      by : (o : Option FileTree) → class_of files c ≡ o → option_and_then super_name_of o ≡ Some s
+          → (file : FileTree) × (class_of files c ≡ Some file)
       by None q e = absurd cc
       by (Some file) q e = (file, q)
 
   abbrev names : List Name
   names = map name_of (classes_of files)
 
-  find_member : (c : Name) (classes : List FileTree) (file : FileTree) → find (is_named c) classes ≡ Some file → list_any (name_eq c) (map name_of classes) ≡ true
+  find_member : (c : Name) (classes : List FileTree) (file : FileTree) → find (is_named c) classes ≡ Some file
+      → list_any (name_eq c) (map name_of classes) ≡ true
   find_member c [] file e = absurd cc
   find_member c (k ∷ ks) file e = by (is_named c k) refl e (λ g. find_member c ks file g)
     where
-      by : (b : Bool) → is_named c k ≡ b → cond b (Some k) (find (is_named c) ks) ≡ Some file → (find (is_named c) ks ≡ Some file → list_any (name_eq c) (map name_of ks) ≡ true) → list_any (name_eq c) (map name_of (k ∷ ks)) ≡ true
+      by : (b : Bool) → is_named c k ≡ b → cond b (Some k) (find (is_named c) ks) ≡ Some file
+          → (find (is_named c) ks ≡ Some file → list_any (name_eq c) (map name_of ks) ≡ true)
+          → list_any (name_eq c) (map name_of (k ∷ ks)) ≡ true
       by true t e rest = or_left (name_eq c (name_of k)) _ (name_sides c (name_of k) ∙ t)
       by false t e rest = or_right (name_eq c (name_of k)) _ (rest e)
 
@@ -74,7 +79,8 @@ module _ (files : Program) where
   next_of : (n : ℕ) (c : Name) → Goes (suc n) c → (s : Name) × (superclass_of files c ≡ Some s) × Goes n s
   next_of n c e = by (superclass_of files c) refl e
     where
-      by : (o : Option Name) → superclass_of files c ≡ o → option_map_or (λ s. ends files n s) o true ≡ false → (s : Name) × (superclass_of files c ≡ Some s) × Goes n s
+      by : (o : Option Name) → superclass_of files c ≡ o → option_map_or (λ s. ends files n s) o true ≡ false
+          → (s : Name) × (superclass_of files c ≡ Some s) × Goes n s
       by None q e = absurd (false≢true (sym e))
       by (Some s) q e = (s, q, e)
 
@@ -85,12 +91,15 @@ module _ (files : Program) where
   as_long zero c e = refl
   as_long (suc n) c e = let s = next_of n c e in ap length (lineage_is n c s.0 s.1) ∙ ap suc (as_long n s.0 s.2)
 
-  are_named : (n : ℕ) (c : Name) → Goes n c → (q : Name) → list_any (name_eq q) (lineage_of files n c) ≡ true → list_any (name_eq q) names ≡ true
+  are_named : (n : ℕ) (c : Name) → Goes n c → (q : Name) → list_any (name_eq q) (lineage_of files n c) ≡ true
+      → list_any (name_eq q) names ≡ true
   are_named zero c e q m = absurd (false≢true m)
   are_named (suc n) c e q m =
       let s = next_of n c e in
       let k = its_class c s.0 s.1 in
-      ⊎_elim (λ same. subst (λ x. list_any (name_eq x) names ≡ true) (sym (names_same q c same)) (find_member c (classes_of files) k.0 k.1)) (λ more. are_named n s.0 s.2 q more) (or_cases (name_eq q c) _ (subst (λ l. list_any (name_eq q) l ≡ true) (lineage_is n c s.0 s.1) m))
+      ⊎_elim (λ same. subst (λ x. list_any (name_eq x) names
+      ≡ true) (sym (names_same q c same)) (find_member c (classes_of files) k.0 k.1)) (λ more. are_named n s.0 s.2 q more)
+      (or_cases (name_eq q c) _ (subst (λ l. list_any (name_eq q) l ≡ true) (lineage_is n c s.0 s.1) m))
 
   -- ---- who is above
 
@@ -104,7 +113,8 @@ module _ (files : Program) where
   never_above a b c d l e = false_from_ne_true (is_above files a c d) (λ q. false≢true (sym e ∙ above_within a b c d l q))
 
   -- where d is not above c, neither the superclass of c is d nor is d above that
-  first_off : (n : ℕ) (c s d : Name) → superclass_of files c ≡ Some s → is_above files (suc n) c d ≡ false → (name_eq s d || is_above files n s d) ≡ false
+  first_off : (n : ℕ) (c s d : Name) → superclass_of files c ≡ Some s → is_above files (suc n) c d ≡ false
+      → (name_eq s d || is_above files n s d) ≡ false
   first_off n c s d q e =
       (or_parts (name_eq s d || is_above files n s d) _ (subst (λ o. list_any (λ x. name_eq x d || is_above files n x d) (option_to_list o ++ superinterfaces_of files c) ≡ false) q e)).0
 
@@ -122,7 +132,9 @@ module _ (files : Program) where
       let e = or_parts (name_eq s d) _ h in
       (name_sides d s ∙ e.0, by (λ u q. apart n u d (off_by n s u d q e.1)) (superclass_of files s) refl)
     where
-      by : ((u : Name) → superclass_of files s ≡ Some u → AllByRecursion (λ y. name_eq d y ≡ false) (lineage_of files n u)) → (o : Option Name) → superclass_of files s ≡ o → AllByRecursion (λ y. name_eq d y ≡ false) (option_map_or (λ x. lineage_of files n x) o [])
+      by : ((u : Name) → superclass_of files s ≡ Some u → AllByRecursion (λ y. name_eq d y ≡ false) (lineage_of files n u))
+          → (o : Option Name) → superclass_of files s ≡ o
+          → AllByRecursion (λ y. name_eq d y ≡ false) (option_map_or (λ x. lineage_of files n x) o [])
       by rec None q = tt
       by rec (Some u) q = rec u q
 
@@ -203,7 +215,8 @@ module _ (files : Program) where
         under true b p e = not_not b (not-true (not b) e)
         under false b p e = absurd (false≢true p)
 
-        by : (o : Option FileTree) → class_of files c ≡ o → option_map_or is_interface_class o false ≡ true → option_and_then super_name_of o ≡ Some java_lang_object
+        by : (o : Option FileTree) → class_of files c ≡ o → option_map_or is_interface_class o false ≡ true
+            → option_and_then super_name_of o ≡ Some java_lang_object
         by None q e = absurd (false≢true e)
         by (Some k) q e = spelled (super_name_of k) (under (is_interface_class k) _ e (found (is_named c) is_well_below (classes_of files) k well_below q).1)
 

@@ -76,7 +76,11 @@ are_tables =
 
 module _ (files : Program) (body : Body) where
   -- one offset is raised to r, the least above what was there and t
-  merged_at : (F G : Typing) (P Q : ℕ → Bool) (to : ℕ) (t r : FrameType) → ((k : ℕ) → (k ≡ to → ⊥) → (G k ≡ F k) × (Q k ≡ P k)) → G to ≡ Some r → Q to ≡ true → (((u : FrameType) → F to ≡ Some u → is_start body.code.code to ≡ true) → is_start body.code.code to ≡ true) → (((u : FrameType) → F to ≡ Some u → IsSized body u) → IsSized body r) → ((u : FrameType) → F to ≡ Some u → is_frame_below files u r ≡ true) → is_frame_below files t r ≡ true → ((H : Typing) → Raised files F H → Reaches files H to t → Reaches files H to r) → Merged files body F P ((to, t) ∷ []) G Q
+  merged_at : (F G : Typing) (P Q : ℕ → Bool) (to : ℕ) (t r : FrameType) → ((k : ℕ) → (k ≡ to → ⊥) → (G k ≡ F k) × (Q k ≡ P k))
+      → G to ≡ Some r → Q to ≡ true → (((u : FrameType) → F to ≡ Some u → is_start body.code.code to ≡ true)
+      → is_start body.code.code to ≡ true) → (((u : FrameType) → F to ≡ Some u → IsSized body u) → IsSized body r)
+      → ((u : FrameType) → F to ≡ Some u → is_frame_below files u r ≡ true) → is_frame_below files t r ≡ true
+      → ((H : Typing) → Raised files F H → Reaches files H to t → Reaches files H to r) → Merged files body F P ((to, t) ∷ []) G Q
   merged_at F G P Q to t r only here wait start size above fits least =
       record {
         starts = λ z k u e. ⊎_elim (λ q. subst (λ i. is_start body.code.code i ≡ true) (sym q) (start (λ v. z to v))) (λ n. z k u (sym (only k n).0 ∙ e)) (cases_eq k to);
@@ -91,7 +95,8 @@ module _ (files : Program) (body : Body) where
       there k u q e = same_Some r u (sym here ∙ (ap G (sym q) ∙ e))
 
   -- it fits already
-  pub merged_same : (F : Typing) (P : ℕ → Bool) (to : ℕ) (t there : FrameType) → F to ≡ Some there → is_frame_below files t there ≡ true → Merged files body F P ((to, t) ∷ []) F P
+  pub merged_same : (F : Typing) (P : ℕ → Bool) (to : ℕ) (t there : FrameType) → F to ≡ Some there → is_frame_below files t there ≡ true
+      → Merged files body F P ((to, t) ∷ []) F P
   merged_same F P to t there e f =
       record {
         starts = λ z. z;
@@ -123,13 +128,16 @@ module _ (files : Program) (body : Body) where
     there_now : typing_of (found_at table to next) to ≡ Some next
     there_now = ap entry_of (get_set_here table to (Some next) entry at)
 
-    others : (k : ℕ) → (k ≡ to → ⊥) → (typing_of (found_at table to next) k ≡ typing_of table k) × (waits (waiting_at waiting to) k ≡ waits waiting k)
+    others : (k : ℕ) → (k ≡ to → ⊥) → (typing_of (found_at table to next) k ≡ typing_of table k)
+        × (waits (waiting_at waiting to) k ≡ waits waiting k)
     others k n = (ap entry_of (get_set_other table to k (Some next) n), waits_other waiting to k true n)
 
     marked : waits (waiting_at waiting to) to ≡ true
     marked = waits_here waiting to (let l = slice_get_within table to entry at in omega (arith, l))
 
-  pub merged_first : (table : List (Option FrameType)) (waiting : List Bool) (to : ℕ) (t : FrameType) → length waiting ≡ length table → slice_get table to ≡ Some None → is_start body.code.code to ≡ true → IsSized body t → Merged files body (typing_of table) (waits waiting) ((to, t) ∷ []) (typing_of (found_at table to t)) (waits (waiting_at waiting to))
+  pub merged_first : (table : List (Option FrameType)) (waiting : List Bool) (to : ℕ) (t : FrameType) → length waiting ≡ length table
+      → slice_get table to ≡ Some None → is_start body.code.code to ≡ true → IsSized body t
+      → Merged files body (typing_of table) (waits waiting) ((to, t) ∷ []) (typing_of (found_at table to t)) (waits (waiting_at waiting to))
   merged_first table waiting to t both at start size =
       merged_at _ _ _ _ to t t (others table waiting to None both at t) (there_now table waiting to None both at t) (marked table waiting to None both at t) (λ z. start) (λ z. size) (λ u q. absurd (none_there u (ap entry_of (sym at) ∙ q))) (frame_self files t) (λ H h w. w)
     where
@@ -141,7 +149,10 @@ module _ (files : Program) (body : Body) where
     joined_parts : (a b join : FrameType) → frame_join files a b ≡ Some join → IsJoin (is_frame_below files) a b (Some join)
     joined_parts a b join e = subst (IsJoin (is_frame_below files) a b) e (frame_is files rooted a b)
 
-    pub merged_joined : (table : List (Option FrameType)) (waiting : List Bool) (to : ℕ) (t there join : FrameType) → length waiting ≡ length table → slice_get table to ≡ Some (Some there) → frame_join files there t ≡ Some join → Merged files body (typing_of table) (waits waiting) ((to, t) ∷ []) (typing_of (found_at table to join)) (waits (waiting_at waiting to))
+    pub merged_joined : (table : List (Option FrameType)) (waiting : List Bool) (to : ℕ) (t there join : FrameType)
+        → length waiting ≡ length table → slice_get table to ≡ Some (Some there) → frame_join files there t ≡ Some join
+        → Merged files body (typing_of table) (waits waiting) ((to, t)
+        ∷ []) (typing_of (found_at table to join)) (waits (waiting_at waiting to))
     merged_joined table waiting to t there join both at e =
         merged_at _ _ _ _ to t join (others table waiting to (Some there) both at join) (there_now table waiting to (Some there) both at join) (marked table waiting to (Some there) both at join) (λ z. z there (ap entry_of at)) (λ z. same_size there join j.0 (z there (ap entry_of at))) (λ u q. subst (λ x. is_frame_below files x join ≡ true) (same_Some there u (ap entry_of (sym at) ∙ q)) j.0) j.1 under
       where
@@ -157,7 +168,8 @@ module _ (files : Program) (body : Body) where
     -- ---- clashes
 
     module _ (method : Member) where
-      pub clash_apart : (F : Typing) (to : ℕ) (t there : FrameType) → F to ≡ Some there → frame_join files there t ≡ None → Clashes files method body F ((to, t) ∷ [])
+      pub clash_apart : (F : Typing) (to : ℕ) (t there : FrameType) → F to ≡ Some there → frame_join files there t ≡ None
+          → Clashes files method body F ((to, t) ∷ [])
       clash_apart F to t there e n H h up w =
           let q = up to there e in
           let same = same_Some q.there w.0.there (sym q.typed ∙ w.0.typed) in
@@ -172,7 +184,8 @@ module _ (files : Program) (body : Body) where
 no_site : (o : Option Sized) (method : Member) (body : Body) (offset : ℕ) → o ≡ None → option_map (site_with method body offset) o ≡ None
 no_site o method body offset e = ap (option_map (site_with method body offset)) e
 
-pub no_flow : (files : Program) (method : Member) (body : Body) (offset : ℕ) (t : FrameType) → sized_at body.code.code offset ≡ None → flow files method body offset t ≡ None
+pub no_flow : (files : Program) (method : Member) (body : Body) (offset : ℕ) (t : FrameType) → sized_at body.code.code offset ≡ None
+    → flow files method body offset t ≡ None
 no_flow files method body offset t e = ap (flow_at files t) (no_site _ method body offset e)
 
 -- an instruction begins within the code
@@ -183,5 +196,6 @@ nothing_past code offset l = past code offset (sized_at code offset) l (sized_fi
     past code offset None l h = refl
     past code offset (Some s) l h = absurd (omega (arith, l, h.0, h.1))
 
-pub clash_astray : (files : Program) (method : Member) (body : Body) (F : Typing) (to : ℕ) (t : FrameType) → is_start body.code.code to ≡ false → Clashes files method body F ((to, t) ∷ [])
+pub clash_astray : (files : Program) (method : Member) (body : Body) (F : Typing) (to : ℕ) (t : FrameType)
+    → is_start body.code.code to ≡ false → Clashes files method body F ((to, t) ∷ [])
 clash_astray files method body F to t off H h up w = false≢true (sym off ∙ h.starts to w.0.there w.0.typed)

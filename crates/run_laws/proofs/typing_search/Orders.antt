@@ -96,7 +96,8 @@ module _ (files : Program) where
     of_up (Uninitialised at c) u r p q = absurd (false≢true p)
     of_up (UninitialisedThis c) u r p q = absurd (false≢true p)
 
-    pub of_trans : (s t : VerificationType) (r : ReferenceType) → is_stack_below files s t ≡ true → is_of files r t ≡ true → is_of files r s ≡ true
+    pub of_trans : (s t : VerificationType) (r : ReferenceType) → is_stack_below files s t ≡ true → is_of files r t ≡ true
+        → is_of files r s ≡ true
     of_trans s Unusable r p q = absurd (false≢true q)
     of_trans s IntType r p q = absurd (false≢true q)
     of_trans s NullType r p q = subst (λ x. is_of files r x ≡ true) (sym (null_same s p)) refl
@@ -104,7 +105,8 @@ module _ (files : Program) where
     of_trans s (Uninitialised at c) r p q = absurd (false≢true q)
     of_trans s (UninitialisedThis c) r p q = absurd (false≢true q)
 
-    pub stack_trans : (s t v : VerificationType) → is_stack_below files s t ≡ true → is_stack_below files t v ≡ true → is_stack_below files s v ≡ true
+    pub stack_trans : (s t v : VerificationType) → is_stack_below files s t ≡ true → is_stack_below files t v ≡ true
+        → is_stack_below files s v ≡ true
     stack_trans s t Unusable p q = subst (λ x. is_stack_below files s x ≡ true) (unusable_same t q) p
     stack_trans s t IntType p q = subst (λ x. is_stack_below files s x ≡ true) (int_same t q) p
     stack_trans s t NullType p q = subst (λ x. is_stack_below files s x ≡ true) (null_same t q) p
@@ -113,7 +115,8 @@ module _ (files : Program) where
     stack_trans s t (UninitialisedThis c) p q = subst (λ x. is_stack_below files s x ≡ true) (this_same c t q) p
 
     -- from a type that is usable, to one above it
-    local_by : (s t : VerificationType) → (is_local_below files s t ≡ true → is_stack_below files s t ≡ true) → (v : VerificationType) → is_local_below files s t ≡ true → is_local_below files t v ≡ true → is_local_below files s v ≡ true
+    local_by : (s t : VerificationType) → (is_local_below files s t ≡ true → is_stack_below files s t ≡ true) → (v : VerificationType)
+        → is_local_below files s t ≡ true → is_local_below files t v ≡ true → is_local_below files s v ≡ true
     local_by s t w Unusable p q = refl
     local_by s t w IntType p q = stack_trans s t IntType (w p) q
     local_by s t w NullType p q = stack_trans s t NullType (w p) q
@@ -121,7 +124,8 @@ module _ (files : Program) where
     local_by s t w (Uninitialised at c) p q = stack_trans s t (Uninitialised at c) (w p) q
     local_by s t w (UninitialisedThis c) p q = stack_trans s t (UninitialisedThis c) (w p) q
 
-    pub local_trans : (s t v : VerificationType) → is_local_below files s t ≡ true → is_local_below files t v ≡ true → is_local_below files s v ≡ true
+    pub local_trans : (s t v : VerificationType) → is_local_below files s t ≡ true → is_local_below files t v ≡ true
+        → is_local_below files s v ≡ true
     local_trans s Unusable v p q = subst (λ x. is_local_below files s x ≡ true) (sym (unusable_below v q)) refl
     local_trans s IntType v p q = local_by s IntType (λ x. x) v p q
     local_trans s NullType v p q = local_by s NullType (λ x. x) v p q
@@ -146,7 +150,8 @@ pub pair_self : {A : Type 0} (R : A → A → Bool) → ((x : A) → R x x ≡ t
 pair_self R r [] = tt
 pair_self R r (x ∷ xs) = (r x, pair_self R r xs)
 
-pub pair_trans : {A : Type 0} (R : A → A → Bool) → ((x y z : A) → R x y ≡ true → R y z ≡ true → R x z ≡ true) → (xs ys zs : List A) → Pairwise R xs ys → Pairwise R ys zs → Pairwise R xs zs
+pub pair_trans : {A : Type 0} (R : A → A → Bool) → ((x y z : A) → R x y ≡ true → R y z ≡ true → R x z ≡ true) → (xs ys zs : List A)
+    → Pairwise R xs ys → Pairwise R ys zs → Pairwise R xs zs
 pair_trans R r [] [] zs f g = g
 pair_trans R r [] (y ∷ ys) zs f g = absurd f
 pair_trans R r (x ∷ xs) [] zs f g = absurd f
@@ -178,7 +183,8 @@ module _ (files : Program) where
         mark = mark_self a.constructed;
       })
 
-  pub frame_trans : Rooted files → (a b c : FrameType) → is_frame_below files a b ≡ true → is_frame_below files b c ≡ true → is_frame_below files a c ≡ true
+  pub frame_trans : Rooted files → (a b c : FrameType) → is_frame_below files a b ≡ true → is_frame_below files b c ≡ true
+      → is_frame_below files a c ≡ true
   frame_trans rooted a b c p q =
       let f = below_parts a b p in
       let g = below_parts b c q in

@@ -49,7 +49,8 @@ module _ (files : Program) (rooted : Rooted files) where
   reference_down (Uninitialised at c) t p q = refl
   reference_down (UninitialisedThis c) t p q = refl
 
-  receiver_down : (class : Name) (s t : VerificationType) → is_stack_below files s t ≡ true → is_receiver files class t ≡ true → is_receiver files class s ≡ true
+  receiver_down : (class : Name) (s t : VerificationType) → is_stack_below files s t ≡ true → is_receiver files class t ≡ true
+      → is_receiver files class s ≡ true
   receiver_down class s Unusable p q = absurd (false≢true q)
   receiver_down class s IntType p q = absurd (false≢true q)
   receiver_down class s NullType p q = absurd (false≢true q)
@@ -57,7 +58,8 @@ module _ (files : Program) (rooted : Rooted files) where
   receiver_down class s (Uninitialised at c) p q = subst (λ x. is_receiver files class x ≡ true) (sym (new_same at c s p)) q
   receiver_down class s (UninitialisedThis c) p q = subst (λ x. is_receiver files class x ≡ true) (sym (this_same c s p)) q
 
-  owner_of : (class : Name) (s : VerificationType) (r : ReferenceType) → is_of files r s ≡ true → is_assignable files r (ClassType class) ≡ true → is_instance_or_this files class s ≡ true
+  owner_of : (class : Name) (s : VerificationType) (r : ReferenceType) → is_of files r s ≡ true
+      → is_assignable files r (ClassType class) ≡ true → is_instance_or_this files class s ≡ true
   owner_of class Unusable r p q = p
   owner_of class IntType r p q = p
   owner_of class NullType r p q = refl
@@ -65,7 +67,8 @@ module _ (files : Program) (rooted : Rooted files) where
   owner_of class (Uninitialised at c) r p q = p
   owner_of class (UninitialisedThis c) r p q = absurd (false≢true p)
 
-  owner_down : (class : Name) (s t : VerificationType) → is_stack_below files s t ≡ true → is_instance_or_this files class t ≡ true → is_instance_or_this files class s ≡ true
+  owner_down : (class : Name) (s t : VerificationType) → is_stack_below files s t ≡ true → is_instance_or_this files class t ≡ true
+      → is_instance_or_this files class s ≡ true
   owner_down class s Unusable p q = absurd (false≢true q)
   owner_down class s IntType p q = absurd (false≢true q)
   owner_down class s NullType p q = subst (λ x. is_instance_or_this files class x ≡ true) (sym (null_same s p)) refl
@@ -91,7 +94,8 @@ module _ (files : Program) (rooted : Rooted files) where
     with_down s (UninitialisedThis c) p q = absurd (false≢true q)
 
   -- what is wanted goes down the order
-  pub meets_down : (w : Want) (s t : VerificationType) → is_stack_below files s t ≡ true → type_meets files w t ≡ true → type_meets files w s ≡ true
+  pub meets_down : (w : Want) (s t : VerificationType) → is_stack_below files s t ≡ true → type_meets files w t ≡ true
+      → type_meets files w s ≡ true
   meets_down AnyWord s t p q = usable_down s t p q
   meets_down AnInt s t p q = int_down s t p q
   meets_down AnyReference s t p q = reference_down s t p q
@@ -112,7 +116,8 @@ module _ (files : Program) (rooted : Rooted files) where
   never_unusable AByteArray q = false≢true q
 
   -- a local variable that is as wanted is usable, so what is below it is so on the stack too
-  wanted_stack : (w : Want) (s t : VerificationType) → type_meets files w t ≡ true → is_local_below files s t ≡ true → is_stack_below files s t ≡ true
+  wanted_stack : (w : Want) (s t : VerificationType) → type_meets files w t ≡ true → is_local_below files s t ≡ true
+      → is_stack_below files s t ≡ true
   wanted_stack w s Unusable q p = absurd (never_unusable w q)
   wanted_stack w s IntType q p = p
   wanted_stack w s NullType q p = p
@@ -122,10 +127,12 @@ module _ (files : Program) (rooted : Rooted files) where
 
   -- ---- operands
 
-  local_at : (ss ts : List VerificationType) → Pairwise (is_local_below files) ss ts → (k : ℕ) → is_local_below files (slice_index_or ss k Unusable) (slice_index_or ts k Unusable) ≡ true
+  local_at : (ss ts : List VerificationType) → Pairwise (is_local_below files) ss ts → (k : ℕ)
+      → is_local_below files (slice_index_or ss k Unusable) (slice_index_or ts k Unusable) ≡ true
   local_at ss ts f k = pair_get (is_local_below files) ss ts Unusable Unusable f refl k
 
-  reads_down : (rs : List (ℕ × Want)) (ss ts : List VerificationType) → Pairwise (is_local_below files) ss ts → reads_meet (type_meets files) over_types rs ts ≡ true → reads_meet (type_meets files) over_types rs ss ≡ true
+  reads_down : (rs : List (ℕ × Want)) (ss ts : List VerificationType) → Pairwise (is_local_below files) ss ts
+      → reads_meet (type_meets files) over_types rs ts ≡ true → reads_meet (type_meets files) over_types rs ss ≡ true
   reads_down [] ss ts f e = refl
   reads_down (r ∷ rs) ss ts f e =
       let q = and_parts _ _ e in
@@ -133,7 +140,8 @@ module _ (files : Program) (rooted : Rooted files) where
       let t = slice_index_or ts r.0 Unusable in
       and_from _ _ (meets_down r.1 s t (wanted_stack r.1 s t q.0 (local_at ss ts f r.0)) q.0) (reads_down rs ss ts f q.1)
 
-  pops_down : (ws : List Want) (ss ts : List VerificationType) → Pairwise (is_stack_below files) ss ts → pops_meet (type_meets files) ws ts ≡ true → pops_meet (type_meets files) ws ss ≡ true
+  pops_down : (ws : List Want) (ss ts : List VerificationType) → Pairwise (is_stack_below files) ss ts
+      → pops_meet (type_meets files) ws ts ≡ true → pops_meet (type_meets files) ws ss ≡ true
   pops_down [] ss ts f e = refl
   pops_down (w ∷ ws) ss [] f e = absurd (false≢true e)
   pops_down (w ∷ ws) [] (t ∷ ts) f e = absurd f
@@ -141,7 +149,9 @@ module _ (files : Program) (rooted : Rooted files) where
       let q = and_parts _ _ e in
       and_from _ _ (meets_down w s t f.0 q.0) (pops_down ws ss ts f.1 q.1)
 
-  read_types : (rs : List (ℕ × Want)) (ss ts : List VerificationType) → Pairwise (is_local_below files) ss ts → reads_meet (type_meets files) over_types rs ts ≡ true → Pairwise (is_stack_below files) (map (λ r. slice_index_or ss r.0 Unusable) rs) (map (λ r. slice_index_or ts r.0 Unusable) rs)
+  read_types : (rs : List (ℕ × Want)) (ss ts : List VerificationType) → Pairwise (is_local_below files) ss ts
+      → reads_meet (type_meets files) over_types rs ts ≡ true
+      → Pairwise (is_stack_below files) (map (λ r. slice_index_or ss r.0 Unusable) rs) (map (λ r. slice_index_or ts r.0 Unusable) rs)
   read_types [] ss ts f e = tt
   read_types (r ∷ rs) ss ts f e =
       let q = and_parts _ _ e in
@@ -156,13 +166,15 @@ module _ (files : Program) (rooted : Rooted files) where
         let l = pair_length (is_stack_below files) _ _ (pair_drop (is_stack_below files) (length w.pops) a.stack b.stack f.stack) in
         and_from _ _ x.0 (and_from _ _ (reads_down w.reads a.locals b.locals f.locals y.0) (and_from _ _ (pops_down w.pops a.stack b.stack f.stack z.0) (subst (λ k. leb (k + w.grows) max ≡ true) (sym l) z.1)))
 
-    pub operands_down : is_ready (type_meets files) over_types w max b ≡ true → Pairwise (is_stack_below files) (operands over_types w a) (operands over_types w b)
+    pub operands_down : is_ready (type_meets files) over_types w max b ≡ true
+        → Pairwise (is_stack_below files) (operands over_types w a) (operands over_types w b)
     operands_down e =
         let x = and_parts _ _ e in
         let y = and_parts _ _ x.1 in
         pair_append (is_stack_below files) _ _ _ _ (read_types w.reads a.locals b.locals f.locals y.0) (pair_take (is_stack_below files) (length w.pops) a.stack b.stack f.stack)
 
-  pub under_down : (w : Wants) (a b : Slots VerificationType) → SlotsBelow files a b → Pairwise (is_stack_below files) (under w a) (under w b)
+  pub under_down : (w : Wants) (a b : Slots VerificationType) → SlotsBelow files a b
+      → Pairwise (is_stack_below files) (under w a) (under w b)
   under_down w a b f = pair_drop (is_stack_below files) (length w.pops) a.stack b.stack f.stack
 
   -- ---- rows
@@ -177,13 +189,16 @@ module _ (files : Program) (rooted : Rooted files) where
     outs_down [] = tt
     outs_down (o ∷ xs) = (out_down o, outs_down xs)
 
-    written_down : (ws : List (ℕ × Out)) (ss ts : List VerificationType) → Pairwise (is_local_below files) ss ts → Pairwise (is_local_below files) (written over_types os ws ss) (written over_types us ws ts)
+    written_down : (ws : List (ℕ × Out)) (ss ts : List VerificationType) → Pairwise (is_local_below files) ss ts
+        → Pairwise (is_local_below files) (written over_types os ws ss) (written over_types us ws ts)
     written_down [] ss ts g = g
     written_down (w ∷ ws) ss ts g =
         written_down ws _ _ (pair_set (is_local_below files) ss ts _ _ g (stack_local files (out over_types os w.1) (out over_types us w.1) (out_down w.1)) w.0)
 
   -- every local instruction at once
-  pub after_row_down : (r : Row) (max : ℕ) (a b : Slots VerificationType) → SlotsBelow files a b → is_ready (type_meets files) over_types (row_wants r) max b ≡ true → SlotsBelow files (after_row over_types r a) (after_row over_types r b)
+  pub after_row_down : (r : Row) (max : ℕ) (a b : Slots VerificationType) → SlotsBelow files a b
+      → is_ready (type_meets files) over_types (row_wants r) max b ≡ true
+      → SlotsBelow files (after_row over_types r a) (after_row over_types r b)
   after_row_down r max a b f e =
       let o = operands_down a b f (row_wants r) max e in
       record {

@@ -12,7 +12,8 @@ use Rattle.run_laws.specs.typing_search.Search.{AreReached, Raised, Search, Merg
 use Rattle.run_laws.proofs.typing_search.Orders.{frame_self, frame_trans}
 use Rattle.run_laws.proofs.typing_search.Flows.{flow_down}
 
-pub reached_parts : (files : Program) (F : Typing) (xs ys : List (ℕ × FrameType)) → AreReached files F (xs ++ ys) → AreReached files F xs × AreReached files F ys
+pub reached_parts : (files : Program) (F : Typing) (xs ys : List (ℕ × FrameType)) → AreReached files F (xs ++ ys)
+    → AreReached files F xs × AreReached files F ys
 reached_parts files F [] ys w = (tt, w)
 reached_parts files F (x ∷ xs) ys w = let q = reached_parts files F xs ys w.1 in ((w.0, q.0), q.1)
 
@@ -47,7 +48,8 @@ module _ (files : Program) (rooted : Rooted files) where
     pub merged_nothing : (F : Typing) (P : ℕ → Bool) → Merged files body F P [] F P
     merged_nothing F P = record { starts = λ z. z; sized = λ z. z; raised = raised_self files F; waiting = λ k t a b. (a, b); reached = tt; least = λ H h w. h }
 
-    pub merged_then : (F G H : Typing) (P Q R : ℕ → Bool) (xs ys : List (ℕ × FrameType)) → Merged files body F P xs G Q → Merged files body G Q ys H R → Merged files body F P (xs ++ ys) H R
+    pub merged_then : (F G H : Typing) (P Q R : ℕ → Bool) (xs ys : List (ℕ × FrameType)) → Merged files body F P xs G Q
+        → Merged files body G Q ys H R → Merged files body F P (xs ++ ys) H R
     merged_then F G H P Q R xs ys a b =
         record {
           starts = λ z. b.starts (a.starts z);
@@ -58,7 +60,8 @@ module _ (files : Program) (rooted : Rooted files) where
           least = λ K k w. let q = reached_parts files K xs ys w in b.least K (a.least K k q.0) q.1;
         }
 
-    pub merged_before : (F G H : Typing) (P Q R : ℕ → Bool) (lead : ℕ × FrameType) (done : List (ℕ × FrameType)) → Merged files body F P done G Q → Merged files body G Q (lead ∷ []) H R → Merged files body F P (lead ∷ done) H R
+    pub merged_before : (F G H : Typing) (P Q R : ℕ → Bool) (lead : ℕ × FrameType) (done : List (ℕ × FrameType))
+        → Merged files body F P done G Q → Merged files body G Q (lead ∷ []) H R → Merged files body F P (lead ∷ done) H R
     merged_before F G H P Q R lead done a b =
         record {
           starts = λ z. b.starts (a.starts z);
@@ -70,13 +73,15 @@ module _ (files : Program) (rooted : Rooted files) where
         }
 
     module _ (method : Member) where
-      pub clash_then : (F G : Typing) (P Q : ℕ → Bool) (xs ys zs : List (ℕ × FrameType)) → Merged files body F P xs G Q → Clashes files method body G ys → Clashes files method body F (xs ++ (ys ++ zs))
+      pub clash_then : (F G : Typing) (P Q : ℕ → Bool) (xs ys zs : List (ℕ × FrameType)) → Merged files body F P xs G Q
+          → Clashes files method body G ys → Clashes files method body F (xs ++ (ys ++ zs))
       clash_then F G P Q xs ys zs a c K h k w =
           let q = reached_parts files K xs (ys ++ zs) w in
           let r = reached_parts files K ys zs q.1 in
           c K h (a.least K k q.0) r.0
 
-      pub clash_before : (F G : Typing) (P Q : ℕ → Bool) (left : List (ℕ × FrameType)) (lead : ℕ × FrameType) (done : List (ℕ × FrameType)) → Merged files body F P done G Q → Clashes files method body G (lead ∷ []) → Clashes files method body F (left ++ (lead ∷ done))
+      pub clash_before : (F G : Typing) (P Q : ℕ → Bool) (left : List (ℕ × FrameType)) (lead : ℕ × FrameType) (done : List (ℕ × FrameType))
+          → Merged files body F P done G Q → Clashes files method body G (lead ∷ []) → Clashes files method body F (left ++ (lead ∷ done))
       clash_before F G P Q left lead done a c K h k w =
           let q = reached_parts files K left (lead ∷ done) w in
           c K h (a.least K k q.1.1) (q.1.0, tt)
@@ -89,7 +94,8 @@ module _ (files : Program) (rooted : Rooted files) where
           none_some : (x : FrameType) → None ≡ Some x → ⊥
           none_some x q = absurd cc
 
-      pub search_begins : (F : Typing) (P : ℕ → Bool) (G : Typing) (Q : ℕ → Bool) → IsUntyped F → Merged files body F P ((0, entry_type files method body) ∷ []) G Q → Search files method body G Q
+      pub search_begins : (F : Typing) (P : ℕ → Bool) (G : Typing) (Q : ℕ → Bool) → IsUntyped F
+          → Merged files body F P ((0, entry_type files method body) ∷ []) G Q → Search files method body G Q
       search_begins F P G Q u w =
           record {
             starts = w.starts (λ k t e. absurd (none_typed F u k t e));
@@ -99,7 +105,8 @@ module _ (files : Program) (rooted : Rooted files) where
             least = λ H h. w.least H (λ k t e. absurd (none_typed F u k t e)) (h.begins, tt);
           }
 
-      pub beginning_refused : (F : Typing) → IsUntyped F → Clashes files method body F ((0, entry_type files method body) ∷ []) → HasNoTyping files method body
+      pub beginning_refused : (F : Typing) → IsUntyped F → Clashes files method body F ((0, entry_type files method body) ∷ [])
+          → HasNoTyping files method body
       beginning_refused F u c H h = c H h (λ k t e. absurd (none_typed F u k t e)) (h.begins, tt)
 
       pub search_ends : (F : Typing) (P : ℕ → Bool) → Search files method body F P → ((k : ℕ) → P k ≡ false) → IsTyping files method body F
@@ -109,21 +116,25 @@ module _ (files : Program) (rooted : Rooted files) where
 
 module _ (files : Program) (ordered : IsOrdered files) (method : Member) (body : Body) where
   -- a rule at a frame type above is kept at each below
-  pub rule_down : (F : Typing) (offset : ℕ) (a b : FrameType) → is_frame_below files a b ≡ true → Rule files method body F offset b → Rule files method body F offset a
+  pub rule_down : (F : Typing) (offset : ℕ) (a b : FrameType) → is_frame_below files a b ≡ true → Rule files method body F offset b
+      → Rule files method body F offset a
   rule_down F offset a b f r =
       let d = flow_down files ordered method body offset a b r.leads f r.flows in
       record { leads = d.lower; flows = d.flows; reached = reached_down files ordered.rooted F d.lower r.leads d.below r.reached }
 
   -- a typing keeps the rule at what the search has found
-  pub typed_rule : (F : Typing) (P : ℕ → Bool) → Search files method body F P → (G : Typing) → IsTyping files method body G → (offset : ℕ) (t : FrameType) → F offset ≡ Some t → Rule files method body G offset t
+  pub typed_rule : (F : Typing) (P : ℕ → Bool) → Search files method body F P → (G : Typing) → IsTyping files method body G → (offset : ℕ)
+      (t : FrameType) → F offset ≡ Some t → Rule files method body G offset t
   typed_rule F P s G g offset t e =
       let q = s.least G g offset t e in
       rule_down G offset t q.there q.above (g.agrees offset q.there q.typed)
 
-  reached_of : (G : Typing) (offset : ℕ) (t : FrameType) (leads : List (ℕ × FrameType)) → flow files method body offset t ≡ Some leads → Rule files method body G offset t → AreReached files G leads
+  reached_of : (G : Typing) (offset : ℕ) (t : FrameType) (leads : List (ℕ × FrameType)) → flow files method body offset t ≡ Some leads
+      → Rule files method body G offset t → AreReached files G leads
   reached_of G offset t leads n r = subst (AreReached files G) (same_Some r.leads leads (sym r.flows ∙ n)) r.reached
 
-  pub refused_rule : (F : Typing) (P : ℕ → Bool) (offset : ℕ) (t : FrameType) → Search files method body F P → F offset ≡ Some t → flow files method body offset t ≡ None → HasNoTyping files method body
+  pub refused_rule : (F : Typing) (P : ℕ → Bool) (offset : ℕ) (t : FrameType) → Search files method body F P → F offset ≡ Some t
+      → flow files method body offset t ≡ None → HasNoTyping files method body
   refused_rule F P offset t s e n G g = both_ways _ (typed_rule F P s G g offset t e).flows n
     where
       both_ways : (leads : List (ℕ × FrameType)) → flow files method body offset t ≡ Some leads → flow files method body offset t ≡ None → ⊥
@@ -132,11 +143,15 @@ module _ (files : Program) (ordered : IsOrdered files) (method : Member) (body :
           some_none : (x : List (ℕ × FrameType)) → Some x ≡ None → ⊥
           some_none x e = absurd cc
 
-  pub refused_merge : (F : Typing) (P : ℕ → Bool) (offset : ℕ) (t : FrameType) (leads : List (ℕ × FrameType)) → Search files method body F P → F offset ≡ Some t → flow files method body offset t ≡ Some leads → Clashes files method body F leads → HasNoTyping files method body
+  pub refused_merge : (F : Typing) (P : ℕ → Bool) (offset : ℕ) (t : FrameType) (leads : List (ℕ × FrameType))
+      → Search files method body F P → F offset ≡ Some t → flow files method body offset t ≡ Some leads → Clashes files method body F leads
+      → HasNoTyping files method body
   refused_merge F P offset t leads s e n w G g = w G g (s.least G g) (reached_of G offset t leads n (typed_rule F P s G g offset t e))
 
   -- an offset is taken off, and what it leads to is merged
-  pub search_turn : (F : Typing) (P P' : ℕ → Bool) (offset : ℕ) (t : FrameType) (leads : List (ℕ × FrameType)) (G : Typing) (Q : ℕ → Bool) → Search files method body F P → F offset ≡ Some t → flow files method body offset t ≡ Some leads → IsTakenOff offset P P' → Merged files body F P' leads G Q → Search files method body G Q
+  pub search_turn : (F : Typing) (P P' : ℕ → Bool) (offset : ℕ) (t : FrameType) (leads : List (ℕ × FrameType)) (G : Typing) (Q : ℕ → Bool)
+      → Search files method body F P → F offset ≡ Some t → flow files method body offset t ≡ Some leads → IsTakenOff offset P P'
+      → Merged files body F P' leads G Q → Search files method body G Q
   search_turn F P P' offset t leads G Q s e n only w =
       record {
         starts = w.starts s.starts;

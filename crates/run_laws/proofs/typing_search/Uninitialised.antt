@@ -12,7 +12,8 @@ use Rattle.run_laws.proofs.laws.Lists.{Pairwise}
 use Rattle.run_laws.proofs.typing_search.Orders.{unusable_same, int_same, null_same, new_same, this_same, stack_self, stack_local}
 
 -- two lists of types, changed place by place
-pub pair_maps : {A B : Type 0} (R : A → A → Bool) (S : B → B → Bool) (f g : A → B) → ((x y : A) → R x y ≡ true → S (f x) (g y) ≡ true) → (xs ys : List A) → Pairwise R xs ys → Pairwise S (map f xs) (map g ys)
+pub pair_maps : {A B : Type 0} (R : A → A → Bool) (S : B → B → Bool) (f g : A → B) → ((x y : A) → R x y ≡ true → S (f x) (g y) ≡ true)
+    → (xs ys : List A) → Pairwise R xs ys → Pairwise S (map f xs) (map g ys)
 pair_maps R S f g w [] [] h = tt
 pair_maps R S f g w [] (y ∷ ys) h = absurd h
 pair_maps R S f g w (x ∷ xs) [] h = absurd h
@@ -44,10 +45,12 @@ module _ (files : Program) where
     any_same (s ∷ ss) [] h = absurd h
     any_same (s ∷ ss) (t ∷ ts) h = ap (λ b. b || list_any p ss) (test_same s t h.0) ∙ ap (λ b. p t || b) (any_same ss ts h.1)
 
-  pub any_made_same : (offset : ℕ) (ss ts : List VerificationType) → Pairwise (is_stack_below files) ss ts → list_any (is_made_at offset) ss ≡ list_any (is_made_at offset) ts
+  pub any_made_same : (offset : ℕ) (ss ts : List VerificationType) → Pairwise (is_stack_below files) ss ts
+      → list_any (is_made_at offset) ss ≡ list_any (is_made_at offset) ts
   any_made_same offset ss ts h = any_same (is_made_at offset) refl (λ r. refl) ss ts h
 
-  pub any_this_same : (ss ts : List VerificationType) → Pairwise (is_stack_below files) ss ts → list_any is_any_this ss ≡ list_any is_any_this ts
+  pub any_this_same : (ss ts : List VerificationType) → Pairwise (is_stack_below files) ss ts
+      → list_any is_any_this ss ≡ list_any is_any_this ts
   any_this_same ss ts h = any_same is_any_this refl (λ r. refl) ss ts h
 
   -- ---- changes of what is not initialised
@@ -57,7 +60,8 @@ module _ (files : Program) where
 
   -- such a change, which keeps the other types
   module _ (f : VerificationType → VerificationType) (null : f NullType ≡ NullType) (of : (r : ReferenceType) → f (OfType r) ≡ OfType r) where
-    kept_of : (s : VerificationType) (r : ReferenceType) → is_stack_below files s (OfType r) ≡ true → is_stack_below files (f s) (OfType r) ≡ true
+    kept_of : (s : VerificationType) (r : ReferenceType) → is_stack_below files s (OfType r) ≡ true
+        → is_stack_below files (f s) (OfType r) ≡ true
     kept_of Unusable r q = absurd (false≢true q)
     kept_of IntType r q = absurd (false≢true q)
     kept_of NullType r q = subst (λ x. is_stack_below files x (OfType r) ≡ true) (sym null) refl
@@ -74,7 +78,8 @@ module _ (files : Program) where
     changed_down s (UninitialisedThis c) q = same_below f s (UninitialisedThis c) (this_same c s q)
 
     -- in local variables
-    changed_local : f Unusable ≡ Unusable → (s t : VerificationType) → is_local_below files s t ≡ true → is_local_below files (f s) (f t) ≡ true
+    changed_local : f Unusable ≡ Unusable → (s t : VerificationType) → is_local_below files s t ≡ true
+        → is_local_below files (f s) (f t) ≡ true
     changed_local z s Unusable q = subst (λ x. is_local_below files (f s) x ≡ true) (sym z) refl
     changed_local z s IntType q = stack_local files (f s) (f IntType) (changed_down s IntType q)
     changed_local z s NullType q = stack_local files (f s) (f NullType) (changed_down s NullType q)
@@ -82,7 +87,8 @@ module _ (files : Program) where
     changed_local z s (Uninitialised at c) q = stack_local files (f s) (f (Uninitialised at c)) (changed_down s (Uninitialised at c) q)
     changed_local z s (UninitialisedThis c) q = stack_local files (f s) (f (UninitialisedThis c)) (changed_down s (UninitialisedThis c) q)
 
-  pub forgotten_local : (offset : ℕ) (s t : VerificationType) → is_local_below files s t ≡ true → is_local_below files (forgotten offset s) (forgotten offset t) ≡ true
+  pub forgotten_local : (offset : ℕ) (s t : VerificationType) → is_local_below files s t ≡ true
+      → is_local_below files (forgotten offset s) (forgotten offset t) ≡ true
   forgotten_local offset s t q = changed_local (forgotten offset) refl (λ r. refl) refl s t q
 
   null_kept : (of : VerificationType) → initialised of NullType ≡ NullType
@@ -109,7 +115,8 @@ module _ (files : Program) where
   of_kept (Uninitialised at c) r = refl
   of_kept (UninitialisedThis c) r = refl
 
-  under_of : (of : VerificationType) (r : ReferenceType) (s : VerificationType) → is_stack_below files of (OfType r) ≡ true → initialised of s ≡ s
+  under_of : (of : VerificationType) (r : ReferenceType) (s : VerificationType) → is_stack_below files of (OfType r) ≡ true
+      → initialised of s ≡ s
   under_of Unusable r s q = refl
   under_of IntType r s q = refl
   under_of NullType r s q = refl
@@ -126,10 +133,12 @@ module _ (files : Program) where
   receiver_same of (Uninitialised at c) s q = ap (λ x. initialised x s) (new_same at c of q)
   receiver_same of (UninitialisedThis c) s q = ap (λ x. initialised x s) (this_same c of q)
 
-  pub initialised_down : (of up : VerificationType) → is_stack_below files of up ≡ true → (s t : VerificationType) → is_stack_below files s t ≡ true → is_stack_below files (initialised of s) (initialised up t) ≡ true
+  pub initialised_down : (of up : VerificationType) → is_stack_below files of up ≡ true → (s t : VerificationType)
+      → is_stack_below files s t ≡ true → is_stack_below files (initialised of s) (initialised up t) ≡ true
   initialised_down of up p s t q =
       subst (λ x. is_stack_below files x (initialised up t) ≡ true) (sym (receiver_same of up s p)) (changed_down (initialised up) (null_kept up) (of_kept up) s t q)
 
-  pub initialised_local : (of up : VerificationType) → is_stack_below files of up ≡ true → (s t : VerificationType) → is_local_below files s t ≡ true → is_local_below files (initialised of s) (initialised up t) ≡ true
+  pub initialised_local : (of up : VerificationType) → is_stack_below files of up ≡ true → (s t : VerificationType)
+      → is_local_below files s t ≡ true → is_local_below files (initialised of s) (initialised up t) ≡ true
   initialised_local of up p s t q =
       subst (λ x. is_local_below files x (initialised up t) ≡ true) (sym (receiver_same of up s p)) (changed_local (initialised up) (null_kept up) (of_kept up) (unusable_kept up) s t q)

@@ -50,12 +50,15 @@ module _ (files : Program) where
   counted : (n : ℕ) (c : Name) → ends files (suc n) c ≡ true → classes_above files (suc n) c ≡ classes_above files n c
   counted zero c e = go (superclass_of files c) e
     where
-      go : (o : Option Name) → option_map_or (λ s. ends files 0 s) o true ≡ true → option_map_or (λ s. suc (classes_above files 0 s)) o 0 ≡ 0
+      go : (o : Option Name) → option_map_or (λ s. ends files 0 s) o true ≡ true
+          → option_map_or (λ s. suc (classes_above files 0 s)) o 0 ≡ 0
       go None e = refl
       go (Some s) e = absurd (false≢true e)
   counted (suc n) c e = go (λ s x. counted n s x) (superclass_of files c) e
     where
-      go : ((s : Name) → ends files (suc n) s ≡ true → classes_above files (suc n) s ≡ classes_above files n s) → (o : Option Name) → option_map_or (λ s. ends files (suc n) s) o true ≡ true → option_map_or (λ s. suc (classes_above files (suc n) s)) o 0 ≡ option_map_or (λ s. suc (classes_above files n s)) o 0
+      go : ((s : Name) → ends files (suc n) s ≡ true → classes_above files (suc n) s ≡ classes_above files n s) → (o : Option Name)
+          → option_map_or (λ s. ends files (suc n) s) o true ≡ true
+          → option_map_or (λ s. suc (classes_above files (suc n) s)) o 0 ≡ option_map_or (λ s. suc (classes_above files n s)) o 0
       go rec None e = refl
       go rec (Some s) e = ap suc (rec s e)
 
@@ -74,7 +77,8 @@ module _ (files : Program) where
 
   module _ (rooted : Rooted files) where
     -- one class more is above a class than above its superclass
-    super_counted : (n : ℕ) (c s : Name) → ends files (suc n) c ≡ true → superclass_of files c ≡ Some s → classes_above files n c ≡ suc (classes_above files n s)
+    super_counted : (n : ℕ) (c s : Name) → ends files (suc n) c ≡ true → superclass_of files c ≡ Some s
+        → classes_above files n c ≡ suc (classes_above files n s)
     super_counted zero c s e q = absurd (false≢true (subst (λ o. option_map_or (λ s. ends files 0 s) o true ≡ true) q e))
     super_counted (suc n) c s e q =
         let w : ends files (suc n) s ≡ true = subst (λ o. option_map_or (λ s. ends files (suc n) s) o true ≡ true) q e in
@@ -86,9 +90,11 @@ module _ (files : Program) where
     within_lower : (n : ℕ) (c d : Name) → is_within files n c d ≡ true → (c ≡ d) ⊎ (above d < above c)
     within_lower zero c d w = inl (names_same c d w)
     within_lower (suc n) c d w =
-        ⊎_elim (λ e. inl (names_same c d e)) (λ e. go (λ s x. within_lower n s d x) (superclass_of files c) refl e) (or_cases (name_eq c d) _ w)
+        ⊎_elim (λ e. inl (names_same c d e)) (λ e. go (λ s x. within_lower n s d x) (superclass_of files c) refl e)
+        (or_cases (name_eq c d) _ w)
       where
-        go : ((s : Name) → is_within files n s d ≡ true → (s ≡ d) ⊎ (above d < above s)) → (o : Option Name) → superclass_of files c ≡ o → option_map_or (λ s. is_within files n s d) o false ≡ true → (c ≡ d) ⊎ (above d < above c)
+        go : ((s : Name) → is_within files n s d ≡ true → (s ≡ d) ⊎ (above d < above s)) → (o : Option Name) → superclass_of files c ≡ o
+            → option_map_or (λ s. is_within files n s d) o false ≡ true → (c ≡ d) ⊎ (above d < above c)
         go rec None q e = absurd (false≢true e)
         go rec (Some s) q e =
             let more = super_counted (length (classes_of files)) c s (rooted c) q in
@@ -133,7 +139,8 @@ module _ (files : Program) where
       lower_unusable (Uninitialised at c) = inr (omega arith)
       lower_unusable (UninitialisedThis c) = inr (omega arith)
 
-      lower_of : (s : VerificationType) (t : ReferenceType) → rank files t < limit → is_stack_below files s (OfType t) ≡ true → Lower s (OfType t)
+      lower_of : (s : VerificationType) (t : ReferenceType) → rank files t < limit → is_stack_below files s (OfType t) ≡ true
+          → Lower s (OfType t)
       lower_of Unusable t l p = absurd (false≢true p)
       lower_of IntType t l p = absurd (false≢true p)
       lower_of NullType t l p = inr (omega (arith, l))
@@ -150,13 +157,15 @@ module _ (files : Program) where
       local_lower s (UninitialisedThis c) l p = inl (this_same c s p)
 
       -- places that are raised are the same, or less high in all
-      all_lower : (xs ys : List VerificationType) → AllByRecursion (IsLow files limit) ys → Pairwise (is_local_below files) xs ys → (xs ≡ ys) ⊎ (heights files limit ys < heights files limit xs)
+      all_lower : (xs ys : List VerificationType) → AllByRecursion (IsLow files limit) ys → Pairwise (is_local_below files) xs ys
+          → (xs ≡ ys) ⊎ (heights files limit ys < heights files limit xs)
       all_lower [] [] l f = inl refl
       all_lower [] (y ∷ ys) l f = absurd f
       all_lower (x ∷ xs) [] l f = absurd f
       all_lower (x ∷ xs) (y ∷ ys) l f = both (local_lower x y l.0 f.0) (all_lower xs ys l.1 f.1)
         where
-          both : (x ≡ y) ⊎ (height files limit y < height files limit x) → (xs ≡ ys) ⊎ (heights files limit ys < heights files limit xs) → (x ∷ xs ≡ y ∷ ys) ⊎ (heights files limit (y ∷ ys) < heights files limit (x ∷ xs))
+          both : (x ≡ y) ⊎ (height files limit y < height files limit x) → (xs ≡ ys) ⊎ (heights files limit ys < heights files limit xs)
+              → (x ∷ xs ≡ y ∷ ys) ⊎ (heights files limit (y ∷ ys) < heights files limit (x ∷ xs))
           both (inl e) (inl q) = inl (ap (λ z. z ∷ xs) e ∙ ap (λ l. y ∷ l) q)
           both (inl e) (inr q) = let z = ap (height files limit) e in inr (omega (arith, z, q))
           both (inr e) (inl q) = let z = ap (heights files limit) q in inr (omega (arith, z, e))
@@ -169,12 +178,16 @@ module _ (files : Program) where
       mark_lower false false p = inl refl
 
       -- a frame type that is raised weighs less, or is the same
-      frame_lower : (a b : FrameType) → IsLowFrame files limit b → is_frame_below files a b ≡ true → (a ≡ b) ⊎ (frame_weight files limit b < frame_weight files limit a)
+      frame_lower : (a b : FrameType) → IsLowFrame files limit b → is_frame_below files a b ≡ true
+          → (a ≡ b) ⊎ (frame_weight files limit b < frame_weight files limit a)
       frame_lower a b l p =
           let f = below_parts files a b p in
           by (all_lower a.slots.locals b.slots.locals l.locals f.locals) (all_lower a.slots.stack b.slots.stack l.stack (pair_weaken (is_stack_below files) (is_local_below files) _ _ (λ x y q. stack_local files x y q) f.stack)) (mark_lower a.constructed b.constructed f.mark)
         where
-          by : (a.slots.locals ≡ b.slots.locals) ⊎ (heights files limit b.slots.locals < heights files limit a.slots.locals) → (a.slots.stack ≡ b.slots.stack) ⊎ (heights files limit b.slots.stack < heights files limit a.slots.stack) → (a.constructed ≡ b.constructed) ⊎ (mark_weight b.constructed < mark_weight a.constructed) → (a ≡ b) ⊎ (frame_weight files limit b < frame_weight files limit a)
+          by : (a.slots.locals ≡ b.slots.locals) ⊎ (heights files limit b.slots.locals < heights files limit a.slots.locals)
+              → (a.slots.stack ≡ b.slots.stack) ⊎ (heights files limit b.slots.stack < heights files limit a.slots.stack)
+              → (a.constructed ≡ b.constructed) ⊎ (mark_weight b.constructed < mark_weight a.constructed)
+              → (a ≡ b) ⊎ (frame_weight files limit b < frame_weight files limit a)
           by (inl e) (inl q) (inl r) =
               inl (ap (λ x. let s : FrameType = record { slots = record { locals = x; stack = a.slots.stack }; constructed = a.constructed } in s) e ∙ (ap (λ x. let s : FrameType = record { slots = record { locals = b.slots.locals; stack = x }; constructed = a.constructed } in s) q ∙ ap (λ x. let s : FrameType = record { slots = b.slots; constructed = x } in s) r))
           by (inl e) (inl q) (inr r) = let x = ap (heights files limit) e in let y = ap (heights files limit) q in inr (omega (arith, x, y, r))
@@ -187,7 +200,8 @@ module _ (files : Program) where
 
       -- ---- a join of low types is low
 
-      low_up : (s t : VerificationType) (r : ReferenceType) → is_of files r s ≡ true → is_of files r t ≡ true → (s ≡ NullType → t ≡ NullType → ⊥) → IsLow files limit s → IsLow files limit t → rank files r < limit
+      low_up : (s t : VerificationType) (r : ReferenceType) → is_of files r s ≡ true → is_of files r t ≡ true
+          → (s ≡ NullType → t ≡ NullType → ⊥) → IsLow files limit s → IsLow files limit t → rank files r < limit
       low_up Unusable t r p q never x y = absurd (false≢true p)
       low_up IntType t r p q never x y = absurd (false≢true p)
       low_up (Uninitialised at c) t r p q never x y = absurd (false≢true p)
@@ -200,7 +214,8 @@ module _ (files : Program) where
       low_up NullType (Uninitialised at c) r p q never x y = absurd (false≢true q)
       low_up NullType (UninitialisedThis c) r p q never x y = absurd (false≢true q)
 
-      stack_low : (s t u : VerificationType) → IsJoin (is_stack_below files) s t (Some u) → IsLow files limit s → IsLow files limit t → IsLow files limit u
+      stack_low : (s t u : VerificationType) → IsJoin (is_stack_below files) s t (Some u) → IsLow files limit s → IsLow files limit t
+          → IsLow files limit u
       stack_low s t Unusable j x y = tt
       stack_low s t IntType j x y = tt
       stack_low s t NullType j x y = tt
@@ -209,7 +224,8 @@ module _ (files : Program) where
       stack_low s t (Uninitialised at c) j x y = tt
       stack_low s t (UninitialisedThis c) j x y = tt
 
-      local_low : (s t u : VerificationType) → IsJoin (is_local_below files) s t (Some u) → IsLow files limit s → IsLow files limit t → IsLow files limit u
+      local_low : (s t u : VerificationType) → IsJoin (is_local_below files) s t (Some u) → IsLow files limit s → IsLow files limit t
+          → IsLow files limit u
       local_low s t Unusable j x y = tt
       local_low s t IntType j x y = tt
       local_low s t NullType j x y = tt
@@ -219,26 +235,31 @@ module _ (files : Program) where
       local_low s t (UninitialisedThis c) j x y = tt
 
       module _ (join : VerificationType → VerificationType → Option VerificationType) (low : (s t u : VerificationType) → join s t ≡ Some u → IsLow files limit s → IsLow files limit t → IsLow files limit u) where
-        front_low : (o : Option VerificationType) (os : Option (List VerificationType)) (us : List VerificationType) → in_front o os ≡ Some us → ((u : VerificationType) → o ≡ Some u → IsLow files limit u) → ((vs : List VerificationType) → os ≡ Some vs → AllByRecursion (IsLow files limit) vs) → AllByRecursion (IsLow files limit) us
+        front_low : (o : Option VerificationType) (os : Option (List VerificationType)) (us : List VerificationType)
+            → in_front o os ≡ Some us → ((u : VerificationType) → o ≡ Some u → IsLow files limit u)
+            → ((vs : List VerificationType) → os ≡ Some vs → AllByRecursion (IsLow files limit) vs) → AllByRecursion (IsLow files limit) us
         front_low None os us e f g = absurd cc
         front_low (Some u) None us e f g = absurd cc
         front_low (Some u) (Some vs) us e f g = subst (AllByRecursion (IsLow files limit)) (same_Some (u ∷ vs) us e) (f u refl, g vs refl)
 
-        all_low : (xs ys us : List VerificationType) → join_pairwise join xs ys ≡ Some us → AllByRecursion (IsLow files limit) xs → AllByRecursion (IsLow files limit) ys → AllByRecursion (IsLow files limit) us
+        all_low : (xs ys us : List VerificationType) → join_pairwise join xs ys ≡ Some us → AllByRecursion (IsLow files limit) xs
+            → AllByRecursion (IsLow files limit) ys → AllByRecursion (IsLow files limit) us
         all_low [] [] us e x y = subst (AllByRecursion (IsLow files limit)) (same_Some [] us e) tt
         all_low [] (t ∷ ts) us e x y = absurd cc
         all_low (s ∷ ss) [] us e x y = absurd cc
         all_low (s ∷ ss) (t ∷ ts) us e x y =
             front_low (join s t) (join_pairwise join ss ts) us e (λ u q. low s t u q x.0 y.0) (λ vs q. all_low ss ts vs q x.1 y.1)
 
-      slots_joined : (mark : Bool) (ls ss : Option (List VerificationType)) (join : FrameType) → frame_of_slots mark ls ss ≡ Some join → (ls ≡ Some join.slots.locals) × (ss ≡ Some join.slots.stack)
+      slots_joined : (mark : Bool) (ls ss : Option (List VerificationType)) (join : FrameType) → frame_of_slots mark ls ss ≡ Some join
+          → (ls ≡ Some join.slots.locals) × (ss ≡ Some join.slots.stack)
       slots_joined mark None ss join e = absurd cc
       slots_joined mark (Some ls) None join e = absurd cc
       slots_joined mark (Some ls) (Some ss) join e =
           let q = same_Some _ join e in
           (ap (λ (x : FrameType). Some x.slots.locals) q, ap (λ (x : FrameType). Some x.slots.stack) q)
 
-      pub low_join : (a b join : FrameType) → frame_join files a b ≡ Some join → IsLowFrame files limit a → IsLowFrame files limit b → IsLowFrame files limit join
+      pub low_join : (a b join : FrameType) → frame_join files a b ≡ Some join → IsLowFrame files limit a → IsLowFrame files limit b
+          → IsLowFrame files limit join
       low_join a b join e x y =
           let q = slots_joined (a.constructed && b.constructed) _ _ join e in
           record {
@@ -270,14 +291,17 @@ module _ (files : Program) where
 
       -- ---- merging lessens the work
 
-      pub raised_lighter : (there t join : FrameType) → frame_join files there t ≡ Some join → (is_frame_below files t there ≡ true → ⊥) → IsLowFrame files limit there → IsLowFrame files limit t → IsLowFrame files limit join × (frame_weight files limit join < frame_weight files limit there)
+      pub raised_lighter : (there t join : FrameType) → frame_join files there t ≡ Some join → (is_frame_below files t there ≡ true → ⊥)
+          → IsLowFrame files limit there → IsLowFrame files limit t
+          → IsLowFrame files limit join × (frame_weight files limit join < frame_weight files limit there)
       raised_lighter there t join e misfit x y =
           let j = subst (IsJoin (is_frame_below files) there t) e (frame_is files rooted there t) in
           let l = low_join there t join e x y in
           (l, ⊎_elim (λ same. absurd (misfit (subst (λ z. is_frame_below files t z ≡ true) (sym same) j.1))) (λ w. w) (frame_lower there join l j.0))
 
       module _ (body : Body) where
-        pub first_lighter : (t : FrameType) → IsSized body t → IsLowFrame files limit t → frame_weight files limit t < entry_weight files limit (places body) None
+        pub first_lighter : (t : FrameType) → IsSized body t → IsLowFrame files limit t
+            → frame_weight files limit t < entry_weight files limit (places body) None
         first_lighter t z l =
             let a = low_heights t.slots.locals l.locals in
             let b = low_heights t.slots.stack l.stack in
@@ -287,16 +311,21 @@ module _ (files : Program) where
             let m = mark_small t.constructed in
             omega (arith, a, b, c, d, e, m)
 
-        table_set : (table : List (Option FrameType)) (to : ℕ) (there : Option FrameType) (t : FrameType) → slice_get table to ≡ Some there → frame_weight files limit t < entry_weight files limit (places body) there → table_weight files limit (places body) (found_at table to t) < table_weight files limit (places body) table
+        table_set : (table : List (Option FrameType)) (to : ℕ) (there : Option FrameType) (t : FrameType) → slice_get table to ≡ Some there
+            → frame_weight files limit t < entry_weight files limit (places body) there
+            → table_weight files limit (places body) (found_at table to t) < table_weight files limit (places body) table
         table_set [] to there t e l = absurd cc
         table_set (o ∷ os) zero there t e l = let z = ap (entry_weight files limit (places body)) (same_Some o there e) in omega (arith, z, l)
         table_set (o ∷ os) (suc to) there t e l = let r = table_set os to there t e l in omega (arith, r)
 
-        pub work_merged : (table : List (Option FrameType)) (waiting : List Bool) (to : ℕ) (there : Option FrameType) (t : FrameType) → slice_get table to ≡ Some there → frame_weight files limit t < entry_weight files limit (places body) there → work files limit (places body) (found_at table to t) (waiting_at waiting to) < work files limit (places body) table waiting
+        pub work_merged : (table : List (Option FrameType)) (waiting : List Bool) (to : ℕ) (there : Option FrameType) (t : FrameType)
+            → slice_get table to ≡ Some there → frame_weight files limit t < entry_weight files limit (places body) there
+            → work files limit (places body) (found_at table to t) (waiting_at waiting to) < work files limit (places body) table waiting
         work_merged table waiting to there t e l =
             let a = table_set table to there t e l in
             let b = marks_set waiting to in
             omega (arith, a, b)
 
-        pub work_taken_off : (table : List (Option FrameType)) (waiting : List Bool) (offset : ℕ) → waits waiting offset ≡ true → work files limit (places body) table (slice_set waiting offset false) < work files limit (places body) table waiting
+        pub work_taken_off : (table : List (Option FrameType)) (waiting : List Bool) (offset : ℕ) → waits waiting offset ≡ true
+            → work files limit (places body) table (slice_set waiting offset false) < work files limit (places body) table waiting
         work_taken_off table waiting offset e = let w = marks_off waiting offset e in omega (arith, w)

@@ -31,7 +31,8 @@ pub where_is : (b : Bool) (x found : Member) → where_so b x ≡ Some found →
 where_is true x found e = let q : x ≡ found = cc in sym q
 where_is false x found e = absurd cc
 
-first_of : (P : Name → Type 0) (Q : Type 0) (look : Name → Option Member) (names : List Name) (found : Member) → AllByRecursion P names → ((x : Name) → P x → look x ≡ Some found → Q) → first_found look names ≡ Some found → Q
+first_of : (P : Name → Type 0) (Q : Type 0) (look : Name → Option Member) (names : List Name) (found : Member) → AllByRecursion P names
+    → ((x : Name) → P x → look x ≡ Some found → Q) → first_found look names ≡ Some found → Q
 first_of P Q look [] found a f e = absurd cc
 first_of P Q look (x ∷ xs) found a f e = ⊎_elim (λ here. f x a.0 here) (λ later. first_of P Q look xs found a.1 f later) (or_some (look x) (first_found look xs) found e)
 
@@ -91,7 +92,8 @@ module _ (files : Program) where
     own_static : (c : Name) (field : Member) → field.class ≡ c → is_interface files c ≡ true → IsOfInstances field → ⊥
     own_static c field at i instance = by_class (class_of files c) refl
       where
-        by_field : (file : FileTree) → class_of files c ≡ Some file → (o : Option FieldTree) → field_in file field.name field.descriptor ≡ o → option_map_or is_instance_field o false ≡ true → ⊥
+        by_field : (file : FileTree) → class_of files c ≡ Some file → (o : Option FieldTree)
+            → field_in file field.name field.descriptor ≡ o → option_map_or is_instance_field o false ≡ true → ⊥
         by_field file q None e h = false≢true h
         by_field file q (Some f) e h =
             never_both (is_interface_class file) (is_instance_field f)
@@ -122,7 +124,8 @@ module _ (files : Program) where
     own_interfaces : (c : Name) → AllByRecursion (λ d. is_interface files d ≡ true) (superinterfaces_of files c)
     own_interfaces c = own (class_of files c) refl
       where
-        own : (o : Option FileTree) → class_of files c ≡ o → AllByRecursion (λ d. is_interface files d ≡ true) (option_map_or interface_names o [])
+        own : (o : Option FileTree) → class_of files c ≡ o
+            → AllByRecursion (λ d. is_interface files d ≡ true) (option_map_or interface_names o [])
         own None q = tt
         own (Some file) q =
             every_weaken (λ d. (is_found_class files d ≡ false) × (is_missing files d ≡ false)) (λ d. is_interface files d ≡ true) (interface_names file) (λ d p. found_interface d p.0 p.1)
@@ -146,7 +149,8 @@ module _ (files : Program) where
         (or_some (first_found (λ i. field_from files n m i) (superinterfaces_of files c)) (option_and_then (λ s. field_from files n m s) (superclass_of files c)) found other))
         (or_some (field_in_class files m c) (option_or (first_found (λ i. field_from files n m i) (superinterfaces_of files c)) (option_and_then (λ s. field_from files n m s) (superclass_of files c))) found e)
 
-    none_of_interface : (n : ℕ) (m found : Member) (i : Name) → is_interface files i ≡ true → IsOfInstances found → field_from files n m i ≡ Some found → ⊥
+    none_of_interface : (n : ℕ) (m found : Member) (i : Name) → is_interface files i ≡ true → IsOfInstances found
+        → field_from files n m i ≡ Some found → ⊥
     none_of_interface zero m found i h instance e = absurd cc
     none_of_interface (suc n) m found i h instance e =
         places n m i found ⊥
@@ -159,7 +163,8 @@ module _ (files : Program) where
         some_name a b e = cc
 
     -- up the superclasses
-    pub found_above : (n : ℕ) (m found : Member) (c : Name) → IsOfInstances found → field_from files n m c ≡ Some found → (class : Name) × (found ≡ in_class class m) × (is_within files n c class ≡ true)
+    pub found_above : (n : ℕ) (m found : Member) (c : Name) → IsOfInstances found → field_from files n m c ≡ Some found
+        → (class : Name) × (found ≡ in_class class m) × (is_within files n c class ≡ true)
     found_above zero m found c instance e = absurd cc
     found_above (suc n) m found c instance e =
         places n m c found ((class : Name) × (found ≡ in_class class m) × (is_within files (suc n) c class ≡ true))
@@ -172,7 +177,8 @@ module _ (files : Program) where
 
     -- ---- what may come to be a receiver
 
-    of_classes : (named class : Name) → name_eq named java_lang_object ≡ false → is_subclass files named class ≡ true → AreInstances files (ClassType named) class
+    of_classes : (named class : Name) → name_eq named java_lang_object ≡ false → is_subclass files named class ≡ true
+        → AreInstances files (ClassType named) class
     of_classes named class other below (ClassType own) e = (own, refl, subclass_trans files (rooted files ok) own named class e below)
     of_classes named class other below (PrimitiveArray of) e = absurd (false≢true (sym other ∙ e))
     of_classes named class other below (ReferenceArray of) e = absurd (false≢true (sym other ∙ e))

@@ -45,14 +45,17 @@ module _ (files : Program) where
     pub ready : is_ready (type_meets files) over_types meaning.wants body.code.max_stack t.slots ≡ true
 
   module _ (method : Member) (body : Body) (offset : ℕ) (t : FrameType) (leads : List (ℕ × FrameType)) where
-    ruled_by : (z : Sized) → site_at method body offset ≡ Some (site_with method body offset z) → (o : Option (MeaningOf Value)) → meaning_of values files (site_with method body offset z) ≡ o → flow_by files (site_with method body offset z) t o ≡ Some leads → Ruled method body offset t
+    ruled_by : (z : Sized) → site_at method body offset ≡ Some (site_with method body offset z) → (o : Option (MeaningOf Value))
+        → meaning_of values files (site_with method body offset z) ≡ o → flow_by files (site_with method body offset z) t o ≡ Some leads
+        → Ruled method body offset t
     ruled_by z q None e h = absurd cc
     ruled_by z q (Some meaning) e h =
         let site = site_with method body offset z in
         let test = taken (may_stand site t site.instr && is_ready (type_meets files) over_types meaning.wants body.code.max_stack t.slots) _ leads h in
         record { site = site; is_site = q; meaning = meaning; means = e; ready = (and_parts _ _ test).1 }
 
-    ruled_at : (o : Option Sized) → sized_at body.code.code offset ≡ o → flow_at files t (option_map (site_with method body offset) o) ≡ Some leads → Ruled method body offset t
+    ruled_at : (o : Option Sized) → sized_at body.code.code offset ≡ o
+        → flow_at files t (option_map (site_with method body offset) o) ≡ Some leads → Ruled method body offset t
     ruled_at None e h = absurd cc
     ruled_at (Some z) e h =
         ruled_by z (ap (option_map (site_with method body offset)) e) (meaning_of values files (site_with method body offset z)) refl h
@@ -73,7 +76,8 @@ module _ (files : Program) where
     slots_typed = slots_of files (types_of heap) h.stopped.stands.type.slots f.place.slots (record { locals = h.stopped.locals; stack = h.stack })
 
     -- over words it means the same
-    meant_by : (w : Option (MeaningOf ℕ)) → SameIf files (Some rule.meaning) w → meaning_of words files rule.site ≡ w → HasMeaning files (map_frame word_of f)
+    meant_by : (w : Option (MeaningOf ℕ)) → SameIf files (Some rule.meaning) w → meaning_of words files rule.site ≡ w
+        → HasMeaning files (map_frame word_of f)
     meant_by None s e = absurd s
     meant_by (Some w) s e =
         let stands = h.stopped.stands in
@@ -98,14 +102,17 @@ module _ (files : Program) where
 
     -- ---- what it finds
 
-    operands_ready : is_ready (value_meets files objects) over_values rule.meaning.wants h.stopped.stands.body.code.max_stack f.place.slots ≡ true
+    operands_ready : is_ready (value_meets files objects) over_values rule.meaning.wants h.stopped.stands.body.code.max_stack f.place.slots
+        ≡ true
     operands_ready = ready_both files rooted objects rule.meaning.wants h.stopped.stands.body.code.max_stack h.stopped.stands.type.slots f.place.slots slots_typed rule.ready
 
-    words_ready : is_ready (word_meets files objects) over_words rule.meaning.wants h.stopped.stands.body.code.max_stack (map_slots word_of f.place.slots) ≡ true
+    words_ready : is_ready (word_meets files objects) over_words rule.meaning.wants
+        h.stopped.stands.body.code.max_stack (map_slots word_of f.place.slots) ≡ true
     words_ready = ready_words files objects rooted rule.meaning.wants h.stopped.stands.body.code.max_stack h.stopped.stands.type.slots f.place.slots slots_typed rule.ready
 
     -- the last of the tests
-    has_room : {A : Type 0} (accepts : Want → A → Bool) (D : Domain A) (w : Wants) (max : ℕ) (s : Slots A) → is_ready accepts D w max s ≡ true → length (drop (length w.pops) s.stack) + w.grows ≤ max
+    has_room : {A : Type 0} (accepts : Want → A → Bool) (D : Domain A) (w : Wants) (max : ℕ) (s : Slots A)
+        → is_ready accepts D w max s ≡ true → length (drop (length w.pops) s.stack) + w.grows ≤ max
     has_room accepts D w max s e =
         let a = and_parts w.allowed (reads_meet accepts D w.reads s.locals && (pops_meet accepts w.pops s.stack && nat_le (length (drop (length w.pops) s.stack) + w.grows) max)) e in
         let b = and_parts (reads_meet accepts D w.reads s.locals) (pops_meet accepts w.pops s.stack && nat_le (length (drop (length w.pops) s.stack) + w.grows) max) a.1 in
@@ -154,18 +161,23 @@ module _ (files : Program) where
           found = found_words;
         }
 
-    finds_by : (w : Option (MeaningOf ℕ)) → SameIf files (Some rule.meaning) w → (m : MeaningOf ℕ) → w ≡ Some m → Finds files (map (map_object word_of) heap) h.stopped.stands.body m.wants (map_slots word_of f.place.slots)
+    finds_by : (w : Option (MeaningOf ℕ)) → SameIf files (Some rule.meaning) w → (m : MeaningOf ℕ) → w ≡ Some m
+        → Finds files (map (map_object word_of) heap) h.stopped.stands.body m.wants (map_slots word_of f.place.slots)
     finds_by None s m e = absurd s
     finds_by (Some w) s m e =
         subst (λ (x : Wants). Finds files (map (map_object word_of) heap) h.stopped.stands.body x (map_slots word_of f.place.slots))
         (sym s.wants ∙ ap (λ (x : MeaningOf ℕ). x.wants) (same_Some w m e)) finds_wants
 
-    finds_at : (site : Site) → site_at f.method h.stopped.stands.body f.place.offset ≡ Some site → (m : MeaningOf ℕ) → meaning_of words files site ≡ Some m → Finds files (map (map_object word_of) heap) h.stopped.stands.body m.wants (map_slots word_of f.place.slots)
+    finds_at : (site : Site) → site_at f.method h.stopped.stands.body f.place.offset ≡ Some site → (m : MeaningOf ℕ)
+        → meaning_of words files site ≡ Some m → Finds files (map (map_object word_of) heap) h.stopped.stands.body
+        m.wants (map_slots word_of f.place.slots)
     finds_at site is_site m means =
         let is : rule.site ≡ site = same_Some rule.site site (sym rule.is_site ∙ is_site) in
         finds_by (meaning_of words files rule.site) same m (ap (meaning_of words files) is ∙ means)
 
-    pub ready_operands : (body : Body) (site : Site) (m : MeaningOf ℕ) → body_of files f.method ≡ Some body → site_at f.method body f.place.offset ≡ Some site → meaning_of words files site ≡ Some m → Finds files (map (map_object word_of) heap) body m.wants (map_slots word_of f.place.slots)
+    pub ready_operands : (body : Body) (site : Site) (m : MeaningOf ℕ) → body_of files f.method ≡ Some body
+        → site_at f.method body f.place.offset ≡ Some site → meaning_of words files site ≡ Some m
+        → Finds files (map (map_object word_of) heap) body m.wants (map_slots word_of f.place.slots)
     ready_operands body site m is_body is_site means =
         let is : h.stopped.stands.body ≡ body = same_Some h.stopped.stands.body body (sym h.stopped.stands.is_body ∙ is_body) in
         subst (λ (b : Body). Finds files (map (map_object word_of) heap) b m.wants (map_slots word_of f.place.slots)) is
@@ -184,7 +196,8 @@ module _ (files : Program) where
       is : map_frame word_of found ≡ frame
       ready : Ready files (types_of s.world.heap) found
 
-    top_of : (t : ℕ) (frame : FrameOf ℕ) (on : IsOnTop (words_of s) t frame) (vs : StackOf Value) → slice_get s.stacks t ≡ Some vs → Some (stack_words vs) ≡ Some (Invocation frame ∷ on.rest) → Top frame
+    top_of : (t : ℕ) (frame : FrameOf ℕ) (on : IsOnTop (words_of s) t frame) (vs : StackOf Value) → slice_get s.stacks t ≡ Some vs
+        → Some (stack_words vs) ≡ Some (Invocation frame ∷ on.rest) → Top frame
     top_of t frame on [] q e = absurd cc
     top_of t frame on (Initialisation class phase ∷ vs) q e = absurd cc
     top_of t frame on (Invocation f ∷ vs) q e =
@@ -196,7 +209,8 @@ module _ (files : Program) where
         in
         record { found = f; is = cc; ready = here.0 }
 
-    top_by : (t : ℕ) (frame : FrameOf ℕ) (on : IsOnTop (words_of s) t frame) (o : Option (StackOf Value)) → slice_get s.stacks t ≡ o → option_map stack_words o ≡ Some (Invocation frame ∷ on.rest) → Top frame
+    top_by : (t : ℕ) (frame : FrameOf ℕ) (on : IsOnTop (words_of s) t frame) (o : Option (StackOf Value)) → slice_get s.stacks t ≡ o
+        → option_map stack_words o ≡ Some (Invocation frame ∷ on.rest) → Top frame
     top_by t frame on None q e = absurd cc
     top_by t frame on (Some vs) q e = top_of t frame on vs q e
 
@@ -213,9 +227,11 @@ module _ (files : Program) where
         let at = top t frame on in
         subst (λ (x : FrameOf ℕ). OperandsOf x (words_of s).world.heap) at.is (ready_operands rooted s.world.heap at.found at.ready)
 
-  pub meant : Rooted files → (state : StateOf ℕ) → AreWellTypedWords files state → (t : ℕ) (frame : FrameOf ℕ) → IsOnTop state t frame → HasMeaning files frame
+  pub meant : Rooted files → (state : StateOf ℕ) → AreWellTypedWords files state → (t : ℕ) (frame : FrameOf ℕ) → IsOnTop state t frame
+      → HasMeaning files frame
   meant rooted state h t frame on = meant_on h.0 h.1.typed t frame (subst (λ (x : StateOf ℕ). IsOnTop x t frame) h.1.are on) rooted
 
-  pub operands_found : Rooted files → (state : StateOf ℕ) → AreWellTypedWords files state → (t : ℕ) (frame : FrameOf ℕ) → IsOnTop state t frame → OperandsOf frame state.world.heap
+  pub operands_found : Rooted files → (state : StateOf ℕ) → AreWellTypedWords files state → (t : ℕ) (frame : FrameOf ℕ)
+      → IsOnTop state t frame → OperandsOf frame state.world.heap
   operands_found rooted state h t frame on =
       subst (λ (x : StateOf ℕ). OperandsOf frame x.world.heap) (sym h.1.are) (operands_on h.0 h.1.typed t frame (subst (λ (x : StateOf ℕ). IsOnTop x t frame) h.1.are on) rooted)

@@ -25,7 +25,8 @@ pub record PoppedAt {A B : Type 0} (accepts : A → B → Bool) (w : A) (xs : Li
   pub there : k < length xs
   pub meets : accepts w (slice_index_or xs k d) ≡ true
 
-pub popped_at : {A : Type 0} (accepts : Want → A → Bool) (ws : List Want) (xs : List A) (k : ℕ) (w : Want) (d : A) → pops_meet accepts ws xs ≡ true → slice_get ws k ≡ Some w → PoppedAt accepts w xs k d
+pub popped_at : {A : Type 0} (accepts : Want → A → Bool) (ws : List Want) (xs : List A) (k : ℕ) (w : Want) (d : A)
+    → pops_meet accepts ws xs ≡ true → slice_get ws k ≡ Some w → PoppedAt accepts w xs k d
 popped_at accepts [] xs k w d e q = absurd cc
 popped_at accepts (v ∷ ws) [] k w d e q = absurd (false≢true e)
 popped_at accepts (v ∷ ws) (x ∷ xs) zero w d e q = let is : v ≡ w = cc in record { there = omega arith; meets = subst (λ z. accepts z x ≡ true) is (and_parts _ _ e).0 }
@@ -42,7 +43,9 @@ println_count = refl
 -- ---- from types to objects
 
 module _ (heap : List (ObjectOf ℕ)) where
-  pub of_objects : (below : ReferenceType → Bool) (test : ObjectOf ℕ → Bool) → ((o : ObjectOf ℕ) → below (type_of o) ≡ true → test o ≡ true) → (w : ℕ) → is_word_with (types_of heap) below w ≡ true → is_null_or heap test w ≡ true
+  pub of_objects : (below : ReferenceType → Bool) (test : ObjectOf ℕ → Bool)
+      → ((o : ObjectOf ℕ) → below (type_of o) ≡ true → test o ≡ true) → (w : ℕ) → is_word_with (types_of heap) below w ≡ true
+      → is_null_or heap test w ≡ true
   of_objects below test each zero h = refl
   of_objects below test each (suc r) h = by (slice_get heap r) (subst (λ o. option_map_or below o false ≡ true) (slice_get-map type_of heap r) h)
     where
@@ -52,7 +55,8 @@ module _ (heap : List (ObjectOf ℕ)) where
 
   -- of what is popped where something is wanted
   pub received : (files : Program) (stack : List ℕ) (pops : List Want) (k : ℕ) (w : Want) (test : ObjectOf ℕ → Bool)
-      → pops_meet (word_meets files (types_of heap)) pops stack ≡ true → slice_get pops k ≡ Some w → ((n : ℕ) → word_meets files (types_of heap) w n ≡ true → is_null_or heap test n ≡ true)
+      → pops_meet (word_meets files (types_of heap)) pops stack ≡ true → slice_get pops k ≡ Some w
+      → ((n : ℕ) → word_meets files (types_of heap) w n ≡ true → is_null_or heap test n ≡ true)
       → IsReceived heap stack (receiver k test)
   received files stack pops k w test e q each =
       let at = popped_at (word_meets files (types_of heap)) pops stack k w 0 e q in
@@ -62,10 +66,12 @@ module _ (files : Program) where
   -- ---- classes
 
   -- an instance alone is below a class whose objects are instances
-  pub instance_fits : (type : ReferenceType) (class : Name) → AreInstances files type class → (o : ObjectOf ℕ) → is_assignable files (type_of o) type ≡ true → is_instance_below files class o ≡ true
+  pub instance_fits : (type : ReferenceType) (class : Name) → AreInstances files type class → (o : ObjectOf ℕ)
+      → is_assignable files (type_of o) type ≡ true → is_instance_below files class o ≡ true
   instance_fits type class instances o e = of_type o (instances (type_of o) e)
     where
-      of_type : (o : ObjectOf ℕ) → (own : Name) × (type_of o ≡ ClassType own) × (is_subclass files own class ≡ true) → is_instance_below files class o ≡ true
+      of_type : (o : ObjectOf ℕ) → (own : Name) × (type_of o ≡ ClassType own) × (is_subclass files own class ≡ true)
+          → is_instance_below files class o ≡ true
       of_type (Instance c fields) h = let is : c ≡ h.0 = cc in subst (λ n. is_subclass files n class ≡ true) (sym is) h.2
       of_type (Primitives of elements) h = absurd cc
       of_type (References of elements) h = absurd cc
@@ -74,7 +80,8 @@ module _ (files : Program) where
   object_below class h = subst (λ n. is_subclass files java_lang_object n ≡ true) (sym (names_same class java_lang_object h)) (subclass_self files (length (classes_of files)) java_lang_object)
 
   -- arrays are Objects
-  pub class_fits : (class : Name) (o : ObjectOf ℕ) → is_assignable files (type_of o) (ClassType class) ≡ true → has_class_below files class o ≡ true
+  pub class_fits : (class : Name) (o : ObjectOf ℕ) → is_assignable files (type_of o) (ClassType class) ≡ true
+      → has_class_below files class o ≡ true
   class_fits class (Instance c fields) e = e
   class_fits class (Primitives of elements) e = object_below class e
   class_fits class (References of elements) e = object_below class e
@@ -118,7 +125,8 @@ module _ (files : Program) where
   shorts_fit (Primitives Int elements) e = e
   shorts_fit (References of elements) e = e
 
-  pub references_fit : (o : ObjectOf ℕ) → is_assignable files (type_of o) (ReferenceArray any_object) ≡ true → is_array_of array_kind.Reference o ≡ true
+  pub references_fit : (o : ObjectOf ℕ) → is_assignable files (type_of o) (ReferenceArray any_object) ≡ true
+      → is_array_of array_kind.Reference o ≡ true
   references_fit (Instance c fields) e = e
   references_fit (Primitives of elements) e = e
   references_fit (References of elements) e = refl

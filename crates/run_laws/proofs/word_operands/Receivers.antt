@@ -57,7 +57,8 @@ some_mapped f None m e = absurd cc
 some_mapped f (Some a) m e = (a, same_Some (f a) m e)
 
 -- the test of operands of what is popped
-ready_pops : {A : Type 0} (accepts : Want → A → Bool) (D : Domain A) (w : Wants) (max : ℕ) (s : Slots A) → is_ready accepts D w max s ≡ true → pops_meet accepts w.pops s.stack ≡ true
+ready_pops : {A : Type 0} (accepts : Want → A → Bool) (D : Domain A) (w : Wants) (max : ℕ) (s : Slots A)
+    → is_ready accepts D w max s ≡ true → pops_meet accepts w.pops s.stack ≡ true
 ready_pops accepts D w max s e =
     let room = nat_le (length (drop (length w.pops) s.stack) + w.grows) max in
     let a = and_parts w.allowed (reads_meet accepts D w.reads s.locals && (pops_meet accepts w.pops s.stack && room)) e in
@@ -66,7 +67,8 @@ ready_pops accepts D w max s e =
 
 module _ (files : Program) where
   -- under the arguments
-  receiver_at : (method named : Member) (want : Want) → method.descriptor ≡ named.descriptor → slice_get (argument_wants files method (want ∷ [])) (parameter_count named) ≡ Some want
+  receiver_at : (method named : Member) (want : Want) → method.descriptor ≡ named.descriptor
+      → slice_get (argument_wants files method (want ∷ [])) (parameter_count named) ≡ Some want
   receiver_at method named want same =
       let wants = map (declared_want files) (parameters_declared method.descriptor) in
       let count : length (reverse wants) ≡ parameter_count named =
@@ -76,10 +78,12 @@ module _ (files : Program) where
 
   -- ---- what is found has the descriptor that is named
 
-  declared_same : (wanted : MethodTree → Bool) (m : Member) (class : Name) (found : Member) → method_in_class files wanted m class ≡ Some found → found.descriptor ≡ m.descriptor
+  declared_same : (wanted : MethodTree → Bool) (m : Member) (class : Name) (found : Member)
+      → method_in_class files wanted m class ≡ Some found → found.descriptor ≡ m.descriptor
   declared_same wanted m class found e = ap (λ (x : Member). x.descriptor) (where_is (option_map_or wanted (method_of files (in_class class m)) false) (in_class class m) found e)
 
-  first_same : (wanted : MethodTree → Bool) (m : Member) (names : List Name) (found : Member) → first_found (method_in_class files wanted m) names ≡ Some found → found.descriptor ≡ m.descriptor
+  first_same : (wanted : MethodTree → Bool) (m : Member) (names : List Name) (found : Member)
+      → first_found (method_in_class files wanted m) names ≡ Some found → found.descriptor ≡ m.descriptor
   first_same wanted m [] found e = absurd cc
   first_same wanted m (x ∷ xs) found e =
       ⊎_elim (λ here. declared_same wanted m x found here) (λ later. first_same wanted m xs found later)
@@ -87,7 +91,8 @@ module _ (files : Program) where
 
   method_same : (named found : Member) → find_method files named ≡ Some found → found.descriptor ≡ named.descriptor
   method_same named found e =
-      ⊎_elim (λ above. first_same any_method named (lineage files named.class) found above) (λ aside. first_same any_method named (all_superinterfaces files named.class) found aside)
+      ⊎_elim (λ above. first_same any_method named (lineage files named.class) found above)
+      (λ aside. first_same any_method named (all_superinterfaces files named.class) found aside)
       (or_some (first_found (method_in_class files any_method named) (lineage files named.class)) _ found e)
 
   interface_method_same : (named found : Member) → find_interface_method files named ≡ Some found → found.descriptor ≡ named.descriptor
@@ -106,7 +111,8 @@ module _ (files : Program) where
     Meets m = pops_meet (word_meets files (types_of heap)) m.wants.pops stack ≡ true
 
     -- of a meaning that is this one
-    by_want : (x m : MeaningOf ℕ) → x ≡ m → Meets m → (k : ℕ) (w : Want) (test : ObjectOf ℕ → Bool) → slice_get x.wants.pops k ≡ Some w → ((n : ℕ) → word_meets files (types_of heap) w n ≡ true → is_null_or heap test n ≡ true) → IsReceived heap stack (receiver k test)
+    by_want : (x m : MeaningOf ℕ) → x ≡ m → Meets m → (k : ℕ) (w : Want) (test : ObjectOf ℕ → Bool) → slice_get x.wants.pops k ≡ Some w
+        → ((n : ℕ) → word_meets files (types_of heap) w n ≡ true → is_null_or heap test n ≡ true) → IsReceived heap stack (receiver k test)
     by_want x m is met k w test q each =
         received heap files stack x.wants.pops k w test (subst Meets (sym is) met) q each
 
@@ -114,16 +120,20 @@ module _ (files : Program) where
     by_receiver : (a b : Receiver) → Some a ≡ Some b → IsReceived heap stack a → IsReceived heap stack b
     by_receiver a b e h = subst (IsReceived heap stack) (same_Some a b e) h
 
-    class_word : (type : ReferenceType) (class : Name) → ((t : ReferenceType) → is_assignable files t type ≡ true → is_assignable files t (ClassType class) ≡ true) → (n : ℕ) → word_meets files (types_of heap) (AReference type) n ≡ true → is_null_or heap (has_class_below files class) n ≡ true
+    class_word : (type : ReferenceType) (class : Name)
+        → ((t : ReferenceType) → is_assignable files t type ≡ true → is_assignable files t (ClassType class) ≡ true) → (n : ℕ)
+        → word_meets files (types_of heap) (AReference type) n ≡ true → is_null_or heap (has_class_below files class) n ≡ true
     class_word type class below n e = of_objects heap (λ t. is_assignable files t type) (has_class_below files class) (λ o h. class_fits files class o (below (type_of o) h)) n e
 
-    any_word : (type : ReferenceType) (n : ℕ) → word_meets files (types_of heap) (AReference type) n ≡ true → is_null_or heap is_any n ≡ true
+    any_word : (type : ReferenceType) (n : ℕ) → word_meets files (types_of heap) (AReference type) n ≡ true
+        → is_null_or heap is_any n ≡ true
     any_word type n e = of_objects heap (λ t. is_assignable files t type) is_any (λ o h. refl) n e
 
     -- ---- of the class that is named
 
     -- an interface is below itself and Object alone
-    interface_below : Linked files → (current named : Name) → is_interface files current ≡ true → is_interface files named ≡ false → is_subclass files current named ≡ true → java_lang_object ≡ named
+    interface_below : Linked files → (current named : Name) → is_interface files current ≡ true → is_interface files named ≡ false
+        → is_subclass files current named ≡ true → java_lang_object ≡ named
     interface_below linked current named i is_class below =
         let n = length (classes_of files) in
         ⊎_elim
@@ -132,14 +142,19 @@ module _ (files : Program) where
         (or_cases (name_eq current named) _ (more_steps files n (suc n) current named (omega arith) below))
 
     -- what is of the current class is of each class above it that an invokespecial may name
-    of_current : Linked files → (current named : Name) → is_interface files named ≡ false → is_subclass files current named ≡ true → (t : ReferenceType) → is_assignable files t (made_type files (ClassType current)) ≡ true → is_assignable files t (ClassType named) ≡ true
+    of_current : Linked files → (current named : Name) → is_interface files named ≡ false → is_subclass files current named ≡ true
+        → (t : ReferenceType) → is_assignable files t (made_type files (ClassType current)) ≡ true
+        → is_assignable files t (ClassType named) ≡ true
     of_current linked current named is_class below t e = by (is_interface files current) refl e
       where
-        by : (b : Bool) → is_interface files current ≡ b → is_assignable files t (ClassType (if b then java_lang_object else current)) ≡ true → is_assignable files t (ClassType named) ≡ true
+        by : (b : Bool) → is_interface files current ≡ b
+            → is_assignable files t (ClassType (if b then java_lang_object else current)) ≡ true
+            → is_assignable files t (ClassType named) ≡ true
         by true i h = subst (λ n. is_assignable files t (ClassType n) ≡ true) (interface_below linked current named i is_class below) h
         by false i h = assignable_trans files linked.rooted t (ClassType current) (ClassType named) h below
 
-    of_named : (named : Name) → is_interface files named ≡ false → (t : ReferenceType) → is_assignable files t (made_type files (ClassType named)) ≡ true → is_assignable files t (ClassType named) ≡ true
+    of_named : (named : Name) → is_interface files named ≡ false → (t : ReferenceType)
+        → is_assignable files t (made_type files (ClassType named)) ≡ true → is_assignable files t (ClassType named) ≡ true
     of_named named is_class t e = subst (λ (b : Bool). is_assignable files t (ClassType (if b then java_lang_object else named)) ≡ true) is_class e
 
     -- ---- each instruction
@@ -167,10 +182,13 @@ module _ (files : Program) where
           (by_want (get_field_of words files next named.0.class field.0) m is.1 met 0 (of_class files named.0.class) test refl
           (λ n h. of_objects heap (λ t. is_assignable files t type) test (λ o q. instance_fits files type field.0.class names.receivers o q) n h))
 
-      owner_word : (named : Name) (field : Member) (class : Name) → AreInstances files (made_type files (ClassType named)) class → AreInstances files (ClassType named) class → (n : ℕ) → word_meets files (types_of heap) (owner_want files named field) n ≡ true → is_null_or heap (is_instance_below files class) n ≡ true
+      owner_word : (named : Name) (field : Member) (class : Name) → AreInstances files (made_type files (ClassType named)) class
+          → AreInstances files (ClassType named) class → (n : ℕ) → word_meets files (types_of heap) (owner_want files named field) n ≡ true
+          → is_null_or heap (is_instance_below files class) n ≡ true
       owner_word named field class receivers own n h = by (name_eq named field.class) h
         where
-          by : (b : Bool) → word_meets files (types_of heap) (if b then AnOwner named else of_class files named) n ≡ true → is_null_or heap (is_instance_below files class) n ≡ true
+          by : (b : Bool) → word_meets files (types_of heap) (if b then AnOwner named else of_class files named) n ≡ true
+              → is_null_or heap (is_instance_below files class) n ≡ true
           by true q = of_objects heap (λ t. is_assignable files t (ClassType named)) (is_instance_below files class) (λ o p. instance_fits files (ClassType named) class own o p) n q
           by false q = of_objects heap (λ t. is_assignable files t (made_type files (ClassType named))) (is_instance_below files class) (λ o p. instance_fits files (made_type files (ClassType named)) class receivers o p) n q
 
@@ -191,8 +209,10 @@ module _ (files : Program) where
       abbrev called : Member → Receiver
       called named = receiver (parameter_count named) (has_class_below files named.class)
 
-      virtual_by : (i : Instr) (m : MeaningOf ℕ) → Meets m → (named : Member) → is_interface files named.class ≡ false → (b : Bool) → member_eq named println_int ≡ b
-          → (if b then Some (println_meaning words (offset + size)) else virtual_of words files (site_of i) named) ≡ Some m → IsReceived heap stack (called named)
+      virtual_by : (i : Instr) (m : MeaningOf ℕ) → Meets m → (named : Member) → is_interface files named.class ≡ false → (b : Bool)
+          → member_eq named println_int ≡ b
+          → (if b then Some (println_meaning words (offset + size)) else virtual_of words files (site_of i) named) ≡ Some m
+          → IsReceived heap stack (called named)
       virtual_by i m met named is_class true q e =
           subst (λ (x : Member). IsReceived heap stack (called x)) (sym (members_same named println_int q))
           (subst (λ k. IsReceived heap stack (receiver k (has_class_below files java_io_print_stream))) (sym println_count)
@@ -213,8 +233,12 @@ module _ (files : Program) where
           by_receiver (called named.0) of (sym (ap (option_map (λ (x : Member). called x)) named.1) ∙ e)
           (virtual_by i m met named.0 is_class (member_eq named.0 println_int) refl named.2)
 
-      special_by : (i : Instr) (m : MeaningOf ℕ) → Meets m → (named : Member) → is_interface files named.class ≡ false → (name_eq named.name constructor_name ≡ false → is_subclass files method.class named.class ≡ true) → (b : Bool) → name_eq named.name constructor_name ≡ b
-          → (if b then if_method is_instance_one files (constructor_call words files (site_of i)) named else option_and_then (if_method is_instance_one files (special_call words files (site_of i) named.class)) (find_method files named)) ≡ Some m
+      special_by : (i : Instr) (m : MeaningOf ℕ) → Meets m → (named : Member) → is_interface files named.class ≡ false
+          → (name_eq named.name constructor_name ≡ false → is_subclass files method.class named.class ≡ true) → (b : Bool)
+          → name_eq named.name constructor_name ≡ b
+          → (if b then if_method is_instance_one files (constructor_call words files (site_of i)) named else
+          option_and_then (if_method is_instance_one files (special_call words files (site_of i) named.class)) (find_method files named))
+          ≡ Some m
           → IsReceived heap stack (called named)
       special_by i m met named is_class below true q e =
           let is = of_if (is_one is_instance_one files named) (constructor_call words files (site_of i) named) m e in
@@ -249,14 +273,16 @@ module _ (files : Program) where
 
       -- ---- arrays
 
-      load : (kind : ArrayKind) (m : MeaningOf ℕ) → Some (load_of words files (site_of (instr.LoadElement kind)) kind) ≡ Some m → Meets m → IsReceived heap stack (receiver 1 (is_array_of kind))
+      load : (kind : ArrayKind) (m : MeaningOf ℕ) → Some (load_of words files (site_of (instr.LoadElement kind)) kind) ≡ Some m → Meets m
+          → IsReceived heap stack (receiver 1 (is_array_of kind))
       load array_kind.Int m e met = by_want _ m (same_Some _ m e) met 1 (AReference (PrimitiveArray Int)) (is_array_of array_kind.Int) refl (λ n h. of_objects heap (λ t. is_assignable files t (PrimitiveArray Int)) (is_array_of array_kind.Int) (ints_fit files) n h)
       load array_kind.Reference m e met = by_want _ m (same_Some _ m e) met 1 (AReference (ReferenceArray any_object)) (is_array_of array_kind.Reference) refl (λ n h. of_objects heap (λ t. is_assignable files t (ReferenceArray any_object)) (is_array_of array_kind.Reference) (references_fit files) n h)
       load array_kind.ByteOrBoolean m e met = by_want _ m (same_Some _ m e) met 1 AByteArray (is_array_of array_kind.ByteOrBoolean) refl (λ n h. of_objects heap is_byte_array_type (is_array_of array_kind.ByteOrBoolean) (bytes_fit files) n h)
       load array_kind.Char m e met = by_want _ m (same_Some _ m e) met 1 (AReference (PrimitiveArray Char)) (is_array_of array_kind.Char) refl (λ n h. of_objects heap (λ t. is_assignable files t (PrimitiveArray Char)) (is_array_of array_kind.Char) (chars_fit files) n h)
       load array_kind.Short m e met = by_want _ m (same_Some _ m e) met 1 (AReference (PrimitiveArray Short)) (is_array_of array_kind.Short) refl (λ n h. of_objects heap (λ t. is_assignable files t (PrimitiveArray Short)) (is_array_of array_kind.Short) (shorts_fit files) n h)
 
-      store : (kind : ArrayKind) (m : MeaningOf ℕ) → Some (store_of words files (site_of (instr.StoreElement kind)) kind) ≡ Some m → Meets m → IsReceived heap stack (receiver 2 (is_array_of kind))
+      store : (kind : ArrayKind) (m : MeaningOf ℕ) → Some (store_of words files (site_of (instr.StoreElement kind)) kind) ≡ Some m
+          → Meets m → IsReceived heap stack (receiver 2 (is_array_of kind))
       store array_kind.Int m e met = by_want _ m (same_Some _ m e) met 2 (AReference (PrimitiveArray Int)) (is_array_of array_kind.Int) refl (λ n h. of_objects heap (λ t. is_assignable files t (PrimitiveArray Int)) (is_array_of array_kind.Int) (ints_fit files) n h)
       store array_kind.Reference m e met = by_want _ m (same_Some _ m e) met 2 (AReference (ReferenceArray any_object)) (is_array_of array_kind.Reference) refl (λ n h. of_objects heap (λ t. is_assignable files t (ReferenceArray any_object)) (is_array_of array_kind.Reference) (references_fit files) n h)
       store array_kind.ByteOrBoolean m e met = by_want _ m (same_Some _ m e) met 2 AByteArray (is_array_of array_kind.ByteOrBoolean) refl (λ n h. of_objects heap is_byte_array_type (is_array_of array_kind.ByteOrBoolean) (bytes_fit files) n h)
@@ -279,10 +305,12 @@ module _ (files : Program) where
           by_receiver (receiver 0 is_any) of e
           (by_want (instance_of_meaning words files (site_of i) (type_named named.0)) m named.1 met 0 (AReference any_object) is_any refl (any_word any_object))
 
-      throwable_word : (n : ℕ) → word_meets files (types_of heap) (AReference (ClassType java_lang_throwable)) n ≡ true → is_null_or heap (is_instance_below files java_lang_throwable) n ≡ true
+      throwable_word : (n : ℕ) → word_meets files (types_of heap) (AReference (ClassType java_lang_throwable)) n ≡ true
+          → is_null_or heap (is_instance_below files java_lang_throwable) n ≡ true
       throwable_word n h = of_objects heap (λ t. is_assignable files t (ClassType java_lang_throwable)) (is_instance_below files java_lang_throwable) by n h
         where
-          by : (o : ObjectOf ℕ) → is_assignable files (type_of o) (ClassType java_lang_throwable) ≡ true → is_instance_below files java_lang_throwable o ≡ true
+          by : (o : ObjectOf ℕ) → is_assignable files (type_of o) (ClassType java_lang_throwable) ≡ true
+              → is_instance_below files java_lang_throwable o ≡ true
           by (Instance c fields) q = q
           by (Primitives of elements) q = q
           by (References of elements) q = q
@@ -315,7 +343,8 @@ module _ (files : Program) where
       abbrev ReceivedAt : Site → Type 0
       ReceivedAt site = (m : MeaningOf ℕ) → meaning_of words files site ≡ Some m → Meets m → (of : Receiver) → receiver_of files site site.instr ≡ Some of → IsReceived heap stack of
 
-      by_size : (o : Option Sized) → sized_at body.code.code offset ≡ o → (site : Site) → option_map (site_with method body offset) o ≡ Some site → ReceivedAt site
+      by_size : (o : Option Sized) → sized_at body.code.code offset ≡ o → (site : Site)
+          → option_map (site_with method body offset) o ≡ Some site → ReceivedAt site
       by_size None q site e = absurd cc
       by_size (Some z) q site e =
           subst ReceivedAt (same_Some (site_with method body offset z) site e) (by_instr linked ok method body offset z.1 is_body start z.0 q)
@@ -325,8 +354,10 @@ module _ (files : Program) where
 
   -- ---- the frame on top
 
-  pub receivers : Linked files → Unrefused files → (state : StateOf ℕ) → AreWellTypedWords files state → (t : ℕ) (frame : FrameOf ℕ) → IsOnTop state t frame
-      → (body : Body) (site : Site) (of : Receiver) → body_of files frame.method ≡ Some body → site_at frame.method body frame.place.offset ≡ Some site → receiver_of files site site.instr ≡ Some of
+  pub receivers : Linked files → Unrefused files → (state : StateOf ℕ) → AreWellTypedWords files state → (t : ℕ) (frame : FrameOf ℕ)
+      → IsOnTop state t frame
+      → (body : Body) (site : Site) (of : Receiver) → body_of files frame.method ≡ Some body
+      → site_at frame.method body frame.place.offset ≡ Some site → receiver_of files site site.instr ≡ Some of
       → IsReceived state.world.heap frame.place.slots.stack of
   receivers linked ok state h t frame on body site of is_body is_site e =
       let here : HasMeaning files frame = meant files linked.rooted state h t frame on in

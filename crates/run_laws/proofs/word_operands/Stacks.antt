@@ -23,7 +23,8 @@ use Rattle.run_laws.specs.word_operands.Operands.{is_word_with, word_meets, is_v
 -- ---- a value of a type is there
 
 module _ (files : Program) (os : List ReferenceType) where
-  object_within : (t : ReferenceType) (objects : List ReferenceType) (r : ℕ) → is_object_below files t (slice_get objects r) ≡ true → r < length objects
+  object_within : (t : ReferenceType) (objects : List ReferenceType) (r : ℕ) → is_object_below files t (slice_get objects r) ≡ true
+      → r < length objects
   object_within t [] r h = absurd (false≢true h)
   object_within t (x ∷ objects) zero h = omega arith
   object_within t (x ∷ objects) (suc r) h = omega (arith, object_within t objects r h)
@@ -57,7 +58,8 @@ module _ (files : Program) (os : List ReferenceType) where
   unusable AnArray = refl
   unusable AByteArray = refl
 
-  wanted_in : (w : Want) (t : VerificationType) (v : Value) → type_meets files w t ≡ true → has_type files os t v ≡ true → is_value_in (length os) v ≡ true
+  wanted_in : (w : Want) (t : VerificationType) (v : Value) → type_meets files w t ≡ true → has_type files os t v ≡ true
+      → is_value_in (length os) v ≡ true
   wanted_in w Unusable v p h = absurd (false≢true (sym (unusable w) ∙ p))
   wanted_in w IntType v p h = int_in v h
   wanted_in w NullType v p h = null_in v h
@@ -74,7 +76,8 @@ module _ (files : Program) (os : List ReferenceType) where
   with_word test value.Null h = refl
   with_word test (value.Reference r) h = h
 
-  below_word : (want : ReferenceType) (v : Value) → is_value_below files os want v ≡ true → word_meets files os (AReference want) (word_of v) ≡ true
+  below_word : (want : ReferenceType) (v : Value) → is_value_below files os want v ≡ true
+      → word_meets files os (AReference want) (word_of v) ≡ true
   below_word want value.Unset h = refl
   below_word want (value.Int bits) h = absurd (false≢true h)
   below_word want value.Null h = refl
@@ -84,18 +87,21 @@ module _ (files : Program) (os : List ReferenceType) where
       by None q = q
       by (Some t) q = q
 
-  there_is : (objects : List ReferenceType) (r : ℕ) → r < length objects → option_map_or (λ (t : ReferenceType). true) (slice_get objects r) false ≡ true
+  there_is : (objects : List ReferenceType) (r : ℕ) → r < length objects
+      → option_map_or (λ (t : ReferenceType). true) (slice_get objects r) false ≡ true
   there_is [] r h = absurd (omega (arith, h))
   there_is (x ∷ objects) zero h = refl
   there_is (x ∷ objects) (suc r) h = there_is objects r (omega (arith, h))
 
-  any_word : (v : Value) → is_reference_value v ≡ true → is_value_in (length os) v ≡ true → word_meets files os AnyReference (word_of v) ≡ true
+  any_word : (v : Value) → is_reference_value v ≡ true → is_value_in (length os) v ≡ true
+      → word_meets files os AnyReference (word_of v) ≡ true
   any_word value.Unset p h = refl
   any_word (value.Int bits) p h = absurd (false≢true p)
   any_word value.Null p h = refl
   any_word (value.Reference r) p h = there_is os r (ltb-true r (length os) h)
 
-  met_word : (w : Want) (v : Value) → value_meets files os w v ≡ true → is_value_in (length os) v ≡ true → word_meets files os w (word_of v) ≡ true
+  met_word : (w : Want) (v : Value) → value_meets files os w v ≡ true → is_value_in (length os) v ≡ true
+      → word_meets files os w (word_of v) ≡ true
   met_word AnyWord v p h = refl
   met_word AnInt v p h = refl
   met_word AnyReference v p h = any_word v p h
@@ -110,13 +116,15 @@ module _ (files : Program) (os : List ReferenceType) where
   abbrev pub Typed : List VerificationType → List Value → Type 0
   Typed ts vs = Pairwise (has_type files os) ts vs
 
-  pub popped_depth : (ws : List Want) (ts : List VerificationType) (vs : List Value) → Typed ts vs → pops_meet (type_meets files) ws ts ≡ true → length ws ≤ length vs
+  pub popped_depth : (ws : List Want) (ts : List VerificationType) (vs : List Value) → Typed ts vs
+      → pops_meet (type_meets files) ws ts ≡ true → length ws ≤ length vs
   popped_depth [] ts vs f e = omega arith
   popped_depth (w ∷ ws) [] vs f e = absurd (false≢true e)
   popped_depth (w ∷ ws) (t ∷ ts) [] f e = absurd f
   popped_depth (w ∷ ws) (t ∷ ts) (v ∷ vs) f e = omega (arith, popped_depth ws ts vs f.1 (and_parts _ _ e).1)
 
-  pub popped_in : (ws : List Want) (ts : List VerificationType) (vs : List Value) → Typed ts vs → pops_meet (type_meets files) ws ts ≡ true → AllByRecursion (λ v. is_value_in (length os) v ≡ true) (take (length ws) vs)
+  pub popped_in : (ws : List Want) (ts : List VerificationType) (vs : List Value) → Typed ts vs → pops_meet (type_meets files) ws ts ≡ true
+      → AllByRecursion (λ v. is_value_in (length os) v ≡ true) (take (length ws) vs)
   popped_in [] ts vs f e = tt
   popped_in (w ∷ ws) [] vs f e = absurd (false≢true e)
   popped_in (w ∷ ws) (t ∷ ts) [] f e = absurd f
@@ -130,23 +138,27 @@ module _ (files : Program) (os : List ReferenceType) where
   read_below w (t ∷ ts) zero e = omega arith
   read_below w (t ∷ ts) (suc k) e = omega (arith, read_below w ts k e)
 
-  pub reads_below : (rs : List (ℕ × Want)) (ts : List VerificationType) → reads_meet (type_meets files) over_types rs ts ≡ true → AllByRecursion (λ (r : ℕ × Want). r.0 < length ts) rs
+  pub reads_below : (rs : List (ℕ × Want)) (ts : List VerificationType) → reads_meet (type_meets files) over_types rs ts ≡ true
+      → AllByRecursion (λ (r : ℕ × Want). r.0 < length ts) rs
   reads_below [] ts e = tt
   reads_below (r ∷ rs) ts e = let q = and_parts _ _ e in (read_below r.1 ts r.0 q.0, reads_below rs ts q.1)
 
   module _ (rooted : Rooted files) where
     -- what is as wanted by its type is so by its word
-    typed_word : (w : Want) (t : VerificationType) (v : Value) → type_meets files w t ≡ true → has_type files os t v ≡ true → word_meets files os w (word_of v) ≡ true
+    typed_word : (w : Want) (t : VerificationType) (v : Value) → type_meets files w t ≡ true → has_type files os t v ≡ true
+        → word_meets files os w (word_of v) ≡ true
     typed_word w t v p h = met_word w v (meets_both files rooted os w t v p h) (wanted_in w t v p h)
 
-    popped_words : (ws : List Want) (ts : List VerificationType) (vs : List Value) → Typed ts vs → pops_meet (type_meets files) ws ts ≡ true → pops_meet (word_meets files os) ws (map word_of vs) ≡ true
+    popped_words : (ws : List Want) (ts : List VerificationType) (vs : List Value) → Typed ts vs
+        → pops_meet (type_meets files) ws ts ≡ true → pops_meet (word_meets files os) ws (map word_of vs) ≡ true
     popped_words [] ts vs f e = refl
     popped_words (w ∷ ws) [] vs f e = absurd (false≢true e)
     popped_words (w ∷ ws) (t ∷ ts) [] f e = absurd f
     popped_words (w ∷ ws) (t ∷ ts) (v ∷ vs) f e =
         let q = and_parts _ _ e in and_from _ _ (typed_word w t v q.0 f.0) (popped_words ws ts vs f.1 q.1)
 
-    read_words : (rs : List (ℕ × Want)) (ts : List VerificationType) (vs : List Value) → Typed ts vs → reads_meet (type_meets files) over_types rs ts ≡ true → reads_meet (word_meets files os) over_words rs (map word_of vs) ≡ true
+    read_words : (rs : List (ℕ × Want)) (ts : List VerificationType) (vs : List Value) → Typed ts vs
+        → reads_meet (type_meets files) over_types rs ts ≡ true → reads_meet (word_meets files os) over_words rs (map word_of vs) ≡ true
     read_words [] ts vs f e = refl
     read_words (r ∷ rs) ts vs f e =
         let q = and_parts _ _ e in
@@ -157,12 +169,15 @@ module _ (files : Program) (os : List ReferenceType) where
 
     -- ---- the one test
 
-    under_count : (n : ℕ) (ts : List VerificationType) (vs : List Value) → Typed ts vs → length (drop n ts) ≡ length (drop n (map word_of vs))
+    under_count : (n : ℕ) (ts : List VerificationType) (vs : List Value) → Typed ts vs
+        → length (drop n ts) ≡ length (drop n (map word_of vs))
     under_count n ts vs f =
         pair_length (has_type files os) _ _ (pair_drop (has_type files os) n ts vs f)
         ∙ (sym (length-map (drop n vs) word_of) ∙ ap length (sym (drop-map word_of n vs)))
 
-    pub ready_words : (w : Wants) (max : ℕ) (ts : Slots VerificationType) (vs : Slots Value) → SlotsTyped files os ts vs → is_ready (type_meets files) over_types w max ts ≡ true → is_ready (word_meets files os) over_words w max (map_slots word_of vs) ≡ true
+    pub ready_words : (w : Wants) (max : ℕ) (ts : Slots VerificationType) (vs : Slots Value) → SlotsTyped files os ts vs
+        → is_ready (type_meets files) over_types w max ts ≡ true
+        → is_ready (word_meets files os) over_words w max (map_slots word_of vs) ≡ true
     ready_words w max ts vs f e =
         let a = and_parts _ _ e in
         let b = and_parts _ _ a.1 in

@@ -78,7 +78,8 @@ module _ (body : Body) where
 
 -- ---- where instructions of linked files stand
 
-unmarked : (q : ℕ → Bool) (base : ℕ) (marks : List Bool) (k : ℕ) → list_any q (marked_from base marks) ≡ false → slice_index_or marks k false ≡ true → q (base + k) ≡ false
+unmarked : (q : ℕ → Bool) (base : ℕ) (marks : List Bool) (k : ℕ) → list_any q (marked_from base marks) ≡ false
+    → slice_index_or marks k false ≡ true → q (base + k) ≡ false
 unmarked q base [] k h m = absurd (false≢true m)
 unmarked q base (true ∷ marks) zero h m = subst (λ n. q n ≡ false) (omega arith) (or_parts (q base) _ h).0
 unmarked q base (false ∷ marks) zero h m = absurd (false≢true m)
@@ -86,7 +87,8 @@ unmarked q base (true ∷ marks) (suc k) h m = subst (λ n. q n ≡ false) (omeg
 unmarked q base (false ∷ marks) (suc k) h m = subst (λ n. q n ≡ false) (omega arith) (unmarked q (suc base) marks k h m)
 
 -- a condition that stands at no boundary
-pub no_instruction : (test : ℕ → Instr → Bool) (c : CodeTree) (pc : ℕ) (i : Instr) → any_instruction test c ≡ false → is_start c.code pc ≡ true → instr_at c.code pc ≡ Some i → test pc i ≡ false
+pub no_instruction : (test : ℕ → Instr → Bool) (c : CodeTree) (pc : ℕ) (i : Instr) → any_instruction test c ≡ false
+    → is_start c.code pc ≡ true → instr_at c.code pc ≡ Some i → test pc i ≡ false
 no_instruction test c pc i h start is =
     let at : ℕ → Bool = λ k. option_map_or (test k) (instr_at c.code k) false in
     let here : at pc ≡ false = subst (λ k. at k ≡ false) (omega arith) (unmarked at 0 _ pc h start) in
@@ -94,14 +96,16 @@ no_instruction test c pc i h start is =
 
 module _ (files : Program) where
   module _ (ok : Unrefused files) where
-    variables_in : (method : Member) (body : Body) (c : Coded files method body) (offset : ℕ) (i : Instr) → is_start c.code.code offset ≡ true → instr_at c.code.code offset ≡ Some i → local_above_max c.code i ≡ false
+    variables_in : (method : Member) (body : Body) (c : Coded files method body) (offset : ℕ) (i : Instr)
+        → is_start c.code.code offset ≡ true → instr_at c.code.code offset ≡ Some i → local_above_max c.code i ≡ false
     variables_in method body c offset i start is =
         let formed : malformed_instruction files c.home.file c.code offset i ≡ false = well_formed files ok method body c offset i start is in
         let e = or_parts (jump_off_boundary c.code offset i) _ formed in
         let f = or_parts (unsorted_matches c.code i) _ e.1 in
         (or_parts (local_above_max c.code i) _ f.1).0
 
-    in_code : (method : Member) (body : Body) (offset : ℕ) (i : Instr) → body_of files method ≡ Some body → is_start body.code.code offset ≡ true → instr_at body.code.code offset ≡ Some i → local_above_max body.code i ≡ false
+    in_code : (method : Member) (body : Body) (offset : ℕ) (i : Instr) → body_of files method ≡ Some body
+        → is_start body.code.code offset ≡ true → instr_at body.code.code offset ≡ Some i → local_above_max body.code i ≡ false
     in_code method body offset i e =
         let c = coded_of files method body e in
         subst (λ (b : Body). is_start b.code.code offset ≡ true → instr_at b.code.code offset ≡ Some i → local_above_max b.code i ≡ false) (sym c.is_body)
@@ -116,7 +120,8 @@ module _ (files : Program) where
           row_in body (integers_of body.pool) body.code.code offset (offset + z.1) row z.0
           (in_code method body offset z.0 is_body start (ap (option_map (λ (s : Sized). s.0)) q)) e
 
-      rows_by : (o : Option Sized) → sized_at body.code.code offset ≡ o → (site : Site) → option_map (site_with method body offset) o ≡ Some site → RowsOf site
+      rows_by : (o : Option Sized) → sized_at body.code.code offset ≡ o → (site : Site)
+          → option_map (site_with method body offset) o ≡ Some site → RowsOf site
       rows_by None q site e = absurd cc
       rows_by (Some z) q site e = subst RowsOf (same_Some (site_with method body offset z) site e) (rows_at z q)
 

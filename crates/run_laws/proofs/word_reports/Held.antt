@@ -35,7 +35,8 @@ after_reads f [] ys = refl
 after_reads f (r ∷ rs) ys = after_reads f rs ys
 
 -- operands that are found are as wanted
-kinded : (files : Program) (os : List ReferenceType) (w : Wants) (max : ℕ) (s : Slots Value) → is_ready (value_meets files os) over_values w max s ≡ true → Kinded files os w (operands over_values w s)
+kinded : (files : Program) (os : List ReferenceType) (w : Wants) (max : ℕ) (s : Slots Value)
+    → is_ready (value_meets files os) over_values w max s ≡ true → Kinded files os w (operands over_values w s)
 kinded files os w max s e =
     subst (λ l. Pairwise (value_meets files os) w.pops l) (sym (after_reads (λ r. slice_index_or s.locals r.0 value.Unset) w.reads (take (length w.pops) s.stack)))
     (ready_popped (value_meets files os) over_values w max s e)
@@ -49,26 +50,33 @@ module _ (files : Program) (world : World) (t : ℕ) where
       ops_same : ops_of words w (map_slots word_of frame.place.slots) ≡ map word_of (ops_of values v frame.place.slots)
       ops_same = ap (λ x. operands over_words x (map_slots word_of frame.place.slots)) same.wants ∙ operands_words v.wants frame.place.slots
 
-      allowed_words : w.may event (world_words world) (ops_of words w (map_slots word_of frame.place.slots)) ≡ v.may event world (ops_of values v frame.place.slots)
+      allowed_words : w.may event (world_words world) (ops_of words w (map_slots word_of frame.place.slots))
+          ≡ v.may event world (ops_of values v frame.place.slots)
       allowed_words = ap (λ o. w.may event (world_words world) o) ops_same ∙ same.may event world (ops_of values v frame.place.slots) q
 
-      instruction_words : (site : Site) → instruction_end_of words (world_words world) t (map_frame word_of frame) site w ≡ instruction_end_of values world t frame site v
+      instruction_words : (site : Site) → instruction_end_of words (world_words world) t (map_frame word_of frame) site w
+          ≡ instruction_end_of values world t frame site v
       instruction_words site =
           ap (λ l. if is_held (look_at t world l) then Initialising else if w.may event (world_words world) (ops_of words w (map_slots word_of frame.place.slots)) then Blocked else waiting_at site.instr) same.looks
           ∙ ap (λ b. if is_held (look_at t world v.looks) then Initialising else if b then Blocked else waiting_at site.instr) allowed_words
 
-    meaning_words : (site : Site) (max : ℕ) (v : Option (MeaningOf Value)) (w : Option (MeaningOf ℕ)) → SameIf files v w → finds_operands files (types_of world.heap) max frame v ≡ true
-        → option_map_or (instruction_end_of words (world_words world) t (map_frame word_of frame) site) w Blocked ≡ option_map_or (instruction_end_of values world t frame site) v Blocked
+    meaning_words : (site : Site) (max : ℕ) (v : Option (MeaningOf Value)) (w : Option (MeaningOf ℕ)) → SameIf files v w
+        → finds_operands files (types_of world.heap) max frame v ≡ true
+        → option_map_or (instruction_end_of words (world_words world) t (map_frame word_of frame) site) w Blocked
+        ≡ option_map_or (instruction_end_of values world t frame site) v Blocked
     meaning_words site max None None s e = refl
     meaning_words site max None (Some w) s e = absurd s
     meaning_words site max (Some v) None s e = absurd s
     meaning_words site max (Some v) (Some w) s e = instruction_words v w s (kinded files (types_of world.heap) v.wants max frame.place.slots e) site
 
-    site_words : (max : ℕ) (o : Option Site) → finds_operands files (types_of world.heap) max frame (option_and_then (meaning_of values files) o) ≡ true → site_end_of words files (world_words world) t (map_frame word_of frame) o ≡ site_end_of values files world t frame o
+    site_words : (max : ℕ) (o : Option Site)
+        → finds_operands files (types_of world.heap) max frame (option_and_then (meaning_of values files) o) ≡ true
+        → site_end_of words files (world_words world) t (map_frame word_of frame) o ≡ site_end_of values files world t frame o
     site_words max None e = refl
     site_words max (Some site) e = meaning_words site max (meaning_of values files site) (meaning_of words files site) (meaning_same files site) e
 
-    frame_words : (o : Option Body) → finds_in files (types_of world.heap) frame o ≡ true → frame_end_of words files (world_words world) t (map_frame word_of frame) o ≡ frame_end_of values files world t frame o
+    frame_words : (o : Option Body) → finds_in files (types_of world.heap) frame o ≡ true
+        → frame_end_of words files (world_words world) t (map_frame word_of frame) o ≡ frame_end_of values files world t frame o
     frame_words None e = refl
     frame_words (Some body) e = site_words body.code.max_stack (site_at frame.method body frame.place.offset) e
 

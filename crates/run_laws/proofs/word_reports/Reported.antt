@@ -35,7 +35,8 @@ use Rattle.run_laws.proofs.word_reports.Held.{held_words}
 
 -- ---- over values
 
-report_at : (files : Program) (frames : ℕ) (s : State) (events : List Event) (end : End) → run files frames events ≡ Some s → meaning files frames events end ≡ Some (report_text s.world.printed (thread_ends files frames s) (length events) end)
+report_at : (files : Program) (frames : ℕ) (s : State) (events : List Event) (end : End) → run files frames events ≡ Some s
+    → meaning files frames events end ≡ Some (report_text s.world.printed (thread_ends files frames s) (length events) end)
 report_at files frames s events end e = ap (option_map (λ (x : State). report_text x.world.printed (thread_ends files frames x) (length events) end)) e
 
 module _ (files : Program) (frames : ℕ) (s : State) where
@@ -95,7 +96,8 @@ leaving_enabled t (Some object) world rest stack = by (is_owner world t object)
     by true = refl
     by false = refl
 
-unwound_enabled : (t exception : ℕ) (world : World) (frame : Frame) (stack : StackOf Value) (o : Option ExceptionEntry) → is_enabled_by (unwound values t exception world frame stack o) ≡ true
+unwound_enabled : (t exception : ℕ) (world : World) (frame : Frame) (stack : StackOf Value) (o : Option ExceptionEntry)
+    → is_enabled_by (unwound values t exception world frame stack o) ≡ true
 unwound_enabled t exception world frame stack None = leaving_enabled t frame.entered world stack stack
 unwound_enabled t exception world frame stack (Some entry) = refl
 
@@ -106,7 +108,8 @@ stepped_enabled (Next cost next) = refl
 
 module _ (files : Program) (frames : ℕ) (s : State) (t : ℕ) where
   -- a thread with an exception over a frame may step
-  throws_on : (exception : ℕ) (frame : Frame) (rest : StackOf Value) → slice_get s.stacks t ≡ Some (Invocation frame ∷ rest) → (thread_at s.world t).status ≡ state.Running → (thread_at s.world t).pending ≡ Some exception → may_step files frames s t ≡ true
+  throws_on : (exception : ℕ) (frame : Frame) (rest : StackOf Value) → slice_get s.stacks t ≡ Some (Invocation frame ∷ rest)
+      → (thread_at s.world t).status ≡ state.Running → (thread_at s.world t).pending ≡ Some exception → may_step files frames s t ≡ true
   throws_on exception frame rest q runs pending =
       let event : Event = record { thread = t; pick = 0 } in
       let stack : StackOf Value = Invocation frame ∷ rest in
@@ -141,7 +144,8 @@ module _ (files : Program) (rooted : Rooted files) (carries : IsCarried files) (
   quiet_words : is_quiet_of words files frames (words_of s) ≡ is_quiet files frames s
   quiet_words = all_same (counting 0 (length s.world.threads))
     where
-      all_same : (ts : List ℕ) → list_all (λ t. not (may_step_of words files frames (words_of s) t)) ts ≡ list_all (λ t. not (may_step files frames s t)) ts
+      all_same : (ts : List ℕ) → list_all (λ t. not (may_step_of words files frames (words_of s) t)) ts
+          ≡ list_all (λ t. not (may_step files frames s t)) ts
       all_same [] = refl
       all_same (t ∷ ts) = λ i. not (may_words t i) && all_same ts i
 
@@ -154,7 +158,8 @@ module _ (files : Program) (rooted : Rooted files) (carries : IsCarried files) (
     abbrev HeldSame : StackOf Value → Type 0
     HeldSame stack = held_end_of words files (world_words s.world) t (stack_words stack) ≡ held_end_of values files s.world t stack
 
-    held_on : thread.status ≡ state.Running → may_step files frames s t ≡ false → (stack : StackOf Value) → slice_get s.stacks t ≡ Some stack → HeldSame stack
+    held_on : thread.status ≡ state.Running → may_step files frames s t ≡ false → (stack : StackOf Value)
+        → slice_get s.stacks t ≡ Some stack → HeldSame stack
     held_on runs held stack q =
         let os = types_of s.world.heap in
         let on = subst (λ (x : Thread). IsThreadTyped files os x stack) is_there (thread_of_stack files os s.world.threads s.stacks t stack typed.threads q) in
@@ -164,7 +169,8 @@ module _ (files : Program) (rooted : Rooted files) (carries : IsCarried files) (
         true≢false
         (sym (throws_on files frames s t exception frame rest (q ∙ ap (λ x. Some x) is) (ap (λ (x : Thread). x.status) is_there ∙ runs) (ap (λ (x : Thread). x.pending) is_there ∙ p)) ∙ held))
 
-    held_at : thread.status ≡ state.Running → may_step files frames s t ≡ false → (o : Option (StackOf Value)) → slice_get s.stacks t ≡ o → HeldSame (slice_index_or s.stacks t [])
+    held_at : thread.status ≡ state.Running → may_step files frames s t ≡ false → (o : Option (StackOf Value)) → slice_get s.stacks t ≡ o
+        → HeldSame (slice_index_or s.stacks t [])
     held_at runs held None q = subst HeldSame (sym (none_there s.stacks t [] q)) refl
     held_at runs held (Some stack) q = subst HeldSame (sym (get_or_from_slice_get s.stacks t stack [] q)) (held_on runs held stack q)
 
@@ -178,11 +184,13 @@ module _ (files : Program) (rooted : Rooted files) (carries : IsCarried files) (
         class_same (Primitives of elements) = refl
         class_same (References of elements) = refl
 
-        by : (o : Option (ObjectOf Value)) → Threw (option_map_or class_name_in (option_map object_words o) []) ≡ Threw (option_map_or class_name_in o [])
+        by : (o : Option (ObjectOf Value)) → Threw (option_map_or class_name_in (option_map object_words o) [])
+            ≡ Threw (option_map_or class_name_in o [])
         by None = refl
         by (Some object) = ap Threw (class_same object)
 
-    end_words : (status : ThreadStatus) → thread.status ≡ status → thread_end_of words files frames (words_of s) t status ≡ thread_end_of values files frames s t status
+    end_words : (status : ThreadStatus) → thread.status ≡ status
+        → thread_end_of words files frames (words_of s) t status ≡ thread_end_of values files frames s t status
     end_words state.Running e =
         ap (λ b. if b then Runnable else held_end_of words files (world_words s.world) t (slice_index_or (map stack_words s.stacks) t [])) (may_words t)
         ∙ (ap (λ l. if may_step files frames s t then Runnable else held_end_of words files (world_words s.world) t l) (map_index stack_words s.stacks t [])
@@ -193,7 +201,9 @@ module _ (files : Program) (rooted : Rooted files) (carries : IsCarried files) (
 
   -- ---- all threads
 
-  ends_words : (t : ℕ) (threads : List Thread) → ((k : ℕ) (thread : Thread) → slice_get threads k ≡ Some thread → thread_end_of words files frames (words_of s) (t + k) thread.status ≡ thread_end_of values files frames s (t + k) thread.status)
+  ends_words : (t : ℕ) (threads : List Thread)
+      → ((k : ℕ) (thread : Thread) → slice_get threads k ≡ Some thread
+      → thread_end_of words files frames (words_of s) (t + k) thread.status ≡ thread_end_of values files frames s (t + k) thread.status)
       → ends_from_of words files frames (words_of s) t threads ≡ ends_from_of values files frames s t threads
   ends_words t [] h = refl
   ends_words t (thread ∷ threads) h =
@@ -218,6 +228,7 @@ module _ (files : Program) (rooted : Rooted files) (carries : IsCarried files) (
         report = λ events end e. report_at files frames s events end e ∙ ap (λ l. Some (report_text s.world.printed l (length events) end)) (sym all_ends);
       }
 
-pub reported : (files : Program) → Rooted files → IsCarried files → (frames : ℕ) (s : StateOf ℕ) (of : State) → AreWordsOf files s of → IsReportedAs words files frames s of
+pub reported : (files : Program) → Rooted files → IsCarried files → (frames : ℕ) (s : StateOf ℕ) (of : State) → AreWordsOf files s of
+    → IsReportedAs words files frames s of
 reported files rooted carries frames s of h =
     subst (λ (x : StateOf ℕ). IsReportedAs words files frames x of) (sym h.are) (words_reported files rooted carries frames of h.typed)

@@ -44,7 +44,8 @@ after_reads f [] ys = refl
 after_reads f (r ∷ rs) ys = after_reads f rs ys
 
 -- operands that are found are as wanted
-kinded : (files : Program) (os : List ReferenceType) (w : Wants) (max : ℕ) (s : Slots Value) → is_ready (value_meets files os) over_values w max s ≡ true → Kinded files os w (operands over_values w s)
+kinded : (files : Program) (os : List ReferenceType) (w : Wants) (max : ℕ) (s : Slots Value)
+    → is_ready (value_meets files os) over_values w max s ≡ true → Kinded files os w (operands over_values w s)
 kinded files os w max s e =
     subst (λ l. Pairwise (value_meets files os) w.pops l) (sym (after_reads (λ r. slice_index_or s.locals r.0 value.Unset) w.reads (take (length w.pops) s.stack)))
     (ready_popped (value_meets files os) over_values w max s e)
@@ -60,7 +61,8 @@ module _ (files : Program) where
       under_same : under w.wants (map_slots word_of frame.place.slots) ≡ map word_of (under v.wants frame.place.slots)
       under_same = ap (λ x. under x (map_slots word_of frame.place.slots)) same.wants ∙ under_words v.wants frame.place.slots
 
-      done_words : Carries (done words files frames event (world_words world) (map_frame word_of frame) (stack_words stack) w) (done values files frames event world frame stack v)
+      done_words : Carries (done words files frames event (world_words world) (map_frame word_of frame) (stack_words stack) w)
+          (done values files frames event world frame stack v)
       done_words =
           ap (become files frames event.thread (world_words world) (map_frame word_of frame) (stack_words stack))
           (ap (λ o. w.does event (world_words world) (map_slots word_of frame.place.slots) o (under w.wants (map_slots word_of frame.place.slots))) ops_same
@@ -68,15 +70,21 @@ module _ (files : Program) where
           ∙ same.does event world frame.place.slots (under v.wants frame.place.slots) q))
           ∙ become_words files frames event.thread world frame stack (v.does event world frame.place.slots (ops_of values v frame.place.slots) (under v.wants frame.place.slots))
 
-      allowed_words : w.may event (world_words world) (ops_of words w (map_slots word_of frame.place.slots)) ≡ v.may event world (ops_of values v frame.place.slots)
+      allowed_words : w.may event (world_words world) (ops_of words w (map_slots word_of frame.place.slots))
+          ≡ v.may event world (ops_of values v frame.place.slots)
       allowed_words = ap (λ o. w.may event (world_words world) o) ops_same ∙ same.may event world (ops_of values v frame.place.slots) q
 
-      needed_words : Carries (needing_class words files event.thread w.looks (world_words world) (stack_words (Invocation frame ∷ stack)) (done words files frames event (world_words world) (map_frame word_of frame) (stack_words stack) w)) (needing_class values files event.thread v.looks world (Invocation frame ∷ stack) (done values files frames event world frame stack v))
+      needed_words : Carries (needing_class words files event.thread w.looks (world_words world) (stack_words (Invocation frame
+          ∷ stack)) (done words files frames event (world_words world) (map_frame word_of frame) (stack_words stack) w))
+          (needing_class values files event.thread v.looks world (Invocation frame
+          ∷ stack) (done values files frames event world frame stack v))
       needed_words =
           ap (λ l. needing_class words files event.thread l (world_words world) (stack_words (Invocation frame ∷ stack)) (done words files frames event (world_words world) (map_frame word_of frame) (stack_words stack) w)) same.looks
           ∙ needing_class_words files event.thread v.looks world (Invocation frame ∷ stack) _ (done values files frames event world frame stack v) done_words
 
-      event_words : Carries (enabled_if (w.may event (world_words world) (ops_of words w (map_slots word_of frame.place.slots))) (needing_class words files event.thread w.looks (world_words world) (stack_words (Invocation frame ∷ stack)) (done words files frames event (world_words world) (map_frame word_of frame) (stack_words stack) w)))
+      event_words : Carries (enabled_if (w.may event (world_words world) (ops_of words w (map_slots word_of frame.place.slots)))
+          (needing_class words files event.thread w.looks (world_words world) (stack_words (Invocation frame
+          ∷ stack)) (done words files frames event (world_words world) (map_frame word_of frame) (stack_words stack) w)))
           (enabled_if (v.may event world (ops_of values v frame.place.slots)) (needing_class values files event.thread v.looks world (Invocation frame ∷ stack) (done values files frames event world frame stack v)))
       event_words =
           ap (λ b. enabled_if b (needing_class words files event.thread w.looks (world_words world) (stack_words (Invocation frame ∷ stack)) (done words files frames event (world_words world) (map_frame word_of frame) (stack_words stack) w))) allowed_words
@@ -85,7 +93,10 @@ module _ (files : Program) where
     wrong_words : Carries (unpicked event WrongKind) (unpicked event WrongKind)
     wrong_words = enabled_words (event.pick == 0) WrongKind WrongKind refl
 
-    bytecode_by_words : (max : ℕ) (v : Option (MeaningOf Value)) (w : Option (MeaningOf ℕ)) → SameIf files v w → finds_operands files (types_of world.heap) max frame v ≡ true → Carries (bytecode_by words files frames event (world_words world) (map_frame word_of frame) (stack_words stack) max w) (bytecode_by values files frames event world frame stack max v)
+    bytecode_by_words : (max : ℕ) (v : Option (MeaningOf Value)) (w : Option (MeaningOf ℕ)) → SameIf files v w
+        → finds_operands files (types_of world.heap) max frame v ≡ true
+        → Carries (bytecode_by words files frames event (world_words world) (map_frame word_of frame) (stack_words stack) max w)
+        (bytecode_by values files frames event world frame stack max v)
     bytecode_by_words max None None s e = wrong_words
     bytecode_by_words max None (Some w) s e = absurd s
     bytecode_by_words max (Some v) None s e = absurd s
@@ -93,40 +104,49 @@ module _ (files : Program) where
         event_words v w s (kinded files (types_of world.heap) v.wants max frame.place.slots e)
         ∙ ap (λ b. map_stepped (map_part word_of) (if b then enabled_if (v.may event world (ops_of values v frame.place.slots)) (needing_class values files event.thread v.looks world (Invocation frame ∷ stack) (done values files frames event world frame stack v)) else unpicked event WrongKind)) (sym e)
 
-    bytecode_in_words : (o : Option Body) → finds_in files (types_of world.heap) frame o ≡ true → Carries (bytecode_in words files frames event (world_words world) (map_frame word_of frame) (stack_words stack) o) (bytecode_in values files frames event world frame stack o)
+    bytecode_in_words : (o : Option Body) → finds_in files (types_of world.heap) frame o ≡ true
+        → Carries (bytecode_in words files frames event (world_words world) (map_frame word_of frame) (stack_words stack) o)
+        (bytecode_in values files frames event world frame stack o)
     bytecode_in_words None e = wrong_words
     bytecode_in_words (Some body) e =
         bytecode_by_words body.code.max_stack (option_and_then (meaning_of values files) (site_at frame.method body frame.place.offset)) (option_and_then (meaning_of words files) (site_at frame.method body frame.place.offset)) (meanings (site_at frame.method body frame.place.offset)) e
       where
-        meanings : (o : Option Site) → SameIf files (option_and_then (meaning_of values files) o) (option_and_then (meaning_of words files) o)
+        meanings : (o : Option Site) → SameIf files (option_and_then (meaning_of values files) o)
+            (option_and_then (meaning_of words files) o)
         meanings None = tt
         meanings (Some site) = meaning_same files site
 
   -- ---- classes, and threads that begin
 
-  initialisation_words : (frames t : ℕ) (class : Name) (phase : Phase) (world : World) (stack : StackOf Value) → Carries (initialisation_event words files frames t class phase (world_words world) (stack_words stack)) (initialisation_event values files frames t class phase world stack)
+  initialisation_words : (frames t : ℕ) (class : Name) (phase : Phase) (world : World) (stack : StackOf Value)
+      → Carries (initialisation_event words files frames t class phase (world_words world) (stack_words stack))
+      (initialisation_event values files frames t class phase world stack)
   initialisation_words frames t class Super world stack =
       needing_class_words files t (before files class) world (Initialisation class Super ∷ stack) _ (initialiser_event values frames t (initialiser_of class) world (Initialisation class End ∷ stack) (body_of files (initialiser_of class)))
       (initialiser_words frames t (initialiser_of class) world (Initialisation class End ∷ stack) (body_of files (initialiser_of class)))
   initialisation_words frames t class End world stack = refl
 
-  main_frame_words : (frames : ℕ) (world : World) (m : Member) (o : Option Body) → Carries (main_frame words files frames (world_words world) m o) (main_frame values files frames world m o)
+  main_frame_words : (frames : ℕ) (world : World) (m : Member) (o : Option Body)
+      → Carries (main_frame words files frames (world_words world) m o) (main_frame values files frames world m o)
   main_frame_words frames world m None = refl
   main_frame_words frames world m (Some body) =
       ap (λ f. pushed frames 0 (world_words world) (world_words (with_begun world 0)) [] [] f) (frame_words m (value.Reference arguments_reference ∷ []) (entered_by files m (class_reference files m.class)) body)
       ∙ pushed_words frames 0 world (with_begun world 0) [] [] (frame_with values m (value.Reference arguments_reference ∷ []) (entered_by files m (class_reference files m.class)) body)
 
-  run_frame_words : (frames t : ℕ) (world : World) (object : ℕ) (m : Member) (o : Option Body) → Carries (run_frame words files frames t (world_words world) object m o) (run_frame values files frames t world object m o)
+  run_frame_words : (frames t : ℕ) (world : World) (object : ℕ) (m : Member) (o : Option Body)
+      → Carries (run_frame words files frames t (world_words world) object m o) (run_frame values files frames t world object m o)
   run_frame_words frames t world object m None = raised_words t AbstractMethod world []
   run_frame_words frames t world object m (Some body) =
       ap (λ f. pushed frames t (world_words world) (world_words (with_begun world t)) [] [] f) (frame_words m (value.Reference object ∷ []) (entered_by files m object) body)
       ∙ pushed_words frames t world (with_begun world t) [] [] (frame_with values m (value.Reference object ∷ []) (entered_by files m object) body)
 
-  run_of_words : (frames t : ℕ) (world : World) (object : ℕ) (o : Option Member) → Carries (run_of words files frames t (world_words world) object o) (run_of values files frames t world object o)
+  run_of_words : (frames t : ℕ) (world : World) (object : ℕ) (o : Option Member)
+      → Carries (run_of words files frames t (world_words world) object o) (run_of values files frames t world object o)
   run_of_words frames t world object None = raised_words t AbstractMethod world []
   run_of_words frames t world object (Some m) = run_frame_words frames t world object m (body_of files m)
 
-  begin_words : (frames : ℕ) (world : World) (t : ℕ) → Carries (begin_event words files frames (world_words world) t) (begin_event values files frames world t)
+  begin_words : (frames : ℕ) (world : World) (t : ℕ)
+      → Carries (begin_event words files frames (world_words world) t) (begin_event values files frames world t)
   begin_words frames world zero =
       needing_class_words files 0 (Some (initial_class files)) world [] _ (main_frame values files frames world (main_of (initial_class files)) (body_of files (main_of (initial_class files))))
       (main_frame_words frames world (main_of (initial_class files)) (body_of files (main_of (initial_class files))))
@@ -137,14 +157,18 @@ module _ (files : Program) where
 
   -- ---- exceptions, and threads that leave a wait set
 
-  pending_words : (t exception : ℕ) (thrown : Option ReferenceType) (world : World) (stack : StackOf Value) → Carries (pending_event words files t exception thrown (world_words world) (stack_words stack)) (pending_event values files t exception thrown world stack)
+  pending_words : (t exception : ℕ) (thrown : Option ReferenceType) (world : World) (stack : StackOf Value)
+      → Carries (pending_event words files t exception thrown (world_words world) (stack_words stack))
+      (pending_event values files t exception thrown world stack)
   pending_words t exception thrown world [] = refl
   pending_words t exception thrown world (Invocation frame ∷ stack) =
       unwound_words t exception world frame stack (option_and_then (handler_in files frame.place.offset thrown) (body_of files frame.method))
   pending_words t exception thrown world (Initialisation class phase ∷ stack) =
       failed_words t (is_object_of files (ClassType java_lang_error) thrown) (with_class_status world class Erroneous) stack
 
-  relock_words : (t object count : ℕ) (cause : WakeCause) (world : World) (stack : StackOf Value) → Carries (relock_event files t object count cause (world_words world) (stack_words stack)) (relock_event files t object count cause world stack)
+  relock_words : (t object count : ℕ) (cause : WakeCause) (world : World) (stack : StackOf Value)
+      → Carries (relock_event files t object count cause (world_words world) (stack_words stack))
+      (relock_event files t object count cause world stack)
   relock_words t object count cause world stack =
       let after = with_status (with_monitors world (monitors.relock object t count world.monitors)) t Running in
       enabled_words (is_done (monitors.relock object t count world.monitors).answer) _ (after_wait files t cause after stack) (after_wait_words files t cause after stack)
@@ -152,20 +176,27 @@ module _ (files : Program) where
   -- ---- a thread
 
   module _ (rooted : Rooted files) (frames : ℕ) (event : Event) (world : World) where
-    running_words : (stack : StackOf Value) → IsRunning files (types_of world.heap) None stack → Carries (running_event words files frames event (world_words world) (stack_words stack)) (running_event values files frames event world stack)
+    running_words : (stack : StackOf Value) → IsRunning files (types_of world.heap) None stack
+        → Carries (running_event words files frames event (world_words world) (stack_words stack))
+        (running_event values files frames event world stack)
     running_words [] h = enabled_words (event.pick == 0) _ (begin_event values files frames world event.thread) (begin_words frames world event.thread)
     running_words (Invocation frame ∷ stack) h =
         bytecode_in_words frames event world frame stack (body_of files frame.method) (ready_finds files rooted (types_of world.heap) frame h.0)
     running_words (Initialisation class phase ∷ stack) h =
         enabled_words (event.pick == 0) _ (initialisation_event values files frames event.thread class phase world stack) (initialisation_words frames event.thread class phase world stack)
 
-    going_words : (stack : StackOf Value) (pending : Option ℕ) → IsRunning files (types_of world.heap) pending stack → Carries (going_event words files frames event (world_words world) (stack_words stack) pending) (going_event values files frames event world stack pending)
+    going_words : (stack : StackOf Value) (pending : Option ℕ) → IsRunning files (types_of world.heap) pending stack
+        → Carries (going_event words files frames event (world_words world) (stack_words stack) pending)
+        (going_event values files frames event world stack pending)
     going_words stack None h = running_words stack h
     going_words stack (Some exception) h =
         ap (λ ts. unpicked event (pending_event words files event.thread exception (slice_get ts exception) (world_words world) (stack_words stack))) (types_words world.heap)
         ∙ enabled_words (event.pick == 0) _ (pending_event values files event.thread exception (slice_get (types_of world.heap) exception) world stack) (pending_words event.thread exception (slice_get (types_of world.heap) exception) world stack)
 
-    thread_words : (stack : StackOf Value) (thread : Thread) (status : ThreadStatus) → thread_at world event.thread ≡ thread → IsStackTyped files (types_of world.heap) thread.pending stack status → Carries (thread_event words files frames event (world_words world) (stack_words stack) status) (thread_event values files frames event world stack status)
+    thread_words : (stack : StackOf Value) (thread : Thread) (status : ThreadStatus) → thread_at world event.thread ≡ thread
+        → IsStackTyped files (types_of world.heap) thread.pending stack status
+        → Carries (thread_event words files frames event (world_words world) (stack_words stack) status)
+        (thread_event values files frames event world stack status)
     thread_words stack thread Running e h =
         going_words stack (thread_at world event.thread).pending (subst (λ (th : Thread). IsRunning files (types_of world.heap) th.pending stack) (sym e) h)
     thread_words stack thread (Waiting object count) e h = refl
@@ -175,7 +206,8 @@ module _ (files : Program) where
 
 -- ---- the whole state
 
-end_words : (t : ℕ) (world : World) (stack : StackOf Value) → end_of t (world_words world) (stack_words stack) ≡ world_words (end_of t world stack)
+end_words : (t : ℕ) (world : World) (stack : StackOf Value)
+    → end_of t (world_words world) (stack_words stack) ≡ world_words (end_of t world stack)
 end_words t world [] = by (is_over (thread_at world t))
   where
     by : (b : Bool) → with_end (world_words world) t b ≡ world_words (with_end world t b)
@@ -191,7 +223,8 @@ settled_words t NotEnabled = refl
 settled_words t WrongKind = refl
 settled_words t (Next cost p) = ap (λ w. Next cost (part w (stack_words p.stack))) (end_words t p.world p.stack)
 
-back_words : (state : State) (t : ℕ) (y : SteppedOf (PartOf Value)) → with_part (words_of state) t (map_stepped (map_part word_of) y) ≡ map_stepped words_of (with_part state t y)
+back_words : (state : State) (t : ℕ) (y : SteppedOf (PartOf Value))
+    → with_part (words_of state) t (map_stepped (map_part word_of) y) ≡ map_stepped words_of (with_part state t y)
 back_words state t NotEnabled = refl
 back_words state t WrongKind = refl
 back_words state t (Next cost p) =
@@ -207,7 +240,9 @@ carried files rooted frames state event h =
     ap (λ o. event_of words files frames (words_of state) event o) (slice_get-map stack_words state.stacks event.thread)
     ∙ by (slice_get state.stacks event.thread) refl
   where
-    by : (o : Option (StackOf Value)) → slice_get state.stacks event.thread ≡ o → event_of words files frames (words_of state) event (option_map stack_words o) ≡ map_stepped words_of (event_of values files frames state event o)
+    by : (o : Option (StackOf Value)) → slice_get state.stacks event.thread ≡ o
+        → event_of words files frames (words_of state) event (option_map stack_words o)
+        ≡ map_stepped words_of (event_of values files frames state event o)
     by None e = refl
     by (Some stack) e =
         let thread = thread_at state.world event.thread in

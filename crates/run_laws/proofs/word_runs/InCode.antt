@@ -53,14 +53,16 @@ module _ (files : Program) (os : List ReferenceType) where
   running_in_code None stack h = beneath_in_code Instruction stack h
   running_in_code (Some exception) stack h = failing_in_code stack h.1
 
-  stack_in_code : (pending : Option ℕ) (stack : StackOf Value) (status : ThreadStatus) → IsStackTyped files os pending stack status → has_ended status ≡ false → AreInCode files (stack_words stack)
+  stack_in_code : (pending : Option ℕ) (stack : StackOf Value) (status : ThreadStatus) → IsStackTyped files os pending stack status
+      → has_ended status ≡ false → AreInCode files (stack_words stack)
   stack_in_code pending stack Running h e = running_in_code pending stack h
   stack_in_code pending stack (Waiting object count) h e = beneath_in_code (Results []) stack h.1.1
   stack_in_code pending stack (Relock object count cause) h e = beneath_in_code (Results []) stack h.1.1
   stack_in_code pending stack (Ended exception) h e = absurd (true≢false e)
 
 -- a thread that is there is the one of its number
-there_is : (threads : List Thread) (t : ℕ) (thread : Thread) → slice_get threads t ≡ Some thread → slice_index_or threads t no_thread ≡ thread
+there_is : (threads : List Thread) (t : ℕ) (thread : Thread) → slice_get threads t ≡ Some thread
+    → slice_index_or threads t no_thread ≡ thread
 there_is [] t thread e = absurd cc
 there_is (x ∷ threads) zero thread e = cc
 there_is (x ∷ threads) (suc t) thread e = there_is threads t thread e
@@ -78,14 +80,17 @@ pub record Found (files : Program) (state : State) (thread : Thread) (stack : St
   pub is : stack_words found ≡ stack
   pub typed : IsStackTyped files (types_of state.world.heap) thread.pending found thread.status
 
-found_by : (files : Program) (state : State) → IsWellTyped files state → (t : ℕ) (thread : Thread) (stack : StackOf ℕ) → slice_get state.world.threads t ≡ Some thread → (o : Option (StackOf Value)) → slice_get state.stacks t ≡ o → option_map stack_words o ≡ Some stack → Found files state thread stack
+found_by : (files : Program) (state : State) → IsWellTyped files state → (t : ℕ) (thread : Thread) (stack : StackOf ℕ)
+    → slice_get state.world.threads t ≡ Some thread → (o : Option (StackOf Value)) → slice_get state.stacks t ≡ o
+    → option_map stack_words o ≡ Some stack → Found files state thread stack
 found_by files state h t thread stack e None q s = absurd (no_stack None stack refl s)
 found_by files state h t thread stack e (Some found) q s =
     let os = types_of state.world.heap in
     let typed = subst (λ (x : Thread). IsThreadTyped files os x found) (there_is state.world.threads t thread e) (thread_of_stack files os state.world.threads state.stacks t found h.threads q) in
     record { found = found; is = cc; typed = typed.stack_typed }
 
-pub found_words : (files : Program) (state : State) → IsWellTyped files state → (t : ℕ) (thread : Thread) (stack : StackOf ℕ) → slice_get state.world.threads t ≡ Some thread → slice_get (words_of state).stacks t ≡ Some stack → Found files state thread stack
+pub found_words : (files : Program) (state : State) → IsWellTyped files state → (t : ℕ) (thread : Thread) (stack : StackOf ℕ)
+    → slice_get state.world.threads t ≡ Some thread → slice_get (words_of state).stacks t ≡ Some stack → Found files state thread stack
 found_words files state h t thread stack e s = found_by files state h t thread stack e (slice_get state.stacks t) refl (sym (slice_get-map stack_words state.stacks t) ∙ s)
 
 pub in_code : IsInCode

@@ -26,7 +26,8 @@ heap_words files =
     ∙ sym (map-append object_words classes strings)) in
     λ i. Instance java_io_print_stream [] ∷ References (ClassType java_lang_string) [] ∷ new_words files java_lang_thread i ∷ others i
 
-monitors_same : (objects : List (ObjectOf Value)) → map (λ (o : ObjectOf ℕ). unlocked) (map object_words objects) ≡ map (λ (o : ObjectOf Value). unlocked) objects
+monitors_same : (objects : List (ObjectOf Value))
+    → map (λ (o : ObjectOf ℕ). unlocked) (map object_words objects) ≡ map (λ (o : ObjectOf Value). unlocked) objects
 monitors_same [] = refl
 monitors_same (o ∷ objects) = ap (λ l. unlocked ∷ l) (monitors_same objects)
 

@@ -52,17 +52,20 @@ module _ (files : Program) (os : List ReferenceType) where
   beneath_room Instruction (Invocation frame ∷ stack) h = (ready_room frame h.0, beneath_room (Results (result_types files frame.method)) stack h.1)
   beneath_room above (Initialisation class phase ∷ stack) h = beneath_room Instruction stack h
 
-  failing_room : (exception : ℕ) (stack : StackOf Value) → Failing files os stack → AreInRoom files (in_use (Some exception) (stack_words stack))
+  failing_room : (exception : ℕ) (stack : StackOf Value) → Failing files os stack
+      → AreInRoom files (in_use (Some exception) (stack_words stack))
   failing_room exception [] h = tt
   failing_room exception (Invocation frame ∷ stack) h = beneath_room (Results (result_types files frame.method)) stack h.1
   failing_room exception (Initialisation class phase ∷ stack) h = beneath_room Instruction stack h
 
   -- nothing is pending
-  idle_room : (pending : Option ℕ) (stack : StackOf Value) → pending ≡ None → AreInRoom files (stack_words stack) → AreInRoom files (in_use pending (stack_words stack))
+  idle_room : (pending : Option ℕ) (stack : StackOf Value) → pending ≡ None → AreInRoom files (stack_words stack)
+      → AreInRoom files (in_use pending (stack_words stack))
   idle_room None stack e h = h
   idle_room (Some exception) stack e h = absurd cc
 
-  stack_room : (pending : Option ℕ) (stack : StackOf Value) (status : ThreadStatus) → IsStackTyped files os pending stack status → has_ended status ≡ false → AreInRoom files (in_use pending (stack_words stack))
+  stack_room : (pending : Option ℕ) (stack : StackOf Value) (status : ThreadStatus) → IsStackTyped files os pending stack status
+      → has_ended status ≡ false → AreInRoom files (in_use pending (stack_words stack))
   stack_room None stack Running h e = beneath_room Instruction stack h
   stack_room (Some exception) stack Running h e = failing_room exception stack h.1
   stack_room pending stack (Waiting object count) h e = idle_room pending stack h.0 (beneath_room (Results []) stack h.1.1)

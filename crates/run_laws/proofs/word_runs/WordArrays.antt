@@ -27,8 +27,10 @@ use Rattle.run_laws.proofs.word_runs.WordMeanings.{operand_words, int_words, ref
 module _ (files : Program) where
   -- ---- new arrays
 
-  made_words : (b : Bool) (next count : ℕ) (av : List Value → ObjectOf Value) (aw : List ℕ → ObjectOf ℕ) (first : Value) (world : World) (slots : Slots Value) (rest : List Value) → ((xs : List Value) → aw (map word_of xs) ≡ object_words (av xs))
-      → made_array words b next count aw (word_of first) (world_words world) (map_slots word_of slots) (map word_of rest) ≡ map_outcome word_of (made_array values b next count av first world slots rest)
+  made_words : (b : Bool) (next count : ℕ) (av : List Value → ObjectOf Value) (aw : List ℕ → ObjectOf ℕ) (first : Value) (world : World)
+      (slots : Slots Value) (rest : List Value) → ((xs : List Value) → aw (map word_of xs) ≡ object_words (av xs))
+      → made_array words b next count aw (word_of first) (world_words world) (map_slots word_of slots) (map word_of rest)
+      ≡ map_outcome word_of (made_array values b next count av first world slots rest)
   made_words true next count av aw first world slots rest e = refl
   made_words false next count av aw first world slots rest e =
       let new = av (replicate count first) in
@@ -36,7 +38,9 @@ module _ (files : Program) where
       (ap (λ l. allocated (world_words world) (aw l)) (map_copies word_of count first) ∙ (ap (λ o. allocated (world_words world) o) (e (replicate count first)) ∙ allocated_words world new))
       (ap (λ n. suc n ∷ map word_of rest) (length-map world.heap object_words))
 
-  array_same : (site : Site) (type : ReferenceType) (av : List Value → ObjectOf Value) (aw : List ℕ → ObjectOf ℕ) (first : Value) → ((xs : List Value) → aw (map word_of xs) ≡ object_words (av xs)) → Same files (array_meaning values files site type av first) (array_meaning words files site type aw (word_of first))
+  array_same : (site : Site) (type : ReferenceType) (av : List Value → ObjectOf Value) (aw : List ℕ → ObjectOf ℕ) (first : Value)
+      → ((xs : List Value) → aw (map word_of xs) ≡ object_words (av xs))
+      → Same files (array_meaning values files site type av first) (array_meaning words files site type aw (word_of first))
   array_same site type av aw first e =
       record {
         looks = refl;
@@ -48,10 +52,12 @@ module _ (files : Program) where
             ∙ made_words (is_negative (int_operand values ops 0)) site.next (int_operand values ops 0) av aw first world slots rest e;
       }
 
-  pub primitive_array_same : (site : Site) (of : Primitive) → Same files (primitive_array_meaning values files site of) (primitive_array_meaning words files site of)
+  pub primitive_array_same : (site : Site) (of : Primitive)
+      → Same files (primitive_array_meaning values files site of) (primitive_array_meaning words files site of)
   primitive_array_same site of = array_same site (PrimitiveArray of) (λ elements. Primitives of elements) (λ elements. Primitives of elements) (value.Int 0) (λ xs. refl)
 
-  pub reference_array_same : (site : Site) (of : ReferenceType) → Same files (reference_array_meaning values files site of) (reference_array_meaning words files site of)
+  pub reference_array_same : (site : Site) (of : ReferenceType)
+      → Same files (reference_array_meaning values files site of) (reference_array_meaning words files site of)
   reference_array_same site of = array_same site (ReferenceArray of) (λ elements. References of elements) (λ elements. References of elements) value.Null (λ xs. refl)
 
   -- ---- elements
@@ -76,18 +82,21 @@ module _ (files : Program) where
             (λ r. pushes_words world _ (value.Int (length (elements_of (object_at world r)))) rest slots.locals site.next (its_length world r));
       }
 
-  index_words : (b c : Bool) (w : OutcomeOf ℕ) (v : OutcomeOf Value) → b ≡ c → w ≡ map_outcome word_of v → at_index b w ≡ map_outcome word_of (at_index c v)
+  index_words : (b c : Bool) (w : OutcomeOf ℕ) (v : OutcomeOf Value) → b ≡ c → w ≡ map_outcome word_of v
+      → at_index b w ≡ map_outcome word_of (at_index c v)
   index_words b c w v e f = ap (λ x. at_index x w) e ∙ by c
     where
       by : (c : Bool) → at_index c w ≡ map_outcome word_of (at_index c v)
       by true = f
       by false = refl
 
-  range_words : (world : World) (r : ℕ) (ops : List Value) (k : ℕ) → in_range (world_words world) r (int_operand words (map word_of ops) k) ≡ in_range world r (int_operand values ops k)
+  range_words : (world : World) (r : ℕ) (ops : List Value) (k : ℕ)
+      → in_range (world_words world) r (int_operand words (map word_of ops) k) ≡ in_range world r (int_operand values ops k)
   range_words world r ops k =
       ap (λ n. nat_lt (int_operand words (map word_of ops) k) n) (its_length world r) ∙ ap (λ i. nat_lt i (length (elements_of (object_at world r)))) (int_words ops k)
 
-  load_same : (site : Site) (array : Want) (first : Value) (type : List VerificationType → VerificationType) → is_object_want array ≡ true → Same files (load_meaning values site array first type) (load_meaning words site array (word_of first) type)
+  load_same : (site : Site) (array : Want) (first : Value) (type : List VerificationType → VerificationType) → is_object_want array ≡ true
+      → Same files (load_meaning values site array first type) (load_meaning words site array (word_of first) type)
   load_same site array first type o =
       record {
         looks = refl;
@@ -107,7 +116,9 @@ module _ (files : Program) where
 
   -- ---- stores
 
-  stored_words : (next : ℕ) (world : World) (r : ℕ) (i j n : ℕ) (v : Value) (slots : Slots Value) (rest : List Value) → j ≡ i → n ≡ word_of v → stored next (world_words world) r j n (map_slots word_of slots) (map word_of rest) ≡ map_outcome word_of (stored next world r i v slots rest)
+  stored_words : (next : ℕ) (world : World) (r : ℕ) (i j n : ℕ) (v : Value) (slots : Slots Value) (rest : List Value) → j ≡ i
+      → n ≡ word_of v → stored next (world_words world) r j n (map_slots word_of slots) (map word_of rest)
+      ≡ map_outcome word_of (stored next world r i v slots rest)
   stored_words next world r i j n v slots rest e f =
       becomes_words _ (with_object world r (with_element i v (object_at world r))) rest slots.locals next
       (ap (λ k. with_object (world_words world) r (with_element k n (object_at (world_words world) r))) e
@@ -120,7 +131,8 @@ module _ (files : Program) where
   kept_words (Primitives of elements) v = refl
   kept_words (References of elements) v = refl
 
-  store_int_same : (site : Site) (array : Want) → is_object_want array ≡ true → Same files (store_int_meaning values site array) (store_int_meaning words site array)
+  store_int_same : (site : Site) (array : Want) → is_object_want array ≡ true
+      → Same files (store_int_meaning values site array) (store_int_meaning words site array)
   store_int_same site array o =
       record {
         looks = refl;
@@ -138,13 +150,16 @@ module _ (files : Program) where
             ∙ (ap (λ n. kept_by words (object_words (object_at world r)) n) (operand_words ops 0) ∙ kept_words (object_at world r) (operand values ops 0)))));
       }
 
-  stands_words : (world : World) (o : ObjectOf Value) (ws : List Want) (ops : List Value) (k : ℕ) (below : ReferenceType) → Pairwise (value_meets files (types_of world.heap)) ws ops → slice_get ws k ≡ Some (AReference below)
-      → may_stand_in words files (world_words world) (object_words o) (operand words (map word_of ops) k) ≡ may_stand_in values files world o (operand values ops k)
+  stands_words : (world : World) (o : ObjectOf Value) (ws : List Want) (ops : List Value) (k : ℕ) (below : ReferenceType)
+      → Pairwise (value_meets files (types_of world.heap)) ws ops → slice_get ws k ≡ Some (AReference below)
+      → may_stand_in words files (world_words world) (object_words o) (operand words (map word_of ops) k)
+      ≡ may_stand_in values files world o (operand values ops k)
   stands_words world (Instance class fields) ws ops k below q e = refl
   stands_words world (Primitives of elements) ws ops k below q e = refl
   stands_words world (References of elements) ws ops k below q e = instance_operand files world ws ops k below of q e
 
-  storable_words : (b c : Bool) (w : OutcomeOf ℕ) (v : OutcomeOf Value) → b ≡ c → w ≡ map_outcome word_of v → if_storable b w ≡ map_outcome word_of (if_storable c v)
+  storable_words : (b c : Bool) (w : OutcomeOf ℕ) (v : OutcomeOf Value) → b ≡ c → w ≡ map_outcome word_of v
+      → if_storable b w ≡ map_outcome word_of (if_storable c v)
   storable_words b c w v e f = ap (λ x. if_storable x w) e ∙ by c
     where
       by : (c : Bool) → if_storable c w ≡ map_outcome word_of (if_storable c v)

@@ -60,14 +60,16 @@ pub record Placed (files : Program) (method : Member) (k : ℕ) : Type 0 where
 pub placed : (files : Program) (method : Member) (k : ℕ) → receiver_place (built_in_method method) ≡ Some k → Placed files method k
 placed files method k e = by (find (is_row_of method) built_in_methods) refl e
   where
-    of_row : (row : Member × BuiltInMethod) (o : Option ℕ) → receiver_place row.1 ≡ o → o ≡ Some k → is_placed files row ≡ true → Placed files row.0 k
+    of_row : (row : Member × BuiltInMethod) (o : Option ℕ) → receiver_place row.1 ≡ o → o ≡ Some k → is_placed files row ≡ true
+        → Placed files row.0 k
     of_row row None p q t = absurd cc
     of_row row (Some j) p q t =
         let here = and_parts (parameter_count row.0 == j) _ (sym (ap (λ x. option_map_or (λ k. (parameter_count row.0 == k) && not (is_one is_static_method files row.0)) x true) p) ∙ t) in
         let j_is : j ≡ k = cc in
         record { place = eqb-true (parameter_count row.0) j here.0 ∙ j_is; instance = not-true (is_one is_static_method files row.0) here.1 }
 
-    by : (o : Option (Member × BuiltInMethod)) → find (is_row_of method) built_in_methods ≡ o → receiver_place (unwrap_or (option_map (λ (row : Member × BuiltInMethod). row.1) o) Construct) ≡ Some k → Placed files method k
+    by : (o : Option (Member × BuiltInMethod)) → find (is_row_of method) built_in_methods ≡ o
+        → receiver_place (unwrap_or (option_map (λ (row : Member × BuiltInMethod). row.1) o) Construct) ≡ Some k → Placed files method k
     by None f q = absurd cc
     by (Some row) f q =
         let is : row.0 ≡ method = members_same row.0 method (found_passes (is_row_of method) built_in_methods row f) in
@@ -81,7 +83,8 @@ abbrev pub Agrees : BuiltInMethod → List Value → Type 0
 Agrees method ops = (k : ℕ) → receiver_place method ≡ Some k → object_of words (map word_of ops) k ≡ object_of values ops k
 
 module _ (event : Event) (world : World) where
-  pub may_words : (method : BuiltInMethod) (ops : List Value) → Agrees method ops → built_in_may words method event (world_words world) (map word_of ops) ≡ built_in_may values method event world ops
+  pub may_words : (method : BuiltInMethod) (ops : List Value) → Agrees method ops
+      → built_in_may words method event (world_words world) (map word_of ops) ≡ built_in_may values method event world ops
   may_words Construct ops a = refl
   may_words ConstructWithTarget ops a = refl
   may_words ObjectWait ops a = refl
@@ -112,24 +115,31 @@ module _ (event : Event) (world : World) where
         ∙ (ap (λ o. with_object (world_words world) r (with_field thread_target (word_of v) o)) (object_at_words world r)
         ∙ (ap (λ o. with_object (world_words world) r o) (with_field_words thread_target v (object_at world r)) ∙ with_object_words world r (with_field thread_target v (object_at world r))))))
 
-    wait_words : (owner interrupted : Bool) (object : ℕ) → wait_by owner interrupted event.thread object (world_words world) (map word_of rest) ≡ map_outcome word_of (wait_by owner interrupted event.thread object world rest)
+    wait_words : (owner interrupted : Bool) (object : ℕ)
+        → wait_by owner interrupted event.thread object (world_words world) (map word_of rest)
+        ≡ map_outcome word_of (wait_by owner interrupted event.thread object world rest)
     wait_words false interrupted object = refl
     wait_words true true object = refl
     wait_words true false object = refl
 
-    owner_words : (b : Bool) (after : World) → if_owner b (Goes Free (world_words after) (record { locals = map word_of slots.locals; stack = map word_of rest }) next) ≡ map_outcome word_of (if_owner b (Goes Free after (record { locals = slots.locals; stack = rest }) next))
+    owner_words : (b : Bool) (after : World)
+        → if_owner b (Goes Free (world_words after) (record { locals = map word_of slots.locals; stack = map word_of rest }) next)
+        ≡ map_outcome word_of (if_owner b (Goes Free after (record { locals = slots.locals; stack = rest }) next))
     owner_words true after = refl
     owner_words false after = refl
 
-    start_words : (b : Bool) (object : ℕ) → start_by b next object (world_words world) (map_slots word_of slots) (map word_of rest) ≡ map_outcome word_of (start_by b next object world slots rest)
+    start_words : (b : Bool) (object : ℕ) → start_by b next object (world_words world) (map_slots word_of slots) (map word_of rest)
+        ≡ map_outcome word_of (start_by b next object world slots rest)
     start_words true object = refl
     start_words false object = refl
 
-    join_words : (b : Bool) → join_by b next (world_words world) (map_slots word_of slots) (map word_of rest) ≡ map_outcome word_of (join_by b next world slots rest)
+    join_words : (b : Bool) → join_by b next (world_words world) (map_slots word_of slots) (map word_of rest)
+        ≡ map_outcome word_of (join_by b next world slots rest)
     join_words true = refl
     join_words false = refl
 
-    one_words : (before : World) (object : ℕ) (o : Option Waiter) → notified_one (world_words before) object o ≡ world_words (notified_one before object o)
+    one_words : (before : World) (object : ℕ) (o : Option Waiter)
+        → notified_one (world_words before) object o ≡ world_words (notified_one before object o)
     one_words before object None = refl
     one_words before object (Some waiter) = refl
 

@@ -37,12 +37,14 @@ use Rattle.run_laws.proofs.word_runs.WordBuiltIns.{placed, Agrees, may_words, do
 
 -- ---- new frames
 
-locals_words : (max : ℕ) (arguments : List Value) → locals_with 0 max (map word_of arguments) ≡ map word_of (locals_with value.Unset max arguments)
+locals_words : (max : ℕ) (arguments : List Value)
+    → locals_with 0 max (map word_of arguments) ≡ map word_of (locals_with value.Unset max arguments)
 locals_words max arguments =
     ap (λ n. map word_of arguments ++ replicate (max - n) 0) (length-map arguments word_of)
     ∙ (ap (λ l. map word_of arguments ++ l) (map_copies word_of (max - length arguments) value.Unset) ∙ sym (map-append word_of arguments (replicate (max - length arguments) value.Unset)))
 
-pub frame_words : (method : Member) (arguments : List Value) (entered : Option ℕ) (body : Body) → frame_with words method (map word_of arguments) entered body ≡ map_frame word_of (frame_with values method arguments entered body)
+pub frame_words : (method : Member) (arguments : List Value) (entered : Option ℕ) (body : Body)
+    → frame_with words method (map word_of arguments) entered body ≡ map_frame word_of (frame_with values method arguments entered body)
 frame_words method arguments entered body =
     ap (λ l. record { method = method; place = record { offset = 0; slots = record { locals = l; stack = [] } }; entered = entered }) (locals_words body.code.max_locals arguments)
 
@@ -59,7 +61,8 @@ Counts n (Fails fault) = Unit {0}
 Counts n (Runs method) = parameter_count method ≡ n
 
 module _ (files : Program) where
-  counted_agrees : (n : ℕ) (ops : List Value) (chosen : Chosen) → referent words (map word_of ops) n ≡ referent values ops n → Counts n chosen → ChosenAgrees ops chosen
+  counted_agrees : (n : ℕ) (ops : List Value) (chosen : Chosen) → referent words (map word_of ops) n ≡ referent values ops n
+      → Counts n chosen → ChosenAgrees ops chosen
   counted_agrees n ops (Fails fault) e c = tt
   counted_agrees n ops (Runs method) e c =
       λ k p.
@@ -67,22 +70,28 @@ module _ (files : Program) where
       subst (λ j. unwrap_or (referent words (map word_of ops) j) 0 ≡ unwrap_or (referent values ops j) 0) at (ap (λ o. unwrap_or o 0) e)
 
   module _ (site : Site) (event : Event) (world : World) where
-    run_words : (slots : Slots Value) (ops rest : List Value) (object : ℕ) (method : Member) (o : Option Body) → Agrees (built_in_method method) ops
-        → runs words files site event (world_words world) (map_slots word_of slots) (map word_of ops) (map word_of rest) object method o ≡ map_outcome word_of (runs values files site event world slots ops rest object method o)
+    run_words : (slots : Slots Value) (ops rest : List Value) (object : ℕ) (method : Member) (o : Option Body)
+        → Agrees (built_in_method method) ops
+        → runs words files site event (world_words world) (map_slots word_of slots) (map word_of ops) (map word_of rest) object method o
+        ≡ map_outcome word_of (runs values files site event world slots ops rest object method o)
     run_words slots ops rest object method None a = does_words event world site.next slots rest (built_in_method method) ops a
     run_words slots ops rest object method (Some body) a =
         ap (λ f. Calls f (map word_of rest)) (ap (λ l. frame_with words method l (entered_by files method object) body) (map_reversed word_of ops) ∙ frame_words method (reverse ops) (entered_by files method object) body)
 
     invoked_words : (slots : Slots Value) (ops rest : List Value) (object : ℕ) (chosen : Chosen) → ChosenAgrees ops chosen
-        → invoked words files site event (world_words world) (map_slots word_of slots) (map word_of ops) (map word_of rest) object chosen ≡ map_outcome word_of (invoked values files site event world slots ops rest object chosen)
+        → invoked words files site event (world_words world) (map_slots word_of slots) (map word_of ops) (map word_of rest) object chosen
+        ≡ map_outcome word_of (invoked values files site event world slots ops rest object chosen)
     invoked_words slots ops rest object (Fails fault) a = refl
     invoked_words slots ops rest object (Runs method) a = run_words slots ops rest object method (body_of files method) a
 
-  may_run_words : (event : Event) (world : World) (ops : List Value) (method : Member) (o : Option Body) → Agrees (built_in_method method) ops → may_run words event (world_words world) (map word_of ops) method o ≡ may_run values event world ops method o
+  may_run_words : (event : Event) (world : World) (ops : List Value) (method : Member) (o : Option Body)
+      → Agrees (built_in_method method) ops → may_run words event (world_words world) (map word_of ops) method o
+      ≡ may_run values event world ops method o
   may_run_words event world ops method None a = may_words event world (built_in_method method) ops a
   may_run_words event world ops method (Some body) a = refl
 
-  may_invoke_words : (event : Event) (world : World) (ops : List Value) (chosen : Chosen) → ChosenAgrees ops chosen → may_invoke words files event (world_words world) (map word_of ops) chosen ≡ may_invoke values files event world ops chosen
+  may_invoke_words : (event : Event) (world : World) (ops : List Value) (chosen : Chosen) → ChosenAgrees ops chosen
+      → may_invoke words files event (world_words world) (map word_of ops) chosen ≡ may_invoke values files event world ops chosen
   may_invoke_words event world ops (Fails fault) a = refl
   may_invoke_words event world ops (Runs method) a = may_run_words event world ops method (body_of files method) a
 
@@ -104,19 +113,27 @@ module _ (files : Program) where
         subst (λ n. slice_get (wants ++ receiver ∷ []) n ≡ Some receiver) (length-reverse (map (declared_want files) (parameters_declared method.descriptor)) ∙ length-map (parameters_declared method.descriptor) (declared_want files))
         (get_last wants receiver)
 
-    receiver_words : (os : List ReferenceType) (ops : List Value) → Pairwise (value_meets files os) (argument_wants files method (receiver ∷ [])) ops → referent words (map word_of ops) (parameter_count method) ≡ referent values ops (parameter_count method)
+    receiver_words : (os : List ReferenceType) (ops : List Value)
+        → Pairwise (value_meets files os) (argument_wants files method (receiver ∷ [])) ops
+        → referent words (map word_of ops) (parameter_count method) ≡ referent values ops (parameter_count method)
     receiver_words os ops q = referent_words files os (argument_wants files method (receiver ∷ [])) ops (parameter_count method) receiver q place_of object
 
-    choice_words : (world : World) (ops : List Value) → Pairwise (value_meets files (types_of world.heap)) (argument_wants files method (receiver ∷ [])) ops → of_receiver (referent words (map word_of ops) (parameter_count method)) (w (world_words world)) ≡ of_receiver (referent values ops (parameter_count method)) (v world)
+    choice_words : (world : World) (ops : List Value)
+        → Pairwise (value_meets files (types_of world.heap)) (argument_wants files method (receiver ∷ [])) ops
+        → of_receiver (referent words (map word_of ops) (parameter_count method)) (w (world_words world))
+        ≡ of_receiver (referent values ops (parameter_count method)) (v world)
     choice_words world ops q =
         ap (λ o. of_receiver o (w (world_words world))) (receiver_words (types_of world.heap) ops q) ∙ chosen_words (referent values ops (parameter_count method)) (w (world_words world)) (v world) (same world)
 
-    choice_agrees : (world : World) (ops : List Value) → Pairwise (value_meets files (types_of world.heap)) (argument_wants files method (receiver ∷ [])) ops → ChosenAgrees ops (of_receiver (referent values ops (parameter_count method)) (v world))
+    choice_agrees : (world : World) (ops : List Value)
+        → Pairwise (value_meets files (types_of world.heap)) (argument_wants files method (receiver ∷ [])) ops
+        → ChosenAgrees ops (of_receiver (referent values ops (parameter_count method)) (v world))
     choice_agrees world ops q =
         counted_agrees (parameter_count method) ops (of_receiver (referent values ops (parameter_count method)) (v world)) (receiver_words (types_of world.heap) ops q)
         (counted_on (parameter_count method) (referent values ops (parameter_count method)) (v world) (counts world))
 
-    call_same : Same files (call_on values files site method (receiver ∷ []) leads v) (call_on words files site method (receiver ∷ []) leads w)
+    call_same : Same files (call_on values files site method (receiver ∷ []) leads v) (call_on words files site method (receiver
+        ∷ []) leads w)
     call_same =
         record {
           looks = refl;
@@ -146,7 +163,8 @@ module _ (files : Program) where
   found_or n None p f g = g
   found_or n (Some m) p f g = f
 
-  found_first : (wanted : MethodTree → Bool) (m : Member) (classes : List Name) → Found (parameter_count m) (first_found (method_in_class files wanted m) classes)
+  found_first : (wanted : MethodTree → Bool) (m : Member) (classes : List Name)
+      → Found (parameter_count m) (first_found (method_in_class files wanted m) classes)
   found_first wanted m [] = tt
   found_first wanted m (c ∷ cs) =
       found_or (parameter_count m) (method_in_class files wanted m c) (first_found (method_in_class files wanted m) cs) (found_where (option_map_or wanted (method_of files (in_class c m)) false) (in_class c m)) (found_first wanted m cs)
@@ -167,12 +185,14 @@ module _ (files : Program) where
   counts_implements n true c f = f
   counts_implements n false c f = tt
 
-  selected_words : (world : World) (r : ℕ) (m : Member) → selected files (class_of_object (object_at (world_words world) r)) m ≡ selected files (class_of_object (object_at world r)) m
+  selected_words : (world : World) (r : ℕ) (m : Member)
+      → selected files (class_of_object (object_at (world_words world) r)) m ≡ selected files (class_of_object (object_at world r)) m
   selected_words world r m = ap (λ c. selected files c m) (ap class_of_object (object_at_words world r) ∙ class_words (object_at world r))
 
   -- ---- the calls
 
-  pub static_same : (site : Site) (method : Member) → is_one is_static_method files method ≡ true → Same files (static_call values files site method) (static_call words files site method)
+  pub static_same : (site : Site) (method : Member) → is_one is_static_method files method ≡ true
+      → Same files (static_call values files site method) (static_call words files site method)
   static_same site method static =
       record {
         looks = refl;
@@ -185,11 +205,13 @@ module _ (files : Program) where
       agrees : (ops : List Value) → Agrees (built_in_method method) ops
       agrees ops k p = absurd (false≢true (sym (placed files method k p).instance ∙ static))
 
-  pub virtual_same : (site : Site) (named : Name) (method : Member) → Same files (virtual_call values files site named method) (virtual_call words files site named method)
+  pub virtual_same : (site : Site) (named : Name) (method : Member)
+      → Same files (virtual_call values files site named method) (virtual_call words files site named method)
   virtual_same site named method =
       call_same site method (of_class files named) (leads_after files site method) _ _ refl (λ world r. selected_words world r method) (λ world r. counts_selected (class_of_object (object_at world r)) method)
 
-  pub interface_same : (site : Site) (named : Name) (method : Member) → Same files (interface_call values files site named method) (interface_call words files site named method)
+  pub interface_same : (site : Site) (named : Name) (method : Member)
+      → Same files (interface_call values files site named method) (interface_call words files site named method)
   interface_same site named method =
       call_same site method (of_class files named) (leads_after files site method) _ _ refl
       (λ world r.
@@ -197,11 +219,13 @@ module _ (files : Program) where
       ∙ ap (λ c. if_implements (is_subtype files (type_of (object_at world r)) (ClassType named)) c) (selected_words world r method))
       (λ world r. counts_implements (parameter_count method) (is_subtype files (type_of (object_at world r)) (ClassType named)) (selected files (class_of_object (object_at world r)) method) (counts_selected (class_of_object (object_at world r)) method))
 
-  pub special_same : (site : Site) (named : Name) (method : Member) → Same files (special_call values files site named method) (special_call words files site named method)
+  pub special_same : (site : Site) (named : Name) (method : Member)
+      → Same files (special_call values files site named method) (special_call words files site named method)
   special_same site named method =
       call_same site method (of_class files site.method.class) (leads_after files site method) _ _ refl (λ world r. refl) (λ world r. counts_selected (special_class files site.method.class named) method)
 
-  pub constructor_same : (site : Site) (method : Member) → Same files (constructor_call values files site method) (constructor_call words files site method)
+  pub constructor_same : (site : Site) (method : Member)
+      → Same files (constructor_call values files site method) (constructor_call words files site method)
   constructor_same site method = call_same site method _ (constructed_leads site method) _ _ refl (λ world r. refl) (λ world r. refl)
 
   -- ---- returns
@@ -215,7 +239,8 @@ module _ (files : Program) where
         does = λ event world slots rest q. ap (λ n. Returns (world_words world) (n ∷ [])) (operand_words (ops_of values (value_return values allowed pops) slots) 0);
       }
 
-  pub return_same : (descriptor : Name) (kind : Returned) → Same files (return_of values files descriptor kind) (return_of words files descriptor kind)
+  pub return_same : (descriptor : Name) (kind : Returned)
+      → Same files (return_of values files descriptor kind) (return_of words files descriptor kind)
   return_same descriptor returned.Nothing = record { looks = refl; wants = refl; may = λ event world ops q. refl; does = λ event world slots rest q. refl }
   return_same descriptor returned.Int = value_same _ _
   return_same descriptor returned.Reference = value_same _ _

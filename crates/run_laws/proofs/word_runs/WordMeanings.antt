@@ -36,7 +36,8 @@ use Rattle.run_laws.proofs.word_runs.WordWorlds.{world_words, object_words, type
 abbrev pub Kinded : Program → List ReferenceType → Wants → List Value → Type 0
 Kinded files os wants ops = Pairwise (value_meets files os) wants.pops (drop (length wants.reads) ops)
 
-pub wanted_at : {A B : Type 0} (R : A → B → Bool) (ws : List A) (ops : List B) (k : ℕ) (w : A) (d : B) → Pairwise R ws ops → slice_get ws k ≡ Some w → R w (slice_index_or ops k d) ≡ true
+pub wanted_at : {A B : Type 0} (R : A → B → Bool) (ws : List A) (ops : List B) (k : ℕ) (w : A) (d : B) → Pairwise R ws ops
+    → slice_get ws k ≡ Some w → R w (slice_index_or ops k d) ≡ true
 wanted_at R [] ops k w d q e = absurd cc
 wanted_at R (x ∷ ws) [] k w d q e = absurd q
 wanted_at R (x ∷ ws) (v ∷ ops) zero w d q e = let same : x ≡ w = cc in subst (λ z. R z v ≡ true) same q.0
@@ -48,32 +49,39 @@ operand_words ops k = map_index word_of ops k value.Unset
 pub int_words : (ops : List Value) (k : ℕ) → int_operand words (map word_of ops) k ≡ int_operand values ops k
 int_words ops k = map_index word_of ops k value.Unset
 
-pub referent_words : (files : Program) (os : List ReferenceType) (ws : List Want) (ops : List Value) (k : ℕ) (w : Want) → Pairwise (value_meets files os) ws ops → slice_get ws k ≡ Some w → is_object_want w ≡ true → referent words (map word_of ops) k ≡ referent values ops k
+pub referent_words : (files : Program) (os : List ReferenceType) (ws : List Want) (ops : List Value) (k : ℕ) (w : Want)
+    → Pairwise (value_meets files os) ws ops → slice_get ws k ≡ Some w → is_object_want w ≡ true
+    → referent words (map word_of ops) k ≡ referent values ops k
 referent_words files os ws ops k w q e o =
     ap word_reference (operand_words ops k)
     ∙ wanted_referent files os w (operand values ops k) o (wanted_at (value_meets files os) ws ops k w value.Unset q e)
 
 -- ---- outcomes
 
-pub not_null_words : (a b : Option ℕ) (w : ℕ → OutcomeOf ℕ) (v : ℕ → OutcomeOf Value) → a ≡ b → ((r : ℕ) → w r ≡ map_outcome word_of (v r)) → not_null a w ≡ map_outcome word_of (not_null b v)
+pub not_null_words : (a b : Option ℕ) (w : ℕ → OutcomeOf ℕ) (v : ℕ → OutcomeOf Value) → a ≡ b → ((r : ℕ) → w r ≡ map_outcome word_of (v r))
+    → not_null a w ≡ map_outcome word_of (not_null b v)
 not_null_words a b w v e f = ap (λ o. not_null o w) e ∙ by b
   where
     by : (o : Option ℕ) → not_null o w ≡ map_outcome word_of (not_null o v)
     by None = refl
     by (Some r) = f r
 
-pub goes_words : (c cost : Cost) (w : WorldOf ℕ) (world : World) (s : List ℕ) (stack locals : List Value) (next : ℕ) → c ≡ cost → w ≡ world_words world → s ≡ map word_of stack
-    → Goes c w (record { locals = map word_of locals; stack = s }) next ≡ map_outcome word_of (Goes cost world (record { locals = locals; stack = stack }) next)
+pub goes_words : (c cost : Cost) (w : WorldOf ℕ) (world : World) (s : List ℕ) (stack locals : List Value) (next : ℕ) → c ≡ cost
+    → w ≡ world_words world → s ≡ map word_of stack
+    → Goes c w (record { locals = map word_of locals; stack = s }) next
+    ≡ map_outcome word_of (Goes cost world (record { locals = locals; stack = stack }) next)
 goes_words c cost w world s stack locals next x e f = λ i. Goes (x i) (e i) (record { locals = map word_of locals; stack = f i }) next
 
 -- with a value pushed
 pub pushes_words : (world : World) (n : ℕ) (v : Value) (rest locals : List Value) (next : ℕ) → n ≡ word_of v
-    → Goes Free (world_words world) (record { locals = map word_of locals; stack = n ∷ map word_of rest }) next ≡ map_outcome word_of (Goes Free world (record { locals = locals; stack = v ∷ rest }) next)
+    → Goes Free (world_words world) (record { locals = map word_of locals; stack = n ∷ map word_of rest }) next
+    ≡ map_outcome word_of (Goes Free world (record { locals = locals; stack = v ∷ rest }) next)
 pushes_words world n v rest locals next e = ap (λ x. Goes Free (world_words world) (record { locals = map word_of locals; stack = x ∷ map word_of rest }) next) e
 
 -- with another world
 pub becomes_words : (w : WorldOf ℕ) (world : World) (stack locals : List Value) (next : ℕ) → w ≡ world_words world
-    → Goes Free w (record { locals = map word_of locals; stack = map word_of stack }) next ≡ map_outcome word_of (Goes Free world (record { locals = locals; stack = stack }) next)
+    → Goes Free w (record { locals = map word_of locals; stack = map word_of stack }) next
+    ≡ map_outcome word_of (Goes Free world (record { locals = locals; stack = stack }) next)
 becomes_words w world stack locals next e = ap (λ x. Goes Free x (record { locals = map word_of locals; stack = map word_of stack }) next) e
 
 -- ---- two meanings
@@ -82,9 +90,12 @@ becomes_words w world stack locals next e = ap (λ x. Goes Free x (record { loca
 pub record Same (files : Program) (v : MeaningOf Value) (w : MeaningOf ℕ) : Type 0 where
   pub looks : w.looks ≡ v.looks
   pub wants : w.wants ≡ v.wants
-  pub may : (event : Event) (world : World) (ops : List Value) → Kinded files (types_of world.heap) v.wants ops → w.may event (world_words world) (map word_of ops) ≡ v.may event world ops
-  pub does : (event : Event) (world : World) (slots : Slots Value) (rest : List Value) → Kinded files (types_of world.heap) v.wants (ops_of values v slots)
-      → w.does event (world_words world) (map_slots word_of slots) (map word_of (ops_of values v slots)) (map word_of rest) ≡ map_outcome word_of (v.does event world slots (ops_of values v slots) rest)
+  pub may : (event : Event) (world : World) (ops : List Value) → Kinded files (types_of world.heap) v.wants ops
+      → w.may event (world_words world) (map word_of ops) ≡ v.may event world ops
+  pub does : (event : Event) (world : World) (slots : Slots Value) (rest : List Value)
+      → Kinded files (types_of world.heap) v.wants (ops_of values v slots)
+      → w.does event (world_words world) (map_slots word_of slots) (map word_of (ops_of values v slots)) (map word_of rest)
+      ≡ map_outcome word_of (v.does event world slots (ops_of values v slots) rest)
 
 module _ (files : Program) where
   -- ---- local instructions
@@ -98,7 +109,10 @@ module _ (files : Program) where
         does = λ event world slots rest q. by world slots (map word_of (operands over_values (row_wants row) slots)) (row.fails (map word_of (operands over_values (row_wants row) slots)));
       }
     where
-      by : (world : World) (slots : Slots Value) (ns : List ℕ) (fails : Bool) → (if fails then Raises Arithmetic else Goes Free (world_words world) (after_row over_words row (map_slots word_of slots)) (row_target row ns)) ≡ map_outcome word_of (if fails then Raises Arithmetic else Goes Free world (after_row over_values row slots) (row_target row ns))
+      by : (world : World) (slots : Slots Value) (ns : List ℕ) (fails : Bool)
+          → (if fails then Raises Arithmetic else Goes
+          Free (world_words world) (after_row over_words row (map_slots word_of slots)) (row_target row ns))
+          ≡ map_outcome word_of (if fails then Raises Arithmetic else Goes Free world (after_row over_values row slots) (row_target row ns))
       by world slots ns true = refl
       by world slots ns false = ap (λ s. Goes Free (world_words world) s (row_target row ns)) (row_words row slots)
 
@@ -107,7 +121,8 @@ module _ (files : Program) where
   pub system_out_same : (next : ℕ) → Same files (system_out_meaning values next) (system_out_meaning words next)
   system_out_same next = record { looks = refl; wants = refl; may = λ event world ops q. refl; does = λ event world slots rest q. refl }
 
-  pub get_static_same : (next : ℕ) (field : Member) → Same files (get_static_of values files next field) (get_static_of words files next field)
+  pub get_static_same : (next : ℕ) (field : Member)
+      → Same files (get_static_of values files next field) (get_static_of words files next field)
   get_static_same next field =
       record {
         looks = refl;
@@ -116,10 +131,12 @@ module _ (files : Program) where
         does = λ event world slots rest q. pushes_words world _ (value_in (first_of values field) field world.statics) rest slots.locals next (field_words field world.statics);
       }
 
-  put_operand : (field : Member) (ops : List Value) (k : ℕ) → put_value words field (operand words (map word_of ops) k) ≡ word_of (put_value values field (operand values ops k))
+  put_operand : (field : Member) (ops : List Value) (k : ℕ)
+      → put_value words field (operand words (map word_of ops) k) ≡ word_of (put_value values field (operand values ops k))
   put_operand field ops k = ap (put_value words field) (operand_words ops k) ∙ put_words field (operand values ops k)
 
-  pub put_static_same : (next : ℕ) (field : Member) → Same files (put_static_of values files next field) (put_static_of words files next field)
+  pub put_static_same : (next : ℕ) (field : Member)
+      → Same files (put_static_of values files next field) (put_static_of words files next field)
   put_static_same next field =
       record {
         looks = refl;
@@ -133,7 +150,8 @@ module _ (files : Program) where
 
   -- ---- fields of objects
 
-  pub get_field_same : (next : ℕ) (named : Name) (field : Member) → Same files (get_field_of values files next named field) (get_field_of words files next named field)
+  pub get_field_same : (next : ℕ) (named : Name) (field : Member)
+      → Same files (get_field_of values files next named field) (get_field_of words files next named field)
   get_field_same next named field =
       record {
         looks = refl;
@@ -152,7 +170,8 @@ module _ (files : Program) where
   owner_is_object : (named : Name) (field : Member) → is_object_want (owner_want files named field) ≡ true
   owner_is_object named field = cond_both (name_eq named field.class) (AnOwner named) (of_class files named) (λ w. is_object_want w ≡ true) (λ e. refl) (λ e. refl)
 
-  pub put_field_same : (next : ℕ) (named : Name) (field : Member) → Same files (put_field_of values files next named field) (put_field_of words files next named field)
+  pub put_field_same : (next : ℕ) (named : Name) (field : Member)
+      → Same files (put_field_of values files next named field) (put_field_of words files next named field)
   put_field_same next named field =
       record {
         looks = refl;
@@ -200,19 +219,25 @@ module _ (files : Program) where
             (ap (λ n. suc n ∷ map word_of rest) (length-map world.heap object_words));
       }
 
-  pub instance_words : (world : World) (os : List ReferenceType) (below type : ReferenceType) (v : Value) → is_value_below files os below v ≡ true → is_word_of files (types_of (world_words world).heap) type (word_of v) ≡ is_value_of files (types_of world.heap) type v
+  pub instance_words : (world : World) (os : List ReferenceType) (below type : ReferenceType) (v : Value)
+      → is_value_below files os below v ≡ true
+      → is_word_of files (types_of (world_words world).heap) type (word_of v) ≡ is_value_of files (types_of world.heap) type v
   instance_words world os below type value.Unset e = absurd (false≢true e)
   instance_words world os below type (value.Int bits) e = absurd (false≢true e)
   instance_words world os below type value.Null e = refl
   instance_words world os below type (value.Reference r) e = ap (λ ts. is_object_of files type (slice_get ts r)) (types_words world.heap)
 
   -- of an operand
-  pub instance_operand : (world : World) (ws : List Want) (ops : List Value) (k : ℕ) (below type : ReferenceType) → Pairwise (value_meets files (types_of world.heap)) ws ops → slice_get ws k ≡ Some (AReference below) → is_word_of files (types_of (world_words world).heap) type (operand words (map word_of ops) k) ≡ is_value_of files (types_of world.heap) type (operand values ops k)
+  pub instance_operand : (world : World) (ws : List Want) (ops : List Value) (k : ℕ) (below type : ReferenceType)
+      → Pairwise (value_meets files (types_of world.heap)) ws ops → slice_get ws k ≡ Some (AReference below)
+      → is_word_of files (types_of (world_words world).heap) type (operand words (map word_of ops) k)
+      ≡ is_value_of files (types_of world.heap) type (operand values ops k)
   instance_operand world ws ops k below type q e =
       ap (is_word_of files (types_of (world_words world).heap) type) (operand_words ops k)
       ∙ instance_words world (types_of world.heap) below type (operand values ops k) (wanted_at (value_meets files (types_of world.heap)) ws ops k _ value.Unset q e)
 
-  pub check_cast_same : (site : Site) (type : ReferenceType) → Same files (check_cast_meaning values files site type) (check_cast_meaning words files site type)
+  pub check_cast_same : (site : Site) (type : ReferenceType)
+      → Same files (check_cast_meaning values files site type) (check_cast_meaning words files site type)
   check_cast_same site type =
       record {
         looks = refl;
@@ -225,11 +250,14 @@ module _ (files : Program) where
             ∙ by (is_value_of files (types_of world.heap) type (operand values ops 0)) (operand values ops 0) world slots rest);
       }
     where
-      by : (b : Bool) (v : Value) (world : World) (slots : Slots Value) (rest : List Value) → cast b site.next (word_of v) (world_words world) (map_slots word_of slots) (map word_of rest) ≡ map_outcome word_of (cast b site.next v world slots rest)
+      by : (b : Bool) (v : Value) (world : World) (slots : Slots Value) (rest : List Value)
+          → cast b site.next (word_of v) (world_words world) (map_slots word_of slots) (map word_of rest)
+          ≡ map_outcome word_of (cast b site.next v world slots rest)
       by true v world slots rest = refl
       by false v world slots rest = refl
 
-  pub instance_of_same : (site : Site) (type : ReferenceType) → Same files (instance_of_meaning values files site type) (instance_of_meaning words files site type)
+  pub instance_of_same : (site : Site) (type : ReferenceType)
+      → Same files (instance_of_meaning values files site type) (instance_of_meaning words files site type)
   instance_of_same site type =
       record {
         looks = refl;
@@ -243,7 +271,8 @@ module _ (files : Program) where
             ∙ ap (λ b. instance_bit (referent values ops 0) b) (instance_operand world ws ops 0 any_object type q refl));
       }
 
-  pub object_same : (site : Site) (class : Name) (r : ℕ) → Same files (object_meaning values site class r) (object_meaning words site class r)
+  pub object_same : (site : Site) (class : Name) (r : ℕ)
+      → Same files (object_meaning values site class r) (object_meaning words site class r)
   object_same site class r = record { looks = refl; wants = refl; may = λ event world ops q. refl; does = λ event world slots rest q. refl }
 
   -- ---- throws and monitors
@@ -292,6 +321,8 @@ module _ (files : Program) where
             (λ r. by (is_owner world event.thread r) event.thread r world slots rest);
       }
     where
-      by : (b : Bool) (t r : ℕ) (world : World) (slots : Slots Value) (rest : List Value) → left b site.next t r (world_words world) (map_slots word_of slots) (map word_of rest) ≡ map_outcome word_of (left b site.next t r world slots rest)
+      by : (b : Bool) (t r : ℕ) (world : World) (slots : Slots Value) (rest : List Value)
+          → left b site.next t r (world_words world) (map_slots word_of slots) (map word_of rest)
+          ≡ map_outcome word_of (left b site.next t r world slots rest)
       by true t r world slots rest = refl
       by false t r world slots rest = refl

@@ -62,22 +62,27 @@ value_in_if : (b : Bool) (x y : Value) (z : ℕ) → z ≡ word_of y → (if b t
 value_in_if true x y z e = refl
 value_in_if false x y z e = e
 
-value_in_words : (first : Value) (field : Member) (fields : List (Member × Value)) → value_in (word_of first) field (map (map_field word_of) fields) ≡ word_of (value_in first field fields)
+value_in_words : (first : Value) (field : Member) (fields : List (Member × Value))
+    → value_in (word_of first) field (map (map_field word_of) fields) ≡ word_of (value_in first field fields)
 value_in_words first field [] = refl
 value_in_words first field (f ∷ fields) =
     value_in_if (member_eq f.0 field) f.1 (value_in first field fields) (value_in (word_of first) field (map (map_field word_of) fields)) (value_in_words first field fields)
 
 -- a field of a list, or what it begins with
-pub field_words : (field : Member) (fields : List (Member × Value)) → value_in (first_of words field) field (map (map_field word_of) fields) ≡ word_of (value_in (first_of values field) field fields)
+pub field_words : (field : Member) (fields : List (Member × Value))
+    → value_in (first_of words field) field (map (map_field word_of) fields) ≡ word_of (value_in (first_of values field) field fields)
 field_words field fields =
     ap (λ v. value_in v field (map (map_field word_of) fields)) (first_words field) ∙ value_in_words (first_of values field) field fields
 
-with_value_if : (b : Bool) (f : Member × Value) (v : Value) (fields after : List (Member × Value)) (l : List (Member × ℕ)) → l ≡ map (map_field word_of) after
-    → (if b then (f.0, word_of v) ∷ map (map_field word_of) fields else (f.0, word_of f.1) ∷ l) ≡ map (map_field word_of) (if b then (f.0, v) ∷ fields else f ∷ after)
+with_value_if : (b : Bool) (f : Member × Value) (v : Value) (fields after : List (Member × Value)) (l : List (Member × ℕ))
+    → l ≡ map (map_field word_of) after
+    → (if b then (f.0, word_of v) ∷ map (map_field word_of) fields else (f.0, word_of f.1) ∷ l)
+    ≡ map (map_field word_of) (if b then (f.0, v) ∷ fields else f ∷ after)
 with_value_if true f v fields after l e = refl
 with_value_if false f v fields after l e = ap (λ x. (f.0, word_of f.1) ∷ x) e
 
-pub with_value_words : (field : Member) (v : Value) (fields : List (Member × Value)) → with_value field (word_of v) (map (map_field word_of) fields) ≡ map (map_field word_of) (with_value field v fields)
+pub with_value_words : (field : Member) (v : Value) (fields : List (Member × Value))
+    → with_value field (word_of v) (map (map_field word_of) fields) ≡ map (map_field word_of) (with_value field v fields)
 with_value_words field v [] = refl
 with_value_words field v (f ∷ fields) =
     with_value_if (member_eq f.0 field) f v fields (with_value field v fields) (with_value field (word_of v) (map (map_field word_of) fields)) (with_value_words field v fields)
@@ -87,7 +92,8 @@ fields_words (Instance class fields) = refl
 fields_words (Primitives of elements) = refl
 fields_words (References of elements) = refl
 
-pub with_field_words : (field : Member) (v : Value) (o : ObjectOf Value) → with_field field (word_of v) (object_words o) ≡ object_words (with_field field v o)
+pub with_field_words : (field : Member) (v : Value) (o : ObjectOf Value)
+    → with_field field (word_of v) (object_words o) ≡ object_words (with_field field v o)
 with_field_words field v (Instance class fields) = ap (λ l. Instance class l) (with_value_words field v fields)
 with_field_words field v (Primitives of elements) = refl
 with_field_words field v (References of elements) = refl
@@ -99,7 +105,8 @@ elements_words (Instance class fields) = refl
 elements_words (Primitives of elements) = refl
 elements_words (References of elements) = refl
 
-pub with_element_words : (k : ℕ) (v : Value) (o : ObjectOf Value) → with_element k (word_of v) (object_words o) ≡ object_words (with_element k v o)
+pub with_element_words : (k : ℕ) (v : Value) (o : ObjectOf Value)
+    → with_element k (word_of v) (object_words o) ≡ object_words (with_element k v o)
 with_element_words k v (Instance class fields) = refl
 with_element_words k v (Primitives of elements) = ap (λ l. Primitives of l) (map_set word_of elements k v)
 with_element_words k v (References of elements) = ap (λ l. References of l) (map_set word_of elements k v)
@@ -130,13 +137,16 @@ put_words field v = type_kept_words (field_type field.descriptor) v
 
 -- ---- changes
 
-pub with_object_words : (world : World) (r : ℕ) (o : ObjectOf Value) → with_object (world_words world) r (object_words o) ≡ world_words (with_object world r o)
+pub with_object_words : (world : World) (r : ℕ) (o : ObjectOf Value)
+    → with_object (world_words world) r (object_words o) ≡ world_words (with_object world r o)
 with_object_words world r o = ap (λ h. record (world_words world) { heap = h }) (map_set object_words world.heap r o)
 
-pub allocated_words : (world : World) (o : ObjectOf Value) → allocated (world_words world) (object_words o) ≡ world_words (allocated world o)
+pub allocated_words : (world : World) (o : ObjectOf Value)
+    → allocated (world_words world) (object_words o) ≡ world_words (allocated world o)
 allocated_words world o = ap (λ h. record (world_words (allocated world o)) { heap = h }) (sym (map-append object_words world.heap (o ∷ [])))
 
-pub with_static_words : (world : World) (field : Member) (v : Value) → with_static (world_words world) field (word_of v) ≡ world_words (with_static world field v)
+pub with_static_words : (world : World) (field : Member) (v : Value)
+    → with_static (world_words world) field (word_of v) ≡ world_words (with_static world field v)
 with_static_words world field v = ap (λ s. record (world_words world) { statics = s }) (with_value_words field v world.statics)
 
 pub new_words : (files : Program) (class : Name) → new_instance words files class ≡ object_words (new_instance values files class)
@@ -144,7 +154,8 @@ new_words files class = ap (λ l. Instance class l) (map_same (map_field word_of
 
 -- ---- constants of a class
 
-constant_words : (files : Program) (pool : List Entry) (e : Entry) → constant_of words files pool e ≡ option_map word_of (constant_of values files pool e)
+constant_words : (files : Program) (pool : List Entry) (e : Entry)
+    → constant_of words files pool e ≡ option_map word_of (constant_of values files pool e)
 constant_words files pool (Utf8 text) = refl
 constant_words files pool (Integer bits) = refl
 constant_words files pool (Float bits) = refl
@@ -153,7 +164,8 @@ constant_words files pool (Double bits) = refl
 constant_words files pool (Class name) = refl
 constant_words files pool (String text) = found (utf8_at pool text)
   where
-    found : (o : Option (List ℕ)) → option_map (λ (bytes : List ℕ). words.reference (string_reference files bytes)) o ≡ option_map word_of (option_map (λ (bytes : List ℕ). values.reference (string_reference files bytes)) o)
+    found : (o : Option (List ℕ)) → option_map (λ (bytes : List ℕ). words.reference (string_reference files bytes)) o
+        ≡ option_map word_of (option_map (λ (bytes : List ℕ). values.reference (string_reference files bytes)) o)
     found None = refl
     found (Some bytes) = refl
 constant_words files pool (Field class name) = refl
@@ -162,36 +174,50 @@ constant_words files pool (InterfaceMethod class name) = refl
 constant_words files pool (NameAndType name descriptor) = refl
 constant_words files pool Unusable = refl
 
-constant_in_words : (files : Program) (pool : List Entry) (o : Option ℕ) → option_and_then (λ index. constant_of words files pool (entry_at pool index)) o ≡ option_map word_of (option_and_then (λ index. constant_of values files pool (entry_at pool index)) o)
+constant_in_words : (files : Program) (pool : List Entry) (o : Option ℕ)
+    → option_and_then (λ index. constant_of words files pool (entry_at pool index)) o
+    ≡ option_map word_of (option_and_then (λ index. constant_of values files pool (entry_at pool index)) o)
 constant_in_words files pool None = refl
 constant_in_words files pool (Some index) = constant_words files pool (entry_at pool index)
 
 module _ (files : Program) (class : Name) (pool : List Entry) where
-  set_words : (world : World) (field : FieldTree) (o : Option Value) → option_map_or (λ v. with_static (world_words world) (field_member class pool field) (put_value words (field_member class pool field) v)) (option_map word_of o) (world_words world) ≡ world_words (option_map_or (λ v. with_static world (field_member class pool field) (put_value values (field_member class pool field) v)) o world)
+  set_words : (world : World) (field : FieldTree) (o : Option Value)
+      → option_map_or (λ v. with_static (world_words world) (field_member class pool field)
+      (put_value words (field_member class pool field) v)) (option_map word_of o) (world_words world)
+      ≡ world_words (option_map_or (λ v. with_static
+      world (field_member class pool field) (put_value values (field_member class pool field) v)) o world)
   set_words world field None = refl
   set_words world field (Some v) =
       ap (λ x. with_static (world_words world) (field_member class pool field) x) (put_words (field_member class pool field) v)
       ∙ with_static_words world (field_member class pool field) (put_value values (field_member class pool field) v)
 
-  with_constant_words : (world : World) (field : FieldTree) → with_constant words files class pool (world_words world) field ≡ world_words (with_constant values files class pool world field)
+  with_constant_words : (world : World) (field : FieldTree)
+      → with_constant words files class pool (world_words world) field ≡ world_words (with_constant values files class pool world field)
   with_constant_words world field =
       ap (λ o. option_map_or (λ v. with_static (world_words world) (field_member class pool field) (put_value words (field_member class pool field) v)) o (world_words world)) (constant_in_words files pool (constant_in field.parts))
       ∙ set_words world field (constant_value values files pool field)
 
-  with_constants_words : (world : World) (fields : List FieldTree) → with_constants words files class pool (world_words world) fields ≡ world_words (with_constants values files class pool world fields)
+  with_constants_words : (world : World) (fields : List FieldTree)
+      → with_constants words files class pool (world_words world) fields ≡ world_words (with_constants values files class pool world fields)
   with_constants_words world [] = refl
   with_constants_words world (field ∷ fields) =
       ap (λ w. with_constants words files class pool w fields) (with_constant_words world field) ∙ with_constants_words (with_constant values files class pool world field) fields
 
-pub begun_words : (files : Program) (t : ℕ) (class : Name) (world : World) → with_class_begun words files t class (world_words world) ≡ world_words (with_class_begun values files t class world)
+pub begun_words : (files : Program) (t : ℕ) (class : Name) (world : World)
+    → with_class_begun words files t class (world_words world) ≡ world_words (with_class_begun values files t class world)
 begun_words files t class world = by (class_of files class)
   where
-    by : (o : Option FileTree) → option_map_or (λ (file : FileTree). with_constants words files class file.pool (with_class_status (world_words world) class (InProgress t)) file.fields) o (with_class_status (world_words world) class (InProgress t)) ≡ world_words (option_map_or (λ (file : FileTree). with_constants values files class file.pool (with_class_status world class (InProgress t)) file.fields) o (with_class_status world class (InProgress t)))
+    by : (o : Option FileTree) → option_map_or
+        (λ (file : FileTree). with_constants words files class file.pool (with_class_status (world_words world) class (InProgress t))
+        file.fields) o (with_class_status (world_words world) class (InProgress t))
+        ≡ world_words (option_map_or (λ (file : FileTree). with_constants values files class
+        file.pool (with_class_status world class (InProgress t)) file.fields) o (with_class_status world class (InProgress t)))
     by None = refl
     by (Some file) = with_constants_words files class file.pool (with_class_status world class (InProgress t)) file.fields
 
 -- ---- wait sets
 
-pub all_words : (object : ℕ) (cause : WakeCause) (world : World) (waiters : List Waiter) → all_woken object cause (world_words world) waiters ≡ world_words (all_woken object cause world waiters)
+pub all_words : (object : ℕ) (cause : WakeCause) (world : World) (waiters : List Waiter)
+    → all_woken object cause (world_words world) waiters ≡ world_words (all_woken object cause world waiters)
 all_words object cause world [] = refl
 all_words object cause world (waiter ∷ waiters) = all_words object cause (woken object cause world waiter) waiters

@@ -110,6 +110,8 @@ pub record AcceptedThreads : Type 0 where
   pub constructor_of_t_typed : IsTypedBy constructor_of_t constructor_of_t_types
   pub run_of_t_typed : IsTypedBy run_of_t run_of_t_types
   -- main's thread first, then the other one
-  pub main_first : Reports files usual (times 30 0 ++ times 6 1) None ends.Quiet (codes "8\n7\nthread 0 ended\nthread 1 ended\nevents 36\nend quiet\n")
+  pub main_first : Reports files usual (times 30 0
+      ++ times 6 1) None ends.Quiet (codes "8\n7\nthread 0 ended\nthread 1 ended\nevents 36\nend quiet\n")
   -- the other one as a whole while main's exception is pending
-  pub other_first : Reports files usual (times 24 0 ++ (times 6 1 ++ times 6 0)) None ends.Quiet (codes "7\n8\nthread 0 ended\nthread 1 ended\nevents 36\nend quiet\n")
+  pub other_first : Reports files usual (times 24 0
+      ++ (times 6 1 ++ times 6 0)) None ends.Quiet (codes "7\n8\nthread 0 ended\nthread 1 ended\nevents 36\nend quiet\n")

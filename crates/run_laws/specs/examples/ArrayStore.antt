@@ -38,10 +38,14 @@ files = class_x ∷ []
 pub record ArrayStore : Type 0 where
   pub layouts : AreLaidOut (class_x_bytes ∷ []) files
   -- an ArrayStoreException
-  pub throws : Reports files usual (times 14 0) None ends.Quiet (codes "thread 0 threw java/lang/ArrayStoreException\nevents 14\nend quiet\n")
+  pub throws : Reports files usual (times 14 0) None
+      ends.Quiet (codes "thread 0 threw java/lang/ArrayStoreException\nevents 14\nend quiet\n")
   -- the limits are met and not passed: the exception is an object, too
-  pub exact : Reports files (record usual { objects = 3; cells = 1 }) (times 14 0) None ends.Quiet (codes "thread 0 threw java/lang/ArrayStoreException\nevents 14\nend quiet\n")
+  pub exact : Reports files (record usual { objects = 3; cells = 1 }) (times 14 0) None
+      ends.Quiet (codes "thread 0 threw java/lang/ArrayStoreException\nevents 14\nend quiet\n")
   -- with no cell allowed
-  pub no_cells : Reports files (record usual { cells = 0 }) (times 5 0) (Some (picks 0 0)) (ends.Refused 5 causes.Cells) (codes "thread 0 runnable\nevents 5\nend refused 5 cells\n")
+  pub no_cells : Reports files (record usual { cells = 0 }) (times 5 0) (Some (picks 0 0)) (ends.Refused 5 causes.Cells)
+      (codes "thread 0 runnable\nevents 5\nend refused 5 cells\n")
   -- with two objects allowed
-  pub two_objects : Reports files (record usual { objects = 2 }) (times 12 0) (Some (picks 0 0)) (ends.Refused 12 causes.Objects) (codes "thread 0 runnable\nevents 12\nend refused 12 objects\n")
+  pub two_objects : Reports files (record usual { objects = 2 }) (times 12 0) (Some (picks 0 0)) (ends.Refused 12 causes.Objects)
+      (codes "thread 0 runnable\nevents 12\nend refused 12 objects\n")

@@ -54,6 +54,8 @@ pub record Branches : Type 0 where
   pub goto : Jumps (Goto (pos 20)) ([] ∷ []) (true ∷ [])
   pub backwards : target_in [] (Goto (negsuc 99)) [] ≡ Some 0
   -- from -1 to 1; for -3, -2, -1, 0, 1, 2 and the least and the greatest int
-  pub tableswitch : Switches jumps (TableSwitch (pos 50) (negsuc 0) (pos 1) 0) (negsuc 2 ∷ negsuc 1 ∷ negsuc 0 ∷ pos 0 ∷ pos 1 ∷ pos 2 ∷ negsuc 2147483647 ∷ pos 2147483647 ∷ []) (150 ∷ 150 ∷ 110 ∷ 120 ∷ 90 ∷ 150 ∷ 150 ∷ 150 ∷ [])
+  pub tableswitch : Switches jumps (TableSwitch (pos 50) (negsuc 0) (pos 1) 0) (negsuc 2 ∷ negsuc 1 ∷ negsuc 0 ∷ pos 0 ∷ pos 1 ∷ pos 2
+      ∷ negsuc 2147483647 ∷ pos 2147483647 ∷ []) (150 ∷ 150 ∷ 110 ∷ 120 ∷ 90 ∷ 150 ∷ 150 ∷ 150 ∷ [])
   -- of the least int, -1 and 7; for these, 0, 8 and the greatest int
-  pub lookupswitch : Switches pairs (LookupSwitch (pos 50) 3 0) (negsuc 2147483647 ∷ negsuc 0 ∷ pos 7 ∷ pos 0 ∷ pos 8 ∷ pos 2147483647 ∷ []) (110 ∷ 120 ∷ 90 ∷ 150 ∷ 150 ∷ 150 ∷ [])
+  pub lookupswitch : Switches pairs (LookupSwitch (pos 50) 3 0) (negsuc 2147483647 ∷ negsuc 0 ∷ pos 7 ∷ pos 0 ∷ pos 8 ∷ pos 2147483647
+      ∷ []) (110 ∷ 120 ∷ 90 ∷ 150 ∷ 150 ∷ 150 ∷ [])

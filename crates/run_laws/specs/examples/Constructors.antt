@@ -108,11 +108,13 @@ pub record Constructors : Type 0 where
   pub main_typed : IsTyping files (main_of (codes "A")) (body_with main_code) (typing_in main_types)
   -- new A: copies from here in local variables cannot be used any more, and there may be none on the stack
   pub new_forgets : in_main (codes "bb0002") new_a [] ≡ one_lead 3 Unusable (new_a ∷ []) true
-  pub new_keeps_others : in_main (codes "bb0002") (Uninitialised 7 (codes "A")) [] ≡ one_lead 3 (Uninitialised 7 (codes "A")) (new_a ∷ []) true
+  pub new_keeps_others : in_main (codes "bb0002") (Uninitialised 7 (codes "A")) []
+      ≡ one_lead 3 (Uninitialised 7 (codes "A")) (new_a ∷ []) true
   pub new_refuses_copy : in_main (codes "bb0002") IntType (IntType ∷ new_a ∷ []) ≡ None
   -- invokespecial A.<init>
   pub initialises : in_main (codes "b70009") new_a (new_a ∷ new_a ∷ NullType ∷ []) ≡ one_lead 3 an_a (an_a ∷ NullType ∷ []) true
-  pub initialises_one : in_main (codes "b70009") (Uninitialised 7 (codes "A")) (new_a ∷ []) ≡ one_lead 3 (Uninitialised 7 (codes "A")) [] true
+  pub initialises_one : in_main (codes "b70009") (Uninitialised 7 (codes "A")) (new_a ∷ [])
+      ≡ one_lead 3 (Uninitialised 7 (codes "A")) [] true
   pub not_again : in_main (codes "b70009") IntType (an_a ∷ []) ≡ None
   pub not_null : in_main (codes "b70009") IntType (NullType ∷ []) ≡ None
   pub not_of_superclass : in_main (codes "b70008") IntType (new_a ∷ []) ≡ None
@@ -132,8 +134,10 @@ pub record Constructors : Type 0 where
   pub thrown : in_main (codes "bf") IntType (new_a ∷ []) ≡ None
   -- aaload, and baload
   pub load_of_null : in_main (codes "32") IntType (IntType ∷ NullType ∷ []) ≡ one_lead 1 IntType (NullType ∷ []) true
-  pub load_of_strings : in_main (codes "32") IntType (IntType ∷ strings ∷ []) ≡ one_lead 1 IntType (OfType (ClassType (codes "java/lang/String")) ∷ []) true
-  pub byte_of_booleans : in_main (codes "33") IntType (IntType ∷ OfType (PrimitiveArray primitive.Boolean) ∷ []) ≡ one_lead 1 IntType (IntType ∷ []) true
+  pub load_of_strings : in_main (codes "32") IntType (IntType ∷ strings ∷ [])
+      ≡ one_lead 1 IntType (OfType (ClassType (codes "java/lang/String")) ∷ []) true
+  pub byte_of_booleans : in_main (codes "33") IntType (IntType ∷ OfType (PrimitiveArray primitive.Boolean) ∷ [])
+      ≡ one_lead 1 IntType (IntType ∷ []) true
   pub byte_of_ints : in_main (codes "33") IntType (IntType ∷ OfType (PrimitiveArray primitive.Int) ∷ []) ≡ None
   pub byte_of_object : in_main (codes "33") IntType (IntType ∷ OfType (ClassType java_lang_object) ∷ []) ≡ None
 

@@ -60,4 +60,6 @@ files = class_t ∷ []
 pub record CounterUnderLock : Type 0 where
   pub layouts : AreLaidOut (class_t_bytes ∷ []) files
   -- the second thread comes to its monitorenter
-  pub one_inside : Reports files usual (times 22 0 ++ (times 10 1 ++ times 9 2)) (Some (picks 2 0)) (ends.NotEnabled 41) (codes "thread 0 runnable\nthread 1 runnable\nthread 2 blocked\nevents 41\nend not enabled 41\n")
+  pub one_inside : Reports files usual (times 22 0
+      ++ (times 10 1 ++ times 9 2)) (Some (picks 2 0)) (ends.NotEnabled 41)
+      (codes "thread 0 runnable\nthread 1 runnable\nthread 2 blocked\nevents 41\nend not enabled 41\n")

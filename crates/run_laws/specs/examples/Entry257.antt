@@ -41,6 +41,8 @@ files = class_a ∷ []
 pub record Entry257 : Type 0 where
   pub layouts : AreLaidOut (class_a_bytes ∷ []) files
   -- with one monitor allowed to be inflated
-  pub inflated : Reports files (record usual { monitors = 1 }) (times 3357 0) None ends.Quiet (codes "thread 0 ended\nevents 3357\nend quiet\n")
+  pub inflated : Reports files (record usual { monitors = 1 }) (times 3357 0) None
+      ends.Quiet (codes "thread 0 ended\nevents 3357\nend quiet\n")
   -- with none
-  pub no_monitors : Reports files (record usual { monitors = 0 }) (times 1806 0) (Some (picks 0 0)) (ends.Refused 1806 causes.Monitors) (codes "thread 0 runnable\nevents 1806\nend refused 1806 monitors\n")
+  pub no_monitors : Reports files (record usual { monitors = 0 }) (times 1806 0) (Some (picks 0 0)) (ends.Refused 1806 causes.Monitors)
+      (codes "thread 0 runnable\nevents 1806\nend refused 1806 monitors\n")

@@ -61,6 +61,9 @@ files = class_v ∷ []
 pub record ExceptionReleases : Type 0 where
   pub layouts : AreLaidOut (class_v_bytes ∷ []) files
   -- both threads throw in it, and both catch
-  pub released : Reports files usual (times 16 0 ++ (times 1 1 ++ (times 4 0 ++ (times 11 1 ++ times 7 0)))) None ends.Quiet (codes "3\n3\nthread 0 ended\nthread 1 ended\nevents 39\nend quiet\n")
+  pub released : Reports files usual (times 16 0
+      ++ (times 1 1 ++ (times 4 0 ++ (times 11 1
+      ++ times 7 0)))) None ends.Quiet (codes "3\n3\nthread 0 ended\nthread 1 ended\nevents 39\nend quiet\n")
   -- while the first is inside, the second may not call
-  pub held : Reports files usual (times 16 0 ++ times 1 1) (Some (picks 1 0)) (ends.NotEnabled 17) (codes "thread 0 runnable\nthread 1 blocked\nevents 17\nend not enabled 17\n")
+  pub held : Reports files usual (times 16 0
+      ++ times 1 1) (Some (picks 1 0)) (ends.NotEnabled 17) (codes "thread 0 runnable\nthread 1 blocked\nevents 17\nend not enabled 17\n")

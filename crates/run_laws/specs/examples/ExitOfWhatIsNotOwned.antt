@@ -41,4 +41,5 @@ files = class_w ∷ []
 pub record ExitOfWhatIsNotOwned : Type 0 where
   pub layouts : AreLaidOut (class_w_bytes ∷ []) files
   -- the exception comes from the return
-  pub throws : Reports files usual (times 10 0) None ends.Quiet (codes "thread 0 threw java/lang/IllegalMonitorStateException\nevents 10\nend quiet\n")
+  pub throws : Reports files usual (times 10 0) None
+      ends.Quiet (codes "thread 0 threw java/lang/IllegalMonitorStateException\nevents 10\nend quiet\n")

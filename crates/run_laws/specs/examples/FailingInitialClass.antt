@@ -40,4 +40,5 @@ files = class_e ∷ []
 pub record FailingInitialClass : Type 0 where
   pub layouts : AreLaidOut (class_e_bytes ∷ []) files
   -- the thread ends with an ExceptionInInitializerError
-  pub fails : Reports files usual (times 7 0) None ends.Quiet (codes "thread 0 threw java/lang/ExceptionInInitializerError\nevents 7\nend quiet\n")
+  pub fails : Reports files usual (times 7 0) None
+      ends.Quiet (codes "thread 0 threw java/lang/ExceptionInInitializerError\nevents 7\nend quiet\n")

@@ -70,6 +70,8 @@ files = class_e ∷ class_f ∷ []
 pub record FailingInitialiser : Type 0 where
   pub layouts : AreLaidOut (class_e_bytes ∷ class_f_bytes ∷ []) files
   -- E asks for F, catches, and asks again
-  pub twice : Reports files usual (times 18 0) None ends.Quiet (codes "1\nthread 0 threw java/lang/NoClassDefFoundError\nevents 18\nend quiet\n")
+  pub twice : Reports files usual (times 18 0) None
+      ends.Quiet (codes "1\nthread 0 threw java/lang/NoClassDefFoundError\nevents 18\nend quiet\n")
   -- with one frame allowed, the initialiser has none
-  pub no_frame_left : Reports files (record usual { frames = 1 }) (times 8 0) None ends.Quiet (codes "thread 0 threw java/lang/StackOverflowError\nevents 8\nend quiet\n")
+  pub no_frame_left : Reports files (record usual { frames = 1 }) (times 8 0) None
+      ends.Quiet (codes "thread 0 threw java/lang/StackOverflowError\nevents 8\nend quiet\n")

@@ -76,4 +76,5 @@ files = class_e ∷ class_f ∷ []
 pub record HeldInitialiser : Type 0 where
   pub layouts : AreLaidOut (class_e_bytes ∷ class_f_bytes ∷ []) files
   -- the second may not go on
-  pub held : Reports files usual (times 14 0 ++ times 1 1) None ends.Schedule (codes "thread 0 runnable\nthread 1 initialising\nevents 15\nend schedule\n")
+  pub held : Reports files usual (times 14 0
+      ++ times 1 1) None ends.Schedule (codes "thread 0 runnable\nthread 1 initialising\nevents 15\nend schedule\n")

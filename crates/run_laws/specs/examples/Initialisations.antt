@@ -76,7 +76,8 @@ pub record ClassAtBegin : Type 0 where
   pub erroneous : ended_with (after_with Erroneous 1) ≡ Some (ClassType (codes "java/lang/NoClassDefFoundError"))
   pub none_pending : option_map (λ (s : State). (thread_at s.world 0).pending) (after_with Erroneous 1) ≡ Some None
   -- the superclass is held by another thread, while this one initialises A
-  pub superclass_held : option_map (λ s. stepped values two_classes frames s (event_of 0)) (run_from two_classes frames (opening_with two_classes ((codes "B", InProgress 1) ∷ [])) (event_of 0 ∷ [])) ≡ Some NotEnabled
+  pub superclass_held : option_map (λ s. stepped values two_classes frames s (event_of 0))
+      (run_from two_classes frames (opening_with two_classes ((codes "B", InProgress 1) ∷ [])) (event_of 0 ∷ [])) ≡ Some NotEnabled
   -- one frame suffices, and where none may be the thread ends
   pub one_frame : statuses_in (run only_returns 1 (replicate 5 (event_of 0))) ≡ Some (Ended None ∷ [])
   pub no_frame : ended_with (run only_returns 0 (replicate 4 (event_of 0))) ≡ Some (ClassType (codes "java/lang/StackOverflowError"))

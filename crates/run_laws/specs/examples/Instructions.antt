@@ -48,7 +48,8 @@ pub record Instructions : Type 0 where
   pub lookupswitch : Reads (hex (codes "08ab00000000001b000000010000000500000013b2000608b6000cb1b1")) 1 (LookupSwitch (pos 27) 1 12) 19
   pub lookup : lookup_pair (hex (codes "08ab00000000001b000000010000000500000013b2000608b6000cb1b1")) 12 0 ≡ (pos 5, pos 19)
   -- a tableswitch at 3, with no padding, and whatever stands in the padding of one at 0
-  pub tableswitch : Reads (hex (codes "000000aa 00000010 ffffffff 00000000 00000011 00000012")) 3 (TableSwitch (pos 16) (negsuc 0) (pos 0) 16) 21
+  pub tableswitch : Reads (hex (codes "000000aa 00000010 ffffffff 00000000 00000011 00000012"))
+      3 (TableSwitch (pos 16) (negsuc 0) (pos 0) 16) 21
   pub second_jump : table_jump (hex (codes "000000aa 00000010 ffffffff 00000000 00000011 00000012")) 16 1 ≡ pos 18
   pub padding : Reads (hex (codes "aaffffff 00000010 00000005 00000005 00000011")) 0 (TableSwitch (pos 16) (pos 5) (pos 5) 16) 20
   -- no instruction: lload, breakpoint, wide ret, wide iadd, nothing, and what the end cuts
@@ -83,25 +84,40 @@ lengths opcodes = map (λ opcode. length_at (opcode ∷ replicate 16 0) 0) opcod
 
 -- opcodes by families, and all by their lengths
 pub record Opcodes : Type 0 where
-  pub arithmetic : plain (hex (codes "60 64 68 6c 70 78 7a 7c 7e 80 82")) ≡ some (map (λ op. Compute op) (Add ∷ Subtract ∷ Multiply ∷ Divide ∷ Remainder ∷ ShiftLeft ∷ ShiftRight ∷ UnsignedShiftRight ∷ And ∷ Or ∷ ExclusiveOr ∷ []))
+  pub arithmetic : plain (hex (codes "60 64 68 6c 70 78 7a 7c 7e 80 82"))
+      ≡ some (map (λ op. Compute op) (Add ∷ Subtract ∷ Multiply ∷ Divide ∷ Remainder ∷ ShiftLeft ∷ ShiftRight ∷ UnsignedShiftRight ∷ And
+      ∷ Or ∷ ExclusiveOr ∷ []))
   pub conversions : plain (hex (codes "91 92 93")) ≡ some (map (λ to. Convert to) (ToByte ∷ ToChar ∷ ToShort ∷ []))
-  pub moves : plain (hex (codes "57 58 59 5a 5b 5c 5d 5e 5f")) ≡ some (map (λ move. Move move) (Pop ∷ Pop2 ∷ Dup ∷ DupX1 ∷ DupX2 ∷ Dup2 ∷ Dup2X1 ∷ Dup2X2 ∷ Swap ∷ []))
-  pub constants : plain (hex (codes "02 03 04 05 06 07 08")) ≡ some (map (λ n. Const n) (negsuc 0 ∷ pos 0 ∷ pos 1 ∷ pos 2 ∷ pos 3 ∷ pos 4 ∷ pos 5 ∷ []))
-  pub loads : plain (hex (codes "1a 1b 1c 1d 2a 2b 2c 2d")) ≡ some (map (λ local. Load kinds.Int local) (0 ∷ 1 ∷ 2 ∷ 3 ∷ []) ++ map (λ local. Load kinds.Reference local) (0 ∷ 1 ∷ 2 ∷ 3 ∷ []))
-  pub stores : plain (hex (codes "3b 3c 3d 3e 4b 4c 4d 4e")) ≡ some (map (λ local. Store kinds.Int local) (0 ∷ 1 ∷ 2 ∷ 3 ∷ []) ++ map (λ local. Store kinds.Reference local) (0 ∷ 1 ∷ 2 ∷ 3 ∷ []))
-  pub elements : plain (hex (codes "2e 32 33 34 35 4f 53 54 55 56")) ≡ some (map (λ of. LoadElement of) (arrays.Int ∷ arrays.Reference ∷ arrays.ByteOrBoolean ∷ arrays.Char ∷ arrays.Short ∷ []) ++ map (λ of. StoreElement of) (arrays.Int ∷ arrays.Reference ∷ arrays.ByteOrBoolean ∷ arrays.Char ∷ arrays.Short ∷ []))
-  pub returns : plain (hex (codes "ac b0 b1")) ≡ some (map (λ what. Return what) (returned.Int ∷ returned.Reference ∷ returned.Nothing ∷ []))
-  pub others : plain (hex (codes "00 01 74 be bf c2 c3")) ≡ some (Nop ∷ Null ∷ Negate ∷ ArrayLength ∷ Throw ∷ MonitorEnter ∷ MonitorExit ∷ [])
-  pub ifs : with_short (hex (codes "99 9a 9b 9c 9d 9e")) ≡ some (map (λ comparison. If comparison (pos 20)) (Equal ∷ NotEqual ∷ Less ∷ GreaterOrEqual ∷ Greater ∷ LessOrEqual ∷ []))
-  pub if_icmps : with_short (hex (codes "9f a0 a1 a2 a3 a4")) ≡ some (map (λ comparison. IfInts comparison (pos 20)) (Equal ∷ NotEqual ∷ Less ∷ GreaterOrEqual ∷ Greater ∷ LessOrEqual ∷ []))
-  pub jumps : with_short (hex (codes "a5 a6 c6 c7 a7")) ≡ some (IfReferences true (pos 20) ∷ IfReferences false (pos 20) ∷ IfNull true (pos 20) ∷ IfNull false (pos 20) ∷ Goto (pos 20) ∷ [])
-  pub fields : with_short (hex (codes "b2 b3 b4 b5")) ≡ some (map (λ access. Field access 20) (GetStatic ∷ PutStatic ∷ GetField ∷ PutField ∷ []))
+  pub moves : plain (hex (codes "57 58 59 5a 5b 5c 5d 5e 5f"))
+      ≡ some (map (λ move. Move move) (Pop ∷ Pop2 ∷ Dup ∷ DupX1 ∷ DupX2 ∷ Dup2 ∷ Dup2X1 ∷ Dup2X2 ∷ Swap ∷ []))
+  pub constants : plain (hex (codes "02 03 04 05 06 07 08"))
+      ≡ some (map (λ n. Const n) (negsuc 0 ∷ pos 0 ∷ pos 1 ∷ pos 2 ∷ pos 3 ∷ pos 4 ∷ pos 5 ∷ []))
+  pub loads : plain (hex (codes "1a 1b 1c 1d 2a 2b 2c 2d"))
+      ≡ some (map (λ local. Load kinds.Int local) (0 ∷ 1 ∷ 2 ∷ 3 ∷ []) ++ map (λ local. Load kinds.Reference local) (0 ∷ 1 ∷ 2 ∷ 3 ∷ []))
+  pub stores : plain (hex (codes "3b 3c 3d 3e 4b 4c 4d 4e"))
+      ≡ some (map (λ local. Store kinds.Int local) (0 ∷ 1 ∷ 2 ∷ 3 ∷ []) ++ map (λ local. Store kinds.Reference local) (0 ∷ 1 ∷ 2 ∷ 3 ∷ []))
+  pub elements : plain (hex (codes "2e 32 33 34 35 4f 53 54 55 56"))
+      ≡ some (map (λ of. LoadElement of) (arrays.Int ∷ arrays.Reference ∷ arrays.ByteOrBoolean ∷ arrays.Char ∷ arrays.Short ∷ [])
+      ++ map (λ of. StoreElement of) (arrays.Int ∷ arrays.Reference ∷ arrays.ByteOrBoolean ∷ arrays.Char ∷ arrays.Short ∷ []))
+  pub returns : plain (hex (codes "ac b0 b1"))
+      ≡ some (map (λ what. Return what) (returned.Int ∷ returned.Reference ∷ returned.Nothing ∷ []))
+  pub others : plain (hex (codes "00 01 74 be bf c2 c3"))
+      ≡ some (Nop ∷ Null ∷ Negate ∷ ArrayLength ∷ Throw ∷ MonitorEnter ∷ MonitorExit ∷ [])
+  pub ifs : with_short (hex (codes "99 9a 9b 9c 9d 9e"))
+      ≡ some (map (λ comparison. If comparison (pos 20)) (Equal ∷ NotEqual ∷ Less ∷ GreaterOrEqual ∷ Greater ∷ LessOrEqual ∷ []))
+  pub if_icmps : with_short (hex (codes "9f a0 a1 a2 a3 a4"))
+      ≡ some (map (λ comparison. IfInts comparison (pos 20)) (Equal ∷ NotEqual ∷ Less ∷ GreaterOrEqual ∷ Greater ∷ LessOrEqual ∷ []))
+  pub jumps : with_short (hex (codes "a5 a6 c6 c7 a7"))
+      ≡ some (IfReferences true (pos 20) ∷ IfReferences false (pos 20) ∷ IfNull true (pos 20) ∷ IfNull false (pos 20) ∷ Goto (pos 20) ∷ [])
+  pub fields : with_short (hex (codes "b2 b3 b4 b5"))
+      ≡ some (map (λ access. Field access 20) (GetStatic ∷ PutStatic ∷ GetField ∷ PutField ∷ []))
   pub invocations : with_short (hex (codes "b6 b7 b8")) ≡ some (map (λ invocation. Invoke invocation 20) (Virtual ∷ Special ∷ Static ∷ []))
   pub of_classes : with_short (hex (codes "bb bd c0 c1")) ≡ some (New 20 ∷ NewReferenceArray 20 ∷ CheckCast 20 ∷ InstanceOf 20 ∷ [])
   pub newarray : Reads (hex (codes "bc0a")) 0 (NewArray 10) 2
   pub of_one_byte : lengths (hex (codes "00 01 02 03 04 05 06 07 08 1a 1b 1c 1d 2a 2b 2c 2d 2e 32 33 34 35 3b 3c 3d 3e 4b 4c 4d 4e 4f 53 54 55 56 57 58 59 5a 5b 5c 5d 5e 5f 60 64 68 6c 70 74 78 7a 7c 7e 80 82 91 92 93 ac b0 b1 be bf c2 c3")) ≡ replicate 66 (Some 1)
   pub of_two_bytes : lengths (hex (codes "10 12 15 19 36 3a bc")) ≡ replicate 7 (Some 2)
-  pub of_three_bytes : lengths (hex (codes "11 13 84 99 9a 9b 9c 9d 9e 9f a0 a1 a2 a3 a4 a5 a6 a7 b2 b3 b4 b5 b6 b7 b8 bb bd c0 c1 c6 c7")) ≡ replicate 31 (Some 3)
+  pub of_three_bytes : lengths (hex (codes "11 13 84 99 9a 9b 9c 9d 9e 9f a0 a1 a2 a3 a4 a5 a6 a7 b2 b3 b4 b5 b6 b7 b8 bb bd c0 c1 c6 c7"))
+      ≡ replicate 31 (Some 3)
   pub of_five_bytes : lengths (hex (codes "b9 c8")) ≡ replicate 2 (Some 5)
   -- those of long, float and double, ldc2_w, jsr, ret, invokedynamic, multianewarray, jsr_w, breakpoint, and bytes that are no opcodes
   pub of_none : lengths (hex (codes "09 0a 0b 0c 0d 0e 0f 14 16 17 18 1e 1f 20 21 22 23 24 25 26 27 28 29 2f 30 31 37 38 39 3f 40 41 42 43 44 45 46 47 48 49 4a 50 51 52 61 62 63 65 66 67 69 6a 6b 6d 6e 6f 71 72 73 75 76 77 79 7b 7d 7f 81 83 85 86 87 88 89 8a 8b 8c 8d 8e 8f 90 94 95 96 97 98 a8 a9 ad ae af ba c5 c9 ca cb cc cd ce cf fe ff")) ≡ replicate 101 None

@@ -144,7 +144,9 @@ pub record Computed : Type 0 where
   pub ior : Computes Or disjunctions
   pub ixor : Computes ExclusiveOr exclusive_disjunctions
   -- by 0 only idiv and irem cannot be done, and by others all can
-  pub by_zero : map (λ op. cannot_compute op 0) (Divide ∷ Remainder ∷ Add ∷ Subtract ∷ Multiply ∷ ShiftLeft ∷ ShiftRight ∷ UnsignedShiftRight ∷ And ∷ Or ∷ ExclusiveOr ∷ []) ≡ true ∷ true ∷ false ∷ false ∷ false ∷ false ∷ false ∷ false ∷ false ∷ false ∷ false ∷ []
+  pub by_zero : map (λ op. cannot_compute op 0) (Divide ∷ Remainder ∷ Add ∷ Subtract ∷ Multiply ∷ ShiftLeft ∷ ShiftRight
+      ∷ UnsignedShiftRight ∷ And ∷ Or ∷ ExclusiveOr ∷ [])
+      ≡ true ∷ true ∷ false ∷ false ∷ false ∷ false ∷ false ∷ false ∷ false ∷ false ∷ false ∷ []
   pub by_others : map (λ b. cannot_compute Divide (bits_of b)) edges ≡ false ∷ false ∷ false ∷ false ∷ false ∷ false ∷ []
   pub remainder_by_others : map (λ b. cannot_compute Remainder (bits_of b)) edges ≡ false ∷ false ∷ false ∷ false ∷ false ∷ false ∷ []
 

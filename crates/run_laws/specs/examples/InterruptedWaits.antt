@@ -62,4 +62,5 @@ files = class_q ∷ []
 pub record InterruptedWaits : Type 0 where
   pub layouts : AreLaidOut (class_q_bytes ∷ []) files
   -- twice an InterruptedException, twice with the status cleared
-  pub both : Reports files usual (times 15 0 ++ (times 13 1 ++ (times 3 0 ++ times 10 1))) None ends.Quiet (codes "0\n0\nthread 0 ended\nthread 1 ended\nevents 41\nend quiet\n")
+  pub both : Reports files usual (times 15 0
+      ++ (times 13 1 ++ (times 3 0 ++ times 10 1))) None ends.Quiet (codes "0\n0\nthread 0 ended\nthread 1 ended\nevents 41\nend quiet\n")

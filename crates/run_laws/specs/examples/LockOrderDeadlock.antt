@@ -49,6 +49,8 @@ files = class_d ∷ []
 pub record LockOrderDeadlock : Type 0 where
   pub layouts : AreLaidOut (class_d_bytes ∷ []) files
   -- neither may go on
-  pub deadlock : Reports files usual (times 15 0 ++ (times 4 1 ++ times 1 0)) None ends.Quiet (codes "thread 0 blocked\nthread 1 blocked\nevents 20\nend quiet\n")
+  pub deadlock : Reports files usual (times 15 0
+      ++ (times 4 1 ++ times 1 0)) None ends.Quiet (codes "thread 0 blocked\nthread 1 blocked\nevents 20\nend quiet\n")
   -- with one thread allowed
-  pub one_thread : Reports files (record usual { threads = 1 }) (times 12 0) (Some (picks 0 0)) (ends.Refused 12 causes.Threads) (codes "thread 0 runnable\nevents 12\nend refused 12 threads\n")
+  pub one_thread : Reports files (record usual { threads = 1 }) (times 12 0) (Some (picks 0 0)) (ends.Refused 12 causes.Threads)
+      (codes "thread 0 runnable\nevents 12\nend refused 12 threads\n")

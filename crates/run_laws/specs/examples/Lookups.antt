@@ -66,7 +66,8 @@ pub record Lookups : Type 0 where
   pub of_interface : field_in (codes "Lower") (codes "c") ≡ Some (codes "Upper")
   pub no_field : field_in (codes "Q") (codes "z") ≡ None
   pub other_type : find_field family (record { class = codes "Q"; name = codes "x"; descriptor = codes "J" }) ≡ None
-  pub target : find_field family (record { class = codes "T"; name = codes "target"; descriptor = codes "Ljava/lang/Runnable;" }) ≡ Some thread_target
+  pub target : find_field family (record { class = codes "T"; name = codes "target"; descriptor = codes "Ljava/lang/Runnable;" })
+      ≡ Some thread_target
   -- methods: of the class, a superclass, Object; of a superinterface only where no superclass has it
   pub own : method_in (codes "Q") (codes "g") ≡ Some (codes "Q")
   pub of_p : method_in (codes "Q") (codes "f") ≡ Some (codes "P")
@@ -86,11 +87,14 @@ pub record Lookups : Type 0 where
   pub static_skipped : selected (codes "Q") (codes "s") ≡ None
   pub abstract_of_interface : selected (codes "Abstract") (codes "f") ≡ None
   -- the fields of objects, those of the superclass first
-  pub fields : instance_fields family (codes "Q") ≡ int_field (codes "P") (codes "x") ∷ int_field (codes "P") (codes "y") ∷ int_field (codes "P") (codes "c") ∷ int_field (codes "Q") (codes "x") ∷ []
+  pub fields : instance_fields family (codes "Q")
+      ≡ int_field (codes "P") (codes "x") ∷ int_field (codes "P") (codes "y") ∷ int_field (codes "P") (codes "c")
+      ∷ int_field (codes "Q") (codes "x") ∷ []
   pub thread_fields : instance_fields family (codes "T") ≡ thread_target ∷ int_field (codes "T") (codes "x") ∷ []
   pub no_fields : instance_fields family (codes "Upper") ≡ []
   -- interfaces and packages
-  pub interfaces : map (is_interface family) (codes "Lower" ∷ codes "Q" ∷ codes "java/lang/Runnable" ∷ codes "Missing" ∷ []) ≡ true ∷ false ∷ true ∷ false ∷ []
+  pub interfaces : map (is_interface family) (codes "Lower" ∷ codes "Q" ∷ codes "java/lang/Runnable" ∷ codes "Missing" ∷ [])
+      ≡ true ∷ false ∷ true ∷ false ∷ []
   pub direct : superinterfaces_of family (codes "Q") ≡ codes "Lower" ∷ []
   pub all : all_superinterfaces family (codes "Q") ≡ codes "Lower" ∷ codes "Upper" ∷ []
   pub of_thread : all_superinterfaces family (codes "T") ≡ codes "java/lang/Runnable" ∷ []

@@ -56,6 +56,10 @@ files = class_t ∷ []
 pub record LostUpdate : Type 0 where
   pub layouts : AreLaidOut (class_t_bytes ∷ []) files
   -- the second thread reads before the first one writes
-  pub one_is_lost : Reports files usual (times 22 0 ++ (times 4 1 ++ (times 6 2 ++ (times 2 1 ++ times 8 0)))) None ends.Quiet (codes "1\nthread 0 ended\nthread 1 ended\nthread 2 ended\nevents 42\nend quiet\n")
+  pub one_is_lost : Reports files usual (times 22 0
+      ++ (times 4 1 ++ (times 6 2 ++ (times 2 1
+      ++ times 8 0)))) None ends.Quiet (codes "1\nthread 0 ended\nthread 1 ended\nthread 2 ended\nevents 42\nend quiet\n")
   -- one thread after the other
-  pub both_count : Reports files usual (times 22 0 ++ (times 6 1 ++ (times 6 2 ++ times 8 0))) None ends.Quiet (codes "2\nthread 0 ended\nthread 1 ended\nthread 2 ended\nevents 42\nend quiet\n")
+  pub both_count : Reports files usual (times 22 0
+      ++ (times 6 1 ++ (times 6 2 ++ times 8 0))) None
+      ends.Quiet (codes "2\nthread 0 ended\nthread 1 ended\nthread 2 ended\nevents 42\nend quiet\n")

@@ -53,4 +53,5 @@ pub record NarrowArrays : Type 0 where
   -- 200, 201, -1 and 32768
   pub narrowed : Reports files usual (times 53 0) None ends.Quiet (codes "-56\n1\n65535\n-32768\nthread 0 ended\nevents 53\nend quiet\n")
   -- with three cells allowed
-  pub three_cells : Reports files (record usual { cells = 3 }) (times 41 0) (Some (picks 0 0)) (ends.Refused 41 causes.Cells) (codes "-56\n1\n65535\nthread 0 runnable\nevents 41\nend refused 41 cells\n")
+  pub three_cells : Reports files (record usual { cells = 3 }) (times 41 0) (Some (picks 0 0)) (ends.Refused 41 causes.Cells)
+      (codes "-56\n1\n65535\nthread 0 runnable\nevents 41\nend refused 41 cells\n")

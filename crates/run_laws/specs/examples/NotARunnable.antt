@@ -46,6 +46,8 @@ files = class_a ∷ []
 pub record NotARunnable : Type 0 where
   pub layouts : AreLaidOut (class_a_bytes ∷ []) files
   -- an IncompatibleClassChangeError
-  pub throws : Reports files usual (times 12 0) None ends.Quiet (codes "thread 0 threw java/lang/IncompatibleClassChangeError\nevents 12\nend quiet\n")
+  pub throws : Reports files usual (times 12 0) None
+      ends.Quiet (codes "thread 0 threw java/lang/IncompatibleClassChangeError\nevents 12\nend quiet\n")
   -- with no object allowed
-  pub no_objects : Reports files (record usual { objects = 0 }) (times 4 0) (Some (picks 0 0)) (ends.Refused 4 causes.Objects) (codes "thread 0 runnable\nevents 4\nend refused 4 objects\n")
+  pub no_objects : Reports files (record usual { objects = 0 }) (times 4 0) (Some (picks 0 0)) (ends.Refused 4 causes.Objects)
+      (codes "thread 0 runnable\nevents 4\nend refused 4 objects\n")

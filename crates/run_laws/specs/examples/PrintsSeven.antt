@@ -40,8 +40,10 @@ prints_seven_file = file_with (hex (codes "b2000d 1007 b60013 b1"))
 -- that is enabled is that of thread 0 with pick 0.
 pub record PrintsSeven : Type 0 where
   pub prints : Prints prints_seven_bytes prints_seven_file 8 (pos 7 ∷ []) (codes "7\nthread 0 ended\nevents 8\nend quiet\n")
-  pub other_thread : (thread pick : ℕ) → then_stepped prints_seven_file (after prints_seven_file 3) (record { thread = suc thread; pick = pick }) ≡ Some NotEnabled
-  pub other_pick : (pick : ℕ) → then_stepped prints_seven_file (after prints_seven_file 3) (record { thread = 0; pick = suc pick }) ≡ Some NotEnabled
+  pub other_thread : (thread pick : ℕ) → then_stepped
+      prints_seven_file (after prints_seven_file 3) (record { thread = suc thread; pick = pick }) ≡ Some NotEnabled
+  pub other_pick : (pick : ℕ) → then_stepped prints_seven_file (after prints_seven_file 3) (record { thread = 0; pick = suc pick })
+      ≡ Some NotEnabled
   pub this_one : option_map (λ state. is_enabled (prints_seven_file ∷ []) frames state (event_of 0)) (after prints_seven_file 3) ≡ Some true
 
 abbrev pub status_in : Option State → Option ClassStatus
@@ -67,7 +69,8 @@ pub record EventByEvent : Type 0 where
   pub class_begun : stacks_in (after prints_seven_file 1) ≡ Some ((Initialisation (codes "A") Super ∷ []) ∷ [])
   pub superclass_first : stacks_in (after prints_seven_file 2) ≡ Some ((Initialisation (codes "A") End ∷ []) ∷ [])
   pub class_done : stacks_in (after prints_seven_file 3) ≡ Some ([] ∷ [])
-  pub statuses : map (λ n. status_in (after prints_seven_file n)) (0 ∷ 1 ∷ 2 ∷ 3 ∷ []) ≡ Some NotInitialised ∷ Some (InProgress 0) ∷ Some (InProgress 0) ∷ Some Initialised ∷ []
+  pub statuses : map (λ n. status_in (after prints_seven_file n)) (0 ∷ 1 ∷ 2 ∷ 3 ∷ [])
+      ≡ Some NotInitialised ∷ Some (InProgress 0) ∷ Some (InProgress 0) ∷ Some Initialised ∷ []
   pub main_begun : stacks_in (after prints_seven_file 4) ≡ Some (main_at 0 [])
   pub stream_pushed : stacks_in (after prints_seven_file 5) ≡ Some (main_at 3 (value.Reference 0 ∷ []))
   pub seven_pushed : stacks_in (after prints_seven_file 6) ≡ Some (main_at 5 (value.Int 7 ∷ value.Reference 0 ∷ []))

@@ -18,7 +18,8 @@ Meets files condition = standing files ≡ condition ∷ []
 pub record OutsideProfiles : Type 0 where
   -- static long f(), a field of type long, and one with a constant of such a type
   pub left_out_field : Meets (with_field (field 0x0008 13 16 [])) (codes "field_of_left_out_type")
-  pub left_out_constant : standing (with_field (field 0x0008 13 16 (ConstantOf 66 67 ∷ []))) ≡ codes "field_of_left_out_type" ∷ codes "left_out_constant" ∷ []
+  pub left_out_constant : standing (with_field (field 0x0008 13 16 (ConstantOf 66 67 ∷ [])))
+      ≡ codes "field_of_left_out_type" ∷ codes "left_out_constant" ∷ []
   pub instance_field : Meets (beside (b_interface (field 0x0001 13 12 [] ∷ []) [])) (codes "instance_field_of_interface")
   pub native : Meets (with_method (method 0x0101 8 9 [])) (codes "native_method")
   -- <clinit>(I)V, and an abstract <clinit>()V
@@ -41,7 +42,8 @@ pub record OutsideProfiles : Type 0 where
   pub float : Meets (doing (codes "1213 57 b1")) (codes "float_constant")
   pub array_class : Meets (doing (codes "1215 57 b1")) (codes "array_class_constant")
   -- clone of an int[], which is not found either
-  pub clone : standing (doing (codes "01 b60019 57 b1")) ≡ codes "method_of_array_class" ∷ codes "operand_class_missing" ∷ codes "method_missing" ∷ []
+  pub clone : standing (doing (codes "01 b60019 57 b1"))
+      ≡ codes "method_of_array_class" ∷ codes "operand_class_missing" ∷ codes "method_missing" ∷ []
   pub clone_answered : answered_as (doing (codes "01 b60019 57 b1")) ≡ codes "OutsideProfile" ∷ []
 
 -- ---- Malformed, cause Code
@@ -68,8 +70,10 @@ pub record MalformedCodes : Type 0 where
   pub last : Meets (doing (codes "01 b9001e0101 b1")) (codes "wrong_interface_end")
   -- invokevirtual Object.<init>, invokestatic A.<clinit>, invokespecial B.f with B beside A
   pub constructor : Meets (doing (codes "01 b60021 b1")) (codes "constructor_not_by_special")
-  pub initialiser : Meets (a_with [] (method 0x0008 11 9 returns ∷ method 0x0009 8 9 (code (codes "b80023 b1")) ∷ []) ∷ []) (codes "calls_initialiser")
-  pub beside_it : Meets (a_with [] (method 0x0009 8 9 (code (codes "01 b70027 b1")) ∷ []) ∷ b_below 4 [] (method 0x0001 8 9 returns ∷ []) ∷ []) (codes "special_of_class_aside")
+  pub initialiser : Meets (a_with [] (method 0x0008 11 9 returns ∷ method 0x0009 8 9 (code (codes "b80023 b1")) ∷ [])
+      ∷ []) (codes "calls_initialiser")
+  pub beside_it : Meets (a_with [] (method 0x0009 8 9 (code (codes "01 b70027 b1")) ∷ []) ∷ b_below 4 [] (method 0x0001 8 9 returns ∷ [])
+      ∷ []) (codes "special_of_class_aside")
   -- new int[], anewarray of 255 dimensions
   pub array : Meets (doing (codes "bb0015 57 b1")) (codes "new_of_array")
   pub dimensions : Meets (doing (codes "03 bd002b 57 b1")) (codes "too_many_dimensions")
@@ -120,14 +124,17 @@ pub record Unresolveds : Type 0 where
   pub new_interface : Meets (doing (codes "bb001b 57 b1")) (codes "new_of_abstract")
   -- getstatic A.x, which is not there, or is an instance field; getfield of a static one
   pub no_field : Meets (doing (codes "b20030 57 b1")) (codes "field_missing")
-  pub getstatic : Meets (a_with (field 0x0001 13 12 [] ∷ []) (method 0x0009 8 9 (code (codes "b20030 57 b1")) ∷ []) ∷ []) (codes "field_of_other_kind")
-  pub getfield : Meets (a_with (field 0x0009 13 12 [] ∷ []) (method 0x0009 8 9 (code (codes "01 b40030 57 b1")) ∷ []) ∷ []) (codes "field_of_other_kind")
+  pub getstatic : Meets (a_with (field 0x0001 13 12 [] ∷ []) (method 0x0009 8 9 (code (codes "b20030 57 b1")) ∷ [])
+      ∷ []) (codes "field_of_other_kind")
+  pub getfield : Meets (a_with (field 0x0009 13 12 [] ∷ []) (method 0x0009 8 9 (code (codes "01 b40030 57 b1")) ∷ [])
+      ∷ []) (codes "field_of_other_kind")
   -- putstatic System.out, getfield Thread.target
   pub out : Meets (doing (codes "01 b30036 b1")) (codes "puts_system_out")
   pub target : Meets (doing (codes "01 b4003c 57 b1")) (codes "names_thread_target")
   -- invokevirtual B.f, invokespecial B.<init>, neither of which B declares
   pub no_method : Meets (a_with [] (method 0x0009 8 9 (code (codes "01 b60027 b1")) ∷ []) ∷ b_below 4 [] [] ∷ []) (codes "method_missing")
-  pub no_constructor : Meets (a_with [] (method 0x0009 8 9 (code (codes "bb0025 b70029 b1")) ∷ []) ∷ b_below 4 [] [] ∷ []) (codes "method_missing")
+  pub no_constructor : Meets (a_with [] (method 0x0009 8 9 (code (codes "bb0025 b70029 b1")) ∷ []) ∷ b_below 4 [] []
+      ∷ []) (codes "method_missing")
   -- invokevirtual A.f, which is static, and invokestatic of an instance method
   pub virtual : Meets (doing (codes "01 b60028 b1")) (codes "method_of_other_kind")
   pub static : Meets (with_method (method 0x0001 8 9 (code (codes "b80028 b1")))) (codes "method_of_other_kind")
@@ -153,6 +160,8 @@ pub record OtherRefusals : Type 0 where
   pub fields_at_most : refused_as (with_fields 65535 ∷ []) ≡ []
   pub linkable : standing (prints_seven_file ∷ []) ≡ []
   -- a native method, a superclass that is missing and a cycle: first what the profile leaves out, then the cycle
-  pub three : refused_as (with_method (method 0x0101 8 9 []) ++ (b_below 37 [] [] ∷ class 0x0021 65 45 [] [] [] ∷ [])) ≡ codes "OutsideProfile" ∷ codes "BadHierarchy" ∷ codes "Unresolved" ∷ []
-  pub first_of_three : answered_as (with_method (method 0x0101 8 9 []) ++ (b_below 37 [] [] ∷ class 0x0021 65 45 [] [] [] ∷ [])) ≡ codes "OutsideProfile" ∷ []
+  pub three : refused_as (with_method (method 0x0101 8 9 []) ++ (b_below 37 [] [] ∷ class 0x0021 65 45 [] [] [] ∷ []))
+      ≡ codes "OutsideProfile" ∷ codes "BadHierarchy" ∷ codes "Unresolved" ∷ []
+  pub first_of_three : answered_as (with_method (method 0x0101 8 9 []) ++ (b_below 37 [] [] ∷ class 0x0021 65 45 [] [] [] ∷ []))
+      ≡ codes "OutsideProfile" ∷ []
   pub first_of_two : answered_as (beside (b_below 37 [] []) ++ (class 0x0021 65 45 [] [] [] ∷ [])) ≡ codes "BadHierarchy" ∷ []

@@ -49,7 +49,8 @@ abbrev pub end_after : Program → Bounds → List Event → Option Event → Op
 end_after files bounds events next = option_and_then (end_at files bounds events next) (run files bounds.frames events)
 
 -- The events are done, no limit stands at any of them, and no more of the schedule are for this reason; the report has this text.
-pub record Reports (files : Program) (bounds : Bounds) (events : List Event) (next : Option Event) (end : End) (text : List ℕ) : Type 0 where
+pub record Reports (files : Program) (bounds : Bounds) (events : List Event) (next : Option Event) (end : End)
+    (text : List ℕ) : Type 0 where
   pub within : within_limits files bounds events ≡ true
   pub ends : end_after files bounds events next ≡ Some end
   pub means : meaning files bounds.frames events end ≡ Some text

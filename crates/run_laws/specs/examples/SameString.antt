@@ -44,4 +44,5 @@ pub record SameString : Type 0 where
   -- if_acmpne does not jump
   pub same : Reports files usual (times 11 0) None ends.Quiet (codes "1\nthread 0 ended\nevents 11\nend quiet\n")
   -- which counts for no limit
-  pub no_objects : Reports files (record usual { objects = 0 }) (times 11 0) None ends.Quiet (codes "1\nthread 0 ended\nevents 11\nend quiet\n")
+  pub no_objects : Reports files (record usual { objects = 0 }) (times 11 0) None
+      ends.Quiet (codes "1\nthread 0 ended\nevents 11\nend quiet\n")

@@ -51,8 +51,11 @@ pub record ScheduleFiles : Type 0 where
   -- the same events are spelled in more than one way
   pub other_entries : ScheduleFile two_entries None eight_events
   -- bytes that do not begin with JSCH spell no events
-  pub other_magic : (bytes : List ℕ) (r : Option Recording) (events : List Event) → (take 4 bytes ≡ codes "JSCH" → ⊥) → ScheduleFile bytes r events → ⊥
+  pub other_magic : (bytes : List ℕ) (r : Option Recording) (events : List Event) → (take 4 bytes ≡ codes "JSCH" → ⊥)
+      → ScheduleFile bytes r events → ⊥
   -- so it is with the bytes of version 1, its fourth byte another one
-  pub jsci : (r : Option Recording) (events : List Event) → ScheduleFile (hex (codes "4a534349 01 00000001 0000 0000 00000008")) r events → ⊥
+  pub jsci : (r : Option Recording) (events : List Event) → ScheduleFile (hex (codes "4a534349 01 00000001 0000 0000 00000008")) r events
+      → ⊥
   -- there are two versions
-  pub third_version : (r : Option Recording) (events : List Event) → ScheduleFile (hex (codes "4a534348 03 00000001 0000 0000 00000008")) r events → ⊥
+  pub third_version : (r : Option Recording) (events : List Event)
+      → ScheduleFile (hex (codes "4a534348 03 00000001 0000 0000 00000008")) r events → ⊥

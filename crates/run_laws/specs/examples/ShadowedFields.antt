@@ -106,4 +106,5 @@ pub record ShadowedFields : Type 0 where
   -- each keeps its own value
   pub two_fields : Reports files usual (times 35 0) None ends.Quiet (codes "1\n2\nthread 0 ended\nevents 35\nend quiet\n")
   -- with one cell allowed
-  pub one_cell : Reports files (record usual { cells = 1 }) (times 10 0) (Some (picks 0 0)) (ends.Refused 10 causes.Cells) (codes "thread 0 runnable\nevents 10\nend refused 10 cells\n")
+  pub one_cell : Reports files (record usual { cells = 1 }) (times 10 0) (Some (picks 0 0)) (ends.Refused 10 causes.Cells)
+      (codes "thread 0 runnable\nevents 10\nend refused 10 cells\n")

@@ -21,10 +21,13 @@ slots locals stack = record { locals = locals; stack = stack }
 -- and goes on at the next instruction. Where there is nothing else on the stack, max_stack may be as low as the depth
 -- after it, and each of its operands must be there.
 pub record Moves (move : StackMove) (before after : List Value) : Type 0 where
-  pub turns : (locals rest : List Value) (next : ℕ) → after_row over_values (move_row move next) (slots locals (pushed rest before)) ≡ slots locals (pushed rest after)
+  pub turns : (locals rest : List Value) (next : ℕ)
+      → after_row over_values (move_row move next) (slots locals (pushed rest before)) ≡ slots locals (pushed rest after)
   pub goes_on : (next : ℕ) (words : List ℕ) → row_target (move_row move next) words ≡ next
-  pub is_done : (files : Program) → is_ready (value_meets files []) over_values (row_wants (move_row move 0)) (length after) (slots [] (pushed [] before)) ≡ true
-  pub too_few : (files : Program) → is_ready (value_meets files []) over_values (row_wants (move_row move 0)) 9 (slots [] (pushed [] (drop 1 before))) ≡ false
+  pub is_done : (files : Program) → is_ready (value_meets files [])
+      over_values (row_wants (move_row move 0)) (length after) (slots [] (pushed [] before)) ≡ true
+  pub too_few : (files : Program) → is_ready (value_meets files []) over_values (row_wants (move_row move 0))
+      9 (slots [] (pushed [] (drop 1 before))) ≡ false
 
 -- The stack is too small for what the instruction leaves, which is more than it found.
 abbrev pub Overflows : StackMove → List Value → ℕ → Type 0
@@ -37,8 +40,10 @@ pub record StackMoves : Type 0 where
   pub dup_x1 : (value1 value2 : Value) → Moves DupX1 (value2 ∷ value1 ∷ []) (value1 ∷ value2 ∷ value1 ∷ [])
   pub dup_x2 : (value1 value2 value3 : Value) → Moves DupX2 (value3 ∷ value2 ∷ value1 ∷ []) (value1 ∷ value3 ∷ value2 ∷ value1 ∷ [])
   pub dup2 : (value1 value2 : Value) → Moves Dup2 (value2 ∷ value1 ∷ []) (value2 ∷ value1 ∷ value2 ∷ value1 ∷ [])
-  pub dup2_x1 : (value1 value2 value3 : Value) → Moves Dup2X1 (value3 ∷ value2 ∷ value1 ∷ []) (value2 ∷ value1 ∷ value3 ∷ value2 ∷ value1 ∷ [])
-  pub dup2_x2 : (value1 value2 value3 value4 : Value) → Moves Dup2X2 (value4 ∷ value3 ∷ value2 ∷ value1 ∷ []) (value2 ∷ value1 ∷ value4 ∷ value3 ∷ value2 ∷ value1 ∷ [])
+  pub dup2_x1 : (value1 value2 value3 : Value)
+      → Moves Dup2X1 (value3 ∷ value2 ∷ value1 ∷ []) (value2 ∷ value1 ∷ value3 ∷ value2 ∷ value1 ∷ [])
+  pub dup2_x2 : (value1 value2 value3 value4 : Value)
+      → Moves Dup2X2 (value4 ∷ value3 ∷ value2 ∷ value1 ∷ []) (value2 ∷ value1 ∷ value4 ∷ value3 ∷ value2 ∷ value1 ∷ [])
   pub swap : (value1 value2 : Value) → Moves Swap (value2 ∷ value1 ∷ []) (value1 ∷ value2 ∷ [])
   pub dup_overflows : (value : Value) → Overflows Dup (value ∷ []) 1
   pub dup_x1_overflows : (value1 value2 : Value) → Overflows DupX1 (value2 ∷ value1 ∷ []) 2

@@ -41,4 +41,5 @@ files = class_a ∷ []
 pub record StackOverflow : Type 0 where
   pub layouts : AreLaidOut (class_a_bytes ∷ []) files
   -- a StackOverflowError in place of the fourth frame
-  pub overflows : Reports files (record usual { frames = 3 }) (times 10 0) None ends.Quiet (codes "thread 0 threw java/lang/StackOverflowError\nevents 10\nend quiet\n")
+  pub overflows : Reports files (record usual { frames = 3 }) (times 10 0) None
+      ends.Quiet (codes "thread 0 threw java/lang/StackOverflowError\nevents 10\nend quiet\n")

@@ -104,4 +104,5 @@ pub record SuperCall : Type 0 where
   -- the field plus 1
   pub both_run : Reports files usual (times 36 0) None ends.Quiet (codes "42\nthread 0 ended\nevents 36\nend quiet\n")
   -- with no cell allowed
-  pub no_cells : Reports files (record usual { cells = 0 }) (times 10 0) (Some (picks 0 0)) (ends.Refused 10 causes.Cells) (codes "thread 0 runnable\nevents 10\nend refused 10 cells\n")
+  pub no_cells : Reports files (record usual { cells = 0 }) (times 10 0) (Some (picks 0 0)) (ends.Refused 10 causes.Cells)
+      (codes "thread 0 runnable\nevents 10\nend refused 10 cells\n")

@@ -54,7 +54,8 @@ pub record TypeJoins : Type 0 where
   pub two_nulls : joined NullType NullType ≡ Some NullType
   -- arrays of references: the array of the join
   pub arrays : joined (OfType (ReferenceArray arithmetic)) (OfType (ReferenceArray null_pointer)) ≡ some_of (ReferenceArray runtime)
-  pub depths : joined (OfType (ReferenceArray (ReferenceArray arithmetic))) (OfType (ReferenceArray arithmetic)) ≡ some_of (ReferenceArray object)
+  pub depths : joined (OfType (ReferenceArray (ReferenceArray arithmetic))) (OfType (ReferenceArray arithmetic))
+      ≡ some_of (ReferenceArray object)
   pub inner_ints : joined (OfType (ReferenceArray int_array)) (OfType (ReferenceArray byte_array)) ≡ some_of (ReferenceArray object)
   -- arrays of ints and of bytes are below Object alone
   pub ints_and_bytes : joined (OfType int_array) (OfType byte_array) ≡ some_of object
@@ -64,7 +65,8 @@ pub record TypeJoins : Type 0 where
   pub missing_classes : joined (OfType (ClassType (codes "A"))) (OfType (ClassType (codes "B"))) ≡ None
   pub missing_class_and_array : joined (OfType (ClassType (codes "A"))) (OfType int_array) ≡ None
   pub missing_class_twice : joined (OfType (ClassType (codes "A"))) (OfType (ClassType (codes "A"))) ≡ some_of (ClassType (codes "A"))
-  pub arrays_of_missing_classes : joined (OfType (ReferenceArray (ClassType (codes "A")))) (OfType (ReferenceArray (ClassType (codes "B")))) ≡ some_of object
+  pub arrays_of_missing_classes : joined (OfType (ReferenceArray (ClassType (codes "A"))))
+      (OfType (ReferenceArray (ClassType (codes "B")))) ≡ some_of object
   -- an int and a reference have none on the stack, and cannot be used in a local variable
   pub int_and_null : joined IntType NullType ≡ None
   pub int_and_null_in_locals : local_join [] IntType NullType ≡ Unusable
@@ -87,7 +89,8 @@ pub record TypeJoins : Type 0 where
   pub bytes : verification_type [] (field_declared (codes "[[B")) ≡ OfType (ReferenceArray byte_array)
   pub boolean : verification_type [] (field_declared (codes "Z")) ≡ IntType
   -- frame types, place by place; constructed where both are
-  pub frames : frame_join [] (frame (IntType ∷ NullType ∷ []) (OfType arithmetic ∷ []) true) (frame (IntType ∷ IntType ∷ []) (NullType ∷ []) false)
+  pub frames : frame_join [] (frame (IntType ∷ NullType ∷ []) (OfType arithmetic ∷ []) true) (frame (IntType ∷ IntType ∷ []) (NullType
+      ∷ []) false)
       ≡ Some (frame (IntType ∷ Unusable ∷ []) (OfType arithmetic ∷ []) false)
   pub depths_differ : frame_join [] (frame [] (IntType ∷ []) true) (frame [] [] true) ≡ None
   pub kinds_differ : frame_join [] (frame [] (IntType ∷ []) true) (frame [] (NullType ∷ []) true) ≡ None

@@ -67,10 +67,17 @@ pub record WaitKeepsCount : Type 0 where
   -- the second member is picked; it was interrupted after that, and wait returns
   pub second_notified : Reports files usual (times 22 0 ++ (times 9 1 ++ (times 9 2 ++ (times 3 0 ++ ((picks 0 1 ∷ []) ++ (times 5 0 ++ times 14 2)))))) None ends.Quiet (codes "1\nthread 0 ended\nthread 1 waiting\nthread 2 threw java/lang/IllegalMonitorStateException\nevents 63\nend quiet\n")
   -- there is no third member
-  pub no_third : Reports files usual (times 22 0 ++ (times 9 1 ++ (times 9 2 ++ times 3 0))) (Some (picks 0 2)) (ends.NotEnabled 43) (codes "thread 0 runnable\nthread 1 waiting\nthread 2 waiting\nevents 43\nend not enabled 43\n")
+  pub no_third : Reports files usual (times 22 0
+      ++ (times 9 1 ++ (times 9 2 ++ times 3 0))) (Some (picks 0 2)) (ends.NotEnabled 43)
+      (codes "thread 0 runnable\nthread 1 waiting\nthread 2 waiting\nevents 43\nend not enabled 43\n")
   -- the limits are met and not passed
   pub exact : Reports files (record usual { objects = 3; cells = 2; monitors = 1 }) (times 22 0 ++ (times 9 1 ++ (times 9 2 ++ (times 3 0 ++ ((picks 0 1 ∷ []) ++ (times 5 0 ++ times 14 2)))))) None ends.Quiet (codes "1\nthread 0 ended\nthread 1 waiting\nthread 2 threw java/lang/IllegalMonitorStateException\nevents 63\nend quiet\n")
   -- with no monitor allowed to be inflated
-  pub no_monitors : Reports files (record usual { monitors = 0 }) (times 22 0 ++ times 8 1) (Some (picks 1 0)) (ends.Refused 30 causes.Monitors) (codes "thread 0 runnable\nthread 1 runnable\nthread 2 runnable\nevents 30\nend refused 30 monitors\n")
+  pub no_monitors : Reports files (record usual { monitors = 0 }) (times 22 0
+      ++ times 8 1) (Some (picks 1 0)) (ends.Refused 30 causes.Monitors)
+      (codes "thread 0 runnable\nthread 1 runnable\nthread 2 runnable\nevents 30\nend refused 30 monitors\n")
   -- the exception of the last monitorexit is one object too many
-  pub two_objects : Reports files (record usual { objects = 2 }) (times 22 0 ++ (times 9 1 ++ (times 9 2 ++ (times 3 0 ++ ((picks 0 1 ∷ []) ++ (times 5 0 ++ times 12 2)))))) (Some (picks 2 0)) (ends.Refused 61 causes.Objects) (codes "1\nthread 0 ended\nthread 1 waiting\nthread 2 runnable\nevents 61\nend refused 61 objects\n")
+  pub two_objects : Reports files (record usual { objects = 2 }) (times 22 0
+      ++ (times 9 1 ++ (times 9 2 ++ (times 3 0
+      ++ ((picks 0 1 ∷ []) ++ (times 5 0 ++ times 12 2)))))) (Some (picks 2 0)) (ends.Refused 61 causes.Objects)
+      (codes "1\nthread 0 ended\nthread 1 waiting\nthread 2 runnable\nevents 61\nend refused 61 objects\n")

@@ -51,4 +51,5 @@ files = class_z ∷ []
 pub record WaiterOfAThread : Type 0 where
   pub layouts : AreLaidOut (class_z_bytes ∷ []) files
   -- the end wakes main
-  pub woken : Reports files usual (times 17 0 ++ (times 2 1 ++ times 4 0)) None ends.Quiet (codes "thread 0 ended\nthread 1 ended\nevents 23\nend quiet\n")
+  pub woken : Reports files usual (times 17 0
+      ++ (times 2 1 ++ times 4 0)) None ends.Quiet (codes "thread 0 ended\nthread 1 ended\nevents 23\nend quiet\n")

@@ -23,8 +23,13 @@ abbrev pub code_3 : List ℕ
 code_3 = hex (codes "00 00 00 08 ab000000 0000001c 00000001 00000005 00000014 b20006 08 b6000c b1 b1")
 
 pub record WideAndSwitch : Type 0 where
-  pub wide : Prints (bytes_with (hex (codes "0000001c 0002 0002 00000010")) wide_code) (file_with 2 2 wide_code) 11 (negsuc 32767 ∷ []) (codes "-32768\nthread 0 ended\nevents 11\nend quiet\n")
-  pub after_0 : Prints (bytes_with (hex (codes "00000029 0002 0001 0000001d")) code_0) (file_with 2 1 code_0) 10 (pos 5 ∷ []) (codes "5\nthread 0 ended\nevents 10\nend quiet\n")
-  pub after_1 : Prints (bytes_with (hex (codes "00000029 0002 0001 0000001d")) code_1) (file_with 2 1 code_1) 11 (pos 5 ∷ []) (codes "5\nthread 0 ended\nevents 11\nend quiet\n")
-  pub after_2 : Prints (bytes_with (hex (codes "00000029 0002 0001 0000001d")) code_2) (file_with 2 1 code_2) 12 (pos 5 ∷ []) (codes "5\nthread 0 ended\nevents 12\nend quiet\n")
-  pub after_3 : Prints (bytes_with (hex (codes "0000002d 0002 0001 00000021")) code_3) (file_with 2 1 code_3) 13 (pos 5 ∷ []) (codes "5\nthread 0 ended\nevents 13\nend quiet\n")
+  pub wide : Prints (bytes_with (hex (codes "0000001c 0002 0002 00000010")) wide_code) (file_with 2 2 wide_code) 11 (negsuc 32767
+      ∷ []) (codes "-32768\nthread 0 ended\nevents 11\nend quiet\n")
+  pub after_0 : Prints (bytes_with (hex (codes "00000029 0002 0001 0000001d")) code_0) (file_with 2 1 code_0) 10 (pos 5
+      ∷ []) (codes "5\nthread 0 ended\nevents 10\nend quiet\n")
+  pub after_1 : Prints (bytes_with (hex (codes "00000029 0002 0001 0000001d")) code_1) (file_with 2 1 code_1) 11 (pos 5
+      ∷ []) (codes "5\nthread 0 ended\nevents 11\nend quiet\n")
+  pub after_2 : Prints (bytes_with (hex (codes "00000029 0002 0001 0000001d")) code_2) (file_with 2 1 code_2) 12 (pos 5
+      ∷ []) (codes "5\nthread 0 ended\nevents 12\nend quiet\n")
+  pub after_3 : Prints (bytes_with (hex (codes "0000002d 0002 0001 00000021")) code_3) (file_with 2 1 code_3) 13 (pos 5
+      ∷ []) (codes "5\nthread 0 ended\nevents 13\nend quiet\n")

@@ -67,8 +67,10 @@ pub record WrongOperands : Type 0 where
   -- iconst_0, ireturn: main returns nothing
   pub ireturn_in_void : GoesWrong (hex (codes "03 ac")) 5
   -- such a thread counts as enabled, but for other picks, and has no step
-  pub counts_as_enabled : option_map (λ state. is_enabled (file_with (hex (codes "57 b1")) ∷ []) frames state (event_of 0)) (after (file_with (hex (codes "57 b1"))) 4) ≡ Some true
-  pub other_pick : option_map (λ state. is_enabled (file_with (hex (codes "57 b1")) ∷ []) frames state (record { thread = 0; pick = 1 })) (after (file_with (hex (codes "57 b1"))) 4) ≡ Some false
+  pub counts_as_enabled : option_map (λ state. is_enabled (file_with (hex (codes "57 b1"))
+      ∷ []) frames state (event_of 0)) (after (file_with (hex (codes "57 b1"))) 4) ≡ Some true
+  pub other_pick : option_map (λ state. is_enabled (file_with (hex (codes "57 b1"))
+      ∷ []) frames state (record { thread = 0; pick = 1 })) (after (file_with (hex (codes "57 b1"))) 4) ≡ Some false
   pub no_step : after (file_with (hex (codes "57 b1"))) 5 ≡ None
   -- return in a method that returns an int
   pub return_in_int : stepped values (int_file (hex (codes "b1")) ∷ []) frames (in_int (hex (codes "b1"))) (event_of 0) ≡ WrongKind

@@ -44,4 +44,5 @@ pub record IsSearched (files : Program) (frames : ℕ) (states : List State) (ou
   pub closed : (state next : State) (event : Event) → Has states state → reduced_step files frames state event ≡ Some next → Has states next
   -- the outcome of each in which no thread may step is listed, and no other
   pub listed : (state : State) → Has states state → IsTrue (is_quiet files frames state) → Has outcomes (outcome_of files frames state)
-  pub only : (outcome : Outcome) → Has outcomes outcome → (state : State) × (Has states state × (IsTrue (is_quiet files frames state) × (outcome_of files frames state ≡ outcome)))
+  pub only : (outcome : Outcome) → Has outcomes outcome
+      → (state : State) × (Has states state × (IsTrue (is_quiet files frames state) × (outcome_of files frames state ≡ outcome)))

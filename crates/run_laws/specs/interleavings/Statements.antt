@@ -40,7 +40,8 @@ AreLocalEventsTheirOwn =
     → stepped values trees frames state event ≡ Next Free (with_stack state event.thread stack)
 
 -- the event of another thread leaves it local, and leads to the same, at the same cost, before it and after it
-pub record Commute (files : Program) (frames : ℕ) (state : State) (t : ℕ) (stack : StackOf Value) (event : Event) (cost : Cost) (next : State) : Type 0 where
+pub record Commute (files : Program) (frames : ℕ) (state : State) (t : ℕ) (stack : StackOf Value) (event : Event) (cost : Cost)
+    (next : State) : Type 0 where
   pub stays : next_local files next t ≡ Some stack
   pub same : stepped values files frames (with_stack state t stack) event ≡ Next cost (with_stack next t stack)
 

@@ -32,7 +32,8 @@ pub record AreTyped (files : Program) (objects : List ReferenceType) (ts : Slots
 -- the order of reference types is one
 pub record IsOrder (files : Program) : Type 0 where
   pub reflexive : (t : ReferenceType) → IsTrue (is_assignable files t t)
-  pub transitive : (a b c : ReferenceType) → IsTrue (is_assignable files a b) → IsTrue (is_assignable files b c) → IsTrue (is_assignable files a c)
+  pub transitive : (a b c : ReferenceType) → IsTrue (is_assignable files a b) → IsTrue (is_assignable files b c)
+      → IsTrue (is_assignable files a c)
 
 -- what is of a type is of each type above it
 abbrev pub IsUpward : Program → Type 0

@@ -86,12 +86,14 @@ pub record AreCountsKept : Type 0 where
 pub record IsLonger (files : Program) (frames : ℕ) (events : List Event) (event : Event) (cost : Cost) (next : State) : Type 0 where
   pub reached : run files frames (events ++ event ∷ []) ≡ Some next
   pub inflated_are : inflated files frames (events ++ event ∷ []) ≡ inflated_by cost (inflated files frames events)
-  pub fat_are : (object : ℕ) → is_inflated (inflated files frames (events ++ event ∷ [])) object ≡ is_fat_after cost (is_inflated (inflated files frames events)) object
+  pub fat_are : (object : ℕ) → is_inflated (inflated files frames (events ++ event ∷ [])) object
+      ≡ is_fat_after cost (is_inflated (inflated files frames events)) object
 
 abbrev pub AreRunsLonger : Type 0
 AreRunsLonger =
     (files : Program) (frames : ℕ) (events : List Event) (state : State) (event : Event) (cost : Cost) (next : State)
-    → run files frames events ≡ Some state → stepped values files frames state event ≡ Next cost next → IsLonger files frames events event cost next
+    → run files frames events ≡ Some state → stepped values files frames state event ≡ Next cost next
+    → IsLonger files frames events event cost next
 
 -- in each state of a run counts are right, with the locks fat that its events inflated
 abbrev pub AreRunsCounted : Type 0

@@ -8,4 +8,5 @@ use Rattle.model.specs.Step.{is_enabled}
 abbrev pub ArePicksInOrder : Type 0
 ArePicksInOrder =
     (files : Program) (frames : ℕ) (state : State) (t low high : ℕ) → low ≤ high
-    → IsTrue (is_enabled files frames state (record { thread = t; pick = high })) → IsTrue (is_enabled files frames state (record { thread = t; pick = low }))
+    → IsTrue (is_enabled files frames state (record { thread = t; pick = high }))
+    → IsTrue (is_enabled files frames state (record { thread = t; pick = low }))

@@ -37,10 +37,12 @@ pub record IsWhole (files : Program) (frames : ℕ) (schedules : List (List Even
   -- the opening state is followed
   pub opened : IsFollowed files frames schedules (opening values files)
   -- and so is each state to which an event leads on from where a schedule led
-  pub closed : (schedule : List Event) (state next : State) (event : Event) → Has schedules schedule → run files frames schedule ≡ Some state
+  pub closed : (schedule : List Event) (state next : State) (event : Event) → Has schedules schedule
+      → run files frames schedule ≡ Some state
       → step files frames state event ≡ Some next → IsFollowed files frames schedules next
   -- where no thread may step, the outcome is listed
-  pub listed : (schedule : List Event) (state : State) → Has schedules schedule → run files frames schedule ≡ Some state → IsTrue (is_quiet files frames state)
+  pub listed : (schedule : List Event) (state : State) → Has schedules schedule → run files frames schedule ≡ Some state
+      → IsTrue (is_quiet files frames state)
       → Has outcomes (outcome_of files frames state)
   -- and no other is
   pub only : (outcome : Outcome) → Has outcomes outcome → (events : List Event) × EndsWith files frames events outcome

@@ -36,8 +36,10 @@ pub record HasOpeningObjects (files : Program) (heap : List (ObjectOf ℕ)) : Ty
   pub print_stream : slice_get (types_of heap) print_stream_reference ≡ Some (ClassType java_io_print_stream)
   pub arguments : slice_get (types_of heap) arguments_reference ≡ Some (ReferenceArray (ClassType java_lang_string))
   pub main_thread : slice_get (types_of heap) main_thread_reference ≡ Some (ClassType java_lang_thread)
-  pub classes : (name : Name) → IsTrue (list_any (is_named name) (classes_of files)) → slice_get (types_of heap) (class_reference files name) ≡ Some (ClassType java_lang_class)
-  pub texts : (text : List ℕ) → IsTrue (list_any (name_eq text) (string_texts files)) → slice_get (types_of heap) (string_reference files text) ≡ Some (ClassType java_lang_string)
+  pub classes : (name : Name) → IsTrue (list_any (is_named name) (classes_of files))
+      → slice_get (types_of heap) (class_reference files name) ≡ Some (ClassType java_lang_class)
+  pub texts : (text : List ℕ) → IsTrue (list_any (name_eq text) (string_texts files))
+      → slice_get (types_of heap) (string_reference files text) ≡ Some (ClassType java_lang_string)
 
 -- they are there in words of a well-typed state
 abbrev pub AreOpeningObjectsThere : Type 0

@@ -12,7 +12,8 @@ use Rattle.run_laws.specs.typing_search.Weights.{IsLowFrame}
 pub record IsBounded (files : Program) (method : Member) (body : Body) (limit : ℕ) : Type 0 where
   pub begins : IsLowFrame files limit (entry_type files method body)
   pub leads : (offset : ℕ) (t : FrameType) (leads : List (ℕ × FrameType))
-      → flow files method body offset t ≡ Some leads → IsLowFrame files limit t → AllByRecursion (λ lead. IsLowFrame files limit lead.1) leads
+      → flow files method body offset t ≡ Some leads → IsLowFrame files limit t
+      → AllByRecursion (λ lead. IsLowFrame files limit lead.1) leads
 
 abbrev pub IsDecided : Program → Member → Body → Type 0
 IsDecided files method body = HasTyping files method body ⊎ HasNoTyping files method body

@@ -24,7 +24,8 @@ pub record AreJoins (files : Program) : Type 0 where
 -- the order of frame types is one
 pub record IsFrameOrder (files : Program) : Type 0 where
   pub reflexive : (a : FrameType) → IsTrue (is_frame_below files a a)
-  pub transitive : (a b c : FrameType) → IsTrue (is_frame_below files a b) → IsTrue (is_frame_below files b c) → IsTrue (is_frame_below files a c)
+  pub transitive : (a b c : FrameType) → IsTrue (is_frame_below files a b) → IsTrue (is_frame_below files b c)
+      → IsTrue (is_frame_below files a c)
 
 -- ---- the rule of an instruction
 
@@ -36,7 +37,8 @@ AreBelow files (x ∷ xs) [] = ⊥
 AreBelow files (x ∷ xs) (y ∷ ys) = (x.0 ≡ y.0) × IsTrue (is_frame_below files x.1 y.1) × AreBelow files xs ys
 
 -- an instruction may find this frame type, and leads to the same offsets as these, to frame types below them
-pub record FlowsBelow (files : Program) (method : Member) (body : Body) (offset : ℕ) (t : FrameType) (leads : List (ℕ × FrameType)) : Type 0 where
+pub record FlowsBelow (files : Program) (method : Member) (body : Body) (offset : ℕ) (t : FrameType)
+    (leads : List (ℕ × FrameType)) : Type 0 where
   pub lower : List (ℕ × FrameType)
   pub flows : flow files method body offset t ≡ Some lower
   pub below : AreBelow files lower leads

@@ -26,9 +26,12 @@ pub record Search (files : Program) (method : Member) (body : Body) (F : Typing)
 
 -- Frame types F became G, and the offsets P that wait became Q, since these frame types were merged in: what changed waits, and
 -- nothing is higher than it has to be.
-pub record Merged (files : Program) (body : Body) (F : Typing) (P : ℕ → Bool) (leads : List (ℕ × FrameType)) (G : Typing) (Q : ℕ → Bool) : Type 0 where
-  pub starts : ((offset : ℕ) (t : FrameType) → F offset ≡ Some t → IsTrue (is_start body.code.code offset)) → (offset : ℕ) (t : FrameType) → G offset ≡ Some t → IsTrue (is_start body.code.code offset)
-  pub sized : ((offset : ℕ) (t : FrameType) → F offset ≡ Some t → IsSized body t) → (offset : ℕ) (t : FrameType) → G offset ≡ Some t → IsSized body t
+pub record Merged (files : Program) (body : Body) (F : Typing) (P : ℕ → Bool) (leads : List (ℕ × FrameType)) (G : Typing)
+    (Q : ℕ → Bool) : Type 0 where
+  pub starts : ((offset : ℕ) (t : FrameType) → F offset ≡ Some t → IsTrue (is_start body.code.code offset)) → (offset : ℕ) (t : FrameType)
+      → G offset ≡ Some t → IsTrue (is_start body.code.code offset)
+  pub sized : ((offset : ℕ) (t : FrameType) → F offset ≡ Some t → IsSized body t) → (offset : ℕ) (t : FrameType) → G offset ≡ Some t
+      → IsSized body t
   pub raised : Raised files F G
   pub waiting : (offset : ℕ) (t : FrameType) → G offset ≡ Some t → Q offset ≡ false → (F offset ≡ Some t) × (P offset ≡ false)
   pub reached : AreReached files G leads
@@ -51,7 +54,8 @@ IsUntyped F = (offset : ℕ) → F offset ≡ None
 pub record Begins (files : Program) (method : Member) (body : Body) : Type 0 where
   pub found : (F : Typing) (P : ℕ → Bool) (G : Typing) (Q : ℕ → Bool)
       → IsUntyped F → Merged files body F P ((0, entry_type files method body) ∷ []) G Q → Search files method body G Q
-  pub refused : (F : Typing) → IsUntyped F → Clashes files method body F ((0, entry_type files method body) ∷ []) → HasNoTyping files method body
+  pub refused : (F : Typing) → IsUntyped F → Clashes files method body F ((0, entry_type files method body) ∷ [])
+      → HasNoTyping files method body
 
 -- of the offsets that wait one is taken off, or none
 abbrev pub IsTakenOff : ℕ → (ℕ → Bool) → (ℕ → Bool) → Type 0

@@ -48,11 +48,13 @@ pub record MergesOne (files : Program) (method : Member) (body : Body) : Type 0 
   -- nothing is there yet
   pub first : (table : List (Option FrameType)) (waiting : List Bool) (offset : ℕ) (t : FrameType)
       → length waiting ≡ length table → slice_get table offset ≡ Some None → IsTrue (is_start body.code.code offset) → IsSized body t
-      → Merged files body (typing_of table) (waits waiting) ((offset, t) ∷ []) (typing_of (found_at table offset t)) (waits (waiting_at waiting offset))
+      → Merged files body (typing_of table) (waits waiting) ((offset, t)
+      ∷ []) (typing_of (found_at table offset t)) (waits (waiting_at waiting offset))
   -- there is a join of both
   pub joined : (table : List (Option FrameType)) (waiting : List Bool) (offset : ℕ) (t there join : FrameType)
       → length waiting ≡ length table → slice_get table offset ≡ Some (Some there) → frame_join files there t ≡ Some join
-      → Merged files body (typing_of table) (waits waiting) ((offset, t) ∷ []) (typing_of (found_at table offset join)) (waits (waiting_at waiting offset))
+      → Merged files body (typing_of table) (waits waiting) ((offset, t)
+      ∷ []) (typing_of (found_at table offset join)) (waits (waiting_at waiting offset))
 
 -- where it can't be merged
 pub record ClashesOne (files : Program) (method : Member) (body : Body) : Type 0 where
@@ -62,4 +64,5 @@ pub record ClashesOne (files : Program) (method : Member) (body : Body) : Type 0
   -- it is not of the size that the method says
   pub oversized : (F : Typing) (offset : ℕ) (t : FrameType) → (IsSized body t → ⊥) → Clashes files method body F ((offset, t) ∷ [])
   -- no instruction begins at the offset; past the end of the code none does
-  pub astray : (F : Typing) (offset : ℕ) (t : FrameType) → IsFalse (is_start body.code.code offset) → Clashes files method body F ((offset, t) ∷ [])
+  pub astray : (F : Typing) (offset : ℕ) (t : FrameType) → IsFalse (is_start body.code.code offset)
+      → Clashes files method body F ((offset, t) ∷ [])

@@ -93,14 +93,17 @@ pub record GetsLighter (files : Program) (body : Body) (limit : ℕ) : Type 0 wh
   pub bounded : (t : ReferenceType) → rank files t ≤ dimensions t + length (classes_of files)
   -- the join of what is there and of what is not below it weighs less than what is there
   pub raised : (there t join : FrameType)
-      → frame_join files there t ≡ Some join → (IsTrue (is_frame_below files t there) → ⊥) → IsLowFrame files limit there → IsLowFrame files limit t
+      → frame_join files there t ≡ Some join → (IsTrue (is_frame_below files t there) → ⊥) → IsLowFrame files limit there
+      → IsLowFrame files limit t
       → IsLowFrame files limit join × (frame_weight files limit join < frame_weight files limit there)
   -- a frame type weighs less than none
-  pub first : (t : FrameType) → IsSized body t → IsLowFrame files limit t → frame_weight files limit t < entry_weight files limit (places body) None
+  pub first : (t : FrameType) → IsSized body t → IsLowFrame files limit t
+      → frame_weight files limit t < entry_weight files limit (places body) None
   -- what is lighter is less work, though its offset waits
   pub merged : (table : List (Option FrameType)) (waiting : List Bool) (offset : ℕ) (there : Option FrameType) (t : FrameType)
       → slice_get table offset ≡ Some there → frame_weight files limit t < entry_weight files limit (places body) there
       → work files limit (places body) (found_at table offset t) (waiting_at waiting offset) < work files limit (places body) table waiting
   -- and so is an offset less that waits
   pub taken_off : (table : List (Option FrameType)) (waiting : List Bool) (offset : ℕ)
-      → waits waiting offset ≡ true → work files limit (places body) table (taken_off waiting offset) < work files limit (places body) table waiting
+      → waits waiting offset ≡ true → work files limit (places body) table (taken_off waiting offset)
+      < work files limit (places body) table waiting

@@ -103,7 +103,8 @@ AreOperandsFound =
     (files : List (List ℕ)) (trees : Program) → IsLinkable files trees → (state : StateOf ℕ) → AreWellTypedWords trees state
     → (t : ℕ) (frame : FrameOf ℕ) → IsOnTop state t frame
     → (body : Body) (site : Site) (meaning : MeaningOf ℕ)
-    → body_of trees frame.method ≡ Some body → site_at frame.method body frame.place.offset ≡ Some site → meaning_of words trees site ≡ Some meaning
+    → body_of trees frame.method ≡ Some body → site_at frame.method body frame.place.offset ≡ Some site
+    → meaning_of words trees site ≡ Some meaning
     → Finds trees state.world.heap body meaning.wants frame.place.slots
 
 -- ---- the local variables of a local instruction

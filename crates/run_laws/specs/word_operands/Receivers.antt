@@ -124,7 +124,8 @@ AreReceived =
     (files : List (List ℕ)) (trees : Program) → IsLinkable files trees → (state : StateOf ℕ) → AreWellTypedWords trees state
     → (t : ℕ) (frame : FrameOf ℕ) → IsOnTop state t frame
     → (body : Body) (site : Site) (of : Receiver)
-    → body_of trees frame.method ≡ Some body → site_at frame.method body frame.place.offset ≡ Some site → receiver_of trees site site.instr ≡ Some of
+    → body_of trees frame.method ≡ Some body → site_at frame.method body frame.place.offset ≡ Some site
+    → receiver_of trees site site.instr ≡ Some of
     → IsReceived state.world.heap frame.place.slots.stack of
 
 -- ---- the classes of instance fields (JVMS 5.4.3.2)

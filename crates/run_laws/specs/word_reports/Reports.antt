@@ -87,7 +87,8 @@ pub record IsReportedAs {A : Type 0} (C : Carrier A) (files : Program) (frames :
   pub quiet : is_quiet_of C files frames s ≡ is_quiet files frames of
   pub ends : thread_ends_of C files frames s ≡ thread_ends files frames of
   -- where a run led to that state, the report is that of the run
-  pub report : (events : List Event) (end : End) → run files frames events ≡ Some of → meaning files frames events end ≡ Some (report_of C files frames s (length events) end)
+  pub report : (events : List Event) (end : End) → run files frames events ≡ Some of
+      → meaning files frames events end ≡ Some (report_of C files frames s (length events) end)
 
 -- over values these are the definitions of the model, at every state
 abbrev pub AreReportsOfValues : Type 0

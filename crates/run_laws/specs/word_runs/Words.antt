@@ -68,7 +68,8 @@ AreInCode files (Initialisation class phase ∷ stack) = AreInCode files stack
 abbrev pub IsInCode : Type 0
 IsInCode =
     (files : Program) (words : StateOf ℕ) → AreWellTypedWords files words → (t : ℕ) (thread : Thread) (stack : StackOf ℕ)
-    → slice_get words.world.threads t ≡ Some thread → slice_get words.stacks t ≡ Some stack → IsFalse (has_ended thread.status) → AreInCode files stack
+    → slice_get words.world.threads t ≡ Some thread → slice_get words.stacks t ≡ Some stack → IsFalse (has_ended thread.status)
+    → AreInCode files stack
 
 -- ---- how deep operand stacks are
 

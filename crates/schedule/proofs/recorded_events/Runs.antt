@@ -45,11 +45,13 @@ last_within xs e h = within xs (length xs - 1) e h
 pub events_push : (xs : List ScheduleEntry) (e : ScheduleEntry) → events_of (xs ++ e ∷ []) ≡ events_of xs ++ spelled e
 events_push xs e = flat_map-append spelled xs (e ∷ []) ∙ ap (λ l. events_of xs ++ l) (append-nil (spelled e))
 
-each_push : (xs : List ScheduleEntry) (e : ScheduleEntry) → AllByRecursion EntryFits xs → EntryFits e → AllByRecursion EntryFits (xs ++ e ∷ [])
+each_push : (xs : List ScheduleEntry) (e : ScheduleEntry) → AllByRecursion EntryFits xs → EntryFits e
+    → AllByRecursion EntryFits (xs ++ e ∷ [])
 each_push [] e h fits = (fits, tt)
 each_push (x ∷ xs) e h fits = (h.0, each_push xs e h.1 fits)
 
-packed_push : (xs : List Event) (e : Event) → ArePacked xs → ((l : Event) → slice_get xs (length xs - 1) ≡ Some l → l ≡ e → e.pick ≡ 0 → ⊥) → ArePacked (xs ++ e ∷ [])
+packed_push : (xs : List Event) (e : Event) → ArePacked xs → ((l : Event) → slice_get xs (length xs - 1) ≡ Some l → l ≡ e → e.pick ≡ 0 → ⊥)
+    → ArePacked (xs ++ e ∷ [])
 packed_push [] e h apart = tt
 packed_push (x ∷ []) e h apart = (λ same plain. apart x refl same (ap (λ (y : Event). y.pick) (sym same) ∙ plain), tt)
 packed_push (x ∷ y ∷ ys) e h apart = (h.0, packed_push (y ∷ ys) e h.1 (λ l is. apart l (ap (slice_get (x ∷ y ∷ ys)) (before (length ys)) ∙ is)))
@@ -57,7 +59,8 @@ packed_push (x ∷ y ∷ ys) e h apart = (h.0, packed_push (y ∷ ys) e h.1 (λ 
     before : (n : ℕ) → suc (suc n) - 1 ≡ suc (suc n - 1)
     before n = omega arith
 
-last_event : (xs : List ScheduleEntry) (l : Event) → slice_get (map event_in xs) (length (map event_in xs) - 1) ≡ Some l → (e : ScheduleEntry) × (last_of xs ≡ Some e) × (e.event ≡ l)
+last_event : (xs : List ScheduleEntry) (l : Event) → slice_get (map event_in xs) (length (map event_in xs) - 1) ≡ Some l
+    → (e : ScheduleEntry) × (last_of xs ≡ Some e) × (e.event ≡ l)
 last_event [] l h = absurd cc
 last_event (x ∷ []) l h = (x, refl, same_Some x.event l h)
 last_event (x ∷ y ∷ ys) l h =
@@ -67,7 +70,8 @@ last_event (x ∷ y ∷ ys) l h =
     before : (n : ℕ) → suc (suc n) - 1 ≡ suc (suc n - 1)
     before n = omega arith
 
-pub runs_push : (xs : List ScheduleEntry) (event : Event) (count : ℕ) → AreRuns xs → EntryFits (record { event = event; repeat = count }) → IsApart xs event → AreRuns (xs ++ record { event = event; repeat = count } ∷ [])
+pub runs_push : (xs : List ScheduleEntry) (event : Event) (count : ℕ) → AreRuns xs → EntryFits (record { event = event; repeat = count })
+    → IsApart xs event → AreRuns (xs ++ record { event = event; repeat = count } ∷ [])
 runs_push xs event count h fits apart = record {
   each = each_push xs (record { event = event; repeat = count }) h.each fits;
   packed = subst ArePacked (sym (map-append event_in xs (record { event = event; repeat = count } ∷ [])))
@@ -76,7 +80,8 @@ runs_push xs event count h fits apart = record {
 
 -- ---- the last entry made longer
 
-each_set : (xs : List ScheduleEntry) (k : ℕ) (y : ScheduleEntry) → AllByRecursion EntryFits xs → EntryFits y → AllByRecursion EntryFits (slice_set xs k y)
+each_set : (xs : List ScheduleEntry) (k : ℕ) (y : ScheduleEntry) → AllByRecursion EntryFits xs → EntryFits y
+    → AllByRecursion EntryFits (slice_set xs k y)
 each_set [] k y h fits = tt
 each_set (x ∷ xs) zero y h fits = (fits, h.1)
 each_set (x ∷ xs) (suc k) y h fits = (h.0, each_set xs k y h.1 fits)
@@ -86,16 +91,19 @@ each_at [] k e h is = absurd cc
 each_at (x ∷ xs) zero e h is = subst EntryFits (same_Some x e is) h.0
 each_at (x ∷ xs) (suc k) e h is = each_at xs k e h.1 is
 
-set_event : (xs : List ScheduleEntry) (k : ℕ) (e y : ScheduleEntry) → slice_get xs k ≡ Some e → y.event ≡ e.event → map event_in (slice_set xs k y) ≡ map event_in xs
+set_event : (xs : List ScheduleEntry) (k : ℕ) (e y : ScheduleEntry) → slice_get xs k ≡ Some e → y.event ≡ e.event
+    → map event_in (slice_set xs k y) ≡ map event_in xs
 set_event [] k e y is same = refl
 set_event (x ∷ xs) zero e y is same = ap (λ v. v ∷ map event_in xs) (same ∙ ap event_in (sym (same_Some x e is)))
 set_event (x ∷ xs) (suc k) e y is same = ap (λ l. x.event ∷ l) (set_event xs k e y is same)
 
-last_longer : (x y : ScheduleEntry) (count : ℕ) → y.event ≡ x.event → y.repeat ≡ x.repeat + count → spelled y ≡ spelled x ++ replicate count x.event
+last_longer : (x y : ScheduleEntry) (count : ℕ) → y.event ≡ x.event → y.repeat ≡ x.repeat + count
+    → spelled y ≡ spelled x ++ replicate count x.event
 last_longer x y count same more =
     ap (λ v. replicate y.repeat v) same ∙ ap (λ n. replicate n x.event) more ∙ sym (replicate-append-replicate x.repeat count x.event)
 
-events_longer : (xs : List ScheduleEntry) (k : ℕ) (e y : ScheduleEntry) (count : ℕ) → length xs ≡ suc k → slice_get xs k ≡ Some e → y.event ≡ e.event → y.repeat ≡ e.repeat + count
+events_longer : (xs : List ScheduleEntry) (k : ℕ) (e y : ScheduleEntry) (count : ℕ) → length xs ≡ suc k → slice_get xs k ≡ Some e
+    → y.event ≡ e.event → y.repeat ≡ e.repeat + count
     → events_of (slice_set xs k y) ≡ events_of xs ++ replicate count e.event
 events_longer [] k e y count last is same more = absurd cc
 events_longer (x ∷ []) zero e y count last is same more =

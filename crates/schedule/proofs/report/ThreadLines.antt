@@ -13,7 +13,8 @@ push i (y ∷ xs) x =
 
 -- the lines with one thread more
 pub one_more : (states : List EndState) (k : ℕ) (d : EndState) → k < length states
-    → thread_lines 0 (map end_state_of (take (k + 1) states)) ≡ thread_lines 0 (map end_state_of (take k states)) ++ thread_line k (end_state_of (get_or states k d))
+    → thread_lines 0 (map end_state_of (take (k + 1) states))
+    ≡ thread_lines 0 (map end_state_of (take k states)) ++ thread_line k (end_state_of (get_or states k d))
 one_more states k d lt =
     let place : 0 + length (map end_state_of (take k states)) ≡ k = omega (arith, length-map (take k states) end_state_of, length-take k states) in
     ap (λ (l : List EndState). thread_lines 0 (map end_state_of l)) (take_more states k d lt)

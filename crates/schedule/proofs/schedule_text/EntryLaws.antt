@@ -35,7 +35,8 @@ pub decimal_digits : (n : ℕ) → n < 2 ^ 64 → AreDigits (decimal n)
 decimal_digits n small = decimal_by_steps (λ _ ds. AreDigits ds) one_digit another_digit n small
 
 -- Digits with something behind them that is no digit are all the digits that stand first.
-pub digits_end : (bytes ds rest : List ℕ) (n : ℕ) → bytes ≡ ds ++ rest → AreDigits ds → (IsDigit (get_or rest 0 0) → ⊥) → HasDigits bytes n → n ≡ length ds
+pub digits_end : (bytes ds rest : List ℕ) (n : ℕ) → bytes ≡ ds ++ rest → AreDigits ds → (IsDigit (get_or rest 0 0) → ⊥) → HasDigits bytes n
+    → n ≡ length ds
 digits_end bytes ds rest n is all other has = elim (cases_lt n (length ds)) [
   | inl l ↦ absurd (has.others (omega (arith, ap length is, length-append ds rest))
       (subst IsDigit (sym (ap (λ b. get_or b n 0) is ∙ get_or_append_left ds rest 0 n l)) (all n l)))
@@ -114,7 +115,8 @@ pub record AreAhead (words : List (List ℕ)) (done : List ScheduleEntry) (left 
   pub count : length done < 2 ^ 32
   pub fit : AllByRecursion EntryFits done
   pub spelled : words ≡ map entry_word done ++ left
-  pub ahead : (es : List ScheduleEntry) → AreEntries es → words ≡ map entry_word es → (more : List ScheduleEntry) × (es ≡ done ++ more) × (left ≡ map entry_word more) × AllByRecursion EntryFits more
+  pub ahead : (es : List ScheduleEntry) → AreEntries es → words ≡ map entry_word es
+      → (more : List ScheduleEntry) × (es ≡ done ++ more) × (left ≡ map entry_word more) × AllByRecursion EntryFits more
 
 all_append : (xs ys : List ScheduleEntry) → AllByRecursion EntryFits xs → AllByRecursion EntryFits ys → AllByRecursion EntryFits (xs ++ ys)
 all_append [] ys a b = b
@@ -131,7 +133,8 @@ all_back [] ys a = a
 all_back (x ∷ xs) ys a = all_back xs ys a.1
 
 step : (words : List (List ℕ)) (done : List ScheduleEntry) (left next : List (List ℕ)) (w : List ℕ) (e : ScheduleEntry) → left ≡ w ∷ next
-    → ((f : ScheduleEntry) → EntryFits f → w ≡ entry_word f → Some e ≡ Some f) → (es more : List ScheduleEntry) → es ≡ done ++ more → left ≡ map entry_word more → AllByRecursion EntryFits more
+    → ((f : ScheduleEntry) → EntryFits f → w ≡ entry_word f → Some e ≡ Some f) → (es more : List ScheduleEntry) → es ≡ done ++ more
+    → left ≡ map entry_word more → AllByRecursion EntryFits more
     → (others : List ScheduleEntry) × (es ≡ (done ++ e ∷ []) ++ others) × (next ≡ map entry_word others) × AllByRecursion EntryFits others
 step words done left next w e l only es [] is spelled fits = absurd (let h : w ∷ next ≡ [] = sym l ∙ spelled in cc)
 step words done left next w e l only es (f ∷ fs) is spelled fits =
@@ -139,8 +142,10 @@ step words done left next w e l only es (f ∷ fs) is spelled fits =
     let same : e ≡ f = same_Some e f (only f fits.0 p.0) in
     (fs, is ∙ ap (λ x. done ++ x ∷ fs) (sym same) ∙ sym (append_assoc done (e ∷ []) fs), p.1, fits.1)
 
-pub one_more : (words : List (List ℕ)) (done : List ScheduleEntry) (left next : List (List ℕ)) (w : List ℕ) (e : ScheduleEntry) → AreAhead words done left → left ≡ w ∷ next
-    → w ≡ entry_word e → EntryFits e → (length done ≡ 4294967295 → ⊥) → ((f : ScheduleEntry) → EntryFits f → w ≡ entry_word f → Some e ≡ Some f)
+pub one_more : (words : List (List ℕ)) (done : List ScheduleEntry) (left next : List (List ℕ)) (w : List ℕ) (e : ScheduleEntry)
+    → AreAhead words done left → left ≡ w ∷ next
+    → w ≡ entry_word e → EntryFits e → (length done ≡ 4294967295 → ⊥)
+    → ((f : ScheduleEntry) → EntryFits f → w ≡ entry_word f → Some e ≡ Some f)
     → (items : List ScheduleEntry) → items ≡ done ++ e ∷ [] → AreAhead words items next
 one_more words done left next w e so_far l is fits room only items items_are =
     rw items_are (record {
@@ -156,7 +161,8 @@ nothing_there : (left next : List (List ℕ)) (w : List ℕ) → left ≡ w ∷ 
 nothing_there left next w l none [] spelled fits = absurd (let h : w ∷ next ≡ [] = sym l ∙ spelled in cc)
 nothing_there left next w l none (f ∷ fs) spelled fits = none f fits.0 (same_cons w (entry_word f) next (map entry_word fs) (sym l ∙ spelled)).0
 
-pub no_entry : (words : List (List ℕ)) (done : List ScheduleEntry) (left next : List (List ℕ)) (w : List ℕ) → AreAhead words done left → left ≡ w ∷ next
+pub no_entry : (words : List (List ℕ)) (done : List ScheduleEntry) (left next : List (List ℕ)) (w : List ℕ) → AreAhead words done left
+    → left ≡ w ∷ next
     → ((f : ScheduleEntry) → EntryFits f → w ≡ entry_word f → ⊥) → (es : List ScheduleEntry) → AreEntries es → words ≡ map entry_word es → ⊥
 no_entry words done left next w so_far l none es are spelled =
     let p = so_far.ahead es are spelled in
@@ -166,13 +172,15 @@ ends_here : (done es more : List ScheduleEntry) → es ≡ done ++ more → [] �
 ends_here done es [] is spelled = sym (is ∙ append-nil done)
 ends_here done es (f ∷ fs) is spelled = absurd cc
 
-pub all_done : (words : List (List ℕ)) (done : List ScheduleEntry) (left : List (List ℕ)) → AreAhead words done left → left ≡ [] → (es : List ScheduleEntry) → AreEntries es → words ≡ map entry_word es → done ≡ es
+pub all_done : (words : List (List ℕ)) (done : List ScheduleEntry) (left : List (List ℕ)) → AreAhead words done left → left ≡ []
+    → (es : List ScheduleEntry) → AreEntries es → words ≡ map entry_word es → done ≡ es
 all_done words done left so_far l es are spelled =
     let p = so_far.ahead es are spelled in
     ends_here done es p.0 p.1 (sym l ∙ p.2)
 
 -- the word of an entry begins with a digit
-pub no_heading : (rest : List (List ℕ)) (es : List ScheduleEntry) → AllByRecursion EntryFits es → map entry_word es ≡ codes "#limits" ∷ rest → ⊥
+pub no_heading : (rest : List (List ℕ)) (es : List ScheduleEntry) → AllByRecursion EntryFits es
+    → map entry_word es ≡ codes "#limits" ∷ rest → ⊥
 no_heading rest [] fits e = absurd cc
 no_heading rest (f ∷ fs) fits e =
     let word : entry_word f ≡ codes "#limits" = (same_cons (entry_word f) (codes "#limits") (map entry_word fs) rest e).0 in

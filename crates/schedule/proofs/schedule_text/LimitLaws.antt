@@ -14,7 +14,8 @@ use Rattle.schedule.specs.schedule_text.Text.{entry_word, recording_words}
 
 -- ---- a name and a number
 
-pub is_named : (word name digits : List ℕ) (n : ℕ) → pointwise nat_eq (take (length name) word) name ≡ true → digits ≡ drop (length name) word → digits ≡ decimal n → word ≡ name ++ decimal n
+pub is_named : (word name digits : List ℕ) (n : ℕ) → pointwise nat_eq (take (length name) word) name ≡ true
+    → digits ≡ drop (length name) word → digits ≡ decimal n → word ≡ name ++ decimal n
 is_named word name digits n e d is =
     let front : take (length name) word ≡ name = (bytes_eq-Decides (take (length name) word) name).0 e in
     sym (take-append-drop (length name) word) ∙ ap (λ x. x ++ drop (length name) word) front ∙ ap (λ x. name ++ x) (sym d ∙ is)
@@ -44,13 +45,15 @@ limits_of o c m t f r = record { objects = o; cells = c; monitors = m; threads =
 agree_at : (o c m t f : ℕ) (r s : Ranges o m t f) → limits_of o c m t f r ≡ limits_of o c m t f s
 agree_at o c m t f r s = ap (limits_of o c m t f) (ranges_prop o m t f r s)
 
-agree : (o c m t f : ℕ) (l : Limits) (r : Ranges o m t f) → l.objects ≡ o → l.cells ≡ c → l.monitors ≡ m → l.threads ≡ t → l.frames ≡ f → l ≡ limits_of o c m t f r
+agree : (o c m t f : ℕ) (l : Limits) (r : Ranges o m t f) → l.objects ≡ o → l.cells ≡ c → l.monitors ≡ m → l.threads ≡ t → l.frames ≡ f
+    → l ≡ limits_of o c m t f r
 agree o c m t f l r eo ec em et ef =
     let P : ℕ → ℕ → ℕ → ℕ → ℕ → Type 0 = λ o. λ c. λ m. λ t. λ f. (r : Ranges o m t f) → l ≡ limits_of o c m t f r in
     let at : P l.objects l.cells l.monitors l.threads l.frames = λ r. agree_at l.objects l.cells l.monitors l.threads l.frames (l.objects_fit, l.monitors_fit, l.threads_fit, l.frames_fit) r in
     subst (λ x. P x c m t f) eo (subst (λ x. P l.objects x m t f) ec (subst (λ x. P l.objects l.cells x t f) em (subst (λ x. P l.objects l.cells l.monitors x f) et (subst (λ x. P l.objects l.cells l.monitors l.threads x) ef at)))) r
 
-pub same_limits : (k l : Limits) → k.objects ≡ l.objects → k.cells ≡ l.cells → k.monitors ≡ l.monitors → k.threads ≡ l.threads → k.frames ≡ l.frames → k ≡ l
+pub same_limits : (k l : Limits) → k.objects ≡ l.objects → k.cells ≡ l.cells → k.monitors ≡ l.monitors → k.threads ≡ l.threads
+    → k.frames ≡ l.frames → k ≡ l
 same_limits k l = agree l.objects l.cells l.monitors l.threads l.frames k (l.objects_fit, l.monitors_fit, l.threads_fit, l.frames_fit)
 
 pub are_made : (made : Option Limits) (o c m t f : ℕ) (l : Limits) → (IsSome made ↔ AreLimits o m t f)
@@ -74,7 +77,9 @@ pub same_pair : {A B : Type 0} (a c : A) (b d : B) → a ≡ c → b ≡ d → �
 same_pair a c b d p q = rw (p, q) refl
 
 -- words that begin so tell of a recording
-pub is_told : (words : List (List ℕ)) (r : Option Recording) (es : List ScheduleEntry) → (rest : List (List ℕ)) × (words ≡ codes "#limits" ∷ rest) → RecordedFits r → AreEntries es
-    → words ≡ recording_words r ++ map entry_word es → (q : Recording) × (r ≡ Some q) × RecordingFits q × (words ≡ recording_words (Some q) ++ map entry_word es)
+pub is_told : (words : List (List ℕ)) (r : Option Recording) (es : List ScheduleEntry)
+    → (rest : List (List ℕ)) × (words ≡ codes "#limits" ∷ rest) → RecordedFits r → AreEntries es
+    → words ≡ recording_words r ++ map entry_word es
+    → (q : Recording) × (r ≡ Some q) × RecordingFits q × (words ≡ recording_words (Some q) ++ map entry_word es)
 is_told words None es begins fits are is = absurd (no_heading begins.0 es are.each (sym is ∙ begins.1))
 is_told words (Some q) es begins fits are is = (q, refl, fits, is)

@@ -26,7 +26,8 @@ thread_digits e fits =
     end_of : (n : ℕ) → n ≡ n + 0
     end_of n = omega arith
 
-one_tail : (e f : ScheduleEntry) → EntryFits e → EntryFits f → entry_tail e ≡ entry_tail f → (e.event.pick ≡ f.event.pick) × (e.repeat ≡ f.repeat)
+one_tail : (e f : ScheduleEntry) → EntryFits e → EntryFits f → entry_tail e ≡ entry_tail f
+    → (e.event.pick ≡ f.event.pick) × (e.repeat ≡ f.repeat)
 one_tail e f x y is = elim (form_of e x) [
   | inl a ↦ elim (form_of f y) [
     | inl b ↦ (a.0 ∙ sym b.0, a.1 ∙ sym b.1)
@@ -76,7 +77,8 @@ one_entry e f x y is =
     let tail = one_tail e f x y (sym a.1 ∙ b.1) in
     same_entry e f thread tail.0 tail.1
 
-one_list : (es fs : List ScheduleEntry) → AllByRecursion EntryFits es → AllByRecursion EntryFits fs → map entry_word es ≡ map entry_word fs → es ≡ fs
+one_list : (es fs : List ScheduleEntry) → AllByRecursion EntryFits es → AllByRecursion EntryFits fs → map entry_word es ≡ map entry_word fs
+    → es ≡ fs
 one_list [] [] a b is = refl
 one_list [] (f ∷ fs) a b is = absurd cc
 one_list (e ∷ es) [] a b is = absurd cc
@@ -99,7 +101,8 @@ one_length (m ∷ ms) (n ∷ ns) rest more a b is =
 one_number : (name : List ℕ) (m n : ℕ) → m < 2 ^ 64 → n < 2 ^ 64 → name ++ decimal m ≡ name ++ decimal n → m ≡ n
 one_number name m n a b is = decimal_injective m n a b (append_cancel_left name (decimal m) (decimal n) is)
 
-one_limits : (k l : Limits) (rest more : List (List ℕ)) → k.cells < 2 ^ 32 → l.cells < 2 ^ 32 → limit_words k ++ rest ≡ limit_words l ++ more → (k ≡ l) × (rest ≡ more)
+one_limits : (k l : Limits) (rest more : List (List ℕ)) → k.cells < 2 ^ 32 → l.cells < 2 ^ 32
+    → limit_words k ++ rest ≡ limit_words l ++ more → (k ≡ l) × (rest ≡ more)
 one_limits k l rest more a b is =
     let objects = same_cons (codes "objects=" ++ decimal k.objects) (codes "objects=" ++ decimal l.objects) _ _ is in
     let cells = same_cons (codes "cells=" ++ decimal k.cells) (codes "cells=" ++ decimal l.cells) _ _ objects.1 in
@@ -127,5 +130,6 @@ one_schedule (Some p) (Some q) es fs x y a b is =
     let lengths = one_length p.lengths q.lengths (map entry_word es) (map entry_word fs) x.lengths y.lengths second.1 in
     (ap Some (same_recording p q limits.0 lengths.0), one_list es fs a.each b.each lengths.1)
 
-pub spelled_once : (text : List ℕ) (p q : Option Recording) (es fs : List ScheduleEntry) → SpellsSchedule text p es → SpellsSchedule text q fs → (p ≡ q) × (es ≡ fs)
+pub spelled_once : (text : List ℕ) (p q : Option Recording) (es fs : List ScheduleEntry) → SpellsSchedule text p es
+    → SpellsSchedule text q fs → (p ≡ q) × (es ≡ fs)
 spelled_once text p q es fs a b = one_schedule p q es fs a.recording_fits b.recording_fits a.fits b.fits (sym a.spelled ∙ b.spelled)

@@ -17,11 +17,13 @@ pub blank_ends : (b : ℕ) (word bs : List ℕ) → is_blank b ≡ true → word
 unfolding words_from
 blank_ends b word bs e = rw e refl
 
-pub comment_ends : (b : ℕ) (word bs : List ℕ) → is_blank b ≡ false → begins_comment (b ∷ bs) ≡ true → words_from false word (b ∷ bs) ≡ with_word word (words_from true [] bs)
+pub comment_ends : (b : ℕ) (word bs : List ℕ) → is_blank b ≡ false → begins_comment (b ∷ bs) ≡ true
+    → words_from false word (b ∷ bs) ≡ with_word word (words_from true [] bs)
 unfolding words_from
 comment_ends b word bs e f = rw (e, f) refl
 
-pub goes_on : (b : ℕ) (word bs : List ℕ) → is_blank b ≡ false → begins_comment (b ∷ bs) ≡ false → words_from false word (b ∷ bs) ≡ words_from false (word ++ b ∷ []) bs
+pub goes_on : (b : ℕ) (word bs : List ℕ) → is_blank b ≡ false → begins_comment (b ∷ bs) ≡ false
+    → words_from false word (b ∷ bs) ≡ words_from false (word ++ b ∷ []) bs
 unfolding words_from
 goes_on b word bs e f = rw (e, f) refl
 
@@ -41,20 +43,23 @@ both_false true q e = (e, elim (q) as (λ t. t ≡ false) [ true ↦ e | false �
 both_false false q e = (refl, e)
 
 -- what ends a word ends the one that has begun, and stands before the same words
-pub ends_there : (b : ℕ) (word bs : List ℕ) → (is_blank b || begins_comment (b ∷ bs)) ≡ true → words_from false word (b ∷ bs) ≡ with_word word (words_of (b ∷ bs))
+pub ends_there : (b : ℕ) (word bs : List ℕ) → (is_blank b || begins_comment (b ∷ bs)) ≡ true
+    → words_from false word (b ∷ bs) ≡ with_word word (words_of (b ∷ bs))
 ends_there b word bs e = elim (is_blank b) as (λ t. is_blank b ≡ t → (t || begins_comment (b ∷ bs)) ≡ true → words_from false word (b ∷ bs) ≡ with_word word (words_of (b ∷ bs))) [
   | true ↦ λ h. λ _. blank_ends b word bs h ∙ ap (with_word word) (sym (blank_ends b [] bs h))
   | false ↦ λ h. λ k. comment_ends b word bs h k ∙ ap (with_word word) (sym (comment_ends b [] bs h k))
 ] refl e
 
-pub stays_there : (b : ℕ) (word bs : List ℕ) → (is_blank b || begins_comment (b ∷ bs)) ≡ false → words_from false word (b ∷ bs) ≡ words_from false (word ++ b ∷ []) bs
+pub stays_there : (b : ℕ) (word bs : List ℕ) → (is_blank b || begins_comment (b ∷ bs)) ≡ false
+    → words_from false word (b ∷ bs) ≡ words_from false (word ++ b ∷ []) bs
 stays_there b word bs e =
     let p : (is_blank b ≡ false) × (begins_comment (b ∷ bs) ≡ false) = both_false (is_blank b) (begins_comment (b ∷ bs)) e in
     goes_on b word bs p.0 p.1
 
 -- ---- at a place of a text
 
-pub ends_at : (bytes : List ℕ) (at : ℕ) (word : List ℕ) → at < length bytes → (is_blank (get_or bytes at 0) || begins_comment (drop at bytes)) ≡ true
+pub ends_at : (bytes : List ℕ) (at : ℕ) (word : List ℕ) → at < length bytes
+    → (is_blank (get_or bytes at 0) || begins_comment (drop at bytes)) ≡ true
     → words_from false word (drop at bytes) ≡ with_word word (words_of (drop at bytes))
 ends_at bytes at word lt e =
     let d = drop_more bytes at 0 lt in
@@ -82,7 +87,8 @@ rest_of bytes at le = grind (arith, common_steps)
 drop_rest : (bytes : List ℕ) (at n : ℕ) → drop n (drop at bytes) ≡ drop (at + n) bytes
 drop_rest bytes at n = grind (arith, common_steps)
 
-pub gap_ends : (bytes : List ℕ) (comment : Bool) (at : ℕ) → length bytes ≤ at → at ≤ length bytes → words_from comment [] (drop at bytes) ≡ words_of bytes
+pub gap_ends : (bytes : List ℕ) (comment : Bool) (at : ℕ) → length bytes ≤ at → at ≤ length bytes
+    → words_from comment [] (drop at bytes) ≡ words_of bytes
     → words_of (drop (length bytes) bytes) ≡ words_of bytes
 gap_ends bytes comment at le ge so_far =
     let is : at ≡ length bytes = omega arith in
@@ -103,14 +109,17 @@ word_ends bytes at lt first e so_far =
     sym so_far ∙ ends_at bytes at (take at bytes) lt here ∙ begun (take at bytes) (words_of (drop at bytes)) (grind (arith, common_steps))
 
 pub word_goes_on : (bytes : List ℕ) (at : ℕ) → at < length bytes
-    → (is_blank (get_or (take (length bytes - at) (drop at bytes)) 0 0) || begins_comment (take (length bytes - at) (drop at bytes))) ≡ false
-    → words_from false (take at bytes) (drop at bytes) ≡ words_of bytes → words_from false (take (at + 1) bytes) (drop (at + 1) bytes) ≡ words_of bytes
+    → (is_blank (get_or (take (length bytes - at) (drop at bytes)) 0 0) || begins_comment (take (length bytes - at) (drop at bytes)))
+    ≡ false
+    → words_from false (take at bytes) (drop at bytes) ≡ words_of bytes
+    → words_from false (take (at + 1) bytes) (drop (at + 1) bytes) ≡ words_of bytes
 word_goes_on bytes at lt e so_far =
     let e : (is_blank (get_or (drop at bytes) 0 0) || begins_comment (drop at bytes)) ≡ false = subst (λ r. (is_blank (get_or r 0 0) || begins_comment r) ≡ false) (rest_of bytes at (omega arith)) e in
     let here : (is_blank (get_or bytes at 0) || begins_comment (drop at bytes)) ≡ false = subst (λ b. (is_blank b || begins_comment (drop at bytes)) ≡ false) (get_or-drop at bytes 0 0 ∙ ap (λ k. get_or bytes k 0) (add-zero at)) e in
     stays_at bytes at lt here ∙ so_far
 
-pub word_is_last : (bytes : List ℕ) (at : ℕ) → 0 < length bytes → length bytes ≤ at → at ≤ length bytes → words_from false (take at bytes) (drop at bytes) ≡ words_of bytes
+pub word_is_last : (bytes : List ℕ) (at : ℕ) → 0 < length bytes → length bytes ≤ at → at ≤ length bytes
+    → words_from false (take at bytes) (drop at bytes) ≡ words_of bytes
     → words_of bytes ≡ take (length bytes) bytes ∷ words_of (drop (length bytes) bytes)
 word_is_last bytes at some le ge so_far =
     let is : at ≡ length bytes = omega arith in
@@ -119,7 +128,8 @@ word_is_last bytes at some le ge so_far =
     ∙ begun (take (length bytes) bytes) [] (grind (arith, common_steps)) ∙ ap (λ ws. take (length bytes) bytes ∷ ws) (sym (no_byte false) ∙ ap words_of (sym (drop-length bytes)))
 
 pub no_word : (text : List ℕ) (at n : ℕ) → at ≤ length text → at + n ≡ length text
-    → words_of (drop n (take (length text - at) (drop at text))) ≡ words_of (take (length text - at) (drop at text)) → (words_of (drop at text) ≡ []) × (words_of (drop (at + n) text) ≡ [])
+    → words_of (drop n (take (length text - at) (drop at text))) ≡ words_of (take (length text - at) (drop at text))
+    → (words_of (drop at text) ≡ []) × (words_of (drop (at + n) text) ≡ [])
 no_word text at n le is same =
     let r = rest_of text at le in
     let same : words_of (drop n (drop at text)) ≡ words_of (drop at text) = subst (λ r. words_of (drop n r) ≡ words_of r) r same in
@@ -129,15 +139,18 @@ no_word text at n le is same =
 
 -- ---- the first byte
 
-pub comment_stands : (bytes : List ℕ) (comment : Bool) → 0 < length bytes → comment ≡ true → words_from (not (get_or bytes 0 0 == 10)) [] (drop 1 bytes) ≡ words_from comment [] bytes
+pub comment_stands : (bytes : List ℕ) (comment : Bool) → 0 < length bytes → comment ≡ true
+    → words_from (not (get_or bytes 0 0 == 10)) [] (drop 1 bytes) ≡ words_from comment [] bytes
 comment_stands [] comment h e = absurd (elim h [ ])
 comment_stands (b ∷ bs) comment h e = rw e (in_comment b bs)
 
-pub blank_first : (bytes : List ℕ) (comment : Bool) → 0 < length bytes → comment ≡ false → is_blank (get_or bytes 0 0) ≡ true → words_from false [] (drop 1 bytes) ≡ words_from comment [] bytes
+pub blank_first : (bytes : List ℕ) (comment : Bool) → 0 < length bytes → comment ≡ false → is_blank (get_or bytes 0 0) ≡ true
+    → words_from false [] (drop 1 bytes) ≡ words_from comment [] bytes
 blank_first [] comment h e f = absurd (elim h [ ])
 blank_first (b ∷ bs) comment h e f = rw e (sym (blank_ends b [] bs f))
 
-pub comment_first : (bytes : List ℕ) (comment : Bool) → 0 < length bytes → comment ≡ false → is_blank (get_or bytes 0 0) ≡ false → begins_comment bytes ≡ true
+pub comment_first : (bytes : List ℕ) (comment : Bool) → 0 < length bytes → comment ≡ false → is_blank (get_or bytes 0 0) ≡ false
+    → begins_comment bytes ≡ true
     → words_from true [] (drop 1 bytes) ≡ words_from comment [] bytes
 comment_first [] comment h e f g = absurd (elim h [ ])
 comment_first (b ∷ bs) comment h e f g = rw e (sym (comment_ends b [] bs f g))

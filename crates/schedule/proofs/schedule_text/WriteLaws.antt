@@ -25,7 +25,8 @@ plain_byte b bs e =
     let lt : 35 < b = ltb-true 35 b e in
     rw (not_equal b 9 (λ h. omega (arith, lt, h)), not_equal b 10 (λ h. omega (arith, lt, h)), not_equal b 13 (λ h. omega (arith, lt, h)), not_equal b 32 (λ h. omega (arith, lt, h)), not_equal b 35 (λ h. omega (arith, lt, h))) refl
 
-plain_word : (w begun : List ℕ) (gap : ℕ) (more : List ℕ) → is_plain w ≡ true → is_blank gap ≡ true → words_from false begun (w ++ gap ∷ more) ≡ with_word (begun ++ w) (words_of more)
+plain_word : (w begun : List ℕ) (gap : ℕ) (more : List ℕ) → is_plain w ≡ true → is_blank gap ≡ true
+    → words_from false begun (w ++ gap ∷ more) ≡ with_word (begun ++ w) (words_of more)
 plain_word [] begun gap more p blank = blank_ends gap begun more blank ∙ ap (λ x. with_word x (words_of more)) (sym (append-nil begun))
 plain_word (b ∷ bs) begun gap more p blank =
     let q = both_true (nat_lt 35 b) (is_plain bs) p in
@@ -34,7 +35,8 @@ plain_word (b ∷ bs) begun gap more p blank =
 is_gap : (gap : ℕ) → (gap ≡ 32) ⊎ (gap ≡ 10) → is_blank gap ≡ true
 is_gap gap h = elim h [ inl e ↦ rw e refl | inr e ↦ rw e refl ]
 
-pub word_added : (old new w : List ℕ) (gap : ℕ) → is_plain w ≡ true → 0 < length w → (gap ≡ 32) ⊎ (gap ≡ 10) → new ≡ old ++ (w ++ gap ∷ []) → AddsWords old new (w ∷ [])
+pub word_added : (old new w : List ℕ) (gap : ℕ) → is_plain w ≡ true → 0 < length w → (gap ≡ 32) ⊎ (gap ≡ 10) → new ≡ old ++ (w ++ gap ∷ [])
+    → AddsWords old new (w ∷ [])
 word_added old new w gap p some is e = record {
   added = w ++ gap ∷ [];
   text = e;
@@ -115,7 +117,8 @@ adds_more a b c us vs p q = record {
   spelled = λ more. ap words_of (append_assoc p.added q.added more) ∙ p.spelled (q.added ++ more) ∙ ap (λ x. us ++ x) (q.spelled more) ∙ sym (append_assoc us vs (words_of more));
 }
 
-pub one_more : {X : Type 0} (f : X → List ℕ) (xs : List X) (k : ℕ) (x : X) (a b c : List ℕ) → k < length xs → AddsWords a b (map f (take k xs)) → AddsWords b c (f (get_or xs k x) ∷ []) → AddsWords a c (map f (take (k + 1) xs))
+pub one_more : {X : Type 0} (f : X → List ℕ) (xs : List X) (k : ℕ) (x : X) (a b c : List ℕ) → k < length xs
+    → AddsWords a b (map f (take k xs)) → AddsWords b c (f (get_or xs k x) ∷ []) → AddsWords a c (map f (take (k + 1) xs))
 one_more f xs k x a b c lt p q =
     let words : map f (take (k + 1) xs) ≡ map f (take k xs) ++ f (get_or xs k x) ∷ [] = ap (map f) (take_more xs k x lt) ∙ map-append f (take k xs) (get_or xs k x ∷ []) in
     rw words (adds_more a b c (map f (take k xs)) (f (get_or xs k x) ∷ []) p q)
@@ -125,5 +128,6 @@ whole old new ws none p =
     let text : new ≡ p.added = p.text ∙ ap (λ x. x ++ p.added) none in
     ap words_of (text ∙ sym (append-nil p.added)) ∙ p.spelled [] ∙ ap (λ x. ws ++ x) (no_byte false) ∙ append-nil ws
 
-pub of_number : (old new name : List ℕ) (n m : ℕ) → n ≡ m → AddsWords old new ((name ++ decimal n) ∷ []) → AddsWords old new ((name ++ decimal m) ∷ [])
+pub of_number : (old new name : List ℕ) (n m : ℕ) → n ≡ m → AddsWords old new ((name ++ decimal n) ∷ [])
+    → AddsWords old new ((name ++ decimal m) ∷ [])
 of_number old new name n m e = subst (λ k. AddsWords old new ((name ++ decimal k) ∷ [])) e

@@ -62,20 +62,23 @@ length_from (node ∷ nodes) w =
 pub length_ways : (nodes : List Node) → length (ways nodes) ≡ length nodes + 1
 length_ways nodes = length_from nodes ([] ∷ []) ∙ omega arith
 
-pushed_from : (nodes : List Node) (w : Ways) (node : Node) → ways_from w (nodes ++ node ∷ []) ≡ with_way (ways_from w nodes) node.parent node.entry
+pushed_from : (nodes : List Node) (w : Ways) (node : Node)
+    → ways_from w (nodes ++ node ∷ []) ≡ with_way (ways_from w nodes) node.parent node.entry
 pushed_from [] w node = refl
 pushed_from (first ∷ nodes) w node = pushed_from nodes (with_way w first.parent first.entry) node
 
 pub ways_pushed : (nodes : List Node) (node : Node) → ways (nodes ++ node ∷ []) ≡ with_way (ways nodes) node.parent node.entry
 ways_pushed nodes node = pushed_from nodes ([] ∷ []) node
 
-below_from : (nodes : List Node) (number : ℕ) (node : Node) → AreBelow number nodes → node.parent < number + length nodes → AreBelow number (nodes ++ node ∷ [])
+below_from : (nodes : List Node) (number : ℕ) (node : Node) → AreBelow number nodes → node.parent < number + length nodes
+    → AreBelow number (nodes ++ node ∷ [])
 below_from [] number node h lt = let l : node.parent < number = omega (arith, lt) in (l, tt)
 below_from (first ∷ nodes) number node h lt =
     let l : node.parent < suc number + length nodes = omega (arith, lt) in
     (h.0, below_from nodes (suc number) node h.1 l)
 
-pub below_pushed : (nodes : List Node) (node : Node) → AreBelow 1 nodes → node.parent < length (ways nodes) → AreBelow 1 (nodes ++ node ∷ [])
+pub below_pushed : (nodes : List Node) (node : Node) → AreBelow 1 nodes → node.parent < length (ways nodes)
+    → AreBelow 1 (nodes ++ node ∷ [])
 below_pushed nodes node h lt =
     let l : node.parent < 1 + length nodes = omega (arith, lt, length_ways nodes) in
     below_from nodes 1 node h l
@@ -88,7 +91,8 @@ record IsStep (nodes : List Node) (w : Ways) (i : ℕ) (node : Node) : Type 0 wh
   below : node.parent < length w + i
   is : way_at (ways_from w nodes) (length w + i) ≡ way_at (ways_from w nodes) node.parent ++ node.entry ∷ []
 
-step_at : (nodes : List Node) (w : Ways) (i : ℕ) (node : Node) → AreBelow (length w) nodes → slice_get nodes i ≡ Some node → IsStep nodes w i node
+step_at : (nodes : List Node) (w : Ways) (i : ℕ) (node : Node) → AreBelow (length w) nodes → slice_get nodes i ≡ Some node
+    → IsStep nodes w i node
 step_at [] w i node h e = absurd (none-some node e)
 step_at (first ∷ nodes) w zero node h e =
     let same : first ≡ node = get_or_from_slice_get (first ∷ nodes) 0 node first e in
@@ -133,14 +137,16 @@ append_none (x ∷ xs) = ap (λ l. x ∷ l) (append_none xs)
 pub starts : (nodes : List Node) (number : ℕ) → number < length nodes + 1 → IsBack nodes number number []
 starts nodes number lt = record { within = lt; are = sym (append_none (way_at (ways nodes) number)); each = tt; few = omega arith }
 
-module _ (nodes : List Node) (below : AreBelow 1 nodes) (fitting : AreFitting nodes) (number at i : ℕ) (node : Node) (is : slice_get nodes i ≡ Some node) (before : at ≡ 1 + i) where
+module _ (nodes : List Node) (below : AreBelow 1 nodes) (fitting : AreFitting nodes) (number at i : ℕ) (node : Node)
+    (is : slice_get nodes i ≡ Some node) (before : at ≡ 1 + i) where
   step : IsStep nodes ([] ∷ []) i node
   step = step_at nodes ([] ∷ []) i node below is
 
   pub falls : node.parent < at
   falls = let lt = step.below in omega (arith, lt, before)
 
-  pub goes_back : (entries : List ScheduleEntry) → IsBack nodes number at entries → IsBack nodes number node.parent (entries ++ node.entry ∷ [])
+  pub goes_back : (entries : List ScheduleEntry) → IsBack nodes number at entries
+      → IsBack nodes number node.parent (entries ++ node.entry ∷ [])
   goes_back entries h =
       let s = step in
       let lt : node.parent < length nodes + 1 = omega (arith, s.below, h.within, before) in
@@ -156,16 +162,19 @@ module _ (nodes : List Node) (below : AreBelow 1 nodes) (fitting : AreFitting no
         few = le;
       }
 
-pub all_back : (nodes : List Node) (number : ℕ) (entries : List ScheduleEntry) → IsBack nodes number 0 entries → IsWayBack nodes number entries
+pub all_back : (nodes : List Node) (number : ℕ) (entries : List ScheduleEntry) → IsBack nodes number 0 entries
+    → IsWayBack nodes number entries
 all_back nodes number entries h =
     let none : way_at (ways nodes) 0 ≡ [] = way_of (ways nodes) 0 [] (kept nodes ([] ∷ []) 0 [] refl) in
     let le : length entries ≤ number = omega (arith, h.few) in
     record { are = h.are ∙ ap (λ l. l ++ reverse entries) none; each = h.each; few = le }
 
-pub forwards : (nodes : List Node) (number : ℕ) (entries : List ScheduleEntry) → IsWayBack nodes number entries → number < length (ways nodes) → slice_get (ways nodes) number ≡ Some (reverse entries)
+pub forwards : (nodes : List Node) (number : ℕ) (entries : List ScheduleEntry) → IsWayBack nodes number entries
+    → number < length (ways nodes) → slice_get (ways nodes) number ≡ Some (reverse entries)
 forwards nodes number entries h lt = way_there (ways nodes) number lt ∙ ap (λ l. Some l) h.are
 
-pub forwards_fit : (nodes : List Node) (number : ℕ) (entries : List ScheduleEntry) → length nodes + 1 < 2 ^ 32 → number < length (ways nodes) → IsWayBack nodes number entries → AreEntries (reverse entries)
+pub forwards_fit : (nodes : List Node) (number : ℕ) (entries : List ScheduleEntry) → length nodes + 1 < 2 ^ 32
+    → number < length (ways nodes) → IsWayBack nodes number entries → AreEntries (reverse entries)
 forwards_fit nodes number entries most lt h =
     let few : length (reverse entries) < 2 ^ 32 = omega (arith, length-reverse entries, h.few, lt, most, length_ways nodes) in
     record { count = few; each = all_reversed EntryFits entries h.each }

@@ -79,7 +79,8 @@ pub(crate) fn push_end(
     events: u64,
     end: &End,
 ) -> Result<(), AllocError>
-    ensures { OnOk result (text.new.items ≡ text.old.items ++ (line (codes "events " ++ number events) ++ line (codes "end " ++ end_words end.now))) }
+    ensures { OnOk result (text.new.items ≡ text.old.items
+        ++ (line (codes "events " ++ number events) ++ line (codes "end " ++ end_words end.now))) }
 {
     push_line(text, format!(in alloc; "events {events}")?.as_bytes())?;
     push_line(text, format!(in alloc; "end {end}")?.as_bytes())

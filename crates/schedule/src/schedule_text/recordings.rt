@@ -32,7 +32,8 @@ fn heading(words: &mut Words<'_>, name: &[u8]) -> bool
 /// The number behind this name in the next word.
 fn limit(words: &mut Words<'_>, name: &[u8]) -> Option<u32>
     ensures found { IfSome result (λ n. words.old ≡ (name.now ++ decimal n) ∷ words.new) }
-    ensures only { (n : ℕ) (rest : List (List ℕ)) → n < 2 ^ 32 → words.old ≡ (name.now ++ decimal n) ∷ rest → (result ≡ Some n) × (words.new ≡ rest) }
+    ensures only { (n : ℕ) (rest : List (List ℕ)) → n < 2 ^ 32 → words.old ≡ (name.now ++ decimal n) ∷ rest
+        → (result ≡ Some n) × (words.new ≡ rest) }
 {
     match words.next() {
         Some(word) => match word.strip_prefix(name) {
@@ -49,7 +50,8 @@ fn limit(words: &mut Words<'_>, name: &[u8]) -> Option<u32>
 /// The limits that the next five words spell.
 fn limits(words: &mut Words<'_>) -> Option<Limits>
     ensures found { IfSome result (λ l. (words.old ≡ limit_words l ++ words.new) × (l.cells < 2 ^ 32)) }
-    ensures only { (l : Bounds) (rest : List (List ℕ)) → l.cells < 2 ^ 32 → words.old ≡ limit_words l ++ rest → (result ≡ Some l) × (words.new ≡ rest) }
+    ensures only { (l : Bounds) (rest : List (List ℕ)) → l.cells < 2 ^ 32 → words.old ≡ limit_words l ++ rest
+        → (result ≡ Some l) × (words.new ≡ rest) }
 {
     let objects = limit(words, b"objects=")?;
     let cells = limit(words, b"cells=")?;
@@ -62,7 +64,8 @@ fn limits(words: &mut Words<'_>) -> Option<Limits>
 /// The lengths up to the word that ends them, which is read, too.
 fn lengths(alloc: Global, words: &mut Words<'_>) -> Result<Vec<u64>, TextFault>
     ensures found { IfOk result (λ v. (words.old ≡ length_words v.items ++ words.new) × (length v.items < 2 ^ 32)) }
-    ensures only { (ns : List ℕ) (rest : List (List ℕ)) → AllByRecursion (λ n. n < 2 ^ 64) ns → length ns < 2 ^ 32 → words.old ≡ length_words ns ++ rest
+    ensures only { (ns : List ℕ) (rest : List (List ℕ)) → AllByRecursion (λ n. n < 2 ^ 64) ns → length ns < 2 ^ 32
+        → words.old ≡ length_words ns ++ rest
         → Reads {Y = List ℕ × List (List ℕ)} (λ v. (v.items, words.new)) result (ns, rest) }
 {
     let mut lengths = Vec::new(alloc);
@@ -103,7 +106,8 @@ fn recording(alloc: Global, words: &mut Words<'_>) -> Result<Recording, TextFaul
 /// What stands in front of the entries, if anything does.
 pub(crate) fn recorded(alloc: Global, words: &mut Words<'_>) -> Result<Option<Recording>, TextFault>
     ensures found { IfOk result (λ r. (words.old ≡ recording_words r ++ words.new) × file.RecordedFits r) }
-    ensures only { (r : Option file.Recording) (es : List ScheduleEntry) → file.RecordedFits r → file.AreEntries es → words.old ≡ recording_words r ++ map entry_word es
+    ensures only { (r : Option file.Recording) (es : List ScheduleEntry) → file.RecordedFits r → file.AreEntries es
+        → words.old ≡ recording_words r ++ map entry_word es
         → Reads {Y = Option file.Recording × List (List ℕ)} (λ x. (x, words.new)) result (r, map entry_word es) }
 {
     if words.begins_with(b"#limits") {

@@ -19,7 +19,8 @@ use Rattle.search.specs.met_states.Met.{AreAlikeStatesMet, AreNewStatesMet, AreH
 
 -- ---- one event more
 
-run_more : (trees : Program) (frames : ℕ) (events : List Event) (from state next : State) (event : Event) → run_from trees frames from events ≡ Some state → step trees frames state event ≡ Some next
+run_more : (trees : Program) (frames : ℕ) (events : List Event) (from state next : State) (event : Event)
+    → run_from trees frames from events ≡ Some state → step trees frames state event ≡ Some next
     → run_from trees frames from (events ++ event ∷ []) ≡ Some next
 run_more trees frames [] from state next event r e =
     ap (option_and_then (λ s. run_from trees frames s [])) (ap (λ s. step trees frames s event) (same_Some from state r) ∙ e)

@@ -86,7 +86,8 @@ module _ (o : Outcome) where
       by Equal r = h
       by Greater r = (h.0, r)
 
-  all_below : (x : Outcome) (xs : List Outcome) → outcome_cmp o x ≡ Less → AllByRecursion (λ y. outcome_cmp x y ≡ Less) xs → AllByRecursion (λ y. outcome_cmp o y ≡ Less) xs
+  all_below : (x : Outcome) (xs : List Outcome) → outcome_cmp o x ≡ Less → AllByRecursion (λ y. outcome_cmp x y ≡ Less) xs
+      → AllByRecursion (λ y. outcome_cmp o y ≡ Less) xs
   all_below x [] e h = tt
   all_below x (y ∷ xs) e h = (outcomes_total.trans o x y e h.0, all_below x xs e h.1)
 

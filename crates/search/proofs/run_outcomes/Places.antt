@@ -31,7 +31,9 @@ module _ (outcomes : List Outcome) (o : Outcome) (at : ℕ) (x : Outcome) (lt : 
   rest = drop-cons outcomes at x lt ∙ ap (λ y. y ∷ drop (suc at) outcomes) (sym is)
 
   step : (c : Ordering) → outcome_cmp o x ≡ c → IsBehind outcomes o at
-      → insert_key outcome_cmp outcomes o ≡ take at outcomes ++ match_ordering c (o ∷ x ∷ drop (suc at) outcomes) (x ∷ drop (suc at) outcomes) (x ∷ insert_key outcome_cmp (drop (suc at) outcomes) o)
+      → insert_key outcome_cmp outcomes o ≡ take at outcomes
+      ++ match_ordering c (o ∷ x ∷ drop (suc at) outcomes) (x ∷ drop (suc at) outcomes) (x
+      ∷ insert_key outcome_cmp (drop (suc at) outcomes) o)
   step c e h =
       h ∙ (ap (λ l. take at outcomes ++ insert_key outcome_cmp l o) rest
       ∙ ap (λ d. take at outcomes ++ match_ordering d (o ∷ x ∷ drop (suc at) outcomes) (x ∷ drop (suc at) outcomes) (x ∷ insert_key outcome_cmp (drop (suc at) outcomes) o)) e)
@@ -51,7 +53,8 @@ module _ (outcomes : List Outcome) (o : Outcome) (at : ℕ) (x : Outcome) (lt : 
       ∙ (ap (λ l. l ++ insert_key outcome_cmp (drop (suc at) outcomes) o) (sym front)
       ∙ ap (λ n. take (at + 1) outcomes ++ insert_key outcome_cmp (drop n outcomes) o) next))
 
-pub at_end : (outcomes : List Outcome) (o : Outcome) (at : ℕ) → length outcomes ≤ at → IsBehind outcomes o at → insert_key outcome_cmp outcomes o ≡ insert outcomes at o
+pub at_end : (outcomes : List Outcome) (o : Outcome) (at : ℕ) → length outcomes ≤ at → IsBehind outcomes o at
+    → insert_key outcome_cmp outcomes o ≡ insert outcomes at o
 at_end outcomes o at le h =
     let none : drop at outcomes ≡ [] = drop_of_length-le outcomes le in
     h ∙ (ap (λ l. take at outcomes ++ insert_key outcome_cmp l o) none ∙ ap (λ l. take at outcomes ++ o ∷ l) (sym none))
@@ -65,9 +68,11 @@ module _ {X Y : Type 0} (f : X → Y) (xs : List X) (at : ℕ) (x : X) (lt : at 
   image : f x ≡ get_or (map f xs) at (f x)
   image = ap f is ∙ sym (get_or-map f xs at x (f x) lt)
 
-module _ (listed : List TheOutcome) (outcome : TheOutcome) (at : ℕ) (x : TheOutcome) (lt : at < length listed) (is : x ≡ get_or listed at x) (behind : IsBehind (map told_by listed) (told_by outcome) at)
+module _ (listed : List TheOutcome) (outcome : TheOutcome) (at : ℕ) (x : TheOutcome) (lt : at < length listed)
+    (is : x ≡ get_or listed at x) (behind : IsBehind (map told_by listed) (told_by outcome) at)
     (c : Ordering) (compared : c ≡ outcome_cmp (told_by outcome) (told_by x)) where
-  pub told_here : c ≡ Less → insert_key outcome_cmp (map told_by listed) (told_by outcome) ≡ insert (map told_by listed) at (told_by outcome)
+  pub told_here : c ≡ Less → insert_key outcome_cmp (map told_by listed) (told_by outcome)
+      ≡ insert (map told_by listed) at (told_by outcome)
   told_here e = here (map told_by listed) (told_by outcome) at (told_by x) (image_there told_by listed at x lt is) (image told_by listed at x lt is) (sym compared ∙ e) behind
 
   pub told_there : c ≡ Equal → insert_key outcome_cmp (map told_by listed) (told_by outcome) ≡ map told_by listed
@@ -76,7 +81,8 @@ module _ (listed : List TheOutcome) (outcome : TheOutcome) (at : ℕ) (x : TheOu
   pub told_beyond : c ≡ Greater → IsBehind (map told_by listed) (told_by outcome) (at + 1)
   told_beyond e = beyond (map told_by listed) (told_by outcome) at (told_by x) (image_there told_by listed at x lt is) (image told_by listed at x lt is) (sym compared ∙ e) behind
 
-pub told_last : (listed : List TheOutcome) (outcome : TheOutcome) (at : ℕ) → at ≤ length listed → length listed ≤ at → IsBehind (map told_by listed) (told_by outcome) at
+pub told_last : (listed : List TheOutcome) (outcome : TheOutcome) (at : ℕ) → at ≤ length listed → length listed ≤ at
+    → IsBehind (map told_by listed) (told_by outcome) at
     → insert_key outcome_cmp (map told_by listed) (told_by outcome) ≡ insert (map told_by listed) (length listed) (told_by outcome)
 told_last listed outcome at most least behind =
     let same : at ≡ length listed = omega (arith, most, least) in
@@ -84,7 +90,8 @@ told_last listed outcome at most least behind =
     at_end (map told_by listed) (told_by outcome) at all behind ∙ ap (λ n. insert (map told_by listed) n (told_by outcome)) same
 
 -- what is inserted, is inserted in what is told
-pub told_inserted : (listed : List TheOutcome) (outcome : TheOutcome) (at : ℕ) → map told_by (insert listed at outcome) ≡ insert (map told_by listed) at (told_by outcome)
+pub told_inserted : (listed : List TheOutcome) (outcome : TheOutcome) (at : ℕ)
+    → map told_by (insert listed at outcome) ≡ insert (map told_by listed) at (told_by outcome)
 told_inserted listed outcome at =
     map-append told_by (take at listed) (outcome ∷ drop at listed)
     ∙ (ap (λ l. l ++ told_by outcome ∷ map told_by (drop at listed)) (sym (take-map told_by at listed))
@@ -108,7 +115,8 @@ module _ {X : Type 0} (cmp : X → X → Ordering) where
   abbrev pub AreLevel : (xs ys : List X) → ℕ → Type 0
   AreLevel xs ys at = slice_cmp cmp xs ys ≡ slice_cmp cmp (drop at xs) (drop at ys)
 
-  pub level_step : (xs ys : List X) (at : ℕ) (x y : X) → at < length xs → at < length ys → x ≡ get_or xs at x → y ≡ get_or ys at y → (c : Ordering) → cmp x y ≡ c → AreLevel xs ys at
+  pub level_step : (xs ys : List X) (at : ℕ) (x y : X) → at < length xs → at < length ys → x ≡ get_or xs at x → y ≡ get_or ys at y
+      → (c : Ordering) → cmp x y ≡ c → AreLevel xs ys at
       → slice_cmp cmp xs ys ≡ ordering_then c (slice_cmp cmp (drop (suc at) xs) (drop (suc at) ys))
   level_step xs ys at x y ltx lty isx isy c e h =
       let restx = drop-cons xs at x ltx ∙ ap (λ z. z ∷ drop (suc at) xs) (sym isx) in
@@ -118,16 +126,19 @@ module _ {X : Type 0} (cmp : X → X → Ordering) where
       ∙ ap (λ d. ordering_then d (slice_cmp cmp (drop (suc at) xs) (drop (suc at) ys))) e))
 
   -- all of the shorter one are: they compare as their lengths do
-  pub level_end : (xs ys : List X) (at : ℕ) → at ≡ min (length xs) (length ys) → AreLevel xs ys at → nat_cmp (length xs) (length ys) ≡ slice_cmp cmp xs ys
+  pub level_end : (xs ys : List X) (at : ℕ) → at ≡ min (length xs) (length ys) → AreLevel xs ys at
+      → nat_cmp (length xs) (length ys) ≡ slice_cmp cmp xs ys
   level_end xs ys at e h = by (drop at xs) (drop at ys) (length-drop at xs) (length-drop at ys) ∙ sym h
     where
-      by : (left right : List X) → length left ≡ length xs - at → length right ≡ length ys - at → nat_cmp (length xs) (length ys) ≡ slice_cmp cmp left right
+      by : (left right : List X) → length left ≡ length xs - at → length right ≡ length ys - at
+          → nat_cmp (length xs) (length ys) ≡ slice_cmp cmp left right
       by [] [] p q = let same : length xs ≡ length ys = omega (arith, e, p, q) in ap (nat_cmp (length xs)) (sym same) ∙ itself (length xs)
       by [] (y ∷ right) p q = below (length xs) (length ys) (omega (arith, e, p, q))
       by (x ∷ left) [] p q = above (length xs) (length ys) (omega (arith, e, p, q))
       by (x ∷ left) (y ∷ right) p q = absurd (omega (arith, e, p, q))
 
-module _ (one other : List EndState) (at : ℕ) (least : ℕ) (shorter : least ≡ min (length one) (length other)) (level : AreLevel end_cmp (map end_state_of one) (map end_state_of other) at) where
+module _ (one other : List EndState) (at : ℕ) (least : ℕ) (shorter : least ≡ min (length one) (length other))
+    (level : AreLevel end_cmp (map end_state_of one) (map end_state_of other) at) where
   module _ (lt : at < least) (x y : EndState) (isx : x ≡ get_or one at x) (isy : y ≡ get_or other at y) (c : Ordering) (compared : c ≡ end_cmp (end_state_of x) (end_state_of y)) where
     ends_step : (d : Ordering) → c ≡ d
         → slice_cmp end_cmp (map end_state_of one) (map end_state_of other)
@@ -149,7 +160,8 @@ module _ (one other : List EndState) (at : ℕ) (least : ℕ) (shorter : least �
         let next : suc at ≡ at + 1 = omega arith in
         ends_step Equal e ∙ ap (λ n. slice_cmp end_cmp (drop n (map end_state_of one)) (drop n (map end_state_of other))) next
 
-  pub ends_all : at ≤ least → least ≤ at → (c : Ordering) → c ≡ nat_cmp (length one) (length other) → c ≡ slice_cmp end_cmp (map end_state_of one) (map end_state_of other)
+  pub ends_all : at ≤ least → least ≤ at → (c : Ordering) → c ≡ nat_cmp (length one) (length other)
+      → c ≡ slice_cmp end_cmp (map end_state_of one) (map end_state_of other)
   ends_all most all c compared =
       let here : at ≡ min (length (map end_state_of one)) (length (map end_state_of other)) = omega (arith, most, all, shorter, length-map one end_state_of, length-map other end_state_of) in
       compared
@@ -158,7 +170,8 @@ module _ (one other : List EndState) (at : ℕ) (least : ℕ) (shorter : least �
 
 -- ---- one of them passes a test
 
-pub any_of : (p : ThreadEnd → Bool) (ends : List EndState) → list_any (λ end. p (end_state_of end)) ends ≡ list_any p (map end_state_of ends)
+pub any_of : (p : ThreadEnd → Bool) (ends : List EndState)
+    → list_any (λ end. p (end_state_of end)) ends ≡ list_any p (map end_state_of ends)
 any_of p [] = refl
 any_of p (end ∷ ends) = ap (λ b. p (end_state_of end) || b) (any_of p ends)
 
@@ -166,7 +179,8 @@ module _ (o : TheOutcome) (ends : List EndState) (are : ends ≡ o.threads.items
   told_any : (p : ThreadEnd → Bool) → b ≡ list_any (λ end. p (end_state_of end)) ends → b ≡ list_any p (map end_state_of o.threads.items)
   told_any p e = e ∙ (any_of p ends ∙ ap (λ l. list_any p (map end_state_of l)) are)
 
-pub stuck_told : (want : Wanted) → want ≡ wanted.Stuck → (o : TheOutcome) (ends : List EndState) → ends ≡ o.threads.items → (b : Bool) → b ≡ list_any (λ end. is_stuck (end_state_of end)) ends
+pub stuck_told : (want : Wanted) → want ≡ wanted.Stuck → (o : TheOutcome) (ends : List EndState) → ends ≡ o.threads.items → (b : Bool)
+    → b ≡ list_any (λ end. is_stuck (end_state_of end)) ends
     → (IsTrue b → IsWanted want (told_by o)) × (IsWanted want (told_by o) → IsTrue b)
 stuck_told want is o ends are b e =
     let same = told_any o ends are b is_stuck e in (
@@ -174,7 +188,8 @@ stuck_told want is o ends are b e =
       λ w. same ∙ subst (λ v. IsWanted v (told_by o)) is w,
     )
 
-pub thrown_told : (want : Wanted) → want ≡ wanted.Uncaught → (o : TheOutcome) (ends : List EndState) → ends ≡ o.threads.items → (b : Bool) → b ≡ list_any (λ end. has_thrown (end_state_of end)) ends
+pub thrown_told : (want : Wanted) → want ≡ wanted.Uncaught → (o : TheOutcome) (ends : List EndState) → ends ≡ o.threads.items → (b : Bool)
+    → b ≡ list_any (λ end. has_thrown (end_state_of end)) ends
     → (IsTrue b → IsWanted want (told_by o)) × (IsWanted want (told_by o) → IsTrue b)
 thrown_told want is o ends are b e =
     let same = told_any o ends are b has_thrown e in (
@@ -184,7 +199,8 @@ thrown_told want is o ends are b e =
 
 -- ---- a list that is shown
 
-module _ (shown : List Outcome) (listed lent : List TheOutcome) (o : TheOutcome) (are : map told_by listed ≡ shown) (same : lent ≡ listed) where
+module _ (shown : List Outcome) (listed lent : List TheOutcome) (o : TheOutcome) (are : map told_by listed ≡ shown)
+    (same : lent ≡ listed) where
   seen : map told_by lent ≡ shown
   seen = ap (map told_by) same ∙ are
 

@@ -15,7 +15,8 @@ push i (y ∷ xs) x =
 
 -- the lines with one outcome more
 pub one_more : (outcomes : List TheOutcome) (k : ℕ) (d : TheOutcome) → k < length outcomes
-    → outcome_texts 1 (map told_by (take (k + 1) outcomes)) ≡ outcome_texts 1 (map told_by (take k outcomes)) ++ outcome_text (k + 1) (told_by (get_or outcomes k d))
+    → outcome_texts 1 (map told_by (take (k + 1) outcomes))
+    ≡ outcome_texts 1 (map told_by (take k outcomes)) ++ outcome_text (k + 1) (told_by (get_or outcomes k d))
 one_more outcomes k d lt =
     let place : 1 + length (map told_by (take k outcomes)) ≡ k + 1 = omega (arith, length-map (take k outcomes) told_by, length-take k outcomes) in
     ap (λ (l : List TheOutcome). outcome_texts 1 (map told_by l)) (take_more outcomes k d lt)

@@ -44,7 +44,8 @@ AreHigherPicksLeft =
 abbrev pub AreOtherThreadsLeft : Type 0
 AreOtherThreadsLeft =
     (trees : Program) (p : LinkedProgram) (bounds : Bounds) (schedules : List (List Event)) (events : List Event) (event : Event) (shared : Shared)
-    → HasRun trees p bounds shared events → length shared.threads.threads ≤ event.thread → IsNextMet trees bounds.frames schedules events event
+    → HasRun trees p bounds shared events → length shared.threads.threads ≤ event.thread
+    → IsNextMet trees bounds.frames schedules events event
 
 -- ---- many
 
@@ -61,7 +62,8 @@ AreMetStatesKept =
 pub record HasMetAll (trees : Program) (frames : ℕ) (schedules : List (List Event)) (outcomes : List Outcome) : Type 0 where
   pub opened : Has schedules []
   pub met : (events : List Event) (event : Event) → Has schedules events → IsNextMet trees frames schedules events event
-  pub listed : (events : List Event) (state : State) → Has schedules events → run trees frames events ≡ Some state → IsTrue (is_quiet trees frames state)
+  pub listed : (events : List Event) (state : State) → Has schedules events → run trees frames events ≡ Some state
+      → IsTrue (is_quiet trees frames state)
       → Has outcomes (outcome_of trees frames state)
   pub only : (outcome : Outcome) → Has outcomes outcome → (events : List Event) × EndsWith trees frames events outcome
 

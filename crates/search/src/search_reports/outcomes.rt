@@ -39,7 +39,8 @@ pub(crate) fn push_outcomes(
     text: &mut Vec<u8>,
     outcomes: &Outcomes,
 ) -> Result<(), AllocError>
-    ensures { OnOk result (text.new.items ≡ text.old.items ++ (outcome_texts 1 outcomes.now ++ line (codes "outcomes " ++ number (length outcomes.now)))) }
+    ensures { OnOk result (text.new.items ≡ text.old.items
+        ++ (outcome_texts 1 outcomes.now ++ line (codes "outcomes " ++ number (length outcomes.now)))) }
 {
     let all = outcomes.as_slice();
     push_each(alloc, text, all)?;

@@ -25,7 +25,8 @@ pub declared_class : (n : ℕ) (name : Name) → declared_with n (Object name) �
 declared_class zero name = refl
 declared_class (suc n) name = ap (λ t. DeclaredReference t) (arrays_more n (ClassType name))
 
-pub declared_primitive : (n : ℕ) (e : ElementType) (of : Primitive) → element_declared e ≡ DeclaredInt → array_of e ≡ PrimitiveArray of → declared_with n e ≡ primitive_declared n of
+pub declared_primitive : (n : ℕ) (e : ElementType) (of : Primitive) → element_declared e ≡ DeclaredInt → array_of e ≡ PrimitiveArray of
+    → declared_with n e ≡ primitive_declared n of
 declared_primitive zero e of int array = int
 declared_primitive (suc n) e of int array = ap (λ t. DeclaredReference (arrays n t)) array
 
@@ -55,9 +56,11 @@ primitive_before (suc n) of l =
 
 module _ (files : Program) where
   -- a primitive type, or an array of one
-  pub of_primitive : (n : ℕ) (e x : declared_element.Element) (of : Primitive) (t : declared_type.VerificationType) → e ≡ x → element_declared (element_of x) ≡ DeclaredInt → array_of (element_of x) ≡ PrimitiveArray of
+  pub of_primitive : (n : ℕ) (e x : declared_element.Element) (of : Primitive) (t : declared_type.VerificationType) → e ≡ x
+      → element_declared (element_of x) ≡ DeclaredInt → array_of (element_of x) ≡ PrimitiveArray of
       → type_in files t ≡ verification_type files (primitive_declared n of)
-      → (type_in files t ≡ verification_type files (declared_with n (element_of e))) × (declared_missing files (declared_with n (element_of e)) ≡ false)
+      → (type_in files t ≡ verification_type files (declared_with n (element_of e)))
+      × (declared_missing files (declared_with n (element_of e)) ≡ false)
   of_primitive n e x of t is int array h =
       let same : declared_with n (element_of e) ≡ primitive_declared n of = ap (λ e. declared_with n (element_of e)) is ∙ declared_primitive n (element_of x) of int array in
       (h ∙ sym (ap (verification_type files) same), ap (declared_missing files) same ∙ none n)
@@ -68,7 +71,8 @@ module _ (files : Program) where
 
   -- a class, or an array of it
   pub of_class : (n : ℕ) (e x : declared_element.Element) (name : Name) → e ≡ x → element_of x ≡ Object name
-      → (verification_type files (declared_with n (element_of e)) ≡ OfType (arrays n (made_type files (ClassType name)))) × (declared_missing files (declared_with n (element_of e)) ≡ is_missing files name)
+      → (verification_type files (declared_with n (element_of e)) ≡ OfType (arrays n (made_type files (ClassType name))))
+      × (declared_missing files (declared_with n (element_of e)) ≡ is_missing files name)
   of_class n e x name is named =
       let same : declared_with n (element_of e) ≡ DeclaredReference (arrays n (ClassType name)) = ap (λ e. declared_with n (element_of e)) is ∙ ap (declared_with n) named ∙ declared_class n name in
       (ap (verification_type files) same ∙ ap (λ t. OfType t) (made_arrays files n (ClassType name)), ap (declared_missing files) same ∙ arrays_missing files n (ClassType name))

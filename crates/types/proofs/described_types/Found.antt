@@ -43,7 +43,8 @@ module _ (files : Program) where
   class_found : (n : ℕ) (name : Name) → is_missing files name ≡ false → declared_missing files (declared_with n (Object name)) ≡ false
   class_found n name h = ap (declared_missing files) (declared_class n name) ∙ arrays_missing files n (ClassType name) ∙ h
 
-  one_of : (n : ℕ) (e : ElementType) (rest : List Name) → list_any (is_missing files) (cons_option (class_of_element e) rest) ≡ false → (declared_missing files (declared_with n e) ≡ false) × (list_any (is_missing files) rest ≡ false)
+  one_of : (n : ℕ) (e : ElementType) (rest : List Name) → list_any (is_missing files) (cons_option (class_of_element e) rest) ≡ false
+      → (declared_missing files (declared_with n e) ≡ false) × (list_any (is_missing files) rest ≡ false)
   one_of n Byte rest h = (primitive_found n Byte refl, h)
   one_of n Char rest h = (primitive_found n Char refl, h)
   one_of n Double rest h = (primitive_found n Double refl, h)
@@ -54,7 +55,8 @@ module _ (files : Program) where
   one_of n Short rest h = (primitive_found n Short refl, h)
   one_of n Boolean rest h = (primitive_found n Boolean refl, h)
 
-  pub types_found : (fs : List FieldType) → list_any (is_missing files) (classes_of_types fs) ≡ false → list_any (declared_missing files) (map declared_of fs) ≡ false
+  pub types_found : (fs : List FieldType) → list_any (is_missing files) (classes_of_types fs) ≡ false
+      → list_any (declared_missing files) (map declared_of fs) ≡ false
   types_found [] h = refl
   types_found (f ∷ fs) h = let found = one_of f.dimensions f.element (classes_of_types fs) h in or_from _ _ found.0 (types_found fs found.1)
 
@@ -98,10 +100,12 @@ module _ (files : Program) where
   together [] (Some f) = refl
   together (p ∷ ps) r = ap (λ l. declared_of p ∷ l) (together ps r)
 
-  pub method_found : (d : Name) → list_any (is_missing files) (classes_in d) ≡ false → list_any (declared_missing files) (parameters_declared d ++ results_declared d) ≡ false
+  pub method_found : (d : Name) → list_any (is_missing files) (classes_in d) ≡ false
+      → list_any (declared_missing files) (parameters_declared d ++ results_declared d) ≡ false
   method_found d h = by (method_type d) refl
     where
-      by : (o : Option MethodType) → method_type d ≡ o → list_any (declared_missing files) (parameters_declared d ++ results_declared d) ≡ false
+      by : (o : Option MethodType) → method_type d ≡ o
+          → list_any (declared_missing files) (parameters_declared d ++ results_declared d) ≡ false
       by None e = ap (λ o. list_any (declared_missing files) (option_map_or (λ (m : MethodType). map declared_of m.parameters) o [] ++ option_map_or (λ (m : MethodType). returned_type m.returns) o [])) e
       by (Some m) e =
           let types : types_in d ≡ method_types m = ap (λ o. option_map_or (λ f. f ∷ []) o (option_map_or method_types (method_type d) [])) (no_field d m e) ∙ ap (λ o. option_map_or method_types o []) e in
@@ -145,15 +149,18 @@ unfolding field_type field_at
 dimensions_said d f e = dimensions_read (dimensions_of d) (nat_lt 255 (dimensions_of d)) (element_at (drop (dimensions_of d) d)) f e
 
 module _ (files : Program) where
-  reference_found : (name : Name) (n : ℕ) (e : ElementType) → declared_missing files (declared_with (suc n) e) ≡ false → type_missing files (reference_declared name (declared_with (suc n) e)) ≡ false
+  reference_found : (name : Name) (n : ℕ) (e : ElementType) → declared_missing files (declared_with (suc n) e) ≡ false
+      → type_missing files (reference_declared name (declared_with (suc n) e)) ≡ false
   reference_found name n e h = h
 
-  array_found : (name : Name) (n : ℕ) (f : FieldType) → field_type name ≡ Some f → f.dimensions ≡ suc n → list_any (is_missing files) (classes_in name) ≡ false → type_missing files (reference_declared name (field_declared name)) ≡ false
+  array_found : (name : Name) (n : ℕ) (f : FieldType) → field_type name ≡ Some f → f.dimensions ≡ suc n
+      → list_any (is_missing files) (classes_in name) ≡ false → type_missing files (reference_declared name (field_declared name)) ≡ false
   array_found name n f e q h =
       let declared : field_declared name ≡ declared_with (suc n) f.element = ap (λ o. option_map_or declared_of o DeclaredInt) e ∙ ap (λ k. declared_with k f.element) q in
       ap (λ d. type_missing files (reference_declared name d)) declared ∙ reference_found name n f.element (sym (ap (declared_missing files) declared) ∙ field_found files name h)
 
-  pub named_found : (name : Name) → is_class_or_array name ≡ true → list_any (is_missing files) (classes_named name) ≡ false → type_missing files (type_named name) ≡ false
+  pub named_found : (name : Name) → is_class_or_array name ≡ true → list_any (is_missing files) (classes_named name) ≡ false
+      → type_missing files (type_named name) ≡ false
   named_found [] c h = (or_parts (is_missing files []) _ h).0
   named_found (b ∷ bytes) c h = by (b == 91) refl
     where

@@ -18,17 +18,23 @@ module _ {X Y : Type 0} (view : X → Y) (missing : Bool) (wanted : Y) (o : Opti
   some_of x h e = let P : Option X → Type 0 = Gives view missing wanted in subst P e h
 
 module _ (files : Program) where
-  pub all_types : (fs : List declared_field.Field) (ps : List FieldType) → map field_of fs ≡ ps → map (λ f. verification_type files (declared_of (field_of f))) fs ≡ map (verification_type files) (map declared_of ps)
+  pub all_types : (fs : List declared_field.Field) (ps : List FieldType) → map field_of fs ≡ ps
+      → map (λ f. verification_type files (declared_of (field_of f))) fs ≡ map (verification_type files) (map declared_of ps)
   all_types fs ps e = nested fs ∙ ap (λ l. map (verification_type files) (map declared_of l)) e
     where
-      nested : (fs : List declared_field.Field) → map (λ f. verification_type files (declared_of (field_of f))) fs ≡ map (verification_type files) (map declared_of (map field_of fs))
+      nested : (fs : List declared_field.Field)
+          → map (λ f. verification_type files (declared_of (field_of f))) fs
+          ≡ map (verification_type files) (map declared_of (map field_of fs))
       nested [] = refl
       nested (f ∷ fs) = ap (λ l. verification_type files (declared_of (field_of f)) ∷ l) (nested fs)
 
-  pub any_missing : (fs : List declared_field.Field) (ps : List FieldType) → map field_of fs ≡ ps → list_any (λ f. declared_missing files (declared_of (field_of f))) fs ≡ list_any (declared_missing files) (map declared_of ps)
+  pub any_missing : (fs : List declared_field.Field) (ps : List FieldType) → map field_of fs ≡ ps
+      → list_any (λ f. declared_missing files (declared_of (field_of f))) fs ≡ list_any (declared_missing files) (map declared_of ps)
   any_missing fs ps e = nested fs ∙ ap (λ l. list_any (declared_missing files) (map declared_of l)) e
     where
-      nested : (fs : List declared_field.Field) → list_any (λ f. declared_missing files (declared_of (field_of f))) fs ≡ list_any (declared_missing files) (map declared_of (map field_of fs))
+      nested : (fs : List declared_field.Field)
+          → list_any (λ f. declared_missing files (declared_of (field_of f))) fs
+          ≡ list_any (declared_missing files) (map declared_of (map field_of fs))
       nested [] = refl
       nested (f ∷ fs) = ap (λ b. declared_missing files (declared_of (field_of f)) || b) (nested fs)
 
@@ -37,16 +43,21 @@ module _ (files : Program) where
   abbrev missing_in : List FieldType → Option FieldType → Bool
   missing_in ps r = list_any (declared_missing files) (map declared_of ps ++ returned_type r)
 
-  both : (ps : List FieldType) (r : Option FieldType) → missing_in ps r ≡ (list_any (declared_missing files) (map declared_of ps) || list_any (declared_missing files) (returned_type r))
+  both : (ps : List FieldType) (r : Option FieldType)
+      → missing_in ps r ≡ (list_any (declared_missing files) (map declared_of ps) || list_any (declared_missing files) (returned_type r))
   both ps r = list_any-append (declared_missing files) (map declared_of ps) (returned_type r)
 
-  pub parameter_missing : (ps : List FieldType) (r : Option FieldType) → list_any (declared_missing files) (map declared_of ps) ≡ true → list_any (declared_missing files) (map declared_of ps ++ returned_type r) ≡ true
+  pub parameter_missing : (ps : List FieldType) (r : Option FieldType) → list_any (declared_missing files) (map declared_of ps) ≡ true
+      → list_any (declared_missing files) (map declared_of ps ++ returned_type r) ≡ true
   parameter_missing ps r h = both ps r ∙ or_left (list_any (declared_missing files) (map declared_of ps)) (list_any (declared_missing files) (returned_type r)) h
 
-  pub void_found : (ps : List FieldType) (r : Option FieldType) → list_any (declared_missing files) (map declared_of ps) ≡ false → None ≡ r → list_any (declared_missing files) (map declared_of ps ++ returned_type r) ≡ false
+  pub void_found : (ps : List FieldType) (r : Option FieldType) → list_any (declared_missing files) (map declared_of ps) ≡ false → None ≡ r
+      → list_any (declared_missing files) (map declared_of ps ++ returned_type r) ≡ false
   void_found ps r h e = both ps r ∙ or_from (list_any (declared_missing files) (map declared_of ps)) (list_any (declared_missing files) (returned_type r)) h (ap (λ r. list_any (declared_missing files) (returned_type r)) (sym e))
 
-  pub result_found : (ps : List FieldType) (r : Option FieldType) (f : FieldType) → list_any (declared_missing files) (map declared_of ps) ≡ false → Some f ≡ r → declared_missing files (declared_of f) ≡ false → list_any (declared_missing files) (map declared_of ps ++ returned_type r) ≡ false
+  pub result_found : (ps : List FieldType) (r : Option FieldType) (f : FieldType)
+      → list_any (declared_missing files) (map declared_of ps) ≡ false → Some f ≡ r → declared_missing files (declared_of f) ≡ false
+      → list_any (declared_missing files) (map declared_of ps ++ returned_type r) ≡ false
   result_found ps r f h e n =
       both ps r
       ∙ or_from (list_any (declared_missing files) (map declared_of ps)) (list_any (declared_missing files) (returned_type r)) h

@@ -25,7 +25,9 @@ use Rattle.hierarchy.proofs.Apart.{class_of_its_name}
 use Rattle.run_laws.proofs.laws.Unrefused.{names_differ}
 use Rattle.run_laws.proofs.laws.Lists.{every_at}
 
-pub declared_at : (files : Program) (class k : ℕ) (file : FileTree) (m : MethodTree) (code : CodeTree) → IsLinked files → class_at files class ≡ Some file → slice_get file.methods k ≡ Some m → code_in m.parts ≡ Some code → IsDeclared files class file m code
+pub declared_at : (files : Program) (class k : ℕ) (file : FileTree) (m : MethodTree) (code : CodeTree) → IsLinked files
+    → class_at files class ≡ Some file → slice_get file.methods k ≡ Some m → code_in m.parts ≡ Some code
+    → IsDeclared files class file m code
 declared_at files class k file m code linked c s q =
     let right : class_right file ≡ true = every_at (λ file. class_right file ≡ true) (classes_of files) class file (classes_right linked.0 files linked.1.spelled) c in
     let parts = and_parts (list_all (method_right file.pool) file.methods) _ right in
@@ -54,12 +56,14 @@ module _ (m : MethodCode) where
 -- ---- by place
 
 -- what a slice of methods has at an index, by what `get` gave
-pub method_at : (read items : List Method) (k : ℕ) (m : Method) → read ≡ items → true ≡ ltb k (length read) → m ≡ get_or read k m → slice_get (map view.method_of items) k ≡ Some (view.method_of m)
+pub method_at : (read items : List Method) (k : ℕ) (m : Method) → read ≡ items → true ≡ ltb k (length read) → m ≡ get_or read k m
+    → slice_get (map view.method_of items) k ≡ Some (view.method_of m)
 method_at read items k m same lt is =
     slice_get-map view.method_of items k
     ∙ ap (option_map view.method_of) (ap (λ (l : List Method). slice_get l k) (sym same) ∙ slice_get-get_or read k m (ltb-true _ _ (sym lt)) ∙ ap (λ m. Some m) (sym is))
 
-pub shown_here : (files : Program) (class k : ℕ) (file : FileTree) (m : MethodTree) (code : CodeTree) → class_at files class ≡ Some file → slice_get file.methods k ≡ Some m → code_in m.parts ≡ Some code
+pub shown_here : (files : Program) (class k : ℕ) (file : FileTree) (m : MethodTree) (code : CodeTree) → class_at files class ≡ Some file
+    → slice_get file.methods k ≡ Some m → code_in m.parts ≡ Some code
     → Some (member_named (name_at files class) file.pool m.name m.descriptor, with_pool file.pool code) ≡ shown_at files class k
 shown_here files class k file m code c s q =
     ap (λ n. Some (member_named n file.pool m.name m.descriptor, with_pool file.pool code)) (map_or_at name_of (class_at files class) [] file c)

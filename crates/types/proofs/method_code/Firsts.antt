@@ -39,7 +39,8 @@ module _ (pool : List Entry) where
   is_itself : (m : MethodTree) → names_utf8 pool m.name ≡ true → names_utf8 pool m.descriptor ≡ true → is_like m m ≡ true
   is_itself m n d = and_from _ _ (says_itself (entry_at pool m.name) n) (says_itself (entry_at pool m.descriptor) d)
 
-  none_like : (x : MethodTree) (xs : List MethodTree) (k : ℕ) (m : MethodTree) → list_any (is_same (named x)) (map named xs) ≡ false → slice_get xs k ≡ Some m → is_same (named x) (named m) ≡ false
+  none_like : (x : MethodTree) (xs : List MethodTree) (k : ℕ) (m : MethodTree) → list_any (is_same (named x)) (map named xs) ≡ false
+      → slice_get xs k ≡ Some m → is_same (named x) (named m) ≡ false
   none_like x [] k m h e = absurd cc
   none_like x (y ∷ xs) zero m h e = let same : y ≡ m = cc in subst (λ (z : MethodTree). is_same (named x) (named z) ≡ false) same (or_parts _ _ h).0
   none_like x (y ∷ xs) (suc k) m h e = none_like x xs k m (or_parts _ _ h).1 e
@@ -53,7 +54,8 @@ module _ (pool : List Entry) where
           let parts = and_parts _ _ e in
           absurd (true≢false (sym (and_from _ _ (says_text (entry_at pool x.name) (text_at pool m.name) parts.0) (says_text (entry_at pool x.descriptor) (text_at pool m.descriptor) parts.1)) ∙ h))
 
-  pub method_there : (ms : List MethodTree) (k : ℕ) (m : MethodTree) → differ (map named ms) ≡ true → names_utf8 pool m.name ≡ true → names_utf8 pool m.descriptor ≡ true → slice_get ms k ≡ Some m
+  pub method_there : (ms : List MethodTree) (k : ℕ) (m : MethodTree) → differ (map named ms) ≡ true → names_utf8 pool m.name ≡ true
+      → names_utf8 pool m.descriptor ≡ true → slice_get ms k ≡ Some m
       → find (is_method pool (text_at pool m.name) (text_at pool m.descriptor)) ms ≡ Some m
   method_there [] k m h n d e = absurd cc
   method_there (x ∷ xs) zero m h n d e =

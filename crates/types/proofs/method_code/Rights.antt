@@ -28,7 +28,8 @@ unfolding built_in_classes
 built_in_right = refl
 
 -- a Code, whichever way the attribute is named
-fits_code : (b : Bool) (name : ℕ) (c : CodeTree) → MatchBool b (IsCode (CodeOf name c)) (IsSkippedOfMethod (CodeOf name c)) → nat_lt (length c.code) 65536 ≡ true
+fits_code : (b : Bool) (name : ℕ) (c : CodeTree) → MatchBool b (IsCode (CodeOf name c)) (IsSkippedOfMethod (CodeOf name c))
+    → nat_lt (length c.code) 65536 ≡ true
 fits_code true name c h = (and_parts (nat_lt 0 (length c.code)) _ h.code).1
 fits_code false name c h = absurd h
 
@@ -37,7 +38,8 @@ parts_short pool [] h = refl
 parts_short pool (CodeOf name c ∷ parts) h = fits_code (is_code pool name) name c (h.0).kind
 parts_short pool (SkippedOfMethod a ∷ parts) h = parts_short pool parts h.1
 
-methods_right : (pool : List Entry) (ms : List MethodTree) → list_all (method_indices pool) ms ≡ true → AllByRecursion (MethodFits pool) ms → list_all (method_right pool) ms ≡ true
+methods_right : (pool : List Entry) (ms : List MethodTree) → list_all (method_indices pool) ms ≡ true → AllByRecursion (MethodFits pool) ms
+    → list_all (method_right pool) ms ≡ true
 methods_right pool [] h f = refl
 methods_right pool (m ∷ ms) h f =
     let all = and_parts (method_indices pool m) _ h in
@@ -61,5 +63,6 @@ files_right [] (file ∷ files) h = absurd h
 files_right (b ∷ bytes) [] h = tt
 files_right (b ∷ bytes) (file ∷ files) h = (file_right b file h.0, files_right bytes files h.1)
 
-pub classes_right : (bytes : List (List ℕ)) (files : Program) → AreSpelled bytes files → AllByRecursion (λ file. class_right file ≡ true) (classes_of files)
+pub classes_right : (bytes : List (List ℕ)) (files : Program) → AreSpelled bytes files
+    → AllByRecursion (λ file. class_right file ≡ true) (classes_of files)
 classes_right bytes files h = every_append (λ file. class_right file ≡ true) built_in_classes files (every_all class_right built_in_classes built_in_right) (files_right bytes files h)

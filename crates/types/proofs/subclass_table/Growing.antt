@@ -16,7 +16,8 @@ module _ (columns : List (Option ℕ)) (classes : List ℕ) (n : ℕ) (mark : Bo
   abbrev grown : List (Option ℕ)
   grown = columns ++ column_for mark (length classes) ∷ []
 
-  here : (b : Bool) (column class : ℕ) → class ≡ n → column_for b (length classes) ≡ Some column → slice_get (classes ++ class_for b n) column ≡ Some class
+  here : (b : Bool) (column class : ℕ) → class ≡ n → column_for b (length classes) ≡ Some column
+      → slice_get (classes ++ class_for b n) column ≡ Some class
   here true column class same e =
       let at : length classes ≡ column = cc in
       subst (λ k. slice_get (classes ++ n ∷ []) k ≡ Some class) at (subst (λ k. slice_get (classes ++ n ∷ []) (length classes) ≡ Some k) (sym same) (get_last classes n))
@@ -25,14 +26,16 @@ module _ (columns : List (Option ℕ)) (classes : List ℕ) (n : ℕ) (mark : Bo
   of_grown : AreOf columns classes → AreOf grown (classes ++ class_for mark n)
   of_grown before class column e = by (slice_get grown class) refl e
     where
-      by : (o : Option (Option ℕ)) → slice_get grown class ≡ o → option_and_then (λ (c : Option ℕ). c) o ≡ Some column → slice_get (classes ++ class_for mark n) column ≡ Some class
+      by : (o : Option (Option ℕ)) → slice_get grown class ≡ o → option_and_then (λ (c : Option ℕ). c) o ≡ Some column
+          → slice_get (classes ++ class_for mark n) column ≡ Some class
       by None at h = absurd cc
       by (Some c) at h = ⊎_elim
           (λ old. get_front classes (class_for mark n) column class (before class column (ap (option_and_then (λ (c : Option ℕ). c)) old ∙ h)))
           (λ new. here mark column class (new.0 ∙ count) (new.1 ∙ h))
           (get_pushed columns (column_for mark (length classes)) class c at)
 
-  pub of_more : (columns' : List (Option ℕ)) (classes' : List ℕ) → columns' ≡ grown → classes' ≡ classes ++ class_for mark n → AreOf columns classes → AreOf columns' classes'
+  pub of_more : (columns' : List (Option ℕ)) (classes' : List ℕ) → columns' ≡ grown → classes' ≡ classes ++ class_for mark n
+      → AreOf columns classes → AreOf columns' classes'
   of_more columns' classes' p q before =
       subst (λ l. AreOf l classes') (sym p) (subst (λ l. AreOf grown l) (sym q) (of_grown before))
 
@@ -40,7 +43,8 @@ module _ (columns : List (Option ℕ)) (classes : List ℕ) (n : ℕ) (mark : Bo
   is_marked true k = refl
   is_marked false k = refl
 
-  all_grown : (marks : List Bool) → slice_index_or marks n false ≡ mark → ((class : ℕ) → class < n → is_some (column_in columns class) ≡ slice_index_or marks class false)
+  all_grown : (marks : List Bool) → slice_index_or marks n false ≡ mark
+      → ((class : ℕ) → class < n → is_some (column_in columns class) ≡ slice_index_or marks class false)
       → (class : ℕ) → class < n + 1 → is_some (column_in grown class) ≡ slice_index_or marks class false
   all_grown marks is before class lt = ⊎_elim
       (λ less. ap (λ (o : Option (Option ℕ)). is_some (option_and_then (λ (c : Option ℕ). c) o)) (get_before columns (column_for mark (length classes) ∷ []) class (omega (arith, less, count))) ∙ before class less)
@@ -53,7 +57,8 @@ module _ (columns : List (Option ℕ)) (classes : List ℕ) (n : ℕ) (mark : Bo
           (subst (λ k. is_some (column_in grown k) ≡ slice_index_or marks n false) count
           (ap (λ (o : Option (Option ℕ)). is_some (option_and_then (λ (c : Option ℕ). c) o)) (get_last columns (column_for mark (length classes))) ∙ is_marked mark (length classes) ∙ sym is))
 
-  pub all_more : (marks : List Bool) (columns' : List (Option ℕ)) → columns' ≡ grown → slice_index_or marks n false ≡ mark → ((class : ℕ) → class < n → is_some (column_in columns class) ≡ slice_index_or marks class false)
+  pub all_more : (marks : List Bool) (columns' : List (Option ℕ)) → columns' ≡ grown → slice_index_or marks n false ≡ mark
+      → ((class : ℕ) → class < n → is_some (column_in columns class) ≡ slice_index_or marks class false)
       → (class : ℕ) → class < n + 1 → is_some (column_in columns' class) ≡ slice_index_or marks class false
   all_more marks columns' p is before = subst (λ l. (class : ℕ) → class < n + 1 → is_some (column_in l class) ≡ slice_index_or marks class false) (sym p) (all_grown marks is before)
 

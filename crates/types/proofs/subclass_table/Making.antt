@@ -28,7 +28,8 @@ each_append P [] ys a b = b
 each_append P (x ∷ xs) ys a b = (a.0, each_append P xs ys a.1 b)
 
 -- the names that indices give, with that of one index more
-pub index_taken : (h : ℕ → Option Name) (xs : List ℕ) (i : ℕ) → i < length xs → filter_map h (take (i + 1) xs) ≡ filter_map h (take i xs) ++ option_to_list (h (get_or xs i 0))
+pub index_taken : (h : ℕ → Option Name) (xs : List ℕ) (i : ℕ) → i < length xs
+    → filter_map h (take (i + 1) xs) ≡ filter_map h (take i xs) ++ option_to_list (h (get_or xs i 0))
 index_taken h [] i less = absurd (omega (arith, less))
 index_taken h (x ∷ xs) zero less = by (h x)
   where
@@ -53,13 +54,15 @@ module _ (files : Program) (columns : List (Option ℕ)) where
   pub none_added : (p : Name → Bool) (row : List ℕ) → IsRow files columns p row → IsRow files columns (λ d. p d || false) row
   none_added p row is = same_test p (λ d. p d || false) row (λ d. sym (or_none (p d))) is
 
-  pub row_added : (p q : Name → Bool) (row other new : List ℕ) → IsRow files columns p row → IsRow files columns q other → ((column : ℕ) → has_bit new column ≡ (has_bit row column || has_bit other column))
+  pub row_added : (p q : Name → Bool) (row other new : List ℕ) → IsRow files columns p row → IsRow files columns q other
+      → ((column : ℕ) → has_bit new column ≡ (has_bit row column || has_bit other column))
       → IsRow files columns (λ d. p d || q d) new
   row_added p q row other new is its bits class column above at there =
       bits column ∙ ap (λ b. b || has_bit other column) (is class column above at there) ∙ ap (λ b. p (name_of above) || b) (its class column above at there)
 
   -- no other class has the name of the class at a place
-  pub own : (place : ℕ) (file : FileTree) (row : List ℕ) → FindOwnPlaces files → class_at files place ≡ Some file → IsOwnRow columns place row → IsRow files columns (name_eq (name_of file)) row
+  pub own : (place : ℕ) (file : FileTree) (row : List ℕ) → FindOwnPlaces files → class_at files place ≡ Some file
+      → IsOwnRow columns place row → IsRow files columns (name_eq (name_of file)) row
   own place file row find is its class column above at there = its class column at ∙ by (eqb_tells place class)
     where
       same_place : name_eq (name_of file) (name_of above) ≡ true → place ≡ class
@@ -67,21 +70,26 @@ module _ (files : Program) (columns : List (Option ℕ)) where
           let first : place_of files (name_of file) ≡ place_of files (name_of above) = ap (place_of files) (same_name (name_of file) (name_of above) same) in
           let both : Some place ≡ Some class = sym (find place file is) ∙ first ∙ find class above there in cc
 
-      by : (((place == class) ≡ true) × (place ≡ class)) ⊎ (((place == class) ≡ false) × (place ≢ class)) → (place == class) ≡ name_eq (name_of file) (name_of above)
+      by : (((place == class) ≡ true) × (place ≡ class)) ⊎ (((place == class) ≡ false) × (place ≢ class))
+          → (place == class) ≡ name_eq (name_of file) (name_of above)
       by (inl same) =
           let one : Some file ≡ Some above = sym is ∙ ap (class_at files) same.1 ∙ there in
           let file_is : file ≡ above = cc in
           same.0 ∙ sym (ap (λ (f : FileTree). name_eq (name_of file) (name_of f)) (sym file_is) ∙ name_eq_refl (name_of file))
       by (inr apart) = apart.0 ∙ sym (false_from_ne_true (name_eq (name_of file) (name_of above)) (λ e. apart.1 (same_place e)))
 
-  pub interface_added : (p : Name → Bool) (row other new : List ℕ) (names : List Name) (name : Name) → names ≡ name ∷ [] → IsRow files columns p row → IsRow files columns (is_near files name) other
-      → ((column : ℕ) → has_bit new column ≡ (has_bit row column || has_bit other column)) → IsRow files columns (λ d. p d || list_any (λ i. is_near files i d) names) new
+  pub interface_added : (p : Name → Bool) (row other new : List ℕ) (names : List Name) (name : Name) → names ≡ name ∷ []
+      → IsRow files columns p row → IsRow files columns (is_near files name) other
+      → ((column : ℕ) → has_bit new column ≡ (has_bit row column || has_bit other column))
+      → IsRow files columns (λ d. p d || list_any (λ i. is_near files i d) names) new
   interface_added p row other new names name are is its bits =
       subst (λ l. IsRow files columns (λ d. p d || list_any (λ i. is_near files i d) l) new) (sym are)
       (same_test (λ d. p d || is_near files name d) (λ d. p d || (is_near files name d || false)) new (λ d. ap (λ b. p d || b) (sym (or_none (is_near files name d)))) (row_added p (is_near files name) row other new is its bits))
 
-  pub with_superclass : (steps : ℕ) (file : FileTree) (p : Name → Bool) (row other new : List ℕ) (name : Name) → super_name_of file ≡ Some name → IsSettled files steps name → IsRow files columns p row
-      → IsRow files columns (is_subclass_or_implements files name) other → ((column : ℕ) → has_bit new column ≡ (has_bit row column || has_bit other column)) → IsWithSuperclass files columns steps file p new
+  pub with_superclass : (steps : ℕ) (file : FileTree) (p : Name → Bool) (row other new : List ℕ) (name : Name)
+      → super_name_of file ≡ Some name → IsSettled files steps name → IsRow files columns p row
+      → IsRow files columns (is_subclass_or_implements files name) other
+      → ((column : ℕ) → has_bit new column ≡ (has_bit row column || has_bit other column)) → IsWithSuperclass files columns steps file p new
   with_superclass steps file p row other new name super settled is its bits = record {
     settled = subst (OfSome (IsSettled files steps)) (sym super) settled;
     says = subst (λ o. IsRow files columns (λ d. p d || option_map_or (λ s. is_subclass_or_implements files s d) o false) new) (sym super) (row_added p (is_subclass_or_implements files name) row other new is its bits);
@@ -90,11 +98,13 @@ module _ (files : Program) (columns : List (Option ℕ)) where
   -- ---- rows that are made
 
   module _ (width steps : ℕ) where
-    pub made_at : (made : List (Option ClassRows)) (place : ℕ) (name : Name) → AreMade files columns width steps made → place_of files name ≡ Some place
+    pub made_at : (made : List (Option ClassRows)) (place : ℕ) (name : Name) → AreMade files columns width steps made
+        → place_of files name ≡ Some place
         → IfSome (option_and_then (λ (rows : Option ClassRows). rows) (slice_get made place)) (IsMade files columns width steps name)
     made_at made place name are found = by (slice_get made place) refl
       where
-        at_class : (rows : ClassRows) → AreRowsAt files columns width steps place (Some rows) → (o : Option FileTree) → class_at files place ≡ o → IsMade files columns width steps name rows
+        at_class : (rows : ClassRows) → AreRowsAt files columns width steps place (Some rows) → (o : Option FileTree)
+            → class_at files place ≡ o → IsMade files columns width steps name rows
         at_class rows its None e = absurd (nothing (classes_of files) place (position_within (is_named name) (classes_of files) place found) e)
           where
             nothing : {A : Type 0} (xs : List A) (k : ℕ) → k < length xs → slice_get xs k ≡ None → ⊥
@@ -103,27 +113,34 @@ module _ (files : Program) (columns : List (Option ℕ)) where
             nothing (x ∷ xs) (suc k) less e = nothing xs k (omega (arith, less)) e
         at_class rows its (Some file) e = subst (λ n. IsMade files columns width steps n rows) (name_at_place files name place file found e) (its file e)
 
-        by : (o : Option (Option ClassRows)) → slice_get made place ≡ o → IfSome (option_and_then (λ (rows : Option ClassRows). rows) o) (IsMade files columns width steps name)
+        by : (o : Option (Option ClassRows)) → slice_get made place ≡ o
+            → IfSome (option_and_then (λ (rows : Option ClassRows). rows) o) (IsMade files columns width steps name)
         by None at = tt
         by (Some None) at = tt
         by (Some (Some rows)) at = at_class rows (are place (Some rows) at) (class_at files place) refl
 
-    pub rows_later : (more place : ℕ) (rows : Option ClassRows) → steps ≤ more → AreRowsAt files columns width steps place rows → AreRowsAt files columns width more place rows
+    pub rows_later : (more place : ℕ) (rows : Option ClassRows) → steps ≤ more → AreRowsAt files columns width steps place rows
+        → AreRowsAt files columns width more place rows
     rows_later more place None less its = tt
     rows_later more place (Some rows) less its = λ file at.
         let made = its file at in
         record { settled = settled_later files steps more (name_of file) less made.settled; near_wide = made.near_wide; below_wide = made.below_wide; near = made.near; below = made.below }
 
-    pub below_at : (made : List (Option ClassRows)) (place : ℕ) (file : FileTree) → AreMade files columns width steps made → class_at files place ≡ Some file
-        → IfSome (option_and_then (λ (rows : Option ClassRows). rows) (slice_get made place)) (λ rows. IsBelowRow files columns width (name_of file) rows.below.items)
+    pub below_at : (made : List (Option ClassRows)) (place : ℕ) (file : FileTree) → AreMade files columns width steps made
+        → class_at files place ≡ Some file
+        → IfSome (option_and_then (λ (rows : Option ClassRows). rows) (slice_get made place))
+        (λ rows. IsBelowRow files columns width (name_of file) rows.below.items)
     below_at made place file are is = by (slice_get made place) refl
       where
-        by : (o : Option (Option ClassRows)) → slice_get made place ≡ o → IfSome (option_and_then (λ (rows : Option ClassRows). rows) o) (λ rows. IsBelowRow files columns width (name_of file) rows.below.items)
+        by : (o : Option (Option ClassRows)) → slice_get made place ≡ o
+            → IfSome (option_and_then (λ (rows : Option ClassRows). rows) o)
+            (λ rows. IsBelowRow files columns width (name_of file) rows.below.items)
         by None at = tt
         by (Some None) at = tt
         by (Some (Some rows)) at = let its = are place (Some rows) at file is in record { wide = its.below_wide; says = its.below }
 
-    pub made_later : (more : ℕ) (made : List (Option ClassRows)) → steps ≤ more → AreMade files columns width steps made → AreMade files columns width more made
+    pub made_later : (more : ℕ) (made : List (Option ClassRows)) → steps ≤ more → AreMade files columns width steps made
+        → AreMade files columns width more made
     made_later more made less are place rows at = rows_later more place rows less (are place rows at)
 
   -- ---- the row of a class and what is above it by superinterfaces alone, so far
@@ -132,10 +149,12 @@ module _ (files : Program) (columns : List (Option ℕ)) where
     pub settled : EachOf (IsSettled files steps) names
     pub says : IsRow files columns (λ d. name_eq (name_of file) d || list_any (λ i. is_near files i d) names) row
 
-  pub near_begins : (steps : ℕ) (file : FileTree) (row : List ℕ) → IsRow files columns (name_eq (name_of file)) row → IsNearSoFar steps file [] row
+  pub near_begins : (steps : ℕ) (file : FileTree) (row : List ℕ) → IsRow files columns (name_eq (name_of file)) row
+      → IsNearSoFar steps file [] row
   near_begins steps file row is = record { settled = tt; says = none_added (name_eq (name_of file)) row is }
 
-  pub near_ends : (steps : ℕ) (file : FileTree) (names : List Name) (row : List ℕ) → names ≡ interface_names file → IsNearSoFar steps file names row → IsNearRow files columns steps file row
+  pub near_ends : (steps : ℕ) (file : FileTree) (names : List Name) (row : List ℕ) → names ≡ interface_names file
+      → IsNearSoFar steps file names row → IsNearRow files columns steps file row
   near_ends steps file names row all so_far =
       let whole = subst (λ l. IsNearSoFar steps file l row) all so_far in
       record { settled = whole.settled; says = whole.says }
@@ -144,8 +163,10 @@ module _ (files : Program) (columns : List (Option ℕ)) where
   or_more true b c = refl
   or_more false b c = refl
 
-  pub near_more : (steps : ℕ) (file : FileTree) (names more all : List Name) (row new : List ℕ) → IsNearSoFar steps file names row → EachOf (IsSettled files steps) more → all ≡ names ++ more
-      → (((p : Name → Bool) → IsRow files columns p row → IsRow files columns (λ d. p d || list_any (λ i. is_near files i d) more) new)) → IsNearSoFar steps file all new
+  pub near_more : (steps : ℕ) (file : FileTree) (names more all : List Name) (row new : List ℕ) → IsNearSoFar steps file names row
+      → EachOf (IsSettled files steps) more → all ≡ names ++ more
+      → (((p : Name → Bool) → IsRow files columns p row → IsRow files columns (λ d. p d || list_any (λ i. is_near files i d) more) new))
+      → IsNearSoFar steps file all new
   near_more steps file names more all row new so_far settled is added =
       subst (λ l. IsNearSoFar steps file l new) (sym is) (record {
         settled = each_append (IsSettled files steps) names more so_far.settled settled;
@@ -158,7 +179,8 @@ module _ (files : Program) (columns : List (Option ℕ)) where
 
   -- ---- both rows
 
-  pub rows_made : (width steps place : ℕ) (file : FileTree) (rows : ClassRows) → FindOwnPlaces files → class_at files place ≡ Some file → steps < length (classes_of files)
+  pub rows_made : (width steps place : ℕ) (file : FileTree) (rows : ClassRows) → FindOwnPlaces files → class_at files place ≡ Some file
+      → steps < length (classes_of files)
       → length rows.near.items ≡ width → length rows.below.items ≡ width → IsNearRow files columns steps file rows.near.items
       → ((p : Name → Bool) → IsRow files columns p rows.near.items → IsWithSuperclass files columns steps file p rows.below.items)
       → AreRowsAt files columns width (steps + 1) place (Some rows)
@@ -180,8 +202,11 @@ module _ (files : Program) (columns : List (Option ℕ)) where
       settled = (below (λ d. name_eq (name_of file) d || list_any (λ i. is_near files i d) (interface_names file)) near.says).settled
 
       above : IsSettled files (steps + 1) (name_of file)
-          × ((d : Name) → is_near files (name_of file) d ≡ (name_eq (name_of file) d || list_any (λ i. is_near files i d) (superinterfaces_of files (name_of file))))
-          × ((d : Name) → is_subclass_or_implements files (name_of file) d ≡ (is_near files (name_of file) d || option_map_or (λ s. is_subclass_or_implements files s d) (superclass_of files (name_of file)) false))
+          × ((d : Name) → is_near files (name_of file) d
+          ≡ (name_eq (name_of file) d || list_any (λ i. is_near files i d) (superinterfaces_of files (name_of file))))
+          × ((d : Name) → is_subclass_or_implements files (name_of file) d
+          ≡ (is_near files (name_of file) d || option_map_or (λ s. is_subclass_or_implements files s d)
+          (superclass_of files (name_of file)) false))
       above = by_classes_above files steps (name_of file) few (subst (EachOf (IsSettled files steps)) (sym interfaces) near.settled) (subst (OfSome (IsSettled files steps)) (sym superclass) settled)
 
       near_row : IsRow files columns (is_near files (name_of file)) rows.near.items

@@ -14,7 +14,8 @@ use Rattle.hierarchy.proofs.Finding.{none_at}
 use Rattle.hierarchy.proofs.RowLaws.{name_eq_refl}
 use Rattle.linked_code.specs.Subtypes.{IsObjectFirst}
 
-first_alone : (xs : List FileTree) (number : ℕ) (first file : FileTree) → two_of_one_name xs ≡ false → slice_get xs 0 ≡ Some first → slice_get xs number ≡ Some file
+first_alone : (xs : List FileTree) (number : ℕ) (first file : FileTree) → two_of_one_name xs ≡ false → slice_get xs 0 ≡ Some first
+    → slice_get xs number ≡ Some file
     → (number == 0) ≡ name_eq (name_of file) (name_of first)
 first_alone [] number first file differ a b = absurd cc
 first_alone (x ∷ xs) zero first file differ a b =

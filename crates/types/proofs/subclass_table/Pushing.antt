@@ -17,7 +17,8 @@ get_last [] x = refl
 get_last (z ∷ xs) x = get_last xs x
 
 -- it is one of the earlier ones, or the last
-pub get_pushed : {A : Type 0} (xs : List A) (y : A) (k : ℕ) (x : A) → slice_get (xs ++ y ∷ []) k ≡ Some x → (slice_get xs k ≡ Some x) ⊎ ((k ≡ length xs) × (y ≡ x))
+pub get_pushed : {A : Type 0} (xs : List A) (y : A) (k : ℕ) (x : A) → slice_get (xs ++ y ∷ []) k ≡ Some x
+    → (slice_get xs k ≡ Some x) ⊎ ((k ≡ length xs) × (y ≡ x))
 get_pushed [] y zero x e = let same : y ≡ x = cc in inr (refl, same)
 get_pushed [] y (suc k) x e = absurd cc
 get_pushed (z ∷ xs) y zero x e = inl e

@@ -25,7 +25,8 @@ module _ (files : Program) (columns : List (Option ℕ)) (width : ℕ) where
   pub no_rows : (words : List ℕ) → AreRows files columns width words 0
   no_rows words place file less = absurd (omega (arith, less))
 
-  pub row_more : (words new : List ℕ) (count : ℕ) (file : FileTree) → FitIn columns width → class_at files count ≡ Some file → length words ≡ count * width → HasRowMore files columns width (name_of file) words new
+  pub row_more : (words new : List ℕ) (count : ℕ) (file : FileTree) → FitIn columns width → class_at files count ≡ Some file
+      → length words ≡ count * width → HasRowMore files columns width (name_of file) words new
       → AreRows files columns width words count → AreRows files columns width new (count + 1)
   row_more words new count file fit is ends more before place other less at = ⊎_elim
       (λ old class column above c there. ap (λ w. bit_at w (column % 64) == 1)
@@ -38,7 +39,9 @@ module _ (files : Program) (columns : List (Option ℕ)) (width : ℕ) where
       word : (class column : ℕ) → column_in columns class ≡ Some column → column / 64 < width
       word class column c = let fits = fit.within class column c in omega (arith, fits)
 
-      here : place ≡ count → (class column : ℕ) (above : FileTree) → column_in columns class ≡ Some column → class_at files class ≡ Some above → is_set_at new width place column ≡ is_subclass_or_implements files (name_of other) (name_of above)
+      here : place ≡ count → (class column : ℕ) (above : FileTree) → column_in columns class ≡ Some column
+          → class_at files class ≡ Some above → is_set_at new width place column
+          ≡ is_subclass_or_implements files (name_of other) (name_of above)
       here same class column above c there =
           let one : Some file ≡ Some other = sym is ∙ ap (class_at files) (sym same) ∙ at in
           let file_is : file ≡ other = cc in
@@ -48,11 +51,13 @@ module _ (files : Program) (columns : List (Option ℕ)) (width : ℕ) where
           ∙ more.is.says class column above c there
           ∙ ap (λ (f : FileTree). is_subclass_or_implements files (name_of f) (name_of above)) file_is
 
-  pub count_more : (words new : List ℕ) (count : ℕ) (class : Name) → length words ≡ count * width → HasRowMore files columns width class words new → length new ≡ (count + 1) * width
+  pub count_more : (words new : List ℕ) (count : ℕ) (class : Name) → length words ≡ count * width
+      → HasRowMore files columns width class words new → length new ≡ (count + 1) * width
   count_more words new count class ends more =
       ap length more.added ∙ length-append words more.row ∙ ap (λ n. n + length more.row) ends ∙ ap (λ n. count * width + n) more.is.wide ∙ omega arith
 
-pub says : (files : Program) (table : Subclasses) → AreRows files table.columns.items table.width table.bits.items (length (classes_of files)) → AreSubclasses files table
+pub says : (files : Program) (table : Subclasses)
+    → AreRows files table.columns.items table.width table.bits.items (length (classes_of files)) → AreSubclasses files table
 says files table rows c d class above i j column =
     ap (λ (o : Option ℕ). option_map_or (is_set table c) o false) column.1
     ∙ rows c i.0 (slice_get_within (classes_of files) c i.0 i.1) i.1 d column.0 j.0 column.1 j.1

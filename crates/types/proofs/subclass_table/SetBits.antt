@@ -18,7 +18,8 @@ or_some false = refl
 
 -- ---- one bit
 
-module _ (row new : List ℕ) (column : ℕ) (set : get_or new (column / 64) 0 ≡ bit_or (get_or row (column / 64) 0) (1 * 2 ^ (column % 64) % 2 ^ 64))
+module _ (row new : List ℕ) (column : ℕ)
+    (set : get_or new (column / 64) 0 ≡ bit_or (get_or row (column / 64) 0) (1 * 2 ^ (column % 64) % 2 ^ 64))
     (others : (place : ℕ) → place ≢ column / 64 → get_or new place 0 ≡ get_or row place 0)
   where
     here : has_bit new column ≡ true
@@ -34,14 +35,16 @@ module _ (row new : List ℕ) (column : ℕ) (set : get_or new (column / 64) 0 �
     elsewhere : (other : ℕ) → column ≢ other → has_bit new other ≡ has_bit row other
     elsewhere other differs = by (eqb_tells (other / 64) (column / 64))
       where
-        by : (((other / 64 == column / 64) ≡ true) × (other / 64 ≡ column / 64)) ⊎ (((other / 64 == column / 64) ≡ false) × (other / 64 ≢ column / 64)) → has_bit new other ≡ has_bit row other
+        by : (((other / 64 == column / 64) ≡ true) × (other / 64 ≡ column / 64))
+            ⊎ (((other / 64 == column / 64) ≡ false) × (other / 64 ≢ column / 64)) → has_bit new other ≡ has_bit row other
         by (inl same) = in_word other same.1 (λ bit. differs (omega (arith, same.1, bit)))
         by (inr apart) = ap (λ w. bit_at w (other % 64) == 1) (others (other / 64) apart.1)
 
     pub bit_set : (other : ℕ) → has_bit new other ≡ (has_bit row other || column == other)
     bit_set other = by (eqb_tells column other)
       where
-        by : (((column == other) ≡ true) × (column ≡ other)) ⊎ (((column == other) ≡ false) × (column ≢ other)) → has_bit new other ≡ (has_bit row other || column == other)
+        by : (((column == other) ≡ true) × (column ≡ other)) ⊎ (((column == other) ≡ false) × (column ≢ other))
+            → has_bit new other ≡ (has_bit row other || column == other)
         by (inl same) = ap (has_bit new) (sym same.1) ∙ here ∙ sym (ap (λ b. has_bit row other || b) same.0 ∙ or_some (has_bit row other))
         by (inr apart) = elsewhere other apart.1 ∙ sym (ap (λ b. has_bit row other || b) apart.0 ∙ or_none (has_bit row other))
 
@@ -55,7 +58,8 @@ either (suc zero) (suc zero) p q = refl
 either (suc (suc a)) b p q = absurd (omega (arith, p))
 either a (suc (suc b)) p q = absurd (omega (arith, q))
 
-module _ (row other new : List ℕ) (done : (k : ℕ) → k < length row → get_or new k 0 ≡ bit_or (get_or row k 0) (get_or other k 0)) (same : length new ≡ length row) (fits : length other ≤ length row) where
+module _ (row other new : List ℕ) (done : (k : ℕ) → k < length row → get_or new k 0 ≡ bit_or (get_or row k 0) (get_or other k 0))
+    (same : length new ≡ length row) (fits : length other ≤ length row) where
   none : (xs : List ℕ) (column : ℕ) → length xs ≤ column / 64 → has_bit xs column ≡ false
   none xs column past = ap (λ n. n == 1) (ap (λ w. bit_at w (column % 64)) (get_or_past xs (column / 64) 0 past) ∙ bit_at-zero (column % 64))
 

@@ -25,28 +25,35 @@ or_twice true b c h = refl
 or_twice false b true h = absurd cc
 or_twice false b false h = refl
 
-any_same : (P : Name → Type 0) (p q : Name → Bool) (xs : List Name) → EachOf P xs → ((x : Name) → P x → p x ≡ q x) → list_any p xs ≡ list_any q xs
+any_same : (P : Name → Type 0) (p q : Name → Bool) (xs : List Name) → EachOf P xs → ((x : Name) → P x → p x ≡ q x)
+    → list_any p xs ≡ list_any q xs
 any_same P p q [] all same = refl
 any_same P p q (x ∷ xs) all same = ap (λ b. b || list_any p xs) (same x all.0) ∙ ap (λ b. q x || b) (any_same P p q xs all.1 same)
 
-some_same : (P : Name → Type 0) (p q : Name → Bool) (o : Option Name) → OfSome P o → ((x : Name) → P x → p x ≡ q x) → option_map_or p o false ≡ option_map_or q o false
+some_same : (P : Name → Type 0) (p q : Name → Bool) (o : Option Name) → OfSome P o → ((x : Name) → P x → p x ≡ q x)
+    → option_map_or p o false ≡ option_map_or q o false
 some_same P p q None of same = refl
 some_same P p q (Some x) of same = same x of
 
 module _ (files : Program) where
-  pub interfaces_step : (m : ℕ) (c d : Name) → is_by_interfaces files (suc m) c d ≡ list_any (λ i. name_eq i d || is_by_interfaces files m i d) (superinterfaces_of files c)
+  pub interfaces_step : (m : ℕ) (c d : Name)
+      → is_by_interfaces files (suc m) c d ≡ list_any (λ i. name_eq i d || is_by_interfaces files m i d) (superinterfaces_of files c)
   interfaces_step m c d = any_flat (λ i. name_eq i d) (interfaces_from files (suc m)) (superinterfaces_of files c)
 
   pub below_step : (m : ℕ) (c d : Name)
-      → is_below_within files (suc m) c d ≡ (name_eq c d || (is_by_interfaces files (length (classes_of files)) c d || option_map_or (λ s. is_below_within files m s d) (superclass_of files c) false))
+      → is_below_within files (suc m) c d ≡ (name_eq c d
+      || (is_by_interfaces files (length (classes_of files)) c d ||
+      option_map_or (λ s. is_below_within files m s d) (superclass_of files c) false))
   below_step m c d = by (superclass_of files c)
     where
       p : Name → Bool
       p i = name_eq i d
 
       by : (o : Option Name)
-          → ((name_eq c d || option_map_or (λ s. is_within files m s d) o false) || list_any (λ i. name_eq i d) (interfaces_above files c ++ flat_map (interfaces_above files) (option_map_or (λ s. lineage_of files m s) o [])))
-          ≡ (name_eq c d || (is_by_interfaces files (length (classes_of files)) c d || option_map_or (λ s. is_below_within files m s d) o false))
+          → ((name_eq c d || option_map_or (λ s. is_within files m s d) o false) || list_any (λ i. name_eq i d) (interfaces_above files c
+          ++ flat_map (interfaces_above files) (option_map_or (λ s. lineage_of files m s) o [])))
+          ≡ (name_eq c d || (is_by_interfaces files (length (classes_of files)) c d || option_map_or (λ s. is_below_within files m s d) o
+          false))
       by None =
           ap (λ b. (name_eq c d || false) || b) (list_any-append (λ i. name_eq i d) (interfaces_above files c) [])
           ∙ or_between (name_eq c d) false (is_by_interfaces files (length (classes_of files)) c d) false
@@ -61,7 +68,8 @@ module _ (files : Program) where
   }
 
   -- a class is settled one step behind those directly above it
-  pub settled_step : (m : ℕ) (c : Name) → EachOf (IsSettled files m) (superinterfaces_of files c) → OfSome (IsSettled files m) (superclass_of files c) → IsSettled files (suc m) c
+  pub settled_step : (m : ℕ) (c : Name) → EachOf (IsSettled files m) (superinterfaces_of files c)
+      → OfSome (IsSettled files m) (superclass_of files c) → IsSettled files (suc m) c
   settled_step m c interfaces superclass = record {
     interfaces = λ n d more. interfaces_by n d more;
     all = λ n d more. all_by n d more;
@@ -101,10 +109,12 @@ module _ (files : Program) where
 
   -- the row of interfaces of a class, by those of its direct superinterfaces
   pub interfaces_row : (m : ℕ) (c d : Name) → suc m ≤ length (classes_of files) → EachOf (IsSettled files m) (superinterfaces_of files c)
-      → is_by_interfaces files (length (classes_of files)) c d ≡ list_any (λ i. name_eq i d || is_by_interfaces files (length (classes_of files)) i d) (superinterfaces_of files c)
+      → is_by_interfaces files (length (classes_of files)) c d
+      ≡ list_any (λ i. name_eq i d || is_by_interfaces files (length (classes_of files)) i d) (superinterfaces_of files c)
   interfaces_row m c d few interfaces = by (length (classes_of files)) few
     where
-      by : (n : ℕ) → suc m ≤ n → is_by_interfaces files n c d ≡ list_any (λ i. name_eq i d || is_by_interfaces files n i d) (superinterfaces_of files c)
+      by : (n : ℕ) → suc m ≤ n → is_by_interfaces files n c d
+          ≡ list_any (λ i. name_eq i d || is_by_interfaces files n i d) (superinterfaces_of files c)
       by zero more = absurd (omega (arith, more))
       by (suc n) more =
           interfaces_step n c d
@@ -113,13 +123,17 @@ module _ (files : Program) where
 
   -- the row of a class, by its own row of interfaces and the row of its superclass
   pub below_row : (m : ℕ) (c d : Name) → suc m ≤ length (classes_of files) → OfSome (IsSettled files m) (superclass_of files c)
-      → is_subclass_or_implements files c d ≡ (name_eq c d || (is_by_interfaces files (length (classes_of files)) c d || option_map_or (λ s. is_subclass_or_implements files s d) (superclass_of files c) false))
+      → is_subclass_or_implements files c d ≡ (name_eq c d
+      || (is_by_interfaces files (length (classes_of files)) c d ||
+      option_map_or (λ s. is_subclass_or_implements files s d) (superclass_of files c) false))
   below_row m c d few superclass =
       whole c d ∙ by (length (classes_of files)) few
       ∙ ap (λ b. name_eq c d || (is_by_interfaces files (length (classes_of files)) c d || b))
       (some_same (IsSettled files m) (λ s. is_below_within files (length (classes_of files)) s d) (λ s. is_subclass_or_implements files s d) (superclass_of files c) superclass (λ s is. sym (whole s d)))
     where
-      by : (n : ℕ) → suc m ≤ n → is_below_within files n c d ≡ (name_eq c d || (is_by_interfaces files (length (classes_of files)) c d || option_map_or (λ s. is_below_within files n s d) (superclass_of files c) false))
+      by : (n : ℕ) → suc m ≤ n → is_below_within files n c d
+          ≡ (name_eq c d || (is_by_interfaces files (length (classes_of files)) c d ||
+          option_map_or (λ s. is_below_within files n s d) (superclass_of files c) false))
       by zero more = absurd (omega (arith, more))
       by (suc n) more =
           below_step n c d

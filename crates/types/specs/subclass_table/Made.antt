@@ -36,6 +36,7 @@ pub record IsNearRow (files : Program) (columns : List (Option ℕ)) (steps : �
   pub says : IsRow files columns (λ d. name_eq (name_of file) d || list_any (λ i. is_near files i d) (interface_names file)) row
 
 -- a row to which that of the superclass was added, which is settled
-pub record IsWithSuperclass (files : Program) (columns : List (Option ℕ)) (steps : ℕ) (file : FileTree) (test : Name → Bool) (row : List ℕ) : Type 0 where
+pub record IsWithSuperclass (files : Program) (columns : List (Option ℕ)) (steps : ℕ) (file : FileTree) (test : Name → Bool)
+    (row : List ℕ) : Type 0 where
   pub settled : OfSome (IsSettled files steps) (super_name_of file)
   pub says : IsRow files columns (λ d. test d || option_map_or (λ s. is_subclass_or_implements files s d) (super_name_of file) false) row

@@ -42,4 +42,5 @@ IsAboveByClassesAbove =
     → EachOf (IsSettled files steps) (superinterfaces_of files c) → OfSome (IsSettled files steps) (superclass_of files c)
     → IsSettled files (steps + 1) c
     × ((d : Name) → is_near files c d ≡ (name_eq c d || list_any (λ i. is_near files i d) (superinterfaces_of files c)))
-    × ((d : Name) → is_subclass_or_implements files c d ≡ (is_near files c d || option_map_or (λ s. is_subclass_or_implements files s d) (superclass_of files c) false))
+    × ((d : Name) → is_subclass_or_implements files c d
+    ≡ (is_near files c d || option_map_or (λ s. is_subclass_or_implements files s d) (superclass_of files c) false))

@@ -30,7 +30,8 @@ pub struct MethodTypes {
 
 /// An array of so many dimensions of a class, or the class itself where there are none.
 fn class_type(set: &ClassSet, dimensions: u8, name: &[u8]) -> Option<ReferenceType>
-    ensures value { Gives (reference_in set.now) (is_missing set.now name.now) (arrays dimensions (made_type set.now (ClassType name.now))) result }
+    ensures value { Gives (reference_in set.now) (is_missing set.now name.now) (arrays dimensions (made_type set.now (ClassType name.now)))
+        result }
     ensures few { IfSome result (λ t. t.dimensions ≤ dimensions) }
 {
     let Some(element) = class_named(set, name) else {
@@ -44,7 +45,8 @@ fn class_type(set: &ClassSet, dimensions: u8, name: &[u8]) -> Option<ReferenceTy
 
 /// An array of so many dimensions of a primitive type, or an int where there are none (JVMS 2.11.1).
 fn primitive_type(dimensions: u8, primitive: Primitive) -> VerificationType
-    ensures value { (files : Program) → type_in files result ≡ verification_type files (primitive_declared dimensions (primitive_of primitive)) }
+    ensures value { (files : Program) → type_in files result
+        ≡ verification_type files (primitive_declared dimensions (primitive_of primitive)) }
     ensures few { HasDimensions dimensions result }
 {
     if dimensions == 0 {
@@ -58,7 +60,8 @@ fn primitive_type(dimensions: u8, primitive: Primitive) -> VerificationType
 
 /// The type that a descriptor's field declares, or `None` where its class is not in the set.
 fn declared_type(set: &ClassSet, field: Field<'_>) -> Option<VerificationType>
-    ensures value { Gives (type_in set.now) (declared_missing set.now (declared_of (field_of field.entry))) (verification_type set.now (declared_of (field_of field.entry))) result }
+    ensures value { Gives (type_in set.now) (declared_missing set.now (declared_of (field_of field.entry)))
+        (verification_type set.now (declared_of (field_of field.entry))) result }
     ensures few { IfSome result (HasDimensions field.entry.dimensions) }
 {
     let dimensions = field.dimensions;
@@ -81,7 +84,8 @@ fn declared_type(set: &ClassSet, field: Field<'_>) -> Option<VerificationType>
 /// The type that a field's descriptor describes (JVMS 4.3.2), or `None` where its class is not in the set. A text that is no
 /// descriptor stands for an int, as in the model.
 pub fn field_type(set: &ClassSet, descriptor: &[u8]) -> Option<VerificationType>
-    ensures value { Gives (type_in set.now) (declared_missing set.now (field_declared descriptor.now)) (verification_type set.now (field_declared descriptor.now)) result }
+    ensures value { Gives (type_in set.now) (declared_missing set.now (field_declared descriptor.now))
+        (verification_type set.now (field_declared descriptor.now)) result }
     ensures few { IfSome result (HasDimensions (dimensions_of descriptor.now)) }
 {
     match parse_field(descriptor) {
@@ -98,7 +102,8 @@ fn class_constant(set: &ClassSet, name: &[u8]) -> Option<ReferenceType>
 }
 
 fn array_constant(set: &ClassSet, name: &[u8]) -> Option<ReferenceType>
-    ensures value { Gives (reference_in set.now) (type_missing set.now (reference_declared name.now (field_declared name.now))) (made_type set.now (reference_declared name.now (field_declared name.now))) result }
+    ensures value { Gives (reference_in set.now) (type_missing set.now (reference_declared name.now (field_declared name.now)))
+        (made_type set.now (reference_declared name.now (field_declared name.now))) result }
     ensures few { IfSome result (λ t. t.dimensions ≤ dimensions_of name.now) }
 {
     match field_type(set, name) {
@@ -111,7 +116,8 @@ fn array_constant(set: &ClassSet, name: &[u8]) -> Option<ReferenceType>
 /// The type that a class constant names (JVMS 4.4.1): a class by its name, and an array by its descriptor; `None` where the
 /// class, or that of the array's elements, is not in the set.
 pub fn named_type(set: &ClassSet, name: &[u8]) -> Option<ReferenceType>
-    ensures value { Gives (reference_in set.now) (type_missing set.now (type_named name.now)) (made_type set.now (type_named name.now)) result }
+    ensures value { Gives (reference_in set.now) (type_missing set.now (type_named name.now)) (made_type set.now (type_named name.now))
+        result }
     ensures few { IfSome result (λ t. t.dimensions ≤ dimensions_of name.now) }
 {
     match name {
@@ -125,7 +131,9 @@ fn declared_types(
     set: &ClassSet,
     fields: &[Field<'_>],
 ) -> Result<Option<Vec<VerificationType>>, AllocError>
-    ensures { IfOk result (λ found. Gives (λ v. map (type_in set.now) v.items) (list_any (λ f. declared_missing set.now (declared_of (field_of f))) fields.now) (map (λ f. verification_type set.now (declared_of (field_of f))) fields.now) found) }
+    ensures { IfOk result (λ found. Gives (λ v. map (type_in set.now) v.items)
+        (list_any (λ f. declared_missing set.now (declared_of (field_of f))) fields.now)
+        (map (λ f. verification_type set.now (declared_of (field_of f))) fields.now) found) }
 {
     let mut types = Vec::with_capacity(alloc, fields.len())?;
     'fields: for field in fields {
@@ -143,8 +151,12 @@ fn types_of(
     set: &ClassSet,
     method: &Method<'_>,
 ) -> Result<Option<MethodTypes>, AllocError>
-    ensures parameters { IfOk result (λ found. Gives (parameters_in set.now) (list_any (declared_missing set.now) (map declared_of method.now.parameters ++ returned_type method.now.returns)) (map (verification_type set.now) (map declared_of method.now.parameters)) found) }
-    ensures returns { IfOk result (λ found. Gives (results_in set.now) (list_any (declared_missing set.now) (map declared_of method.now.parameters ++ returned_type method.now.returns)) (map (verification_type set.now) (returned_type method.now.returns)) found) }
+    ensures parameters { IfOk result (λ found. Gives (parameters_in set.now)
+        (list_any (declared_missing set.now) (map declared_of method.now.parameters
+        ++ returned_type method.now.returns)) (map (verification_type set.now) (map declared_of method.now.parameters)) found) }
+    ensures returns { IfOk result (λ found. Gives (results_in set.now)
+        (list_any (declared_missing set.now) (map declared_of method.now.parameters
+        ++ returned_type method.now.returns)) (map (verification_type set.now) (returned_type method.now.returns)) found) }
 {
     let found = declared_types(alloc, set, method.parameters())?;
     let Some(parameters) = found else {
@@ -172,8 +184,12 @@ pub fn method_types(
     set: &ClassSet,
     descriptor: &[u8],
 ) -> Result<Option<MethodTypes>, AllocError>
-    ensures parameters { IfOk result (λ found. Gives (parameters_in set.now) (list_any (declared_missing set.now) (parameters_declared descriptor.now ++ results_declared descriptor.now)) (map (verification_type set.now) (parameters_declared descriptor.now)) found) }
-    ensures returns { IfOk result (λ found. Gives (results_in set.now) (list_any (declared_missing set.now) (parameters_declared descriptor.now ++ results_declared descriptor.now)) (map (verification_type set.now) (results_declared descriptor.now)) found) }
+    ensures parameters { IfOk result (λ found. Gives (parameters_in set.now)
+        (list_any (declared_missing set.now) (parameters_declared descriptor.now
+        ++ results_declared descriptor.now)) (map (verification_type set.now) (parameters_declared descriptor.now)) found) }
+    ensures returns { IfOk result (λ found. Gives (results_in set.now)
+        (list_any (declared_missing set.now) (parameters_declared descriptor.now
+        ++ results_declared descriptor.now)) (map (verification_type set.now) (results_declared descriptor.now)) found) }
 {
     let parsed = parse_method(alloc, descriptor)?;
     match parsed {

@@ -91,7 +91,8 @@ pub fn component_type(set: &ClassSet, t: VerificationType) -> VerificationType
 
 /// The type of an array with components of a type (JVMS 6.5 anewarray), or `None` where it would have 256 dimensions.
 pub fn array_of(component: ReferenceType) -> Option<ReferenceType>
-    ensures { (files : Program) → option_map (reference_in files) result ≡ (if nat_lt component.dimensions 255 then Some (ReferenceArray (reference_in files component)) else None) }
+    ensures { (files : Program) → option_map (reference_in files) result
+        ≡ (if nat_lt component.dimensions 255 then Some (ReferenceArray (reference_in files component)) else None) }
 {
     if component.dimensions == 255 {
         return None;

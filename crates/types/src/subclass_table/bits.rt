@@ -37,7 +37,8 @@ pub(crate) fn set_bit(row: &mut Vec<u64>, column: usize)
 /// Sets the bits that another row has, which is no wider.
 pub(crate) fn add_row(row: &mut Vec<u64>, other: &[u64])
     ensures wide { length row.new.items ≡ length row.old.items }
-    ensures bits { length other.now ≤ length row.old.items → (column : ℕ) → has_bit row.new.items column ≡ (has_bit row.old.items column || has_bit other.now column) }
+    ensures bits { length other.now ≤ length row.old.items → (column : ℕ)
+        → has_bit row.new.items column ≡ (has_bit row.old.items column || has_bit other.now column) }
 {
     for place in 0..row.len() {
         let bits = other.get(place).copied().unwrap_or(0);

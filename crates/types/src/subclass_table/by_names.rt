@@ -14,7 +14,8 @@ use std::alloc::{AllocError, Global};
 fn add_class(hierarchy: &Hierarchy, row: &mut Vec<u64>, class: &[u8], place: usize, column: usize)
     requires { column < length row.now.items * 64 }
     ensures wide { length row.new.items ≡ length row.old.items }
-    ensures bits { (other : ℕ) → has_bit row.new.items other ≡ (has_bit row.old.items other || (column == other && is_above_at hierarchy.now class.now place)) }
+    ensures bits { (other : ℕ) → has_bit row.new.items other
+        ≡ (has_bit row.old.items other || (column == other && is_above_at hierarchy.now class.now place)) }
 {
     if let Some(above) = hierarchy.set().class_at(place) {
         if hierarchy.is_subclass_or_implements(class, class_name(above)) {

@@ -43,7 +43,8 @@ fn rows_of_name<'a>(
     made: &'a [Option<ClassRows>],
     name: &[u8],
 ) -> Option<&'a ClassRows>
-    ensures { (columns : List (Option ℕ)) (width steps : ℕ) → AreMade set.now columns width steps made.now → IfSome result (λ rows. IsMade set.now columns width steps name.now rows.now) }
+    ensures { (columns : List (Option ℕ)) (width steps : ℕ) → AreMade set.now columns width steps made.now
+        → IfSome result (λ rows. IsMade set.now columns width steps name.now rows.now) }
 {
     let Some(place) = set.place_of(name) else {
         return None;
@@ -59,8 +60,12 @@ fn add_interface(
     name: Option<&[u8]>,
 ) -> bool
     ensures wide { length near.new.items ≡ length near.old.items }
-    ensures near { (columns : List (Option ℕ)) (steps : ℕ) (p : Name → Bool) → AreMade set.now columns (length near.old.items) steps made.now → IsRow set.now columns p near.old.items → result ≡ true → IsRow set.now columns (λ d. p d || list_any (λ i. is_near set.now i d) (option_to_list (option_map (λ t. t.now) name.entry))) near.new.items }
-    ensures settled { (columns : List (Option ℕ)) (steps : ℕ) → AreMade set.now columns (length near.old.items) steps made.now → result ≡ true → EachOf (IsSettled set.now steps) (option_to_list (option_map (λ t. t.now) name.entry)) }
+    ensures near { (columns : List (Option ℕ)) (steps : ℕ) (p : Name → Bool)
+        → AreMade set.now columns (length near.old.items) steps made.now → IsRow set.now columns p near.old.items → result ≡ true
+        → IsRow set.now columns (λ d. p d || list_any (λ i. is_near set.now i d) (option_to_list (option_map (λ t. t.now) name.entry)))
+        near.new.items }
+    ensures settled { (columns : List (Option ℕ)) (steps : ℕ) → AreMade set.now columns (length near.old.items) steps made.now
+        → result ≡ true → EachOf (IsSettled set.now steps) (option_to_list (option_map (λ t. t.now) name.entry)) }
 {
     let Some(name) = name else {
         return true;
@@ -107,7 +112,8 @@ fn near_row(
     requires fit { FitIn columns.now width }
     requires stands { class_at set.now place ≡ Some (file_of file.now) }
     ensures wide { IfOk result (λ row. IfSome row (λ row. length row.items ≡ width)) }
-    ensures near { IfOk result (λ row. IfSome row (λ row. (steps : ℕ) → AreMade set.now columns.now width steps made.now → IsNearRow set.now columns.now steps (file_of file.now) row.items)) }
+    ensures near { IfOk result (λ row. IfSome row (λ row. (steps : ℕ) → AreMade set.now columns.now width steps made.now
+        → IsNearRow set.now columns.now steps (file_of file.now) row.items)) }
 {
     let mut near = own_row(alloc, columns, width, place)?;
     for index in &file.interfaces {
@@ -127,7 +133,9 @@ fn row_with_superclass(
     file: &ClassFile,
 ) -> Result<Option<Vec<u64>>, AllocError>
     ensures wide { IfOk result (λ row. IfSome row (λ row. length row.items ≡ length near.now)) }
-    ensures row { IfOk result (λ row. IfSome row (λ row. (columns : List (Option ℕ)) (steps : ℕ) (p : Name → Bool) → AreMade set.now columns (length near.now) steps made.now → IsRow set.now columns p near.now → IsWithSuperclass set.now columns steps (file_of file.now) p row.items)) }
+    ensures row { IfOk result (λ row. IfSome row (λ row. (columns : List (Option ℕ)) (steps : ℕ) (p : Name → Bool)
+        → AreMade set.now columns (length near.now) steps made.now → IsRow set.now columns p near.now
+        → IsWithSuperclass set.now columns steps (file_of file.now) p row.items)) }
 {
     let mut below = Vec::from_slice(alloc, near)?;
     let Some(name) = superclass_name(file) else {
@@ -151,7 +159,8 @@ pub(crate) fn class_rows(
 ) -> Result<Option<ClassRows>, AllocError>
     requires own { FindOwnPlaces set.now }
     requires fit { FitIn columns.now width }
-    ensures { IfOk result (λ rows. (steps : ℕ) → steps < length (classes_of set.now) → AreMade set.now columns.now width steps made.now → AreRowsAt set.now columns.now width (steps + 1) place rows) }
+    ensures { IfOk result (λ rows. (steps : ℕ) → steps < length (classes_of set.now) → AreMade set.now columns.now width steps made.now
+        → AreRowsAt set.now columns.now width (steps + 1) place rows) }
 {
     let Some(file) = set.class_at(place) else {
         return Ok(None);

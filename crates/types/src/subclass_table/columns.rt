@@ -24,7 +24,8 @@ pub(crate) fn column_at(columns: &[Option<u16>], class: usize) -> Option<u16>
 /// Marks a class, if it is among those that have marks.
 fn mark(marks: &mut [bool], class: usize)
     ensures length { length marks.new ≡ length marks.old }
-    ensures each { (other : ℕ) → other < length marks.old → slice_index_or marks.new other false ≡ (slice_index_or marks.old other false || class == other) }
+    ensures each { (other : ℕ) → other < length marks.old
+        → slice_index_or marks.new other false ≡ (slice_index_or marks.old other false || class == other) }
 {
     if class < marks.len() {
         marks[class] = true;
@@ -46,7 +47,8 @@ pub(crate) fn marks_of(alloc: Global, count: usize, tested: &[u16]) -> Result<Ve
 /// Gives the next class a column, if something is tested against it.
 fn add_class(columns: &mut Columns, class: u16, is_tested: bool) -> Result<(), AllocError>
     requires { length columns.now.classes.items ≤ class }
-    ensures by_class { OnOk result (columns.new.by_class.items ≡ columns.old.by_class.items ++ column_for is_tested (length columns.old.classes.items) ∷ []) }
+    ensures by_class { OnOk result (columns.new.by_class.items
+        ≡ columns.old.by_class.items ++ column_for is_tested (length columns.old.classes.items) ∷ []) }
     ensures classes { OnOk result (columns.new.classes.items ≡ columns.old.classes.items ++ class_for is_tested class) }
 {
     if is_tested {

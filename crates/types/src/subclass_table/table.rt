@@ -20,8 +20,10 @@ pub fn subclasses(
     tested: &[u16],
 ) -> Result<Subclasses, AllocError>
     ensures right { IfOk result (AreSubclasses hierarchy.now) }
-    ensures columns { IfOk result (λ table. (class : ℕ) → class < length (classes_of hierarchy.now) → class < 2 ^ 16 → is_some (column_of table class) ≡ is_tested tested.now class) }
-    ensures tested { IfOk result (λ table. (class : ℕ) → class < length (classes_of hierarchy.now) → class < 2 ^ 16 → is_tested tested.now class ≡ true → HasColumn table class) }
+    ensures columns { IfOk result (λ table. (class : ℕ) → class < length (classes_of hierarchy.now) → class < 2 ^ 16
+        → is_some (column_of table class) ≡ is_tested tested.now class) }
+    ensures tested { IfOk result (λ table. (class : ℕ) → class < length (classes_of hierarchy.now) → class < 2 ^ 16
+        → is_tested tested.now class ≡ true → HasColumn table class) }
 {
     let count = hierarchy.set().count().min(0x1_0000);
     let marks = marks_of(alloc, count, tested)?;

@@ -30,7 +30,8 @@ every_index P (x ∷ xs) zero d h l = h.0
 every_index P (x ∷ xs) (suc i) d h l = every_index P xs i d h.1 (omega (arith, l))
 
 -- one more, seen by a function
-pub mapped_more : {A B : Type 0} (f : A → B) (old : List A) (x : A) (xs : List B) (i : ℕ) (d : B) → i < length xs → map f old ≡ take i xs → f x ≡ get_or xs i d → map f (old ++ x ∷ []) ≡ take (i + 1) xs
+pub mapped_more : {A B : Type 0} (f : A → B) (old : List A) (x : A) (xs : List B) (i : ℕ) (d : B) → i < length xs → map f old ≡ take i xs
+    → f x ≡ get_or xs i d → map f (old ++ x ∷ []) ≡ take (i + 1) xs
 mapped_more {A = A} f old x xs i d l e q = map_last old ∙ ap (λ l. l ++ f x ∷ []) e ∙ ap (λ y. take i xs ++ y ∷ []) q ∙ sym (take_more xs i d l)
   where
     map_last : (ys : List A) → map f (ys ++ x ∷ []) ≡ map f ys ++ f x ∷ []

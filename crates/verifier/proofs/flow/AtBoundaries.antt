@@ -35,7 +35,8 @@ use Rattle.run_laws.proofs.laws.Classes.{name_self}
 
 -- ---- a condition that stands at no boundary
 
-in_method : (test : MethodTree → CodeTree → Bool) (file : FileTree) (name descriptor : Name) (m : MethodTree) (c : CodeTree) → any_code test file ≡ false → declared_in file name descriptor ≡ Some m → code_in m.parts ≡ Some c → test m c ≡ false
+in_method : (test : MethodTree → CodeTree → Bool) (file : FileTree) (name descriptor : Name) (m : MethodTree) (c : CodeTree)
+    → any_code test file ≡ false → declared_in file name descriptor ≡ Some m → code_in m.parts ≡ Some c → test m c ≡ false
 in_method test file name descriptor m c h d q =
     sym (map_or_at (test m) (code_in m.parts) false c q)
     ∙ found_has (λ (m : MethodTree). option_map_or (test m) (code_in m.parts) false ≡ false) (is_method file.pool name descriptor) file.methods m
@@ -43,7 +44,8 @@ in_method test file name descriptor m c h d q =
 
 -- ---- names of class constants
 
-names_type : (pool : List Entry) (e : Entry) (name : Name) → entry_names pool e ≡ true → class_name_of pool e ≡ Some name → is_class_or_array name ≡ true
+names_type : (pool : List Entry) (e : Entry) (name : Name) → entry_names pool e ≡ true → class_name_of pool e ≡ Some name
+    → is_class_or_array name ≡ true
 names_type pool (Utf8 text) name h e = absurd cc
 names_type pool (Integer bits) name h e = absurd cc
 names_type pool (Float bits) name h e = absurd cc
@@ -60,14 +62,16 @@ names_type pool Unusable name h e = absurd cc
 abbrev is_no_type : Name → Bool
 is_no_type name = not (is_class_or_array name)
 
-no_other : (pool : List Entry) (index : ℕ) → list_all (entry_names pool) pool ≡ true → option_map_or is_no_type (class_name_at pool index) false ≡ false
+no_other : (pool : List Entry) (index : ℕ) → list_all (entry_names pool) pool ≡ true
+    → option_map_or is_no_type (class_name_at pool index) false ≡ false
 no_other pool index h = by (class_name_at pool index) refl
   where
     by : (o : Option Name) → class_name_at pool index ≡ o → option_map_or is_no_type (class_name_at pool index) false ≡ false
     by None e = ap (λ o. option_map_or is_no_type o false) e
     by (Some name) e = map_or_at is_no_type (class_name_at pool index) false name e ∙ ap (λ b. not b) (names_type pool (entry_at pool index) name (entry_right (entry_names pool) pool index refl h) e)
 
-operand_type : (pool : List Entry) (i : Instr) → list_all (entry_names pool) pool ≡ true → option_map_or is_no_type (class_operand pool i) false ≡ false
+operand_type : (pool : List Entry) (i : Instr) → list_all (entry_names pool) pool ≡ true
+    → option_map_or is_no_type (class_operand pool i) false ≡ false
 operand_type pool (LoadConstant index) h = no_other pool index h
 operand_type pool (New index) h = no_other pool index h
 operand_type pool (NewReferenceArray index) h = no_other pool index h
@@ -129,7 +133,8 @@ module _ (files : Program) where
       (every_weaken _ _ files (λ f h. few_file f h) ok.code)
       class file c
 
-  names_right : Unrefused files → (class : Name) (file : FileTree) → class_of files class ≡ Some file → list_all (entry_names file.pool) file.pool ≡ true
+  names_right : Unrefused files → (class : Name) (file : FileTree) → class_of files class ≡ Some file
+      → list_all (entry_names file.pool) file.pool ≡ true
   names_right ok class file c =
       class_has files (λ f. list_all (entry_names f.pool) f.pool ≡ true)
       (every_all _ built_in_classes built_in_names)
@@ -138,7 +143,8 @@ module _ (files : Program) where
 
 -- ---- of a method
 
-module _ (m : MethodCode) (linked : IsLinked (files_of m)) (offset : ℕ) (i : Instr) (start : is_start (body_of m).code.code offset ≡ true) (is : instr_at (body_of m).code.code offset ≡ Some i) where
+module _ (m : MethodCode) (linked : IsLinked (files_of m)) (offset : ℕ) (i : Instr) (start : is_start (body_of m).code.code offset ≡ true)
+    (is : instr_at (body_of m).code.code offset ≡ Some i) where
   pub operand_found : list_any (is_missing (files_of m)) (operand_classes (body_of m).pool i) ≡ false
   operand_found =
       let files = files_of m in

@@ -41,13 +41,15 @@ some_at (Some x) h = (x, refl)
 
 -- ---- the descriptor
 
-any_flat : {A B : Type 0} (q : B → Bool) (f : A → List B) (xs : List A) → list_any q (flat_map f xs) ≡ false → list_any (λ x. list_any q (f x)) xs ≡ false
+any_flat : {A B : Type 0} (q : B → Bool) (f : A → List B) (xs : List A) → list_any q (flat_map f xs) ≡ false
+    → list_any (λ x. list_any q (f x)) xs ≡ false
 any_flat q f [] h = refl
 any_flat q f (x ∷ xs) h =
     let p = or_parts (list_any q (f x)) _ (sym (list_any-append q (f x) (flat_map f xs)) ∙ h) in
     or_from (list_any q (f x)) _ p.0 (any_flat q f xs p.1)
 
-any_mapped : {A B : Type 0} (q : B → Bool) (f : A → B) (xs : List A) → list_any q (map f xs) ≡ false → AllByRecursion (λ x. q (f x) ≡ false) xs
+any_mapped : {A B : Type 0} (q : B → Bool) (f : A → B) (xs : List A) → list_any q (map f xs) ≡ false
+    → AllByRecursion (λ x. q (f x) ≡ false) xs
 any_mapped q f [] h = tt
 any_mapped q f (x ∷ xs) h = let p = or_parts (q (f x)) _ h in (p.0, any_mapped q f xs p.1)
 
@@ -63,7 +65,9 @@ module _ (files : Program) where
       let c = or_parts (catch_type_missing files file) _ b.1 in
       (or_parts (declared_class_missing files file) _ c.1).0
 
-  pub method_described : Unrefused files → (class name descriptor : Name) (file : FileTree) (m : MethodTree) → class_of files class ≡ Some file → declared_in file name descriptor ≡ Some m → list_any (is_missing files) (classes_in (text_at file.pool m.descriptor)) ≡ false
+  pub method_described : Unrefused files → (class name descriptor : Name) (file : FileTree) (m : MethodTree)
+      → class_of files class ≡ Some file → declared_in file name descriptor ≡ Some m
+      → list_any (is_missing files) (classes_in (text_at file.pool m.descriptor)) ≡ false
   method_described ok class name descriptor file m c d =
       let none : declared_class_missing files file ≡ false =
       class_has files (λ f. declared_class_missing files f ≡ false)
@@ -97,8 +101,10 @@ module _ (files : Program) where
   no_array (b ∷ bytes) h = ap (λ t. type_missing files (cond t (reference_declared (b ∷ bytes) (field_declared (b ∷ bytes))) (ClassType (b ∷ bytes)))) h
 
   -- an entry that names a class
-  named_found : (pool : List Entry) (e : ExceptionEntry) (name : Name) → class_name_at pool e.catch_type ≡ Some name → (e.catch_type == 0) ≡ false
-      → option_map_or (is_missing_catch files) (catch_class pool e) false ≡ false → option_map_or (is_no_throwable files) (catch_class pool e) false ≡ false → is_lost pool e ≡ false
+  named_found : (pool : List Entry) (e : ExceptionEntry) (name : Name) → class_name_at pool e.catch_type ≡ Some name
+      → (e.catch_type == 0) ≡ false
+      → option_map_or (is_missing_catch files) (catch_class pool e) false ≡ false
+      → option_map_or (is_no_throwable files) (catch_class pool e) false ≡ false → is_lost pool e ≡ false
   named_found pool e name is some found kind =
       let caught : catch_class pool e ≡ Some name = ap (λ t. cond t None (class_name_at pool e.catch_type)) some ∙ is in
       let class : caught_class pool e ≡ name = ap (λ t. cond t java_lang_throwable (unwrap_or (class_name_at pool e.catch_type) [])) some ∙ ap (λ o. unwrap_or o []) is in
@@ -107,7 +113,8 @@ module _ (files : Program) where
       ap (λ n. type_missing files (type_named n)) class ∙ no_array name plain ∙ sym (ap (λ t. not t && is_missing files name) plain) ∙ there
 
   caught_found : (pool : List Entry) (e : ExceptionEntry) → list_all (entry_indices pool) pool ≡ true → exception_indices pool e ≡ true
-      → option_map_or (is_missing_catch files) (catch_class pool e) false ≡ false → option_map_or (is_no_throwable files) (catch_class pool e) false ≡ false → is_lost pool e ≡ false
+      → option_map_or (is_missing_catch files) (catch_class pool e) false ≡ false
+      → option_map_or (is_no_throwable files) (catch_class pool e) false ≡ false → is_lost pool e ≡ false
   caught_found pool e entries index found kind = by (e.catch_type == 0) refl
     where
       by : (z : Bool) → (e.catch_type == 0) ≡ z → is_lost pool e ≡ false
@@ -118,8 +125,10 @@ module _ (files : Program) where
           named_found pool e n.0 n.1 z found kind
 
   -- of each entry of a code
-  entries_found : (pool : List Entry) (es : List ExceptionEntry) → list_all (entry_indices pool) pool ≡ true → list_all (exception_indices pool) es ≡ true
-      → list_any (λ e. option_map_or (is_missing_catch files) (catch_class pool e) false) es ≡ false → list_any (λ e. option_map_or (is_no_throwable files) (catch_class pool e) false) es ≡ false → list_any (is_lost pool) es ≡ false
+  entries_found : (pool : List Entry) (es : List ExceptionEntry) → list_all (entry_indices pool) pool ≡ true
+      → list_all (exception_indices pool) es ≡ true
+      → list_any (λ e. option_map_or (is_missing_catch files) (catch_class pool e) false) es ≡ false
+      → list_any (λ e. option_map_or (is_no_throwable files) (catch_class pool e) false) es ≡ false → list_any (is_lost pool) es ≡ false
   entries_found pool [] entries index found kind = refl
   entries_found pool (e ∷ es) entries index found kind =
       let i = and_parts (exception_indices pool e) _ index in
@@ -128,7 +137,8 @@ module _ (files : Program) where
       or_from (is_lost pool e) _ (caught_found pool e entries i.0 f.0 k.0) (entries_found pool es entries i.1 f.1 k.1)
 
   -- the indices of the code among the parts
-  code_right : (pool : List Entry) (parts : List MethodPart) (c : CodeTree) → list_all (method_part_indices pool) parts ≡ true → code_in parts ≡ Some c → list_all (exception_indices pool) c.exceptions ≡ true
+  code_right : (pool : List Entry) (parts : List MethodPart) (c : CodeTree) → list_all (method_part_indices pool) parts ≡ true
+      → code_in parts ≡ Some c → list_all (exception_indices pool) c.exceptions ≡ true
   code_right pool [] c h e = absurd cc
   code_right pool (CodeOf name code ∷ parts) c h e =
       let same : code ≡ c = cc in
@@ -138,12 +148,15 @@ module _ (files : Program) where
   code_right pool (SkippedOfMethod a ∷ parts) c h e = code_right pool parts c (and_parts (skipped_indices pool a) _ h).1 e
 
   method_found : (pool : List Entry) (m : MethodTree) → list_all (entry_indices pool) pool ≡ true → method_indices pool m ≡ true
-      → option_map_or (λ (c : CodeTree). list_any (λ e. option_map_or (is_missing_catch files) (catch_class pool e) false) c.exceptions) (code_in m.parts) false ≡ false
-      → option_map_or (λ (c : CodeTree). list_any (λ e. option_map_or (is_no_throwable files) (catch_class pool e) false) c.exceptions) (code_in m.parts) false ≡ false
+      → option_map_or (λ (c : CodeTree). list_any (λ e. option_map_or (is_missing_catch files) (catch_class pool e) false) c.exceptions)
+      (code_in m.parts) false ≡ false
+      → option_map_or (λ (c : CodeTree). list_any (λ e. option_map_or (is_no_throwable files) (catch_class pool e) false) c.exceptions)
+      (code_in m.parts) false ≡ false
       → option_map_or (λ (c : CodeTree). list_any (is_lost pool) c.exceptions) (code_in m.parts) false ≡ false
   method_found pool m entries index found kind = by (code_in m.parts) refl
     where
-      by : (o : Option CodeTree) → code_in m.parts ≡ o → option_map_or (λ (c : CodeTree). list_any (is_lost pool) c.exceptions) (code_in m.parts) false ≡ false
+      by : (o : Option CodeTree) → code_in m.parts ≡ o
+          → option_map_or (λ (c : CodeTree). list_any (is_lost pool) c.exceptions) (code_in m.parts) false ≡ false
       by None q = ap (λ o. option_map_or (λ (c : CodeTree). list_any (is_lost pool) c.exceptions) o false) q
       by (Some c) q =
           let named = and_parts (names_utf8 pool m.name) _ index in
@@ -153,10 +166,16 @@ module _ (files : Program) where
           (sym (map_or_at (λ (c : CodeTree). list_any (λ e. option_map_or (is_missing_catch files) (catch_class pool e) false) c.exceptions) (code_in m.parts) false c q) ∙ found)
           (sym (map_or_at (λ (c : CodeTree). list_any (λ e. option_map_or (is_no_throwable files) (catch_class pool e) false) c.exceptions) (code_in m.parts) false c q) ∙ kind)
 
-  methods_found : (pool : List Entry) (ms : List MethodTree) → list_all (entry_indices pool) pool ≡ true → list_all (method_indices pool) ms ≡ true
-      → list_any (λ (m : MethodTree). option_map_or (λ (c : CodeTree). list_any (λ e. option_map_or (is_missing_catch files) (catch_class pool e) false) c.exceptions) (code_in m.parts) false) ms ≡ false
-      → list_any (λ (m : MethodTree). option_map_or (λ (c : CodeTree). list_any (λ e. option_map_or (is_no_throwable files) (catch_class pool e) false) c.exceptions) (code_in m.parts) false) ms ≡ false
-      → list_any (λ (m : MethodTree). option_map_or (λ (c : CodeTree). list_any (is_lost pool) c.exceptions) (code_in m.parts) false) ms ≡ false
+  methods_found : (pool : List Entry) (ms : List MethodTree) → list_all (entry_indices pool) pool ≡ true
+      → list_all (method_indices pool) ms ≡ true
+      → list_any (λ (m : MethodTree). option_map_or
+      (λ (c : CodeTree). list_any (λ e. option_map_or (is_missing_catch files) (catch_class pool e) false) c.exceptions) (code_in m.parts)
+      false) ms ≡ false
+      → list_any (λ (m : MethodTree). option_map_or
+      (λ (c : CodeTree). list_any (λ e. option_map_or (is_no_throwable files) (catch_class pool e) false) c.exceptions) (code_in m.parts)
+      false) ms ≡ false
+      → list_any (λ (m : MethodTree). option_map_or (λ (c : CodeTree). list_any (is_lost pool) c.exceptions) (code_in m.parts) false) ms
+      ≡ false
   methods_found pool [] entries index found kind = refl
   methods_found pool (m ∷ ms) entries index found kind =
       let i = and_parts (method_indices pool m) _ index in
@@ -164,7 +183,8 @@ module _ (files : Program) where
       let k = or_parts (option_map_or (λ (c : CodeTree). list_any (λ e. option_map_or (is_no_throwable files) (catch_class pool e) false) c.exceptions) (code_in m.parts) false) _ kind in
       or_from _ _ (method_found pool m entries i.0 f.0 k.0) (methods_found pool ms entries i.1 f.1 k.1)
 
-  caught_file : (file : FileTree) → IsWhole file → is_unresolved files file ≡ false → has_bad_hierarchy files file ≡ false → has_lost file ≡ false
+  caught_file : (file : FileTree) → IsWhole file → is_unresolved files file ≡ false → has_bad_hierarchy files file ≡ false
+      → has_lost file ≡ false
   caught_file file whole resolved ordered =
       let entries = and_parts (list_all (entry_indices file.pool) file.pool) _ whole.indices in
       let this = and_parts (names_class file.pool file.this_class) _ entries.1 in
@@ -190,7 +210,8 @@ module _ (files : Program) where
           let j = or_parts (redeclares redeclared_in_other_package files file) _ i.1 in
           (or_parts (redeclares redeclared_as_private files file) _ j.1).1
 
-  pub all_caught : Unrefused files → (class name descriptor : Name) (file : FileTree) (m : MethodTree) (code : CodeTree) → class_of files class ≡ Some file → declared_in file name descriptor ≡ Some m → code_in m.parts ≡ Some code
+  pub all_caught : Unrefused files → (class name descriptor : Name) (file : FileTree) (m : MethodTree) (code : CodeTree)
+      → class_of files class ≡ Some file → declared_in file name descriptor ≡ Some m → code_in m.parts ≡ Some code
       → AllByRecursion (λ e. type_missing files (type_named (caught_class file.pool e)) ≡ false) code.exceptions
   all_caught ok class name descriptor file m code c d q =
       let none : has_lost file ≡ false =
@@ -209,5 +230,6 @@ module _ (m : MethodCode) (linked : IsLinked (files_of m)) where
   pub descriptor_found : list_any (is_missing (files_of m)) (classes_in (member_of m).descriptor) ≡ false
   descriptor_found = method_described (files_of m) (unrefused (files_of m) linked) _ _ _ _ _ m.declared.is_class m.declared.is_method
 
-  pub handlers_found : AllByRecursion (λ e. type_missing (files_of m) (type_named (caught_class (body_of m).pool e)) ≡ false) (body_of m).code.exceptions
+  pub handlers_found : AllByRecursion (λ e. type_missing (files_of m) (type_named (caught_class (body_of m).pool e))
+      ≡ false) (body_of m).code.exceptions
   handlers_found = all_caught (files_of m) (unrefused (files_of m) linked) _ _ _ _ _ _ m.declared.is_class m.declared.is_method m.declared.is_code

@@ -22,12 +22,14 @@ use Rattle.verifier.specs.flow.Successors.{successors_by}
 use Rattle.verifier.specs.flow.Local.{AnswersLocally}
 
 -- a local instruction calls no constructor
-constructs_none : (site : Site) (ops : List VerificationType) (ints : List (Option ℕ)) (code : List ℕ) (offset next : ℕ) (i : Instr) (row : Row) → local_row ints code offset next i ≡ Some row → constructs_this site ops i ≡ false
+constructs_none : (site : Site) (ops : List VerificationType) (ints : List (Option ℕ)) (code : List ℕ) (offset next : ℕ) (i : Instr)
+    (row : Row) → local_row ints code offset next i ≡ Some row → constructs_this site ops i ≡ false
 constructs_none site ops ints code offset next (instr.Invoke invocation.Special index) row e = absurd cc
 constructs_none site ops ints code offset next other row e = refl
 
 -- all targets have one frame type
-marked_all : (c : Bool) (slots : Slots VerificationType) (tos : List ℕ) → map (marked c) (map (λ to. (to, slots)) tos) ≡ map (λ to. (to, record { slots = slots; constructed = c })) tos
+marked_all : (c : Bool) (slots : Slots VerificationType) (tos : List ℕ)
+    → map (marked c) (map (λ to. (to, slots)) tos) ≡ map (λ to. (to, record { slots = slots; constructed = c })) tos
 marked_all c slots [] = refl
 marked_all c slots (to ∷ tos) = ap (λ l. (to, record { slots = slots; constructed = c }) ∷ l) (marked_all c slots tos)
 
@@ -38,7 +40,8 @@ module _ (files : Program) (site : Site) where
   row_means : (o : Option Row) (row : Row) → row_here ≡ o → o ≡ Some row → meaning_of values files site ≡ Some (local_meaning values row)
   row_means o row e q = ap (local_or values files site) (e ∙ q)
 
-  row_leads : (row : Row) (t : FrameType) → row_here ≡ Some row → successors site (local_meaning values row) t ≡ map (λ to. (to, row_leaves row t)) (row.to ∷ row.others)
+  row_leads : (row : Row) (t : FrameType) → row_here ≡ Some row
+      → successors site (local_meaning values row) t ≡ map (λ to. (to, row_leaves row t)) (row.to ∷ row.others)
   row_leads row t e =
       let ops = operands over_types (row_wants row) t.slots in
       let none : (t.constructed || constructs_this site ops site.instr) ≡ t.constructed =
@@ -46,7 +49,8 @@ module _ (files : Program) (site : Site) where
       ap (λ c. map (marked c) (map (λ to. (to, after_row over_types row t.slots)) (row.to ∷ row.others))) none
       ∙ marked_all t.constructed (after_row over_types row t.slots) (row.to ∷ row.others)
 
-  pub answers : (old new : FrameType) (result : Result LocalFlow AllocError) (o : Option Row) → row_here ≡ o → FlowsLocally files site.body.code.max_stack old new result o → IfOk result (AnswersLocally files site old new)
+  pub answers : (old new : FrameType) (result : Result LocalFlow AllocError) (o : Option Row) → row_here ≡ o
+      → FlowsLocally files site.body.code.max_stack old new result o → IfOk result (AnswersLocally files site old new)
   answers old new (Err e) o q h = tt
   answers old new (Ok flow.NotLocal) None q h = (h, ap (local_or values files site) q)
   answers old new (Ok flow.NotReady) None q h = absurd h

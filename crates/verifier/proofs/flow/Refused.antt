@@ -31,11 +31,13 @@ differ files linked =
     let large = or_parts (stands files TooLarge) _ code.1 in
     (or_parts (stands files DuplicateClass) _ large.1).0
 
-returned_found : (files : Program) (descriptor : Name) (i : Instr) → list_any (is_missing files) (classes_in descriptor) ≡ false → list_any (is_missing files) (returned_classes descriptor i) ≡ false
+returned_found : (files : Program) (descriptor : Name) (i : Instr) → list_any (is_missing files) (classes_in descriptor) ≡ false
+    → list_any (is_missing files) (returned_classes descriptor i) ≡ false
 returned_found files descriptor (Return returned) h = h
 returned_found files descriptor other h = refl
 
-pub not_refused : (s : Site) → IsLinked (files_of s.method) → is_start (body_of s.method).code.code s.offset ≡ true → instr_at (body_of s.method).code.code s.offset ≡ Some s.instr → is_refused (files_of s.method) (site_of s) ≡ false
+pub not_refused : (s : Site) → IsLinked (files_of s.method) → is_start (body_of s.method).code.code s.offset ≡ true
+    → instr_at (body_of s.method).code.code s.offset ≡ Some s.instr → is_refused (files_of s.method) (site_of s) ≡ false
 not_refused s linked start is =
     let files = files_of s.method in
     let returned = returned_found files (member_of s.method).descriptor s.instr (descriptor_found s.method linked) in

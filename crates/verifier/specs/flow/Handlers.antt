@@ -10,4 +10,5 @@ use Rattle.verifier.specs.declared.flow.handler.Handler as declared_handler
 -- They are the entries of its exception table, each with the type of what it catches.
 pub record AreHandlers (m : MethodCode) (hs : List declared_handler.Handler) : Type 0 where
   pub entries : map (λ (h : declared_handler.Handler). h.entry) hs ≡ (body_of m).code.exceptions
-  pub caught : AllByRecursion (λ (h : declared_handler.Handler). type_in (files_of m) h.caught ≡ caught_type (files_of m) (body_of m).pool h.entry) hs
+  pub caught : AllByRecursion (λ (h : declared_handler.Handler). type_in (files_of m) h.caught
+      ≡ caught_type (files_of m) (body_of m).pool h.entry) hs

@@ -30,7 +30,8 @@ fn parameter_types(
     method: &MethodCode<'_>,
 ) -> Result<Vec<VerificationType>, AllocError>
     requires { IsLinked (files_of method.now) }
-    ensures { IfOk result (λ v. map (type_in (files_of method.now)) v.items ≡ parameter_types (files_of method.now) (member_of method.now)) }
+    ensures { IfOk result (λ v. map (type_in (files_of method.now)) v.items
+        ≡ parameter_types (files_of method.now) (member_of method.now)) }
 {
     let found = method_types(alloc, method.set(), method.descriptor())?;
     match found {
@@ -72,7 +73,8 @@ fn fill_up(locals: &mut Vec<VerificationType>, count: usize) -> Result<(), Alloc
 /// the operand stack (JVMS 2.6.1, 4.10.1.6).
 pub fn entry_frame(alloc: Global, method: &MethodCode<'_>) -> Result<FrameType, AllocError>
     requires { IsLinked (files_of method.now) }
-    ensures { IfOk result (λ f. frame_in (files_of method.now) f ≡ entry_type (files_of method.now) (member_of method.now) (body_of method.now)) }
+    ensures { IfOk result (λ f. frame_in (files_of method.now) f
+        ≡ entry_type (files_of method.now) (member_of method.now) (body_of method.now)) }
 {
     let mut locals = argument_types(alloc, method)?;
     fill_up(&mut locals, method.code().max_locals as usize)?;

@@ -51,7 +51,8 @@ pub fn flow_at(
     requires linked { IsLinked (files_of method.now) }
     requires handlers { AreHandlers method.now handlers.now }
     requires start { IsTrue (is_start (body_of method.now).code.code offset) }
-    ensures flow { IfOk result (λ o. option_map (λ v. map (lead_in (files_of method.now) frame.old frame.new) v.items) o ≡ flow (files_of method.now) (member_of method.now) (body_of method.now) offset (frame_in (files_of method.now) frame.old)) }
+    ensures flow { IfOk result (λ o. option_map (λ v. map (lead_in (files_of method.now) frame.old frame.new) v.items) o
+        ≡ flow (files_of method.now) (member_of method.now) (body_of method.now) offset (frame_in (files_of method.now) frame.old)) }
     ensures handlers { IfOk result (λ o. IfSome o (λ v. LeadOn offset handlers.now v.items)) }
 {
     let Some(site) = site_at(method, offset as u16) else {

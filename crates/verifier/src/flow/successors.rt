@@ -29,7 +29,9 @@ fn successors_by(
     meaning: &Meaning,
     frame: &mut FrameType,
 ) -> Result<Option<SmallVec<usize, 2>>, AllocError>
-    ensures { IfOk result (λ o. (model : MeaningOf Value) → Means (files_of site.now.method) (site_of site.now) meaning.now model → option_map (λ tos. map (λ to. (to, frame_in (files_of site.now.method) frame.new)) tos.items) o ≡ successors_by (files_of site.now.method) (site_of site.now) (frame_in (files_of site.now.method) frame.old) (Some model)) }
+    ensures { IfOk result (λ o. (model : MeaningOf Value) → Means (files_of site.now.method) (site_of site.now) meaning.now model
+        → option_map (λ tos. map (λ to. (to, frame_in (files_of site.now.method) frame.new)) tos.items) o
+        ≡ successors_by (files_of site.now.method) (site_of site.now) (frame_in (files_of site.now.method) frame.old) (Some model)) }
 {
     let method = &site.method;
     if !is_ready(method.set(), &meaning.wants, method.code.max_stack, frame) {
@@ -49,7 +51,9 @@ fn other_successors(
 ) -> Result<Option<SmallVec<usize, 2>>, AllocError>
     requires differ { IsFalse (stands (files_of site.now.method) DuplicateClass) }
     requires linked { is_refused (files_of site.now.method) (site_of site.now) ≡ false }
-    ensures { IfOk result (λ o. option_map (λ tos. map (λ to. (to, frame_in (files_of site.now.method) frame.new)) tos.items) o ≡ successors_by (files_of site.now.method) (site_of site.now) (frame_in (files_of site.now.method) frame.old) (other_meaning values (files_of site.now.method) (site_of site.now) site.now.instr)) }
+    ensures { IfOk result (λ o. option_map (λ tos. map (λ to. (to, frame_in (files_of site.now.method) frame.new)) tos.items) o
+        ≡ successors_by (files_of site.now.method) (site_of site.now) (frame_in (files_of site.now.method) frame.old)
+        (other_meaning values (files_of site.now.method) (site_of site.now) site.now.instr)) }
 {
     match meaning_of(alloc, site) {
         Ok(meaning) => successors_by(alloc, site, &meaning, frame),
@@ -67,7 +71,9 @@ pub(crate) fn successors(
 ) -> Result<Option<SmallVec<usize, 2>>, AllocError>
     requires differ { IsFalse (stands (files_of site.now.method) DuplicateClass) }
     requires linked { is_refused (files_of site.now.method) (site_of site.now) ≡ false }
-    ensures { IfOk result (λ o. option_map (λ tos. map (λ to. (to, frame_in (files_of site.now.method) frame.new)) tos.items) o ≡ successors_by (files_of site.now.method) (site_of site.now) (frame_in (files_of site.now.method) frame.old) (meaning_of values (files_of site.now.method) (site_of site.now))) }
+    ensures { IfOk result (λ o. option_map (λ tos. map (λ to. (to, frame_in (files_of site.now.method) frame.new)) tos.items) o
+        ≡ successors_by (files_of site.now.method) (site_of site.now) (frame_in (files_of site.now.method) frame.old)
+        (meaning_of values (files_of site.now.method) (site_of site.now))) }
 {
     let found = flow_locally(alloc, site, frame)?;
     match found {

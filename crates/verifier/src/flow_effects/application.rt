@@ -108,7 +108,8 @@ pub(crate) fn initialise(set: &ClassSet, receiver: VerificationType, types: &mut
 
 /// An operand, counted from the top; null where there is none.
 pub(crate) fn operand(wants: &Wants, stack: &[VerificationType], k: usize) -> VerificationType
-    ensures { (files : Program) → type_in files result ≡ slice_index_or (take (length wants.now.pops.items) (reverse (map (type_in files) stack.now))) k NullType }
+    ensures { (files : Program) → type_in files result
+        ≡ slice_index_or (take (length wants.now.pops.items) (reverse (map (type_in files) stack.now))) k NullType }
 {
     if k < wants.pops.len() && k < stack.len() {
         return stack[stack.len() - 1 - k];
@@ -118,7 +119,8 @@ pub(crate) fn operand(wants: &Wants, stack: &[VerificationType], k: usize) -> Ve
 
 /// Takes the operands off a stack.
 pub(crate) fn pop(wants: &Wants, stack: &mut Vec<VerificationType>)
-    ensures { (files : Program) → reverse (map (type_in files) stack.new.items) ≡ drop (length wants.now.pops.items) (reverse (map (type_in files) stack.old.items)) }
+    ensures { (files : Program) → reverse (map (type_in files) stack.new.items)
+        ≡ drop (length wants.now.pops.items) (reverse (map (type_in files) stack.old.items)) }
 {
     let under = stack.len().saturating_sub(wants.pops.len());
     stack.truncate(under);

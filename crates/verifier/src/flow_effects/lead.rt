@@ -51,7 +51,8 @@ fn initialise_all(set: &ClassSet, receiver: VerificationType, types: &mut Vec<Ve
 
 /// Takes the operands off.
 fn drop_operands(wants: &Wants, frame: &mut FrameType)
-    ensures { (files : Program) → frame_in files frame.new ≡ with_slots (frame_in files frame.old) (frame_in files frame.old).slots.locals (left_by files wants.now frame.old) }
+    ensures { (files : Program) → frame_in files frame.new
+        ≡ with_slots (frame_in files frame.old) (frame_in files frame.old).slots.locals (left_by files wants.now frame.old) }
 {
     pop(wants, &mut frame.stack);
 }
@@ -62,7 +63,9 @@ fn push_type(
     frame: &mut FrameType,
     pushed: VerificationType,
 ) -> Result<(), AllocError>
-    ensures { OnOk result ((files : Program) → frame_in files frame.new ≡ with_slots (frame_in files frame.old) (frame_in files frame.old).slots.locals (type_in files pushed ∷ left_by files wants.now frame.old)) }
+    ensures { OnOk result ((files : Program)
+        → frame_in files frame.new ≡ with_slots (frame_in files frame.old) (frame_in files frame.old).slots.locals (type_in files pushed
+        ∷ left_by files wants.now frame.old)) }
 {
     pop(wants, &mut frame.stack);
     frame.stack.push(pushed)?;
@@ -76,7 +79,9 @@ fn push_made(
     offset: u16,
     class: usize,
 ) -> Result<(), AllocError>
-    ensures { OnOk result ((files : Program) → frame_in files frame.new ≡ with_slots (frame_in files frame.old) (map (forgotten offset) (frame_in files frame.old).slots.locals) (model.Uninitialised offset (name_at files class) ∷ left_by files wants.now frame.old)) }
+    ensures { OnOk result ((files : Program)
+        → frame_in files frame.new ≡ with_slots (frame_in files frame.old) (map (forgotten offset) (frame_in files frame.old).slots.locals)
+        (model.Uninitialised offset (name_at files class) ∷ left_by files wants.now frame.old)) }
 {
     forget_all(offset, &mut frame.locals);
     pop(wants, &mut frame.stack);
@@ -88,7 +93,11 @@ fn push_made(
 
 /// Takes the operands off, and initialises all copies of one of them.
 fn initialise_copies(set: &ClassSet, wants: &Wants, frame: &mut FrameType, place: usize)
-    ensures { frame_in set.now frame.new ≡ with_slots (frame_in set.now frame.old) (map (initialised (slice_index_or (found_by set.now wants.now frame.old) place model.NullType)) (frame_in set.now frame.old).slots.locals) (map (initialised (slice_index_or (found_by set.now wants.now frame.old) place model.NullType)) (left_by set.now wants.now frame.old)) }
+    ensures { frame_in set.now frame.new ≡ with_slots (frame_in set.now frame.old)
+        (map (initialised (slice_index_or (found_by set.now wants.now frame.old) place model.NullType))
+        (frame_in set.now frame.old).slots.locals)
+        (map (initialised (slice_index_or (found_by set.now wants.now frame.old) place model.NullType))
+        (left_by set.now wants.now frame.old)) }
 {
     let receiver = operand_in(wants, frame, place);
     pop(wants, &mut frame.stack);
@@ -98,7 +107,8 @@ fn initialise_copies(set: &ClassSet, wants: &Wants, frame: &mut FrameType, place
 
 /// Makes of a frame type the one after an instruction, if it leads on.
 fn follow(site: &Site<'_>, meaning: &Meaning, frame: &mut FrameType) -> Result<bool, AllocError>
-    ensures leads { IfOk result (λ on. lead_after on site.now.next (frame_in (files_of site.now.method) frame.new).slots ≡ followed (files_of site.now.method) (site_of site.now) meaning.now frame.old) }
+    ensures leads { IfOk result (λ on. lead_after on site.now.next (frame_in (files_of site.now.method) frame.new).slots
+        ≡ followed (files_of site.now.method) (site_of site.now) meaning.now frame.old) }
     ensures mark { OnOk result (frame.new.constructed ≡ frame.old.constructed) }
 {
     let set = site.method.set();
@@ -192,7 +202,9 @@ pub fn lead_on(
     meaning: &Meaning,
     frame: &mut FrameType,
 ) -> Result<bool, AllocError>
-    ensures { IfOk result (λ on. (M : MeaningOf Value) → Means (files_of site.now.method) (site_of site.now) meaning.now M → lead_after on site.now.next (frame_in (files_of site.now.method) frame.new) ≡ successors (site_of site.now) M (frame_in (files_of site.now.method) frame.old)) }
+    ensures { IfOk result (λ on. (M : MeaningOf Value) → Means (files_of site.now.method) (site_of site.now) meaning.now M
+        → lead_after on site.now.next (frame_in (files_of site.now.method) frame.new)
+        ≡ successors (site_of site.now) M (frame_in (files_of site.now.method) frame.old)) }
 {
     let constructs = constructs_this(site, &meaning.wants, frame);
     let on = follow(site, meaning, frame)?;

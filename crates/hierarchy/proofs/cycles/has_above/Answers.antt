@@ -9,7 +9,9 @@ use Rattle.hierarchy.proofs.RowLaws.{row_is}
 use Rattle.hierarchy.proofs.Walks.{any_once, any_flip, above_any}
 use Rattle.hierarchy.proofs.cycles.has_above.Goals as goal
 
-in_row : (files : Program) (class other : Name) (rows : List (List Name)) (row : List Name) → rows ≡ rows_of files above.Supertypes (length (classes_of files) - 1) → row ≡ row_of files rows class → list_any (name_eq other) row ≡ is_above files (length (classes_of files) - 1) class other
+in_row : (files : Program) (class other : Name) (rows : List (List Name)) (row : List Name)
+    → rows ≡ rows_of files above.Supertypes (length (classes_of files) - 1) → row ≡ row_of files rows class
+    → list_any (name_eq other) row ≡ is_above files (length (classes_of files) - 1) class other
 in_row files class other rows row are is =
     let n = length (classes_of files) - 1 in
     let names = names_above (directly_above files above.Supertypes) n class in

@@ -11,7 +11,8 @@ use Rattle.hierarchy.proofs.Walks.{found_once, find_field_is}
 use Rattle.hierarchy.proofs.fields.field_among_supertypes.Goals as goal
 
 -- where the class declares none, the field is one of what is above it
-above_alone : (files : Program) (m : Member) (rows : List (List Name)) (row : List Name) → None ≡ field_in_class files m m.class → rows ≡ rows_of files above.Supertypes (length (classes_of files) - 1) → row ≡ row_of files rows m.class
+above_alone : (files : Program) (m : Member) (rows : List (List Name)) (row : List Name) → None ≡ field_in_class files m m.class
+    → rows ≡ rows_of files above.Supertypes (length (classes_of files) - 1) → row ≡ row_of files rows m.class
     → first_found (field_in_class files m) row ≡ find_field files m
 above_alone files m rows row none are is =
     let n = length (classes_of files) - 1 in

@@ -11,7 +11,9 @@ use Rattle.hierarchy.proofs.Walks.{found_once, above_is}
 use Rattle.hierarchy.proofs.fields.field_near.Goals as goal
 
 -- where the class declares none, the field is one of its row
-in_row : (files : Program) (m : Member) (class : Name) (rows : List (List Name)) (row : List Name) → rows ≡ rows_of files above.Interfaces (suc (length (classes_of files))) → row ≡ row_of files rows class → None ≡ field_in_class files m class
+in_row : (files : Program) (m : Member) (class : Name) (rows : List (List Name)) (row : List Name)
+    → rows ≡ rows_of files above.Interfaces (suc (length (classes_of files))) → row ≡ row_of files rows class
+    → None ≡ field_in_class files m class
     → first_found (field_in_class files m) row ≡ first_found (field_in_class files m) (class ∷ interfaces_above files class)
 in_row files m class rows row are is none =
     ap (first_found (field_in_class files m)) (is ∙ ap (λ r. row_of files r class) are ∙ row_is files above.Interfaces (suc (length (classes_of files))) class ∙ ap each_once (above_is files class))

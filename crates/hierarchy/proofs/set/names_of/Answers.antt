@@ -11,8 +11,10 @@ use Rattle.hierarchy.proofs.Adding.{names_more, differ_more, again_at}
 use Rattle.hierarchy.proofs.set.names_of.Goals as goal
 
 -- whether the name stands before, by the set of names
-before : {K : Type 0} (items : K → Name) (keys : List K) (classes : List ClassFile) (i : ℕ) (class : ClassFile) (text : Name) (b : Bool) → map items keys ≡ map name_of (trees_of (take i classes)) → text ≡ name_of (file_of class) → class ≡ get_or classes i class
-    → list_any (λ k. name_eq text (items k)) keys ≡ b → list_any (is_named (name_of (file_of (get_or classes i class)))) (trees_of (take i classes)) ≡ b
+before : {K : Type 0} (items : K → Name) (keys : List K) (classes : List ClassFile) (i : ℕ) (class : ClassFile) (text : Name) (b : Bool)
+    → map items keys ≡ map name_of (trees_of (take i classes)) → text ≡ name_of (file_of class) → class ≡ get_or classes i class
+    → list_any (λ k. name_eq text (items k)) keys ≡ b
+    → list_any (is_named (name_of (file_of (get_or classes i class)))) (trees_of (take i classes)) ≡ b
 before items keys classes i class text b named is at h =
     ap (λ (n : Name). list_any (is_named n) (trees_of (take i classes))) (sym (is ∙ ap (λ (c : ClassFile). name_of (file_of c)) at)) ∙ sym (among_by_name items keys (trees_of (take i classes)) text named) ∙ h
 

@@ -22,13 +22,15 @@ five_fit = record { thread = lit≤ tt; pick = lit≤ tt; repeat = (lit≤ tt, l
 eight_fit : EntryFits (times 8)
 eight_fit = record { thread = lit≤ tt; pick = lit≤ tt; repeat = (lit≤ tt, lit≤ tt); alone = λ h. refl }
 
-other_magic : (bytes : List ℕ) (r : Option Recording) (events : List Event) → (take 4 bytes ≡ codes "JSCH" → ⊥) → ScheduleFile bytes r events → ⊥
+other_magic : (bytes : List ℕ) (r : Option Recording) (events : List Event) → (take 4 bytes ≡ codes "JSCH" → ⊥)
+    → ScheduleFile bytes r events → ⊥
 other_magic bytes r events other file = other (ap (take 4) file.spelled)
 
 not_jsch : ◌≡◌ {A = List ℕ} (0x4a ∷ 0x53 ∷ 0x43 ∷ 0x49 ∷ []) (0x4a ∷ 0x53 ∷ 0x43 ∷ 0x48 ∷ []) → ⊥
 not_jsch e = false≢true (ap (λ xs. bytes_eq xs (codes "JSCH")) e)
 
-other_version : (r : Option Recording) (rest : List ℕ) → take 5 (codes "JSCH" ++ (version r ++ rest)) ≡ 0x4a ∷ 0x53 ∷ 0x43 ∷ 0x48 ∷ 3 ∷ [] → ⊥
+other_version : (r : Option Recording) (rest : List ℕ) → take 5 (codes "JSCH" ++ (version r ++ rest)) ≡ 0x4a ∷ 0x53 ∷ 0x43 ∷ 0x48 ∷ 3 ∷ []
+    → ⊥
 other_version None rest e = absurd cc
 other_version (Some r) rest e = absurd cc
 

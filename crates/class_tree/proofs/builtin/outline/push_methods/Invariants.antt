@@ -7,4 +7,5 @@ use Rattle.class_tree.proofs.builtin.outline.push_methods.Given as goal
 abbrev pub invariant-loop-member : goal.invariant-loop-member
 invariant-loop-member l =
     (l.at ≡ l.first + 2 * l.member-index)
-    × (map method_of l.methods.items ++ methods_from l.at (members_of (drop l.member-index l.members)) ≡ map method_of l.initial.methods.items ++ methods_from l.first (members_of l.members))
+    × (map method_of l.methods.items ++ methods_from l.at (members_of (drop l.member-index l.members))
+    ≡ map method_of l.initial.methods.items ++ methods_from l.first (members_of l.members))

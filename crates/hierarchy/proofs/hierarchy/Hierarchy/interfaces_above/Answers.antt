@@ -8,7 +8,8 @@ use Rattle.hierarchy.proofs.Walks.{above_is}
 use Rattle.hierarchy.proofs.hierarchy.Hierarchy.interfaces_above.Goals as goal
 
 -- the row of a class, by the rows that are kept
-kept : (files : Program) (rows : List (List Name)) (class : Name) → rows ≡ rows_of files above.Interfaces (suc (length (classes_of files))) → row_of files rows class ≡ each_once (interfaces_above files class)
+kept : (files : Program) (rows : List (List Name)) (class : Name) → rows ≡ rows_of files above.Interfaces (suc (length (classes_of files)))
+    → row_of files rows class ≡ each_once (interfaces_above files class)
 kept files rows class e = ap (λ r. row_of files r class) e ∙ row_is files above.Interfaces (suc (length (classes_of files))) class ∙ ap each_once (above_is files class)
 
 pub returns : goal.returns

@@ -15,7 +15,8 @@ use Rattle.hierarchy.proofs.SetLaws.{no_class, class_at_place, name_at_place, me
 use Rattle.hierarchy.proofs.set.ClassSet.method_in.Goals as goal
 
 -- what a slice has at an index, by what `get` gave
-read_at : (read items : List Method) (i : ℕ) (m : Method) → read ≡ items → true ≡ ltb i (length read) → m ≡ get_or read i m → slice_get items i ≡ Some m
+read_at : (read items : List Method) (i : ℕ) (m : Method) → read ≡ items → true ≡ ltb i (length read) → m ≡ get_or read i m
+    → slice_get items i ≡ Some m
 read_at read items i m same lt is = ap (λ (l : List Method). slice_get l i) (sym same) ∙ slice_get-get_or read i m (ltb-true _ _ (sym lt)) ∙ ap Some (sym is)
 
 pub returns-in_default-clause-found : goal.returns-in_default-clause-found

@@ -8,5 +8,6 @@ abbrev pub invariant-loop-i : goal.invariant-loop-i
 invariant-loop-i l =
     record {
       whole : length l.left ≡ 6;
-      laid : (files : Program) → reverse (map (type_in files) (take l.i l.left)) ≡ map (left_in files l.row l.frame) (drop (length l.pushes - l.i) l.pushes) ++ [];
+      laid : (files : Program) → reverse (map (type_in files) (take l.i l.left))
+          ≡ map (left_in files l.row l.frame) (drop (length l.pushes - l.i) l.pushes) ++ [];
     }

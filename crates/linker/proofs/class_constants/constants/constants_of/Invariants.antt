@@ -11,5 +11,6 @@ abbrev pub invariant-loop-field : goal.invariant-loop-field
 invariant-loop-field l = record {
   items : l.field-items ≡ l.file.fields.items;
   slot : l.next ≡ slots_before l.set l.class + length (filter is_static_field (take l.field-index (file_of l.file).fields));
-  constants : AreConstants l.set (filter_map (constant_in l.set (name_of (file_of l.file)) (file_of l.file).pool) (take l.field-index (file_of l.file).fields)) l.constants.items;
+  constants : AreConstants l.set (filter_map (constant_in l.set (name_of (file_of l.file)) (file_of l.file).pool)
+      (take l.field-index (file_of l.file).fields)) l.constants.items;
 }

@@ -6,7 +6,8 @@ use Rattle.linker.specs.linked_types.Tested.{tested_in, tested_in_row}
 use Rattle.linker.proofs.linked_types.TestedClasses.{flat_mapped, type_tested, component_among, row_among}
 use Rattle.linker.proofs.linked_types.tested.tested_classes.Goals as goal
 
-all : (c : goal.After-loop-row) → c.loop-row.tested.items ≡ flat_map tested_in c.args.components.now ++ flat_map tested_in_row (map (λ row. row.items) c.args.rows.now)
+all : (c : goal.After-loop-row) → c.loop-row.tested.items
+    ≡ flat_map tested_in c.args.components.now ++ flat_map tested_in_row (map (λ row. row.items) c.args.rows.now)
 all c =
     let rows = c.args.rows.now in
     let i = c.loop-row.row-index in

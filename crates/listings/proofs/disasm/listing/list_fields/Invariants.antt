@@ -7,6 +7,7 @@ use Rattle.listings.proofs.disasm.listing.list_fields.Given as goal
 
 abbrev pub invariant-fields : goal.invariant-fields
 invariant-fields g l = record {
-  so_far : Appends (g.W.Sink.contents l.fn.writer) (g.W.Sink.contents l.writer) (flat_map (λ f. field_line l.file.pool (field_of f)) (take l.field-index l.fields));
+  so_far : Appends (g.W.Sink.contents l.fn.writer) (g.W.Sink.contents l.writer)
+      (flat_map (λ f. field_line l.file.pool (field_of f)) (take l.field-index l.fields));
   failures : g.W.Sink.failures l.writer ≡ g.W.Sink.failures l.fn.writer;
 }

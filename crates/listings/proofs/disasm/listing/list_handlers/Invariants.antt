@@ -6,6 +6,7 @@ use Rattle.listings.proofs.disasm.listing.list_handlers.Given as goal
 
 abbrev pub invariant-entries : goal.invariant-entries
 invariant-entries g l = record {
-  so_far : Appends (g.W.Sink.contents l.fn.writer) (g.W.Sink.contents l.writer) (flat_map (catch_line l.file.pool) (take l.entry-index l.entries));
+  so_far : Appends (g.W.Sink.contents l.fn.writer) (g.W.Sink.contents l.writer)
+      (flat_map (catch_line l.file.pool) (take l.entry-index l.entries));
   failures : g.W.Sink.failures l.writer ≡ g.W.Sink.failures l.fn.writer;
 }

@@ -29,14 +29,16 @@ use Rattle.machine_instructions.proofs.thread_methods.Calls.{gone_on, went, says
 use Rattle.machine_instructions.proofs.thread_methods.lives.start.Goals as goal
 
 -- the limit of threads
-module _ (trees : Program) (p : LinkedProgram) (bounds : Bounds) (inflated : List ℕ) (world : WorldOf ℕ) (old : Shared) (r : Represents trees p bounds old world) where
+module _ (trees : Program) (p : LinkedProgram) (bounds : Bounds) (inflated : List ℕ) (world : WorldOf ℕ) (old : Shared)
+    (r : Represents trees p bounds old world) where
   full_is : nat_le bounds.threads (length world.threads) ≡ nat_le old.threads.limit (length old.threads.threads)
   full_is = λ i. nat_le (sym r.limits.threads i) (length (sym r.world_is.threads i))
 
   abbrev limit : Bool → Option RunCause
   limit full = if full then Some cause.Threads else None
 
-  may_refuse : (told : Refusal) (object : ℕ) (new : ThreadTable) → IsAdded (Err told) object old.threads new → MayBeRefused trees bounds inflated world Starts (of_threads told) × (new ≡ old.threads)
+  may_refuse : (told : Refusal) (object : ℕ) (new : ThreadTable) → IsAdded (Err told) object old.threads new
+      → MayBeRefused trees bounds inflated world Starts (of_threads told) × (new ≡ old.threads)
   may_refuse refusal.Threads object new h = (ap limit (full_is ∙ le-leb old.threads.limit (length old.threads.threads) h.0), h.1)
   may_refuse refusal.Memory object new h = (tt, h.1)
 

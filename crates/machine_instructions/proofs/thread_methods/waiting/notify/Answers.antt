@@ -17,7 +17,8 @@ use Rattle.machine_instructions.specs.thread_methods.Moves.{may_pick}
 use Rattle.machine_instructions.proofs.thread_methods.waiting.notify.Goals as goal
 
 -- by whether the event may pick what it picks, and whether the thread is the owner
-abbrev notifies : Program → ℕ → ℕ → WorldOf ℕ → FrameOf ℕ → StackOf ℕ → (count offset object pick : ℕ) → (may owner : Bool) → SteppedOf (PartOf ℕ)
+abbrev notifies : Program → ℕ → ℕ → WorldOf ℕ → FrameOf ℕ → StackOf ℕ → (count offset object pick : ℕ) → (may owner : Bool)
+    → SteppedOf (PartOf ℕ)
 notifies trees frames t world frame rest count offset object pick may owner =
     enabled_if may (become trees frames t world frame rest (if_owner owner (pushing offset [] (notified world t object pick) frame.place.slots (drop count frame.place.slots.stack))))
 

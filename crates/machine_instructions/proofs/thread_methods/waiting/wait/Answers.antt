@@ -60,8 +60,10 @@ returns-in_err-wait c = λ trees p bounds inflated state frame rest offset is fr
     refused trees p bounds inflated c.args.thread c.args.shared.now c.args.stack.now state frame rest method.ObjectWait c.args.operands c.args.next offset is new _ (Joins object) _ becomes (of_monitors told) w.1.may w.1.same c.from_residual.result c.from_residual.ensures.1
 
 -- the owner joins
-module _ (trees : Program) (p : LinkedProgram) (bounds : Bounds) (inflated : List ℕ) (world : WorldOf ℕ) (t object : ℕ) (old new : Shared) (own : is_owner world t object ≡ true) where
-  joins : (joined : Bool) → WaitsIn trees p bounds inflated world t object (Ok joined) old new → IsTaken trees p bounds inflated world (Joins object) (waiting world t object) old new
+module _ (trees : Program) (p : LinkedProgram) (bounds : Bounds) (inflated : List ℕ) (world : WorldOf ℕ) (t object : ℕ) (old new : Shared)
+    (own : is_owner world t object ≡ true) where
+  joins : (joined : Bool) → WaitsIn trees p bounds inflated world t object (Ok joined) old new
+      → IsTaken trees p bounds inflated world (Joins object) (waiting world t object) old new
   joins true w = w.1
   joins false w = absurd (true≢false (sym own ∙ w.0))
 

@@ -15,4 +15,5 @@ invariant-loop-handler l =
     (files : List (List ℕ)) (trees : Program) → IsLinkable files trees → IsLinkedProgram trees l.program
     → (heap : List (ObjectOf ℕ)) → ShowsObjects trees l.program.components.items l.heap.objects heap
     → (pool : List Entry) (at : ℕ → ℕ) (entries : List ExceptionEntry) → AreHandlers trees l.program pool at entries l.handlers
-    → first_taking trees pool (type_at heap l.exception) l.offset entries ≡ first_taking trees pool (type_at heap l.exception) l.offset (drop l.handler-index entries)
+    → first_taking trees pool (type_at heap l.exception) l.offset entries
+    ≡ first_taking trees pool (type_at heap l.exception) l.offset (drop l.handler-index entries)

@@ -10,5 +10,6 @@ abbrev pub invariant-loop-index : goal.invariant-loop-index
 invariant-loop-index l = record {
   wide : length l.near.items ≡ l.width;
   near : (steps : ℕ) → AreMade l.set l.columns l.width steps l.made
-      → IsNearSoFar l.set l.columns steps (file_of l.file) (filter_map (class_name_at l.file.pool) (take l.index-index l.file.interfaces.items)) l.near.items;
+      → IsNearSoFar l.set l.columns steps (file_of l.file)
+      (filter_map (class_name_at l.file.pool) (take l.index-index l.file.interfaces.items)) l.near.items;
 }

@@ -7,5 +7,6 @@ use Rattle.method_tables.proofs.method_links.named.NamedMethods.new.Given as goa
 abbrev pub invariant-loop-class : goal.invariant-loop-class
 invariant-loop-class l = record {
   count : length l.rows.items ≡ l.class;
-  said : (class : ℕ) → class < l.class → (file : FileTree) → class_at l.hierarchy class ≡ Some file → AreNamedIn l.hierarchy file.pool (get_or (map vec_items l.rows.items) class []);
+  said : (class : ℕ) → class < l.class → (file : FileTree) → class_at l.hierarchy class ≡ Some file
+      → AreNamedIn l.hierarchy file.pool (get_or (map vec_items l.rows.items) class []);
 }
