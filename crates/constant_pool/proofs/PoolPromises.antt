@@ -17,8 +17,7 @@ use Rattle.constant_pool.specs.PoolReading.{utf8_at, is_wide_tag, body_at, entry
 use Rattle.constant_pool.specs.PoolLayout.{PoolLayout, Ends, is_pool_cause}
 use Rattle.constant_pool.proofs.PoolLaws.{chosen, pool_laws}
 
-pub found_of : (bytes : List ℕ) (at : ℕ) (x : List Entry × ℕ) → IsBytes bytes → Ends (Ok x) (pool_at (at_place at (drop at bytes)))
-    → PoolLayout bytes at x.0 x.1
+pub found_of : (bytes : List ℕ) (at : ℕ) (x : List Entry × ℕ) → IsBytes bytes → Ends (Ok x) (pool_at (at_place at (drop at bytes))) → PoolLayout bytes at x.0 x.1
 found_of bytes at x small h =
     let t = pool_laws.takes (at_place at (drop at bytes)) x.0 h.0 (IsBytes-drop at bytes small) h.1.0 in
     let ends : x.1 ≡ at + length (pool x.0) = h.1.1 ∙ t.0.at in
@@ -26,22 +25,18 @@ found_of bytes at x small h =
     ap (λ (n : ℕ). drop n bytes) ends ∙ sym (drop-drop (length (pool x.0)) at bytes) ∙ ap (λ (l : List ℕ). drop (length (pool x.0)) l) t.0.parts ∙ drop_at (pool x.0) h.0.rest (length (pool x.0)) refl in
     record { spelled = t.0.parts ∙ ap (λ (l : List ℕ). pool x.0 ++ l) (sym behind); ends = ends; fits = t.1 }
 
-same_read : (x y : List Entry) (i j : Input) → done {A = List Entry × Input} (x, i) ≡ done {A = List Entry × Input} (y, j)
-    → (x ≡ y) × (i.at ≡ j.at)
+same_read : (x y : List Entry) (i j : Input) → done {A = List Entry × Input} (x, i) ≡ done {A = List Entry × Input} (y, j) → (x ≡ y) × (i.at ≡ j.at)
 same_read x y i j e = let is = ok_is {A = List Entry × Input} (x, i) (y, j) e in (ap (λ (p : List Entry × Input). p.0) is, ap (λ (p : List Entry × Input). p.1.at) is)
 
-again : (bytes : List ℕ) (at : ℕ) (places : List Entry) (behind : ℕ) → PoolLayout bytes at places behind
-    → pool_at (at_place at (drop at bytes)) ≡ Ok (places, at_place (at + length (pool places)) (drop behind bytes))
+again : (bytes : List ℕ) (at : ℕ) (places : List Entry) (behind : ℕ) → PoolLayout bytes at places behind → pool_at (at_place at (drop at bytes)) ≡ Ok (places, at_place (at + length (pool places)) (drop behind bytes))
 again bytes at places behind l = ap (λ (t : List ℕ). pool_at (at_place at t)) l.spelled ∙ pool_laws.again at places (drop behind bytes) l.fits
 
-pub only_found : (bytes : List ℕ) (at : ℕ) (x : List Entry × ℕ) → Ends (Ok x) (pool_at (at_place at (drop at bytes)))
-    → (places : List Entry) (behind : ℕ) → PoolLayout bytes at places behind → (x.0 ≡ places) × (x.1 ≡ behind)
+pub only_found : (bytes : List ℕ) (at : ℕ) (x : List Entry × ℕ) → Ends (Ok x) (pool_at (at_place at (drop at bytes))) → (places : List Entry) (behind : ℕ) → PoolLayout bytes at places behind → (x.0 ≡ places) × (x.1 ≡ behind)
 only_found bytes at x h places behind l =
     let same = same_read x.0 places h.0 (at_place (at + length (pool places)) (drop behind bytes)) (sym h.1.0 ∙ again bytes at places behind l) in
     (same.0, h.1.1 ∙ same.1 ∙ sym l.ends)
 
-pub only_memory : (bytes : List ℕ) (at : ℕ) (stop : Stop) → Fails stop (pool_at (at_place at (drop at bytes))) → (places : List Entry)
-    (behind : ℕ) → PoolLayout bytes at places behind → (malformed_of stop).cause ≡ causes.OutOfMemory
+pub only_memory : (bytes : List ℕ) (at : ℕ) (stop : Stop) → Fails stop (pool_at (at_place at (drop at bytes))) → (places : List Entry) (behind : ℕ) → PoolLayout bytes at places behind → (malformed_of stop).cause ≡ causes.OutOfMemory
 only_memory bytes at stops.Memory h places behind l = refl
 only_memory bytes at (stops.Fault f) h places behind l =
     let clash : failed {A = List Entry × Input} f ≡ done (places, at_place (at + length (pool places)) (drop behind bytes)) = sym h ∙ again bytes at places behind l in absurd cc
@@ -50,9 +45,7 @@ cut : (at : ℕ) → pool_at (at_place at []) ≡ Err (record { cause = causes.T
 unfolding pool_at
 cut at = refl
 
-missing_by : (bytes : List ℕ) (at : ℕ) (f : Malformed) (short : Bool) → ltb (length bytes) at ≡ short
-    → cond short (failed {A = List ℕ × Input} (record { cause = causes.Truncated; offset = 0 })) (done (take at bytes,
-    after at (at_place 0 bytes))) ≡ Err f
+missing_by : (bytes : List ℕ) (at : ℕ) (f : Malformed) (short : Bool) → ltb (length bytes) at ≡ short → cond short (failed {A = List ℕ × Input} (record { cause = causes.Truncated; offset = 0 })) (done (take at bytes, after at (at_place 0 bytes))) ≡ Err f
     → pool_at (at_place at (drop at bytes)) ≡ Err (record { cause = f.cause; offset = at })
 missing_by bytes at f true short h =
     let is = err_is {B = List ℕ × Input} (record { cause = causes.Truncated; offset = 0 }) f h in
@@ -61,8 +54,7 @@ missing_by bytes at f true short h =
 missing_by bytes at f false short h = absurd cc
 
 -- where fewer bytes stand before the pool's place, none are left for it
-pub missing : (bytes : List ℕ) (at : ℕ) (stop : Stop) → Fails stop (bytes_at at (at_place 0 bytes))
-    → Fails (moved_stop at stop) (pool_at (at_place at (drop at bytes)))
+pub missing : (bytes : List ℕ) (at : ℕ) (stop : Stop) → Fails stop (bytes_at at (at_place 0 bytes)) → Fails (moved_stop at stop) (pool_at (at_place at (drop at bytes)))
 missing bytes at stops.Memory h = tt
 missing bytes at (stops.Fault f) h = missing_by bytes at f (ltb (length bytes) at) refl h
 
@@ -96,8 +88,7 @@ bytes_faults : (n : ℕ) → HasPoolFaults (bytes_at n)
 unfolding HasPoolFaults PoolFault
 bytes_faults n i f e = guarded (ltb (length i.rest) n) (record { cause = causes.Truncated; offset = i.at }) f (_, after n i) refl e
 
-tested_faults : {A : Type 0} (read : Input → Read A) (test : A → Bool) (cause : Cause) → IsTrue (is_pool_cause cause) → HasPoolFaults read
-    → HasPoolFaults (tested test cause read)
+tested_faults : {A : Type 0} (read : Input → Read A) (test : A → Bool) (cause : Cause) → IsTrue (is_pool_cause cause) → HasPoolFaults read → HasPoolFaults (tested test cause read)
 unfolding HasPoolFaults PoolFault
 tested_faults read test cause h faults i f e =
     elim (bind_err (read i) (λ x. cond (test x.0) (done x) (failed (record { cause = cause; offset = i.at }))) f e) [
@@ -121,8 +112,7 @@ utf8_faults i f e =
       | inr k ↦ tested_faults (bytes_at k.0.0) (list_all is_text_byte) causes.Utf8 refl (bytes_faults k.0.0) k.0.1 f k.2
     ]
 
-leaf_faults : {A : Type 0} (read : Input → Read A) (make : A → Entry) → HasPoolFaults read → (i : Input) (f : Malformed)
-    → ◌>>=◌ {B = Entry × Input} (read i) (λ x. Ok (make x.0, x.1)) ≡ Err f → PoolFault f
+leaf_faults : {A : Type 0} (read : Input → Read A) (make : A → Entry) → HasPoolFaults read → (i : Input) (f : Malformed) → ◌>>=◌ {B = Entry × Input} (read i) (λ x. Ok (make x.0, x.1)) ≡ Err f → PoolFault f
 unfolding HasPoolFaults
 leaf_faults read make faults i f e = elim (bind_err (read i) (λ x. done (make x.0, x.1)) f e) [ inl h ↦ faults i f h | inr h ↦ never (make h.0.0, h.0.1) f h.2 ]
 
@@ -149,8 +139,7 @@ entry_faults last i f e =
       | inr h ↦ body_faults i h.0.0 h.0.1 f h.2
     ]
 
-others_fault : (front : List Entry) (read : Read (List Entry)) (f : Malformed) → (read ≡ Err f → PoolFault f)
-    → ◌>>=◌ {B = List Entry × Input} read (λ others. Ok (front ++ others.0, others.1)) ≡ Err f → PoolFault f
+others_fault : (front : List Entry) (read : Read (List Entry)) (f : Malformed) → (read ≡ Err f → PoolFault f) → ◌>>=◌ {B = List Entry × Input} read (λ others. Ok (front ++ others.0, others.1)) ≡ Err f → PoolFault f
 others_fault front (Ok x) f stop e = never (front ++ x.0, x.1) f e
 others_fault front (Err d) f stop e = stop (ap failed (err_is {B = List Entry × Input} d f e))
 
@@ -176,8 +165,7 @@ pool_faults i f e =
       | inr h ↦ entries_faults (h.0.0 - 1) h.0.1 f h.2
     ]
 
-pub cause_of : (bytes : List ℕ) (at : ℕ) (stop : Stop) → Fails stop (pool_at (at_place at (drop at bytes)))
-    → IsTrue (is_pool_cause (malformed_of stop).cause)
+pub cause_of : (bytes : List ℕ) (at : ℕ) (stop : Stop) → Fails stop (pool_at (at_place at (drop at bytes))) → IsTrue (is_pool_cause (malformed_of stop).cause)
 unfolding HasPoolFaults PoolFault
 cause_of bytes at stops.Memory h = refl
 cause_of bytes at (stops.Fault f) h = pool_faults (at_place at (drop at bytes)) f h

@@ -48,8 +48,7 @@ fn offset_of(program: &LinkedProgram, method: u32, place: usize) -> u16
 
 /// Where a frame stands.
 fn frame_before(program: &LinkedProgram, frame: &Frame) -> FrameBefore
-    ensures { result ≡ record { method = (shown_frame frame.now).method; offset = offset_at program.now frame.now.method frame.now.place;
-        entered = frame.now.entered } }
+    ensures { result ≡ record { method = (shown_frame frame.now).method; offset = offset_at program.now frame.now.method frame.now.place; entered = frame.now.entered } }
 {
     FrameBefore {
         method: frame.method,

@@ -90,8 +90,7 @@ impl Found {
         requires starts { starts.now ≡ starts_of (body_of method.now).code.code }
         requires over { AreOver (body_of method.now) (tables_in (files_of method.now) self.old) }
         ensures merged { OnOk result (MergesInto method.now self.old ((edge.to, parts_in (files_of method.now) frame.now) ∷ []) self.new) }
-        ensures clash { IfErr result (λ fault. OnUnverified fault (ClashesWith method.now self.old ((edge.to,
-            parts_in (files_of method.now) frame.now) ∷ []))) }
+        ensures clash { IfErr result (λ fault. OnUnverified fault (ClashesWith method.now self.old ((edge.to, parts_in (files_of method.now) frame.now) ∷ []))) }
     {
         let Edge { from, to } = edge;
         if !is_start(starts, to) {
@@ -158,11 +157,9 @@ impl Found {
         requires linked { IsLinked (files_of method.now) }
         requires starts { starts.now ≡ starts_of (body_of method.now).code.code }
         requires over { AreOver (body_of method.now) (tables_in (files_of method.now) self.old) }
-        requires known { IfSome origin.old.near
-            (λ near. AreKnown (files_of method.now) (tables_in (files_of method.now) self.old) origin.old.before near (lead ∷ [])) }
+        requires known { IfSome origin.old.near (λ near. AreKnown (files_of method.now) (tables_in (files_of method.now) self.old) origin.old.before near (lead ∷ [])) }
         ensures merged { OnOk result (MergesInto method.now self.old (leads_in (files_of method.now) origin.old (lead ∷ [])) self.new) }
-        ensures clash { IfErr result (λ fault. OnUnverified
-            fault (ClashesWith method.now self.old (leads_in (files_of method.now) origin.old (lead ∷ [])))) }
+        ensures clash { IfErr result (λ fault. OnUnverified fault (ClashesWith method.now self.old (leads_in (files_of method.now) origin.old (lead ∷ [])))) }
         ensures origin { IsSameOrigin origin.old origin.new }
     {
         let edge = Edge {
@@ -199,11 +196,9 @@ impl Found {
         requires linked { IsLinked (files_of method.now) }
         requires starts { starts.now ≡ starts_of (body_of method.now).code.code }
         requires over { AreOver (body_of method.now) (tables_in (files_of method.now) self.old) }
-        requires known { IfSome origin.near (λ near. AreKnown (files_of method.now) (tables_in (files_of method.now) self.old)
-            origin.before near leads.now) }
+        requires known { IfSome origin.near (λ near. AreKnown (files_of method.now) (tables_in (files_of method.now) self.old) origin.before near leads.now) }
         ensures merged { OnOk result (MergesInto method.now self.old (leads_in (files_of method.now) origin leads.now) self.new) }
-        ensures clash { IfErr result (λ fault. OnUnverified
-            fault (ClashesWith method.now self.old (leads_in (files_of method.now) origin leads.now))) }
+        ensures clash { IfErr result (λ fault. OnUnverified fault (ClashesWith method.now self.old (leads_in (files_of method.now) origin leads.now))) }
     {
         let mut origin = origin;
         for lead in leads {

@@ -66,8 +66,7 @@ uncoded [] e = refl
 uncoded (CodeOf name code ∷ parts) e = absurd (omega (arith, e, sum_by-cons (λ p. cond (is_code_part p) 1 0) (CodeOf name code) parts))
 uncoded (SkippedOfMethod a ∷ parts) e = uncoded parts (omega (arith, e))
 
-concrete : (native abstract : Bool) (parts : List MethodPart)
-    → (count_by is_code_part parts == (if not (native || abstract) then 1 else 0)) ≡ true → not (is_some (code_in parts) && abstract) ≡ true
+concrete : (native abstract : Bool) (parts : List MethodPart) → (count_by is_code_part parts == (if not (native || abstract) then 1 else 0)) ≡ true → not (is_some (code_in parts) && abstract) ≡ true
 concrete native false parts e = none (is_some (code_in parts))
   where
     none : (b : Bool) → not (b && false) ≡ true
@@ -76,8 +75,7 @@ concrete native false parts e = none (is_some (code_in parts))
 concrete true true parts e = ap (λ b. not (b && true)) (uncoded parts (eqb-true (count_by is_code_part parts) 0 e))
 concrete false true parts e = ap (λ b. not (b && true)) (uncoded parts (eqb-true (count_by is_code_part parts) 0 e))
 
-both_all : (pool : List Entry) (ms : List MethodTree) → list_all (is_method_described pool) ms ≡ true
-    → list_all has_code_by_flags ms ≡ true → list_all (is_fitting pool) ms ≡ true
+both_all : (pool : List Entry) (ms : List MethodTree) → list_all (is_method_described pool) ms ≡ true → list_all has_code_by_flags ms ≡ true → list_all (is_fitting pool) ms ≡ true
 both_all pool [] d h = refl
 both_all pool (m ∷ ms) d h =
     let described = and_parts (is_method_described pool m) _ d in
@@ -126,8 +124,7 @@ few_operands : (flags : ℕ) (o : Option MethodType) → slots_fit flags (option
 few_operands flags None h = absurd (false≢true h)
 few_operands flags (Some t) h = by (is_static flags) h
   where
-    by : (static : Bool) → nat_le (if static then parameter_slots t else parameter_slots t + 1) 255 ≡ true
-        → length (map declared_of t.parameters) + (if static then 0 else 1) ≤ 255
+    by : (static : Bool) → nat_le (if static then parameter_slots t else parameter_slots t + 1) 255 ≡ true → length (map declared_of t.parameters) + (if static then 0 else 1) ≤ 255
     by true e = omega (arith, length-map t.parameters declared_of, few_parameters t.parameters, within 255 (parameter_slots t) e)
     by false e = omega (arith, length-map t.parameters declared_of, few_parameters t.parameters, within 255 (parameter_slots t + 1) e)
 
@@ -143,8 +140,7 @@ class_fits files linked class file c =
     let few : length files ≤ 65000 = not_over 65000 (length files) (unrefused_of linked.0 files linked.1.spelled linked.1.no_refusal).files_fit in
     omega (arith, few, count_behind files, slice_get_within (classes_of files) class file c)
 
-module _ (files : Program) (linked : IsLinked files) (class k : ℕ) (file : FileTree) (m : MethodTree)
-    (c : class_at files class ≡ Some file) (s : slice_get file.methods k ≡ Some m) where
+module _ (files : Program) (linked : IsLinked files) (class k : ℕ) (file : FileTree) (m : MethodTree) (c : class_at files class ≡ Some file) (s : slice_get file.methods k ≡ Some m) where
   fitting : is_fitting file.pool m ≡ true
   fitting =
       let whole = (unrefused_of linked.0 files linked.1.spelled linked.1.no_refusal).whole in
@@ -187,15 +183,13 @@ module _ (files : Program) (m : Member) where
   kind_coded None (Some code) e h concrete = absurd cc
   kind_coded (Some b) (Some code) e h concrete = concrete refl
 
-  pub kind_abstract : (o : Option Body) (code : Option FrameCode) → option_map frame_needs code ≡ option_map body_needs o
-      → is_some code ≡ false
+  pub kind_abstract : (o : Option Body) (code : Option FrameCode) → option_map frame_needs code ≡ option_map body_needs o → is_some code ≡ false
       → is_one is_abstract_method files m ≡ true → IsKind files m o kind.Abstract
   kind_abstract o (Some code) e h abstract = absurd (true≢false h)
   kind_abstract (Some b) None e h abstract = absurd cc
   kind_abstract None None e h abstract = abstract
 
-  pub kind_built_in : (o : Option Body) (code : Option FrameCode) (b : BuiltInMethod)
-      → option_map frame_needs code ≡ option_map body_needs o → is_some code ≡ false
+  pub kind_built_in : (o : Option Body) (code : Option FrameCode) (b : BuiltInMethod) → option_map frame_needs code ≡ option_map body_needs o → is_some code ≡ false
       → is_one is_abstract_method files m ≡ false → built_in_of b ≡ built_in_method m → IsKind files m o (kind.BuiltIn b)
   kind_built_in o (Some code) b e h abstract is = absurd (true≢false h)
   kind_built_in (Some body) None b e h abstract is = absurd cc
@@ -203,28 +197,21 @@ module _ (files : Program) (m : Member) where
 
 -- ---- the row of a method
 
-pub row_is : (files : Program) (linked : IsLinked files) (class k : ℕ) (file : FileTree) (m : MethodTree)
-    → class_at files class ≡ Some file → slice_get file.methods k ≡ Some m
-    → (call : MethodCall) → IsCallOf files (member_of file m) call → (kind : MethodKind)
-    → IsKind files (member_of file m) (body_of files (member_of file m)) kind
-    → IsRowIf files (member_at files (record { class = class; member = k }))
-    (Some (record { class = class; operands = call.operands; is_static = call.is_static; is_synchronized = call.is_synchronized;
-    kind = kind }))
+pub row_is : (files : Program) (linked : IsLinked files) (class k : ℕ) (file : FileTree) (m : MethodTree) → class_at files class ≡ Some file → slice_get file.methods k ≡ Some m
+    → (call : MethodCall) → IsCallOf files (member_of file m) call → (kind : MethodKind) → IsKind files (member_of file m) (body_of files (member_of file m)) kind
+    → IsRowIf files (member_at files (record { class = class; member = k })) (Some (record { class = class; operands = call.operands; is_static = call.is_static; is_synchronized = call.is_synchronized; kind = kind }))
 row_is files linked class k file m c s call told kind is =
     subst (λ o. IsRowIf files o (Some (record { class = class; operands = call.operands; is_static = call.is_static; is_synchronized = call.is_synchronized; kind = kind })))
     (sym (member_is files class k file m c s))
     (record { class = (file, c, refl); static = told.static; operands = told.operands; synchronized = told.synchronized; kind = is })
 
-pub told_there : (files : Program) (class k : ℕ) (file : FileTree) (m : MethodTree) → class_at files class ≡ Some file
-    → slice_get file.methods k ≡ Some m
-    → (call : MethodCall) → IsTold files (member_at files (record { class = class; member = k })) (Some call)
-    → IsCallOf files (member_of file m) call
+pub told_there : (files : Program) (class k : ℕ) (file : FileTree) (m : MethodTree) → class_at files class ≡ Some file → slice_get file.methods k ≡ Some m
+    → (call : MethodCall) → IsTold files (member_at files (record { class = class; member = k })) (Some call) → IsCallOf files (member_of file m) call
 told_there files class k file m c s call told = subst (λ o. IsTold files o (Some call)) (member_is files class k file m c s) told
 
 -- ---- methods of the machine
 
-pub or_constructs : (o : Option BuiltInMethod) (q : Option model.BuiltInMethod) → option_map built_in_of o ≡ q
-    → built_in_of (unwrap_or o method.Construct) ≡ unwrap_or q model.Construct
+pub or_constructs : (o : Option BuiltInMethod) (q : Option model.BuiltInMethod) → option_map built_in_of o ≡ q → built_in_of (unwrap_or o method.Construct) ≡ unwrap_or q model.Construct
 or_constructs o q e = by o ∙ ap (λ x. unwrap_or x model.Construct) e
   where
     by : (o : Option BuiltInMethod) → built_in_of (unwrap_or o method.Construct) ≡ unwrap_or (option_map built_in_of o) model.Construct
@@ -233,8 +220,7 @@ or_constructs o q e = by o ∙ ap (λ x. unwrap_or x model.Construct) e
 
 -- ---- rows of all methods
 
-pub are_rows : (files : Program) (ms : List Member) (rows : List MethodRow) → Pairs (IsMethodRow files) ms rows
-    → AreMethodRows files ms rows
+pub are_rows : (files : Program) (ms : List Member) (rows : List MethodRow) → Pairs (IsMethodRow files) ms rows → AreMethodRows files ms rows
 are_rows files [] [] h = tt
 are_rows files [] (row ∷ rows) h = absurd h
 are_rows files (m ∷ ms) [] h = absurd h
@@ -245,10 +231,8 @@ pub same_methods : (files : Program) → method_links.methods_of files ≡ metho
 unfolding method_links.methods_of methods_of
 same_methods files = refl
 
-pub row_pushed : (files : Program) (n : ℕ) (rows new : List MethodRow) (row : MethodRow) (o : Option Member)
-    → Some o ≡ option_map (λ m. Some m) (slice_get (method_links.methods_of files) n) → IsRowIf files o (Some row)
-    → Pairs (IsMethodRow files) (take n (methods_of files)) rows → new ≡ rows ++ row ∷ []
-    → Pairs (IsMethodRow files) (take (n + 1) (methods_of files)) new
+pub row_pushed : (files : Program) (n : ℕ) (rows new : List MethodRow) (row : MethodRow) (o : Option Member) → Some o ≡ option_map (λ m. Some m) (slice_get (method_links.methods_of files) n) → IsRowIf files o (Some row)
+    → Pairs (IsMethodRow files) (take n (methods_of files)) rows → new ≡ rows ++ row ∷ [] → Pairs (IsMethodRow files) (take (n + 1) (methods_of files)) new
 row_pushed files n rows new row None at is h pushed = absurd is
 row_pushed files n rows new row (Some m) at is h pushed =
     pair_pushed (IsMethodRow files) (methods_of files) n rows new m row

@@ -48,8 +48,7 @@ module _ (trees : Program) where
   array_of_ints of (Primitives own elements) e = refl
   array_of_ints of (References own elements) e = refl
 
-  array_of_references : (of : ReferenceType) (m : ObjectOf ℕ) → is_assignable trees (type_of m) (ReferenceArray of) ≡ true
-      → is_array m ≡ true
+  array_of_references : (of : ReferenceType) (m : ObjectOf ℕ) → is_assignable trees (type_of m) (ReferenceArray of) ≡ true → is_array m ≡ true
   array_of_references of (Instance class fields) e = absurd (false≢true e)
   array_of_references of (Primitives own elements) e = refl
   array_of_references of (References own elements) e = refl
@@ -70,10 +69,7 @@ keeps (Instance class fields) word = refl
 keeps (Primitives own elements) word = refl
 keeps (References own elements) word = refl
 
-module _ (trees : Program) (p : LinkedProgram) (bounds : Bounds) (inflated : List ℕ) (t : ℕ) (old : Shared) (stack : List ShownEntry)
-    (state : StateOf ℕ) (frame : FrameOf ℕ) (rest : StackOf ℕ) (code : LinkedCode) (site : Site) (meaning : MeaningOf ℕ)
-    (instruction : LinkedInstruction) (is : IsRunning trees p bounds inflated t old stack state frame rest code site meaning instruction)
-    where
+module _ (trees : Program) (p : LinkedProgram) (bounds : Bounds) (inflated : List ℕ) (t : ℕ) (old : Shared) (stack : List ShownEntry) (state : StateOf ℕ) (frame : FrameOf ℕ) (rest : StackOf ℕ) (code : LinkedCode) (site : Site) (meaning : MeaningOf ℕ) (instruction : LinkedInstruction) (is : IsRunning trees p bounds inflated t old stack state frame rest code site meaning instruction) where
   -- the array that a word refers to
   pub record Held (r : ℕ) : Type 0 where
     pub array : ObjectOf ℕ
@@ -81,8 +77,7 @@ module _ (trees : Program) (p : LinkedProgram) (bounds : Bounds) (inflated : Lis
     pub elements : HasElements trees p.components.items old.heap.objects state.world.heap r array
     pub are : elements_of (object_at state.world r) ≡ words_at old.heap.objects r
 
-  held : (test : ReferenceType → Bool) → ((m : ObjectOf ℕ) → test (type_of m) ≡ true → is_array m ≡ true) → (r : ℕ)
-      → is_word_with (types_of state.world.heap) test (suc r) ≡ true → Held r
+  held : (test : ReferenceType → Bool) → ((m : ObjectOf ℕ) → test (type_of m) ≡ true → is_array m ≡ true) → (r : ℕ) → is_word_with (types_of state.world.heap) test (suc r) ≡ true → Held r
   held test array r e =
       let m = referred state.world.heap test r e in
       let there : object_at state.world r ≡ m.object = get_or_from_slice_get state.world.heap r m.object no_object m.there in
@@ -128,8 +123,7 @@ module _ (trees : Program) (p : LinkedProgram) (bounds : Bounds) (inflated : Lis
   pub stores_int : meaning_of words trees site ≡ Some (store_of words trees site array_kind.Int) → Stores
   stores_int is = record { want = AReference (PrimitiveArray Int); means = is; held_by = ints_held Int }
 
-  pub stores_narrow : (kind : ArrayKind) → is_narrow kind ≡ true → meaning_of words trees site ≡ Some (store_of words trees site kind)
-      → Stores
+  pub stores_narrow : (kind : ArrayKind) → is_narrow kind ≡ true → meaning_of words trees site ≡ Some (store_of words trees site kind) → Stores
   stores_narrow array_kind.Int narrow is = absurd (false≢true narrow)
   stores_narrow array_kind.Reference narrow is = absurd (false≢true narrow)
   stores_narrow array_kind.ByteOrBoolean narrow is = record { want = AByteArray; means = is; held_by = bytes_held }
@@ -150,8 +144,7 @@ module _ (trees : Program) (p : LinkedProgram) (bounds : Bounds) (inflated : Lis
     abbrev event : SteppedOf (PartOf ℕ)
     event = instruction_event trees frames (event_of t) state.world frame rest meaning
 
-    abbrev event_as : (m : MeaningOf ℕ) → meaning_of words trees site ≡ Some m
-        → event ≡ instruction_event trees frames (event_of t) state.world frame rest m
+    abbrev event_as : (m : MeaningOf ℕ) → meaning_of words trees site ≡ Some m → event ≡ instruction_event trees frames (event_of t) state.world frame rest m
     event_as m means = event_is trees p bounds inflated t old stack state frame rest code site meaning instruction is frames (event_of t) m means
 
     abbrev becomes : OutcomeOf ℕ → SteppedOf (PartOf ℕ)
@@ -177,8 +170,7 @@ module _ (trees : Program) (p : LinkedProgram) (bounds : Bounds) (inflated : Lis
     pops = pops_met trees p bounds inflated t old stack state frame rest code site meaning instruction is
 
     -- it is done, with a word left where memory lets it be
-    left_word : (count word : ℕ) → event ≡ gone_to site.next state.world count (word ∷ []) → (left : ShownFrame)
-        (result : Result Effect Refusal) → Leaves result count (word ∷ []) found left
+    left_word : (count word : ℕ) → event ≡ gone_to site.next state.world count (word ∷ []) → (left : ShownFrame) (result : Result Effect Refusal) → Leaves result count (word ∷ []) found left
         → Does trees p bounds inflated t state.world own event result old old stack (with_top left stack)
     left_word count word goes left result leaves =
         subst (λ s. Does trees p bounds inflated t state.world own s result old old stack (with_top left stack)) (sym (goes ∙ ap (λ n. gone_to n state.world count (word ∷ [])) next))
@@ -203,14 +195,12 @@ module _ (trees : Program) (p : LinkedProgram) (bounds : Bounds) (inflated : Lis
       loaded : (r : ℕ) → slice_index_or found.operands 1 0 ≡ suc r → Held r
       loaded r e = l.held_by r (subst (λ x. accepts l.want x ≡ true) (shown_operand 1 (suc r) e) (meets_second accepts AnInt l.want [] is.shown.operands (pops (load_meaning words site l.want 0 l.type) l.means)))
 
-      pub load_outside : (r i : ℕ) → slice_index_or found.operands 1 0 ≡ suc r → slice_index_or found.operands 0 0 ≡ i
-          → length (words_at old.heap.objects r) ≤ i → event ≡ raised t ArrayIndexOutOfBounds state.world own
+      pub load_outside : (r i : ℕ) → slice_index_or found.operands 1 0 ≡ suc r → slice_index_or found.operands 0 0 ≡ i → length (words_at old.heap.objects r) ≤ i → event ≡ raised t ArrayIndexOutOfBounds state.world own
       load_outside r i is_r is_i e =
           load_by (suc r) i is_r is_i
           ∙ ap (λ b. becomes (at_index b (pushing site.next (element_at 0 state.world r i ∷ []) state.world frame.place.slots (drop 2 frame.place.slots.stack)))) (outside r i (loaded r is_r) e)
 
-      pub load_done : (r i word : ℕ) → slice_index_or found.operands 1 0 ≡ suc r → slice_index_or found.operands 0 0 ≡ i
-          → i < length (words_at old.heap.objects r) → word ≡ word_at old.heap.objects r i
+      pub load_done : (r i word : ℕ) → slice_index_or found.operands 1 0 ≡ suc r → slice_index_or found.operands 0 0 ≡ i → i < length (words_at old.heap.objects r) → word ≡ word_at old.heap.objects r i
           → (left : ShownFrame) (result : Result Effect Refusal) → Leaves result 2 (word ∷ []) found left
           → Does trees p bounds inflated t state.world own event result old old stack (with_top left stack)
       load_done r i word is_r is_i e is_word =
@@ -229,8 +219,7 @@ module _ (trees : Program) (p : LinkedProgram) (bounds : Bounds) (inflated : Lis
       abbrev store_with : (w i v : ℕ) → OutcomeOf ℕ
       store_with w i v = not_null (word_reference w) (λ r. at_index (in_range state.world r i) (stored_in r i v))
 
-      store_by : (w i v : ℕ) → slice_index_or found.operands 2 0 ≡ w → slice_index_or found.operands 1 0 ≡ i
-          → slice_index_or found.operands 0 0 ≡ v → event ≡ becomes (store_with w i v)
+      store_by : (w i v : ℕ) → slice_index_or found.operands 2 0 ≡ w → slice_index_or found.operands 1 0 ≡ i → slice_index_or found.operands 0 0 ≡ v → event ≡ becomes (store_with w i v)
       store_by w i v is_w is_i is_v =
           event_as (store_int_meaning words site s.want) s.means
           ∙ ap (λ x. becomes (store_with x (slice_index_or (take 3 frame.place.slots.stack) 1 0) (slice_index_or (take 3 frame.place.slots.stack) 0 0))) (operand 3 2 w (omega arith) is_w)
@@ -243,14 +232,12 @@ module _ (trees : Program) (p : LinkedProgram) (bounds : Bounds) (inflated : Lis
       storable : (r : ℕ) → slice_index_or found.operands 2 0 ≡ suc r → Held r
       storable r e = s.held_by r (subst (λ x. accepts s.want x ≡ true) (shown_operand 2 (suc r) e) (meets_third accepts AnInt AnInt s.want [] is.shown.operands (pops (store_int_meaning words site s.want) s.means)))
 
-      pub store_outside : (r i : ℕ) → slice_index_or found.operands 2 0 ≡ suc r → slice_index_or found.operands 1 0 ≡ i
-          → length (words_at old.heap.objects r) ≤ i → event ≡ raised t ArrayIndexOutOfBounds state.world own
+      pub store_outside : (r i : ℕ) → slice_index_or found.operands 2 0 ≡ suc r → slice_index_or found.operands 1 0 ≡ i → length (words_at old.heap.objects r) ≤ i → event ≡ raised t ArrayIndexOutOfBounds state.world own
       store_outside r i is_r is_i e =
           store_by (suc r) i (slice_index_or found.operands 0 0) is_r is_i refl
           ∙ ap (λ b. becomes (at_index b (stored_in r i (slice_index_or found.operands 0 0)))) (outside r i (storable r is_r) e)
 
-      pub store_done : (r i v : ℕ) → slice_index_or found.operands 2 0 ≡ suc r → slice_index_or found.operands 1 0 ≡ i
-          → slice_index_or found.operands 0 0 ≡ v → i < length (words_at old.heap.objects r)
+      pub store_done : (r i v : ℕ) → slice_index_or found.operands 2 0 ≡ suc r → slice_index_or found.operands 1 0 ≡ i → slice_index_or found.operands 0 0 ≡ v → i < length (words_at old.heap.objects r)
           → (heap : Heap) → heap ≡ record old.heap { objects = put_element old.heap.objects r i v }
           → (left : ShownFrame) (answer : Effect) → Leaves (Ok answer) 3 [] found left
           → Does trees p bounds inflated t state.world own event (Ok answer) old (record old { heap = heap }) stack (with_top left stack)

@@ -34,15 +34,11 @@ use Rattle.machine_state.proofs.linked_frames.Frames.{top_shown, finds_shown, me
 use Rattle.machine_state.proofs.linked_frames.Moves.{free_done, replaced_shown}
 use Rattle.machine_instructions.specs.field_instructions.Puts.{gone_on, Leaves}
 
-module _ (trees : Program) (p : LinkedProgram) (bounds : Bounds) (inflated : List ℕ) (t : ℕ) (old : Shared) (stack : List ShownEntry)
-    (state : StateOf ℕ) (frame : FrameOf ℕ) (rest : StackOf ℕ) (code : LinkedCode) (site : Site) (meaning : MeaningOf ℕ)
-    (instruction : LinkedInstruction) (is : IsRunning trees p bounds inflated t old stack state frame rest code site meaning instruction)
-    where
+module _ (trees : Program) (p : LinkedProgram) (bounds : Bounds) (inflated : List ℕ) (t : ℕ) (old : Shared) (stack : List ShownEntry) (state : StateOf ℕ) (frame : FrameOf ℕ) (rest : StackOf ℕ) (code : LinkedCode) (site : Site) (meaning : MeaningOf ℕ) (instruction : LinkedInstruction) (is : IsRunning trees p bounds inflated t old stack state frame rest code site meaning instruction) where
   -- ---- its operands
 
   -- they are as the instruction wants them
-  pub pops_met : (m : MeaningOf ℕ) → meaning_of words trees site ≡ Some m
-      → pops_meet (word_meets trees (types_of state.world.heap)) m.wants.pops is.shown.operands ≡ true
+  pub pops_met : (m : MeaningOf ℕ) → meaning_of words trees site ≡ Some m → pops_meet (word_meets trees (types_of state.world.heap)) m.wants.pops is.shown.operands ≡ true
   pops_met m e =
       let f = finds_shown trees p bounds inflated t old stack state frame rest code site meaning instruction is in
       let same = meaning_is trees p bounds inflated t old stack state frame rest code site meaning instruction is m e in
@@ -54,8 +50,7 @@ module _ (trees : Program) (p : LinkedProgram) (bounds : Bounds) (inflated : Lis
   lent_shows found e = same_Some found is.shown (top_frame trees p bounds inflated t old stack state frame rest code site meaning instruction is (Some found) e)
 
   -- an operand that is read of it is one that the meaning is given
-  pub operand_is : (found : ShownFrame) → IsTopFrame stack (Some found) → (n k w : ℕ) → k < n → slice_index_or found.operands k 0 ≡ w
-      → slice_index_or (take n frame.place.slots.stack) k 0 ≡ w
+  pub operand_is : (found : ShownFrame) → IsTopFrame stack (Some found) → (n k w : ℕ) → k < n → slice_index_or found.operands k 0 ≡ w → slice_index_or (take n frame.place.slots.stack) k 0 ≡ w
   operand_is found lent n k w less e =
       get_or-take n frame.place.slots.stack k 0 less
       ∙ ap (λ s. slice_index_or s k 0) (top_shown trees p bounds inflated t old stack state frame rest code site meaning instruction is).top.operands
@@ -103,8 +98,7 @@ module _ (trees : Program) (p : LinkedProgram) (bounds : Bounds) (inflated : Lis
   unchanged = record { represents = is.lent.represents; fat = refl; stacks = refl; threads = refl }
 
   module _ (after : WorldOf ℕ) (new : Shared) (shown : IsShownAfter after new) (count : ℕ) (results : List ℕ) (found : ShownFrame) (lent : IsTopFrame stack (Some found)) (left : ShownFrame) where
-    gone : left ≡ gone_on count results found
-        → IsDone trees p bounds inflated state.world (goes_on after count results) old new (with_top left stack)
+    gone : left ≡ gone_on count results found → IsDone trees p bounds inflated state.world (goes_on after count results) old new (with_top left stack)
     gone e =
         let to : Invocation (gone_on count results is.shown) ∷ is.others ≡ with_top left stack =
         ap (λ (f : ShownFrame). Invocation (gone_on count results f) ∷ is.others) (sym (lent_shows found lent))
@@ -120,8 +114,7 @@ module _ (trees : Program) (p : LinkedProgram) (bounds : Bounds) (inflated : Lis
 
     -- what is answered then is right
     pub done : (answer : Effect) → Leaves (Ok answer) count results found left
-        → Does trees p bounds inflated t state.world (model.Invocation frame
-        ∷ rest) (goes_on after count results) (Ok answer) old new stack (with_top left stack)
+        → Does trees p bounds inflated t state.world (model.Invocation frame ∷ rest) (goes_on after count results) (Ok answer) old new stack (with_top left stack)
     done effect.Done e = gone (e place_found)
     done (effect.Raises fault) e = absurd e
     done (effect.Throws thrown) e = absurd e
@@ -129,10 +122,8 @@ module _ (trees : Program) (p : LinkedProgram) (bounds : Bounds) (inflated : Lis
     done effect.NotEnabled e = absurd e
 
   -- where a word is left, memory may be wanted
-  pub done_or_refused : (count : ℕ) (results : List ℕ) (found : ShownFrame) (lent : IsTopFrame stack (Some found)) (left : ShownFrame)
-      (result : Result Effect Refusal) → Leaves result count results found left
-      → Does trees p bounds inflated t state.world (model.Invocation frame
-      ∷ rest) (goes_on state.world count results) result old old stack (with_top left stack)
+  pub done_or_refused : (count : ℕ) (results : List ℕ) (found : ShownFrame) (lent : IsTopFrame stack (Some found)) (left : ShownFrame) (result : Result Effect Refusal) → Leaves result count results found left
+      → Does trees p bounds inflated t state.world (model.Invocation frame ∷ rest) (goes_on state.world count results) result old old stack (with_top left stack)
   done_or_refused count results found lent left (Ok answer) e = done state.world old unchanged count results found lent left answer e
   done_or_refused count results found lent left (Err refusal.Memory) e =
       (record { cost = Free; next = _; is = refl; may = tt }, kept left (subst (λ (f : ShownFrame). IsTopFrame stack (Some f)) (sym e) lent))

@@ -36,10 +36,8 @@ use Rattle.machine_state.proofs.class_initialisation.Setting.{kind_of, its_class
 
 -- ---- events that take nothing
 
-pub free_done : (trees : Program) (p : LinkedProgram) (bounds : Bounds) (inflated : List ℕ) (world after : WorldOf ℕ) (own : StackOf ℕ)
-    (old new : Shared) (to : List ShownEntry)
-    → Represents trees p bounds new after → ShowsStack trees p to own → new.heap ≡ old.heap → new.stacks ≡ old.stacks
-    → new.threads ≡ old.threads
+pub free_done : (trees : Program) (p : LinkedProgram) (bounds : Bounds) (inflated : List ℕ) (world after : WorldOf ℕ) (own : StackOf ℕ) (old new : Shared) (to : List ShownEntry)
+    → Represents trees p bounds new after → ShowsStack trees p to own → new.heap ≡ old.heap → new.stacks ≡ old.stacks → new.threads ≡ old.threads
     → IsDone trees p bounds inflated world (on_to after own) old new to
 free_done trees p bounds inflated world after own old new to r s heap stacks threads =
     record {
@@ -65,8 +63,7 @@ module _ (trees : Program) (class : Name) (pool : List Entry) where
     pub is : initialisation.with_constants words trees class pool world fields ≡ record world { statics = statics }
     pub shown : ShowsStatics trees (with_constants constants slots) statics
 
-  are_set : (fields : List FieldTree) (constants : List LinkedConstant) (slots : List ℕ) (world : WorldOf ℕ)
-      → ShowsStatics trees slots world.statics
+  are_set : (fields : List FieldTree) (constants : List LinkedConstant) (slots : List ℕ) (world : WorldOf ℕ) → ShowsStatics trees slots world.statics
       → AreConstants trees (filter_map (constant_in trees class pool) fields) constants → AreSet fields constants slots world
   are_set [] [] slots world s h = record { statics = world.statics; is = refl; shown = s }
   are_set [] (l ∷ ls) slots world s h = absurd h
@@ -74,14 +71,10 @@ module _ (trees : Program) (class : Name) (pool : List Entry) where
       let r = by (λ ls slots world s h. are_set fs ls slots world s h) (constant_value words trees pool f) constants h in
       record { statics = r.0; is = r.1; shown = r.2 }
     where
-      by : ((ls : List LinkedConstant) (slots : List ℕ) (world : WorldOf ℕ) → ShowsStatics trees slots world.statics
-          → AreConstants trees (filter_map (constant_in trees class pool) fs) ls → AreSet fs ls slots world)
+      by : ((ls : List LinkedConstant) (slots : List ℕ) (world : WorldOf ℕ) → ShowsStatics trees slots world.statics → AreConstants trees (filter_map (constant_in trees class pool) fs) ls → AreSet fs ls slots world)
           → (o : Option ℕ) (ls : List LinkedConstant)
-          → AreConstants trees (cons_option (option_map (λ (value : ℕ). (field_member class pool f,
-          put_value words (field_member class pool f) value)) o) (filter_map (constant_in trees class pool) fs)) ls
-          → (statics : List (Member × ℕ)) × (initialisation.with_constants words trees class
-          pool (option_map_or (λ value. with_static world (field_member class pool f) (put_value words (field_member class pool f) value))
-          o world) fs ≡ record world { statics = statics }) × ShowsStatics trees (with_constants ls slots) statics
+          → AreConstants trees (cons_option (option_map (λ (value : ℕ). (field_member class pool f, put_value words (field_member class pool f) value)) o) (filter_map (constant_in trees class pool) fs)) ls
+          → (statics : List (Member × ℕ)) × (initialisation.with_constants words trees class pool (option_map_or (λ value. with_static world (field_member class pool f) (put_value words (field_member class pool f) value)) o world) fs ≡ record world { statics = statics }) × ShowsStatics trees (with_constants ls slots) statics
       by rest None ls h = let r = rest ls slots world s h in (r.statics, r.is, r.shown)
       by rest (Some value) [] h = absurd h
       by rest (Some value) (l ∷ ls) h =
@@ -92,8 +85,7 @@ module _ (trees : Program) (class : Name) (pool : List Entry) where
 
 -- ---- the class
 
-module _ (read : AreClassesRead) (trees : Program) (p : LinkedProgram) (bounds : Bounds) (inflated : List ℕ) (world : WorldOf ℕ)
-    (own : StackOf ℕ) (program : IsProgram trees p)
+module _ (read : AreClassesRead) (trees : Program) (p : LinkedProgram) (bounds : Bounds) (inflated : List ℕ) (world : WorldOf ℕ) (own : StackOf ℕ) (program : IsProgram trees p)
     (old : Shared) (from : List ShownEntry) (s : ShowsStack trees p from own) (class : Name) (number t : ℕ) (at : IsClassAt trees number class) where
   -- with its status set
   abbrev marked_world : WorldOf ℕ
@@ -101,8 +93,7 @@ module _ (read : AreClassesRead) (trees : Program) (p : LinkedProgram) (bounds :
 
   module _ (marked : Shared) (kept : marked ≡ record old { statuses = marked.statuses; ready = marked.ready }) (r : Represents trees p bounds marked marked_world)
       (statics : Vec ℕ Global) where
-    after : (row : LinkedClass) → slice_get p.classes.items number ≡ Some row
-        → statics.items ≡ with_constants row.constants.items marked.statics.items
+    after : (row : LinkedClass) → slice_get p.classes.items number ≡ Some row → statics.items ≡ with_constants row.constants.items marked.statics.items
         → Represents trees p bounds (record marked { statics = statics }) (with_class_begun words trees t class world)
     after row is_row are =
         subst (λ (w : WorldOf ℕ). Represents trees p bounds (record marked { statics = statics }) w) (sym world_is)
@@ -145,8 +136,7 @@ module _ (read : AreClassesRead) (trees : Program) (p : LinkedProgram) (bounds :
         world_is : with_class_begun words trees t class world ≡ record marked_world { statics = set.statics }
         world_is = ap (λ o. option_map_or (λ (file : FileTree). initialisation.with_constants words trees class file.pool marked_world file.fields) o marked_world) class_is ∙ set.is
 
-    pub begun : (row : LinkedClass) → slice_get p.classes.items number ≡ Some row
-        → statics.items ≡ with_constants row.constants.items marked.statics.items
+    pub begun : (row : LinkedClass) → slice_get p.classes.items number ≡ Some row → statics.items ≡ with_constants row.constants.items marked.statics.items
         → (to : List ShownEntry) → to ≡ Initialisation number phase.Super ∷ from
         → IsDone trees p bounds inflated world (begun_class words trees t class world own) old (record marked { statics = statics }) to
     begun row is_row are to to_is =

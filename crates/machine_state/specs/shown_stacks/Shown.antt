@@ -96,8 +96,7 @@ IsCallOverShown =
 abbrev pub IsCallInTwoSteps : Type 0
 IsCallInTwoSteps =
     (callee : Callee) (count : ℕ) (shown : List ShownEntry)
-    → (under_top (without count) (called_over callee count shown) ≡ called callee count shown)
-    × (drop 1 (called_over callee count shown) ≡ shown)
+    → (under_top (without count) (called_over callee count shown) ≡ called callee count shown) × (drop 1 (called_over callee count shown) ≡ shown)
 
 -- a frame that goes on at a place
 abbrev pub IsMoveShown : Type 0
@@ -122,8 +121,7 @@ abbrev pub IsCatchShown : Type 0
 IsCatchShown =
     (files : Program) (p : LinkedProgram) (shown : ShownFrame) (frame : FrameOf ℕ) → ShowsFrame files p shown frame
     → (handler offset word : ℕ) → offset_at p shown.method handler ≡ offset
-    → ShowsFrame files p (caught handler word shown) (at_offset frame offset (record { locals = frame.place.slots.locals; stack = word
-    ∷ [] }))
+    → ShowsFrame files p (caught handler word shown) (at_offset frame offset (record { locals = frame.place.slots.locals; stack = word ∷ [] }))
 
 -- a class that the thread begins to initialise, by its number
 abbrev pub IsInitialisationShown : Type 0

@@ -29,11 +29,9 @@ impl Model for World {
 
     ghost Value = { spec.WorldOf };
 
-    ghost view = { λ w. record { trees = arc_value w.verified; budget = w.budget; events = w.recorded.events; machine = w.machine;
-        end = w.end } };
+    ghost view = { λ w. record { trees = arc_value w.verified; budget = w.budget; events = w.recorded.events; machine = w.machine; end = w.end } };
 
-    ghost invariant = { λ w. spec.Holds (record { trees = arc_value w.verified; budget = w.budget; events = w.recorded.events;
-        machine = w.machine; end = w.end }) };
+    ghost invariant = { λ w. spec.Holds (record { trees = arc_value w.verified; budget = w.budget; events = w.recorded.events; machine = w.machine; end = w.end }) };
 }
 
 impl World {

@@ -51,18 +51,14 @@ module _ (files : Program) (method : Member) (tree : MethodTree) (is_method : me
   pub not_static : is_instance_method tree ≡ true → is_static_of files method ≡ false
   not_static e = subst (λ o. option_map_or is_static_method o false ≡ false) (sym is_method) (not-true (is_static_method tree) e)
 
-module _ (files : Program) (built_ins : BuiltInTyped files) (event : Event) (w : World) (f : Frame) (site : Site)
-    (h : Here files event.thread w f site) where
+module _ (files : Program) (built_ins : BuiltInTyped files) (event : Event) (w : World) (f : Frame) (site : Site) (h : Here files event.thread w f site) where
   -- ---- what is run
 
   abbrev pub Chooses : List VerificationType → List Value → Chosen → Type 0
   Chooses results ops (Fails fault) = Unit {0}
   Chooses results ops (Runs method) = Runnable files (types_of w.heap) method ops × (result_types files method ≡ results)
 
-  runs_typed : (method : Member) (ops rest : List Value) (object : ℕ) → Runnable files (types_of w.heap) method ops
-      → Awaits files (types_of w.heap) (result_types files method) (at_call f rest) → (b : Option Body) → body_of files method ≡ b
-      → may_run values event w ops method b ≡ true
-      → OutcomeTyped files event.thread w f (runs values files site event w f.place.slots ops rest object method b)
+  runs_typed : (method : Member) (ops rest : List Value) (object : ℕ) → Runnable files (types_of w.heap) method ops → Awaits files (types_of w.heap) (result_types files method) (at_call f rest) → (b : Option Body) → body_of files method ≡ b → may_run values event w ops method b ≡ true → OutcomeTyped files event.thread w f (runs values files site event w f.place.slots ops rest object method b)
   runs_typed method ops rest object c awaits None e may =
       built_ins event w f site.next method ops rest
       (record {
@@ -79,31 +75,18 @@ module _ (files : Program) (built_ins : BuiltInTyped files) (event : Event) (w :
   runs_typed method ops rest object c awaits (Some body) e may =
       (opened_ready files h.linked.rooted (types_of w.heap) method body (reverse ops) (entered_by files method object) e (h.accepted method body e) c.arguments, awaits)
 
-  pub invoked_typed : (results : List VerificationType) (ops rest : List Value) (object : ℕ) (chosen : Chosen) → Chooses results ops chosen
-      → Awaits files (types_of w.heap) results (at_call f rest) → may_invoke values files event w ops chosen ≡ true
-      → OutcomeTyped files event.thread w f (invoked values files site event w f.place.slots ops rest object chosen)
+  pub invoked_typed : (results : List VerificationType) (ops rest : List Value) (object : ℕ) (chosen : Chosen) → Chooses results ops chosen → Awaits files (types_of w.heap) results (at_call f rest) → may_invoke values files event w ops chosen ≡ true → OutcomeTyped files event.thread w f (invoked values files site event w f.place.slots ops rest object chosen)
   invoked_typed results ops rest object (Fails fault) c awaits may = tt
   invoked_typed results ops rest object (Runs method) c awaits may =
       runs_typed method ops rest object c.0 (subst (λ ts. Awaits files (types_of w.heap) ts (at_call f rest)) (sym c.1) awaits) (body_of files method) refl may
 
-  on_receiver : (results : List VerificationType) (ops : List Value) (v : Value) (choose : ℕ → Chosen)
-      → ((r : ℕ) → v ≡ value.Reference r → Chooses results ops (choose r)) → Chooses results ops (of_receiver (reference_of v) choose)
+  on_receiver : (results : List VerificationType) (ops : List Value) (v : Value) (choose : ℕ → Chosen) → ((r : ℕ) → v ≡ value.Reference r → Chooses results ops (choose r)) → Chooses results ops (of_receiver (reference_of v) choose)
   on_receiver results ops value.Unset choose k = tt
   on_receiver results ops (value.Int bits) choose k = tt
   on_receiver results ops value.Null choose k = tt
   on_receiver results ops (value.Reference r) choose k = k r refl
 
-  pub call_typed : (method : Member) (receiver : List Want)
-      (leads : Slots VerificationType → List VerificationType → List VerificationType → List (ℕ × Slots VerificationType))
-      (choose : World → ℕ → Chosen) (results : List VerificationType)
-      → ((r : ℕ) → operand values (ops_of values (call_on values files site method receiver leads choose) f.place.slots)
-      (parameter_count method) ≡ value.Reference r
-      → Chooses results (ops_of values (call_on values files site method receiver leads choose) f.place.slots) (choose w r))
-      → Awaits files (types_of w.heap) results
-      (at_call f (under (call_on values files site method receiver leads choose).wants f.place.slots))
-      → (call_on values files site method receiver leads choose).may event
-      w (ops_of values (call_on values files site method receiver leads choose) f.place.slots) ≡ true
-      → Does files event w f (call_on values files site method receiver leads choose)
+  pub call_typed : (method : Member) (receiver : List Want) (leads : Slots VerificationType → List VerificationType → List VerificationType → List (ℕ × Slots VerificationType)) (choose : World → ℕ → Chosen) (results : List VerificationType) → ((r : ℕ) → operand values (ops_of values (call_on values files site method receiver leads choose) f.place.slots) (parameter_count method) ≡ value.Reference r → Chooses results (ops_of values (call_on values files site method receiver leads choose) f.place.slots) (choose w r)) → Awaits files (types_of w.heap) results (at_call f (under (call_on values files site method receiver leads choose).wants f.place.slots)) → (call_on values files site method receiver leads choose).may event w (ops_of values (call_on values files site method receiver leads choose) f.place.slots) ≡ true → Does files event w f (call_on values files site method receiver leads choose)
   call_typed method receiver leads choose results k awaits may =
       let m = call_on values files site method receiver leads choose in
       let ops = ops_of values m f.place.slots in
@@ -113,16 +96,12 @@ module _ (files : Program) (built_ins : BuiltInTyped files) (event : Event) (w :
   -- ---- selection
 
   module _ (class : Name) (method : Member) (ops : List Value) (r : ℕ) (g : Given files (types_of w.heap) method ops) (at : operand values ops (parameter_count method) ≡ value.Reference r) (name : name_eq method.name initialiser_name ≡ false) (instance : is_one is_instance_one files method ≡ true) where
-    private_chosen : (m : MethodTree) → method_of files method ≡ Some m → is_private_method m ≡ true
-        → is_value_below files (types_of w.heap) (ClassType method.class) (value.Reference r) ≡ true
-        → Chooses (result_types files method) ops (Runs method)
+    private_chosen : (m : MethodTree) → method_of files method ≡ Some m → is_private_method m ≡ true → is_value_below files (types_of w.heap) (ClassType method.class) (value.Reference r) ≡ true → Chooses (result_types files method) ops (Runs method)
     private_chosen m is private below =
         let one = one_of is_instance_one (method_of files method) instance in
         (instance_runnable files (types_of w.heap) method method ops m r refl is (h.linked.private_is_concrete method m is private) (not_static files method one.tree one.is one.passes) name g at below, refl)
 
-    concrete_chosen : ((d : Name) → is_subclass files class d ≡ true
-        → is_value_below files (types_of w.heap) (ClassType d) (value.Reference r) ≡ true) → (o : Option Member)
-        → select files class method ≡ o → Chooses (result_types files method) ops (if_concrete files o)
+    concrete_chosen : ((d : Name) → is_subclass files class d ≡ true → is_value_below files (types_of w.heap) (ClassType d) (value.Reference r) ≡ true) → (o : Option Member) → select files class method ≡ o → Chooses (result_types files method) ops (if_concrete files o)
     concrete_chosen up None e = tt
     concrete_chosen up (Some found) e =
         let s = new_frames.selected files class method found e in
@@ -134,10 +113,7 @@ module _ (files : Program) (built_ins : BuiltInTyped files) (event : Event) (w :
           ap (λ x. result_types files x) s.is,
         ))
 
-    pub selected_chosen : ((m : MethodTree) → method_of files method ≡ Some m → is_private_method m ≡ true
-        → is_value_below files (types_of w.heap) (ClassType method.class) (value.Reference r) ≡ true)
-        → ((d : Name) → is_subclass files class d ≡ true → is_value_below files (types_of w.heap) (ClassType d) (value.Reference r) ≡ true)
-        → Chooses (result_types files method) ops (selected files class method)
+    pub selected_chosen : ((m : MethodTree) → method_of files method ≡ Some m → is_private_method m ≡ true → is_value_below files (types_of w.heap) (ClassType method.class) (value.Reference r) ≡ true) → ((d : Name) → is_subclass files class d ≡ true → is_value_below files (types_of w.heap) (ClassType d) (value.Reference r) ≡ true) → Chooses (result_types files method) ops (selected files class method)
     selected_chosen private up =
         cond_both (is_one is_private_method files method) (Runs method) (if_concrete files (select files class method)) (Chooses (result_types files method) ops)
         (λ q. let one = one_of is_private_method (method_of files method) q in private_chosen one.tree one.is one.passes (private one.tree one.is one.passes))
@@ -146,14 +122,11 @@ module _ (files : Program) (built_ins : BuiltInTyped files) (event : Event) (w :
   -- ---- the receiver
 
   -- a value of a class, as the verifier makes it, is of the classes above
-  pub goes_up : (current above : Name) (r : ℕ) → is_assignable files (made_type files (ClassType current)) (ClassType above) ≡ true
-      → is_value_below files (types_of w.heap) (made_type files (ClassType current)) (value.Reference r) ≡ true
-      → is_value_below files (types_of w.heap) (ClassType above) (value.Reference r) ≡ true
+  pub goes_up : (current above : Name) (r : ℕ) → is_assignable files (made_type files (ClassType current)) (ClassType above) ≡ true → is_value_below files (types_of w.heap) (made_type files (ClassType current)) (value.Reference r) ≡ true → is_value_below files (types_of w.heap) (ClassType above) (value.Reference r) ≡ true
   goes_up current above r p q = stack_above files h.linked.rooted (types_of w.heap) (OfType (made_type files (ClassType current))) (OfType (ClassType above)) (value.Reference r) p q
 
   -- an object is of the classes from which its methods are selected
-  pub own_class : (r : ℕ) (type : ReferenceType) → is_value_below files (types_of w.heap) type (value.Reference r) ≡ true → (d : Name)
-      → is_subclass files (its_class w r) d ≡ true → is_value_below files (types_of w.heap) (ClassType d) (value.Reference r) ≡ true
+  pub own_class : (r : ℕ) (type : ReferenceType) → is_value_below files (types_of w.heap) type (value.Reference r) ≡ true → (d : Name) → is_subclass files (its_class w r) d ≡ true → is_value_below files (types_of w.heap) (ClassType d) (value.Reference r) ≡ true
   own_class r type q d e =
       let o = object_found files w.heap r type q in
       subst (λ x. is_object_below files (ClassType d) x ≡ true) (sym (get_map type_of w.heap r (object_at w r) (at_there w.heap r o.0 o.1))) (object_below_class files h.linked (object_at w r) d e)
@@ -162,11 +135,7 @@ module _ (files : Program) (built_ins : BuiltInTyped files) (event : Event) (w :
   sized_as i e = subst (λ j. sized_at site.body.code.code site.offset ≡ Some (j, h.size)) e h.sized
 
   -- with its arguments gone it awaits results that the instruction leads to
-  pub awaits_next : (m : MeaningOf Value) → Allows files f h.ready.stopped.stands site m → (results : List VerificationType)
-      (constructed : Bool) → Reaches files h.ready.stopped.stands.typing
-      site.next (record { slots = record { locals = h.ready.stopped.stands.type.slots.locals; stack = results
-      ++ under m.wants h.ready.stopped.stands.type.slots }; constructed = constructed })
-      → Awaits files (types_of w.heap) results (at_call f (under m.wants f.place.slots))
+  pub awaits_next : (m : MeaningOf Value) → Allows files f h.ready.stopped.stands site m → (results : List VerificationType) (constructed : Bool) → Reaches files h.ready.stopped.stands.typing site.next (record { slots = record { locals = h.ready.stopped.stands.type.slots.locals; stack = results ++ under m.wants h.ready.stopped.stands.type.slots }; constructed = constructed }) → Awaits files (types_of w.heap) results (at_call f (under m.wants f.place.slots))
   awaits_next m a results constructed on =
       let ts = h.ready.stopped.stands.type.slots in
       awaits_here files event.thread w f site h results ts.locals (under m.wants ts) constructed (under m.wants f.place.slots) h.ready.stopped.locals (under_here files event.thread w f site h m a) on

@@ -58,17 +58,14 @@ module _ (files : Program) (t : ℕ) (w : World) (f : Frame) (site : Site) (h : 
   slots_here = slots_of files (types_of w.heap) h.ready.stopped.stands.type.slots f.place.slots (record { locals = h.ready.stopped.locals; stack = h.ready.stack })
 
   -- null raises an exception; else there is an object of the type
-  pub not_null_typed : (type : ReferenceType) (v : Value) (go : ℕ → OutcomeOf Value) → is_value_below files (types_of w.heap) type v ≡ true
-      → ((r : ℕ) (o : ObjectOf Value) → v ≡ value.Reference r → slice_get w.heap r ≡ Some o → is_assignable files (type_of o) type ≡ true
-      → OutcomeTyped files t w f (go r)) → OutcomeTyped files t w f (not_null (reference_of v) go)
+  pub not_null_typed : (type : ReferenceType) (v : Value) (go : ℕ → OutcomeOf Value) → is_value_below files (types_of w.heap) type v ≡ true → ((r : ℕ) (o : ObjectOf Value) → v ≡ value.Reference r → slice_get w.heap r ≡ Some o → is_assignable files (type_of o) type ≡ true → OutcomeTyped files t w f (go r)) → OutcomeTyped files t w f (not_null (reference_of v) go)
   not_null_typed type value.Unset go e k = absurd (false≢true e)
   not_null_typed type (value.Int bits) go e k = absurd (false≢true e)
   not_null_typed type value.Null go e k = tt
   not_null_typed type (value.Reference r) go e k = let o = object_found files w.heap r type e in k r o.0 refl o.1 o.2
 
   -- the same where nothing is asked of the object
-  pub not_null_any : (v : Value) (go : ℕ → OutcomeOf Value) → ((r : ℕ) → v ≡ value.Reference r → OutcomeTyped files t w f (go r))
-      → OutcomeTyped files t w f (not_null (reference_of v) go)
+  pub not_null_any : (v : Value) (go : ℕ → OutcomeOf Value) → ((r : ℕ) → v ≡ value.Reference r → OutcomeTyped files t w f (go r)) → OutcomeTyped files t w f (not_null (reference_of v) go)
   not_null_any value.Unset go k = tt
   not_null_any (value.Int bits) go k = tt
   not_null_any value.Null go k = tt
@@ -81,21 +78,14 @@ module _ (files : Program) (t : ℕ) (w : World) (f : Frame) (site : Site) (h : 
         ready_popped (value_meets files (types_of w.heap)) over_values m.wants site.body.code.max_stack f.place.slots
         (ready_both files h.linked.rooted (types_of w.heap) m.wants site.body.code.max_stack h.ready.stopped.stands.type.slots f.place.slots slots_here a.finds)
 
-    pub met : (k : ℕ) → value_meets files (types_of w.heap) (slice_index_or m.wants.pops k AnyWord)
-        (operand values (take (length m.wants.pops) f.place.slots.stack) k) ≡ true
+    pub met : (k : ℕ) → value_meets files (types_of w.heap) (slice_index_or m.wants.pops k AnyWord) (operand values (take (length m.wants.pops) f.place.slots.stack) k) ≡ true
     met k = pair_get (value_meets files (types_of w.heap)) m.wants.pops (take (length m.wants.pops) f.place.slots.stack) AnyWord value.Unset popped_here refl k
 
-    pub under_here : are_typed files (types_of w.heap) (under m.wants h.ready.stopped.stands.type.slots) (under m.wants f.place.slots)
-        ≡ true
+    pub under_here : are_typed files (types_of w.heap) (under m.wants h.ready.stopped.stands.type.slots) (under m.wants f.place.slots) ≡ true
     under_here = of_pairs _ _ _ (under_both files h.linked.rooted (types_of w.heap) m.wants h.ready.stopped.stands.type.slots f.place.slots slots_here)
 
     -- on to the next instruction with values of these types
-    pub pushes_on : (locals pushed : List VerificationType) (constructed : Bool)
-        → Reaches files h.ready.stopped.stands.typing site.next (record { slots = record { locals = locals; stack = pushed
-        ++ under m.wants h.ready.stopped.stands.type.slots }; constructed = constructed })
-        → are_typed files (types_of w.heap) locals f.place.slots.locals ≡ true → (cost : Cost) (after : World) (vs : List Value)
-        → Keeps files w after → are_typed files (types_of after.heap) pushed vs ≡ true
-        → OutcomeTyped files t w f (pushing_at cost site.next vs after f.place.slots (under m.wants f.place.slots))
+    pub pushes_on : (locals pushed : List VerificationType) (constructed : Bool) → Reaches files h.ready.stopped.stands.typing site.next (record { slots = record { locals = locals; stack = pushed ++ under m.wants h.ready.stopped.stands.type.slots }; constructed = constructed }) → are_typed files (types_of w.heap) locals f.place.slots.locals ≡ true → (cost : Cost) (after : World) (vs : List Value) → Keeps files w after → are_typed files (types_of after.heap) pushed vs ≡ true → OutcomeTyped files t w f (pushing_at cost site.next vs after f.place.slots (under m.wants f.place.slots))
     unfolding under_here
     pushes_on locals pushed constructed on kept cost after vs keeps typed =
         let os = types_of after.heap in
@@ -108,20 +98,12 @@ module _ (files : Program) (t : ℕ) (w : World) (f : Frame) (site : Site) (h : 
         }))
 
     -- with the local variables as they are
-    pub pushes : (pushed : List VerificationType) (constructed : Bool)
-        → Reaches files h.ready.stopped.stands.typing
-        site.next (record { slots = record { locals = h.ready.stopped.stands.type.slots.locals; stack = pushed
-        ++ under m.wants h.ready.stopped.stands.type.slots }; constructed = constructed }) → (cost : Cost) (after : World)
-        (vs : List Value) → Keeps files w after → are_typed files (types_of after.heap) pushed vs ≡ true
-        → OutcomeTyped files t w f (pushing_at cost site.next vs after f.place.slots (under m.wants f.place.slots))
+    pub pushes : (pushed : List VerificationType) (constructed : Bool) → Reaches files h.ready.stopped.stands.typing site.next (record { slots = record { locals = h.ready.stopped.stands.type.slots.locals; stack = pushed ++ under m.wants h.ready.stopped.stands.type.slots }; constructed = constructed }) → (cost : Cost) (after : World) (vs : List Value) → Keeps files w after → are_typed files (types_of after.heap) pushed vs ≡ true → OutcomeTyped files t w f (pushing_at cost site.next vs after f.place.slots (under m.wants f.place.slots))
     pushes pushed constructed on cost after vs keeps typed =
         pushes_on h.ready.stopped.stands.type.slots.locals pushed constructed on h.ready.stopped.locals cost after vs keeps typed
 
   -- at a call it waits for results of these types, with what it leads to then
-  pub awaits_here : (results ls rs : List VerificationType) (constructed : Bool) (vs : List Value)
-      → are_typed files (types_of w.heap) ls f.place.slots.locals ≡ true → are_typed files (types_of w.heap) rs vs ≡ true
-      → Reaches files h.ready.stopped.stands.typing site.next (record { slots = record { locals = ls; stack = results
-      ++ rs }; constructed = constructed }) → Awaits files (types_of w.heap) results (at_call f vs)
+  pub awaits_here : (results ls rs : List VerificationType) (constructed : Bool) (vs : List Value) → are_typed files (types_of w.heap) ls f.place.slots.locals ≡ true → are_typed files (types_of w.heap) rs vs ≡ true → Reaches files h.ready.stopped.stands.typing site.next (record { slots = record { locals = ls; stack = results ++ rs }; constructed = constructed }) → Awaits files (types_of w.heap) results (at_call f vs)
   awaits_here results ls rs constructed vs locals stack on =
       let stands = h.ready.stopped.stands in
       record {

@@ -19,8 +19,7 @@ use Rattle.run_laws.proofs.typed_runs.WaitChanges.{waiters_woken_keeps}
 use Rattle.run_laws.proofs.typed_runs.StepParts.{At, PartTyped, OnPart, at_keeps, own_at}
 
 module _ (files : Program) (t : ℕ) (before : World) (first : Thread) (was : slice_get before.threads t ≡ Some first) where
-  ended_typed : (world : World) (b : Bool) → PartTyped files t before (part world [])
-      → PartTyped files t before (part (with_end world t b) [])
+  ended_typed : (world : World) (b : Bool) → PartTyped files t before (part world []) → PartTyped files t before (part (with_end world t b) [])
   ended_typed world false h = h
   ended_typed world true h =
       let at : At files t before world h.thread = record { changes = h.changes; there = h.there; idle = h.idle refl } in
@@ -38,8 +37,7 @@ module _ (files : Program) (t : ℕ) (before : World) (first : Thread) (was : sl
         stack_typed = subst (λ s. IsStackTyped files (types_of after.heap) k.thread.pending [] s) (sym k.status) tt;
       }
 
-  end_typed : (world : World) (stack : StackOf Value) → PartTyped files t before (part world stack)
-      → PartTyped files t before (part (end_of t world stack) stack)
+  end_typed : (world : World) (stack : StackOf Value) → PartTyped files t before (part world stack) → PartTyped files t before (part (end_of t world stack) stack)
   end_typed world [] h = ended_typed world (is_over (thread_at world t)) h
   end_typed world (entry ∷ stack) h = h
 
@@ -50,16 +48,13 @@ module _ (files : Program) (t : ℕ) (before : World) (first : Thread) (was : sl
 
 -- ---- threads with their stacks
 
-pub lengths_same : (files : Program) (os : List ReferenceType) (threads : List Thread) (stacks : List (StackOf Value))
-    → AreThreadsTyped files os threads stacks → length threads ≡ length stacks
+pub lengths_same : (files : Program) (os : List ReferenceType) (threads : List Thread) (stacks : List (StackOf Value)) → AreThreadsTyped files os threads stacks → length threads ≡ length stacks
 lengths_same files os [] [] h = refl
 lengths_same files os [] (stack ∷ stacks) h = absurd h
 lengths_same files os (thread ∷ threads) [] h = absurd h
 lengths_same files os (thread ∷ threads) (stack ∷ stacks) h = ap suc (lengths_same files os threads stacks h.1)
 
-typed_at : (files : Program) (os : List ReferenceType) (threads : List Thread) (stacks : List (StackOf Value)) (u : ℕ) (thread : Thread)
-    (stack : StackOf Value) → AreThreadsTyped files os threads stacks → slice_get threads u ≡ Some thread → slice_get stacks u ≡ Some stack
-    → IsThreadTyped files os thread stack
+typed_at : (files : Program) (os : List ReferenceType) (threads : List Thread) (stacks : List (StackOf Value)) (u : ℕ) (thread : Thread) (stack : StackOf Value) → AreThreadsTyped files os threads stacks → slice_get threads u ≡ Some thread → slice_get stacks u ≡ Some stack → IsThreadTyped files os thread stack
 typed_at files os [] stacks u thread stack h e g = absurd cc
 typed_at files os (x ∷ threads) [] u thread stack h e g = absurd h
 typed_at files os (x ∷ threads) (s ∷ stacks) zero thread stack h e g =
@@ -69,9 +64,7 @@ typed_at files os (x ∷ threads) (s ∷ stacks) zero thread stack h e g =
 typed_at files os (x ∷ threads) (s ∷ stacks) (suc u) thread stack h e g = typed_at files os threads stacks u thread stack h.1 e g
 
 -- the thread of a stack
-pub thread_there : (files : Program) (os : List ReferenceType) (threads : List Thread) (stacks : List (StackOf Value)) (u : ℕ)
-    (stack : StackOf Value) → AreThreadsTyped files os threads stacks → slice_get stacks u ≡ Some stack
-    → (thread : Thread) × ((slice_get threads u ≡ Some thread) × IsThreadTyped files os thread stack)
+pub thread_there : (files : Program) (os : List ReferenceType) (threads : List Thread) (stacks : List (StackOf Value)) (u : ℕ) (stack : StackOf Value) → AreThreadsTyped files os threads stacks → slice_get stacks u ≡ Some stack → (thread : Thread) × ((slice_get threads u ≡ Some thread) × IsThreadTyped files os thread stack)
 thread_there files os threads [] u stack h g = absurd cc
 thread_there files os [] (s ∷ stacks) u stack h g = absurd h
 thread_there files os (x ∷ threads) (s ∷ stacks) zero stack h g =
@@ -80,8 +73,7 @@ thread_there files os (x ∷ threads) (s ∷ stacks) (suc u) stack h g = thread_
 
 module _ (files : Program) (ps : List ReferenceType) where
   -- one that only woke
-  moved_typed : (a b : Thread) (stack : StackOf Value) → IsThreadTyped files ps a stack → b.object ≡ a.object → Kept a b
-      → IsThreadTyped files ps b stack
+  moved_typed : (a b : Thread) (stack : StackOf Value) → IsThreadTyped files ps a stack → b.object ≡ a.object → Kept a b → IsThreadTyped files ps b stack
   moved_typed a b stack h o k =
       record {
         object = subst (λ r. is_object_in files ps java_lang_thread r ≡ true) (sym o) h.object;
@@ -94,16 +86,11 @@ module _ (files : Program) (ps : List ReferenceType) where
           let waits = subst (IsStackTyped files ps a.pending stack) w g in
           subst (IsStackTyped files ps a.pending stack) (sym is) waits
 
-  all_new : (ys : List Thread) → ((u : ℕ) (thread : Thread) → slice_get ys u ≡ Some thread → IsThreadTyped files ps thread [])
-      → AreThreadsTyped files ps ys (replicate (length ys) [])
+  all_new : (ys : List Thread) → ((u : ℕ) (thread : Thread) → slice_get ys u ≡ Some thread → IsThreadTyped files ps thread []) → AreThreadsTyped files ps ys (replicate (length ys) [])
   all_new [] new = tt
   all_new (y ∷ ys) new = (new zero y refl, all_new ys (λ u thread e. new (suc u) thread e))
 
-  placed : (xs ys : List Thread) (ss : List (StackOf Value)) → length xs ≡ length ss
-      → ((u : ℕ) (thread : Thread) (stack : StackOf Value) → slice_get xs u ≡ Some thread → slice_get ss u ≡ Some stack
-      → (after : Thread) × ((slice_get ys u ≡ Some after) × IsThreadTyped files ps after stack))
-      → ((u : ℕ) (thread : Thread) → slice_get xs u ≡ None → slice_get ys u ≡ Some thread → IsThreadTyped files ps thread [])
-      → AreThreadsTyped files ps ys (ss ++ replicate (length ys - length ss) [])
+  placed : (xs ys : List Thread) (ss : List (StackOf Value)) → length xs ≡ length ss → ((u : ℕ) (thread : Thread) (stack : StackOf Value) → slice_get xs u ≡ Some thread → slice_get ss u ≡ Some stack → (after : Thread) × ((slice_get ys u ≡ Some after) × IsThreadTyped files ps after stack)) → ((u : ℕ) (thread : Thread) → slice_get xs u ≡ None → slice_get ys u ≡ Some thread → IsThreadTyped files ps thread []) → AreThreadsTyped files ps ys (ss ++ replicate (length ys - length ss) [])
   placed [] ys [] e old new =
       let n : length ys ≡ length ys - 0 = omega arith in
       subst (λ k. AreThreadsTyped files ps ys (replicate k [])) n (all_new ys (λ u thread g. new u thread refl g))
@@ -118,8 +105,7 @@ module _ (files : Program) (ps : List ReferenceType) where
       subst (λ k. AreThreadsTyped files ps (y ∷ ys) ((s ∷ ss) ++ replicate k [])) m
       (subst (λ z. IsThreadTyped files ps z s) (sym is) h.1.1, placed xs ys ss q (λ u thread stack a b. old (suc u) thread stack a b) (λ u thread a b. new (suc u) thread a b))
 
-module _ (files : Program) (state : State) (h : IsWellTyped files state) (t : ℕ) (first : StackOf Value)
-    (first_there : slice_get state.stacks t ≡ Some first) (p : PartOf Value) (x : PartTyped files t state.world p) where
+module _ (files : Program) (state : State) (h : IsWellTyped files state) (t : ℕ) (first : StackOf Value) (first_there : slice_get state.stacks t ≡ Some first) (p : PartOf Value) (x : PartTyped files t state.world p) where
   abbrev os : List ReferenceType
   os = types_of state.world.heap
 
@@ -148,15 +134,13 @@ module _ (files : Program) (state : State) (h : IsWellTyped files state) (t : �
       )
 
   -- the others keep theirs
-  other_after : (u : ℕ) (thread : Thread) (stack : StackOf Value) → (u == t) ≡ false → slice_get state.world.threads u ≡ Some thread
-      → slice_get state.stacks u ≡ Some stack → After u stack
+  other_after : (u : ℕ) (thread : Thread) (stack : StackOf Value) → (u == t) ≡ false → slice_get state.world.threads u ≡ Some thread → slice_get state.stacks u ≡ Some stack → After u stack
   other_after u thread stack n e g =
       let s = x.changes.go.still u thread e in
       let typed = thread_more files os ps x.changes.extends thread stack (typed_at files os state.world.threads state.stacks u thread stack h.threads e g) in
       (s.thread, (s.there, moved_typed files ps thread s.thread stack typed s.object (s.kept n)))
 
-  each_after : (u : ℕ) (thread : Thread) (stack : StackOf Value) → slice_get state.world.threads u ≡ Some thread
-      → slice_get (slice_set state.stacks t p.stack) u ≡ Some stack → (b : Bool) → (u == t) ≡ b → After u stack
+  each_after : (u : ℕ) (thread : Thread) (stack : StackOf Value) → slice_get state.world.threads u ≡ Some thread → slice_get (slice_set state.stacks t p.stack) u ≡ Some stack → (b : Bool) → (u == t) ≡ b → After u stack
   each_after u thread stack e g true q =
       let same : u ≡ t = eqb-true u t q in
       let here = subst (λ k. slice_get (slice_set state.stacks t p.stack) k ≡ Some stack) same g in
@@ -166,8 +150,7 @@ module _ (files : Program) (state : State) (h : IsWellTyped files state) (t : �
       other_after u thread stack q e (sym (get_set_other state.stacks t u p.stack (λ s. false≢true (sym q ∙ eq-eqb u t (sym s)))) ∙ g)
 
   -- one that was started has an empty stack
-  new_after : (u : ℕ) (thread : Thread) → slice_get state.world.threads u ≡ None → slice_get p.world.threads u ≡ Some thread
-      → IsThreadTyped files ps thread []
+  new_after : (u : ℕ) (thread : Thread) → slice_get state.world.threads u ≡ None → slice_get p.world.threads u ≡ Some thread → IsThreadTyped files ps thread []
   new_after u thread n g =
       let s = x.changes.go.started u thread n g in
       record {
@@ -176,8 +159,7 @@ module _ (files : Program) (state : State) (h : IsWellTyped files state) (t : �
       }
 
   -- the state after the event
-  pub put_typed : IsWellTyped files (record { world = p.world; stacks = slice_set state.stacks t p.stack
-      ++ replicate (length p.world.threads - length state.stacks) [] })
+  pub put_typed : IsWellTyped files (record { world = p.world; stacks = slice_set state.stacks t p.stack ++ replicate (length p.world.threads - length state.stacks) [] })
   put_typed =
       let ss = slice_set state.stacks t p.stack in
       let n = length-set state.stacks t p.stack in

@@ -28,8 +28,7 @@ index_set P [] k x d p q = q
 index_set P (y ∷ ys) zero x d p q = p
 index_set P (y ∷ ys) (suc k) x d p q = index_set P ys k x d p q
 
-waits_at : (threads : List Thread) (u object count : ℕ) → (slice_index_or threads u no_thread).status ≡ Waiting object count
-    → waits threads object u ≡ true
+waits_at : (threads : List Thread) (u object count : ℕ) → (slice_index_or threads u no_thread).status ≡ Waiting object count → waits threads object u ≡ true
 waits_at [] u object count e = absurd cc
 waits_at (x ∷ xs) zero object count e = subst (λ s. is_waiting_for object s ≡ true) (sym e) (eq-eqb object object refl)
 waits_at (x ∷ xs) (suc u) object count e = waits_at xs u object count e
@@ -40,8 +39,7 @@ joining t m = record { owner = None; count = 0; waiters = m.waiters ++ record { 
 
 module _ (files : Program) where
   -- a monitor with a wait set that its threads may be in
-  pub members_keep : (world : World) → Fits files world → (r : ℕ) (m : Monitor) → Members world.threads r m.waiters
-      → Keeps files world (record world { monitors = slice_set world.monitors r m })
+  pub members_keep : (world : World) → Fits files world → (r : ℕ) (m : Monitor) → Members world.threads r m.waiters → Keeps files world (record world { monitors = slice_set world.monitors r m })
   members_keep world fits r m w =
       let x = self_keeps files world fits in
       record {
@@ -57,8 +55,7 @@ module _ (files : Program) where
       }
 
   -- a thread that waits, and that the monitor does not have any more, is to enter it again
-  pub left_keeps : (world : World) → Fits files world → (r u again : ℕ) (cause : WakeCause) → waits world.threads r u ≡ true
-      → list_any (is_of u) (monitor_at world.monitors r).waiters ≡ false → Keeps files world (with_status world u (Relock r again cause))
+  pub left_keeps : (world : World) → Fits files world → (r u again : ℕ) (cause : WakeCause) → waits world.threads r u ≡ true → list_any (is_of u) (monitor_at world.monitors r).waiters ≡ false → Keeps files world (with_status world u (Relock r again cause))
   left_keeps world fits r u again cause h out =
       let w = waits_there world.threads r u h in
       let is = get_or_from_slice_get world.threads u w.thread no_thread w.there in
@@ -75,12 +72,10 @@ module _ (files : Program) where
         threads = set_stays world.threads u new refl (record { pending = refl; status = Wakes r w.count again cause (ap (λ (th : Thread). th.status) is ∙ w.status) refl });
       }
 
-  pub woken_keeps : (world : World) → Fits files world → (r : ℕ) (cause : WakeCause) (w : Waiter) → is_waiter world.threads r w ≡ true
-      → list_any (is_of w.thread) (monitor_at world.monitors r).waiters ≡ false → Keeps files world (woken r cause world w)
+  pub woken_keeps : (world : World) → Fits files world → (r : ℕ) (cause : WakeCause) (w : Waiter) → is_waiter world.threads r w ≡ true → list_any (is_of w.thread) (monitor_at world.monitors r).waiters ≡ false → Keeps files world (woken r cause world w)
   woken_keeps world fits r cause w h out = left_keeps world fits r w.thread w.count cause h out
 
-  pub all_woken_keeps : (ws : List Waiter) (world : World) → Fits files world → (r : ℕ) (cause : WakeCause)
-      → (monitor_at world.monitors r).waiters ≡ [] → Members world.threads r ws → Keeps files world (all_woken r cause world ws)
+  pub all_woken_keeps : (ws : List Waiter) (world : World) → Fits files world → (r : ℕ) (cause : WakeCause) → (monitor_at world.monitors r).waiters ≡ [] → Members world.threads r ws → Keeps files world (all_woken r cause world ws)
   all_woken_keeps [] world fits r cause none h = self_keeps files world fits
   all_woken_keeps (w ∷ ws) world fits r cause none h =
       let q = and_parts _ _ h.wait in
@@ -97,25 +92,18 @@ module _ (files : Program) where
     -- ---- notify, notifyAll, the end of a thread
 
     -- what the owner does to the monitor, which the world with it keeps
-    by_owner : (t r : ℕ) (after : Monitor) (go : List Monitor → World) → is_owner world t r ≡ true
-        → Keeps files world (go (slice_set world.monitors r after))
-        → Keeps files world (go (slice_set world.monitors r (as_owner t (monitor_at world.monitors r) after).after))
+    by_owner : (t r : ℕ) (after : Monitor) (go : List Monitor → World) → is_owner world t r ≡ true → Keeps files world (go (slice_set world.monitors r after)) → Keeps files world (go (slice_set world.monitors r (as_owner t (monitor_at world.monitors r) after).after))
     by_owner t r after go own h =
         cond_both (owns t (monitor_at world.monitors r).owner) _ _ (λ (a : Answered Monitor). Keeps files world (go (slice_set world.monitors r a.after))) (λ e. h) (λ e. absurd (false≢true (sym e ∙ own)))
 
-    notified_one_keeps : (r pick : ℕ) (o : Option Waiter) → slice_get (waiters_of world r) pick ≡ o
-        → Keeps files world (notified_one (record
-        world { monitors = slice_set world.monitors r (record (monitor_at world.monitors r) { waiters = remove (waiters_of world r) pick })
-        }) r o)
+    notified_one_keeps : (r pick : ℕ) (o : Option Waiter) → slice_get (waiters_of world r) pick ≡ o → Keeps files world (notified_one (record world { monitors = slice_set world.monitors r (record (monitor_at world.monitors r) { waiters = remove (waiters_of world r) pick }) }) r o)
     notified_one_keeps r pick o e =
         let m = monitor_at world.monitors r in
         let left = record m { waiters = remove m.waiters pick } in
         let h = at_monitor r in
         by_pick left (members_keep world fits r left (record { wait = all_remove (is_waiter world.threads r) m.waiters pick h.wait; distinct = distinct_remove m.waiters pick h.distinct })) refl o e
       where
-        by_pick : (left : Monitor) → Keeps files world (record world { monitors = slice_set world.monitors r left })
-            → left.waiters ≡ remove (waiters_of world r) pick → (o : Option Waiter) → slice_get (waiters_of world r) pick ≡ o
-            → Keeps files world (notified_one (record world { monitors = slice_set world.monitors r left }) r o)
+        by_pick : (left : Monitor) → Keeps files world (record world { monitors = slice_set world.monitors r left }) → left.waiters ≡ remove (waiters_of world r) pick → (o : Option Waiter) → slice_get (waiters_of world r) pick ≡ o → Keeps files world (notified_one (record world { monitors = slice_set world.monitors r left }) r o)
         by_pick left x is None e = x
         by_pick left x is (Some w) e =
             let out = subst (λ ws. list_any (is_of w.thread) ws ≡ false) (sym is) (removed_out (waiters_of world r) pick w e (at_monitor r).distinct) in
@@ -128,9 +116,7 @@ module _ (files : Program) where
         (notified_one_keeps r pick (slice_get (waiters_of world r) pick) refl)
 
     -- all leave
-    emptied_keeps : (r : ℕ) → Keeps files world
-        (all_woken r Notified (record world { monitors = slice_set world.monitors r (record (monitor_at world.monitors r) { waiters = [] })
-        }) (waiters_of world r))
+    emptied_keeps : (r : ℕ) → Keeps files world (all_woken r Notified (record world { monitors = slice_set world.monitors r (record (monitor_at world.monitors r) { waiters = [] }) }) (waiters_of world r))
     emptied_keeps r =
         let m = monitor_at world.monitors r in
         let left = record m { waiters = [] } in
@@ -171,10 +157,7 @@ module _ (files : Program) where
     -- ---- wait
 
     -- the thread joins the wait set, with its new status
-    joined : (t r : ℕ) (live : Live world t) (new : Thread)
-        → new ≡ record (thread_at world t) { status = Waiting r (monitor_at world.monitors r).count }
-        → Changes files t world (record (with_thread world t new) { monitors = slice_set world.monitors
-        r (joining t (monitor_at world.monitors r)) })
+    joined : (t r : ℕ) (live : Live world t) (new : Thread) → new ≡ record (thread_at world t) { status = Waiting r (monitor_at world.monitors r).count } → Changes files t world (record (with_thread world t new) { monitors = slice_set world.monitors r (joining t (monitor_at world.monitors r)) })
     joined t r live new is =
         let m = monitor_at world.monitors r in
         let at = get_or_from_slice_get world.threads t live.thread no_thread live.there in
@@ -198,8 +181,7 @@ module _ (files : Program) where
         cond_both (owns t (monitor_at world.monitors r).owner) _ _ (λ (a : Answered Monitor). Changes files t world (record (with_thread world t new) { monitors = slice_set world.monitors r a.after }))
         (λ e. joined t r live new refl) (λ e. absurd (false≢true (sym e ∙ own)))
 
-    pub waits_on : (t r : ℕ) → Live world t → is_object_in files (types_of world.heap) java_lang_object r ≡ true
-        → WaitsOn files (waiting world t r) t
+    pub waits_on : (t r : ℕ) → Live world t → is_object_in files (types_of world.heap) java_lang_object r ≡ true → WaitsOn files (waiting world t r) t
     waits_on t r live object =
         let new = record (thread_at world t) { status = Waiting r (monitor_at world.monitors r).count } in
         record {

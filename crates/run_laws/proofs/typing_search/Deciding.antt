@@ -42,8 +42,7 @@ next_waiting [] = inl (λ k. refl)
 next_waiting (true ∷ ms) = inr (0, refl)
 next_waiting (false ∷ ms) = by (next_waiting ms)
   where
-    by : ((k : ℕ) → waits ms k ≡ false) ⊎ ((k : ℕ) × (waits ms k ≡ true))
-        → ((k : ℕ) → waits (false ∷ ms) k ≡ false) ⊎ ((k : ℕ) × (waits (false ∷ ms) k ≡ true))
+    by : ((k : ℕ) → waits ms k ≡ false) ⊎ ((k : ℕ) × (waits ms k ≡ true)) → ((k : ℕ) → waits (false ∷ ms) k ≡ false) ⊎ ((k : ℕ) × (waits (false ∷ ms) k ≡ true))
     by (inl none) = inl off
       where
         off : (k : ℕ) → waits (false ∷ ms) k ≡ false
@@ -54,9 +53,7 @@ next_waiting (false ∷ ms) = by (next_waiting ms)
 is_sized_or : (body : Body) (t : FrameType) → IsSized body t ⊎ (IsSized body t → ⊥)
 is_sized_or body t = by (cases_eq (length t.slots.locals) body.code.max_locals) (cases_lt body.code.max_stack (length t.slots.stack))
   where
-    by : (length t.slots.locals ≡ body.code.max_locals) ⊎ (length t.slots.locals ≡ body.code.max_locals → ⊥)
-        → (body.code.max_stack < length t.slots.stack) ⊎ (length t.slots.stack ≤ body.code.max_stack)
-        → IsSized body t ⊎ (IsSized body t → ⊥)
+    by : (length t.slots.locals ≡ body.code.max_locals) ⊎ (length t.slots.locals ≡ body.code.max_locals → ⊥) → (body.code.max_stack < length t.slots.stack) ⊎ (length t.slots.stack ≤ body.code.max_stack) → IsSized body t ⊎ (IsSized body t → ⊥)
     by (inr n) s = inr (λ z. n z.locals)
     by (inl e) (inl l) = inr (λ z. let s = z.stack in absurd (omega (arith, l, s)))
     by (inl e) (inr l) = inl (record { locals = e; stack = l })
@@ -78,8 +75,7 @@ module _ (files : Program) (ordered : IsOrdered files) (method : Member) (body :
     pub merged : Merged files body (typing_of table) (waits waiting) leads (typing_of after) (waits marks)
     pub less : still after marks ≤ still table waiting
 
-  kept_set : (table : List (Option FrameType)) (waiting : List Bool) (to : ℕ) (entry : Option FrameType) (t : FrameType)
-      → Kept table waiting → slice_get table to ≡ Some entry → IsLowFrame files limit t → Kept (found_at table to t) (waiting_at waiting to)
+  kept_set : (table : List (Option FrameType)) (waiting : List Bool) (to : ℕ) (entry : Option FrameType) (t : FrameType) → Kept table waiting → slice_get table to ≡ Some entry → IsLowFrame files limit t → Kept (found_at table to t) (waiting_at waiting to)
   kept_set table waiting to entry t k at l =
       record {
         long = length-set table to (Some t) ∙ k.long;
@@ -104,8 +100,7 @@ module _ (files : Program) (ordered : IsOrdered files) (method : Member) (body :
           less = omega (arith, w);
         }
 
-    put_joined : (there join : FrameType) → slice_get table to ≡ Some (Some there) → (is_frame_below files t there ≡ true → ⊥)
-        → frame_join files there t ≡ Some join → Done table waiting ((to, t) ∷ [])
+    put_joined : (there join : FrameType) → slice_get table to ≡ Some (Some there) → (is_frame_below files t there ≡ true → ⊥) → frame_join files there t ≡ Some join → Done table waiting ((to, t) ∷ [])
     put_joined there join at misfit e =
         let r = raised_lighter files ordered.rooted limit there t join e misfit (k.low to there (ap entry_of at)) l in
         let w = work_merged files ordered.rooted limit body table waiting to (Some there) join at r.1 in
@@ -117,19 +112,16 @@ module _ (files : Program) (ordered : IsOrdered files) (method : Member) (body :
           less = omega (arith, w);
         }
 
-    put_same : (there : FrameType) → slice_get table to ≡ Some (Some there) → is_frame_below files t there ≡ true
-        → Done table waiting ((to, t) ∷ [])
+    put_same : (there : FrameType) → slice_get table to ≡ Some (Some there) → is_frame_below files t there ≡ true → Done table waiting ((to, t) ∷ [])
     put_same there at f =
         record { after = table; marks = waiting; kept = k; merged = merged_same files body (typing_of table) (waits waiting) to t there (ap entry_of at) f; less = omega arith }
 
-    by_join : (there : FrameType) → slice_get table to ≡ Some (Some there) → (is_frame_below files t there ≡ true → ⊥)
-        → (o : Option FrameType) → frame_join files there t ≡ o → Merges table waiting ((to, t) ∷ [])
+    by_join : (there : FrameType) → slice_get table to ≡ Some (Some there) → (is_frame_below files t there ≡ true → ⊥) → (o : Option FrameType) → frame_join files there t ≡ o → Merges table waiting ((to, t) ∷ [])
     unfolding Merges
     by_join there at misfit None e = inr (clash_apart files body ordered.rooted method (typing_of table) to t there (ap entry_of at) e)
     by_join there at misfit (Some join) e = inl (put_joined there join at misfit e)
 
-    by_fit : (there : FrameType) → slice_get table to ≡ Some (Some there) → (b : Bool) → is_frame_below files t there ≡ b
-        → Merges table waiting ((to, t) ∷ [])
+    by_fit : (there : FrameType) → slice_get table to ≡ Some (Some there) → (b : Bool) → is_frame_below files t there ≡ b → Merges table waiting ((to, t) ∷ [])
     unfolding Merges
     by_fit there at true e = inl (put_same there at e)
     by_fit there at false e = by_join there at (λ q. false≢true (sym e ∙ q)) (frame_join files there t) refl
@@ -138,8 +130,7 @@ module _ (files : Program) (ordered : IsOrdered files) (method : Member) (body :
     unfolding Merges
     by_start e false off = inr (clash_astray files method body (typing_of table) to t off)
     by_start e true start =
-        ⊎_elim (λ z. inl (put_first e start z))
-        (λ never. inr (clash_oversized files body ordered.rooted method (typing_of table) to t never)) (is_sized_or body t)
+        ⊎_elim (λ z. inl (put_first e start z)) (λ never. inr (clash_oversized files body ordered.rooted method (typing_of table) to t never)) (is_sized_or body t)
 
     by_entry : (o : Option (Option FrameType)) → slice_get table to ≡ o → Merges table waiting ((to, t) ∷ [])
     unfolding Merges
@@ -155,8 +146,7 @@ module _ (files : Program) (ordered : IsOrdered files) (method : Member) (body :
 
   -- ---- all to which an instruction leads
 
-  merge_rest : (table : List (Option FrameType)) (waiting : List Bool) (lead : ℕ × FrameType) (leads : List (ℕ × FrameType))
-      (d : Done table waiting (lead ∷ [])) → Merges d.after d.marks leads → Merges table waiting (lead ∷ leads)
+  merge_rest : (table : List (Option FrameType)) (waiting : List Bool) (lead : ℕ × FrameType) (leads : List (ℕ × FrameType)) (d : Done table waiting (lead ∷ [])) → Merges d.after d.marks leads → Merges table waiting (lead ∷ leads)
   unfolding Merges
   merge_rest table waiting lead leads d (inl r) =
       let a = d.less in
@@ -170,20 +160,17 @@ module _ (files : Program) (ordered : IsOrdered files) (method : Member) (body :
       })
   merge_rest table waiting lead leads d (inr c) = inr (λ H h up w. c H h (d.merged.least H up (w.0, tt)) w.1)
 
-  merge_all : (leads : List (ℕ × FrameType)) → AllByRecursion (λ lead. IsLowFrame files limit lead.1) leads
-      → (table : List (Option FrameType)) (waiting : List Bool) → Kept table waiting → Merges table waiting leads
+  merge_all : (leads : List (ℕ × FrameType)) → AllByRecursion (λ lead. IsLowFrame files limit lead.1) leads → (table : List (Option FrameType)) (waiting : List Bool) → Kept table waiting → Merges table waiting leads
   unfolding Merges
   merge_all [] l table waiting k =
       inl (record { after = table; marks = waiting; kept = k; merged = merged_nothing files ordered.rooted body (typing_of table) (waits waiting); less = omega arith })
   merge_all (lead ∷ leads) l table waiting k =
-      ⊎_elim (λ d. merge_rest table waiting lead leads d (merge_all leads l.1 d.after d.marks d.kept))
-      (λ c. inr (λ H h up w. c H h up (w.0, tt))) (merge_one table waiting k lead.0 lead.1 l.0)
+      ⊎_elim (λ d. merge_rest table waiting lead leads d (merge_all leads l.1 d.after d.marks d.kept)) (λ c. inr (λ H h up w. c H h up (w.0, tt))) (merge_one table waiting k lead.0 lead.1 l.0)
 
   -- ---- turns
 
   -- an offset that is not typed need not wait
-  search_off : (F : Typing) (P P' : ℕ → Bool) (offset : ℕ) → Search files method body F P → F offset ≡ None → IsTakenOff offset P P'
-      → Search files method body F P'
+  search_off : (F : Typing) (P P' : ℕ → Bool) (offset : ℕ) → Search files method body F P → F offset ≡ None → IsTakenOff offset P P' → Search files method body F P'
   search_off F P P' offset s n only =
       record {
         starts = s.starts;
@@ -196,8 +183,7 @@ module _ (files : Program) (ordered : IsOrdered files) (method : Member) (body :
       none_some : (x : FrameType) → None ≡ Some x → ⊥
       none_some x q = absurd cc
 
-  kept_off : (table : List (Option FrameType)) (waiting : List Bool) (offset : ℕ) → Kept table waiting
-      → Kept table (taken_off waiting offset)
+  kept_off : (table : List (Option FrameType)) (waiting : List Bool) (offset : ℕ) → Kept table waiting → Kept table (taken_off waiting offset)
   kept_off table waiting offset k = record { long = k.long; both = length-set waiting offset false ∙ k.both; low = k.low }
 
   abbrev Searches : ℕ → Type 0
@@ -209,8 +195,7 @@ module _ (files : Program) (ordered : IsOrdered files) (method : Member) (body :
       lighter : still table (taken_off waiting offset) < still table waiting
       lighter = work_taken_off files ordered.rooted limit body table waiting offset w
 
-      by_merge : (t : FrameType) → typing_of table offset ≡ Some t → (leads : List (ℕ × FrameType))
-          → flow files method body offset t ≡ Some leads → Merges table (taken_off waiting offset) leads → IsDecided files method body
+      by_merge : (t : FrameType) → typing_of table offset ≡ Some t → (leads : List (ℕ × FrameType)) → flow files method body offset t ≡ Some leads → Merges table (taken_off waiting offset) leads → IsDecided files method body
       unfolding Merges
       by_merge t e leads q (inl d) =
           let a = d.less in
@@ -218,8 +203,7 @@ module _ (files : Program) (ordered : IsOrdered files) (method : Member) (body :
           rec d.after d.marks d.kept (search_turn files ordered method body (typing_of table) (waits waiting) (waits (taken_off waiting offset)) offset t leads _ _ s e q (off_here waiting offset) d.merged) (omega (arith, a, b, l))
       by_merge t e leads q (inr c) = inr (refused_merge files ordered method body (typing_of table) (waits waiting) offset t leads s e q c)
 
-      by_flow : (t : FrameType) → typing_of table offset ≡ Some t → (o : Option (List (ℕ × FrameType)))
-          → flow files method body offset t ≡ o → IsDecided files method body
+      by_flow : (t : FrameType) → typing_of table offset ≡ Some t → (o : Option (List (ℕ × FrameType))) → flow files method body offset t ≡ o → IsDecided files method body
       by_flow t e None q = inr (refused_rule files ordered method body (typing_of table) (waits waiting) offset t s e q)
       by_flow t e (Some leads) q =
           by_merge t e leads q (merge_all leads (bounded.leads offset t leads q (k.low offset t e)) table (taken_off waiting offset) (kept_off table waiting offset k))
@@ -233,9 +217,7 @@ module _ (files : Program) (ordered : IsOrdered files) (method : Member) (body :
     searches : (n : ℕ) → Searches n
     searches zero table waiting k s l = absurd (omega (arith, l))
     searches (suc n) table waiting k s l =
-        ⊎_elim (λ none. inl (record { typing = typing_of table; holds = search_ends files ordered.rooted body
-        method (typing_of table) (waits waiting) s none }))
-        (λ one. by_type n (searches n) table waiting k s l one.0 one.1 (typing_of table one.0) refl) (next_waiting waiting)
+        ⊎_elim (λ none. inl (record { typing = typing_of table; holds = search_ends files ordered.rooted body method (typing_of table) (waits waiting) s none })) (λ one. by_type n (searches n) table waiting k s l one.0 one.1 (typing_of table one.0) refl) (next_waiting waiting)
 
     abbrev no_types : List (Option FrameType)
     no_types = replicate (length body.code.code) None

@@ -70,8 +70,7 @@ module _ (files : Program) (ordered : IsOrdered files) where
   row_down : (row : Row) → IsDown files (local_meaning values row)
   row_down row max a b f e = each (row.to ∷ row.others)
     where
-      each : (tos : List ℕ) → LeadsBelow files (map (λ to. (to, after_row over_types row a)) tos) (map (λ to. (to,
-          after_row over_types row b)) tos)
+      each : (tos : List ℕ) → LeadsBelow files (map (λ to. (to, after_row over_types row a)) tos) (map (λ to. (to, after_row over_types row b)) tos)
       each [] = tt
       each (to ∷ tos) = (refl, after_row_down files ordered.rooted row max a b f e, each tos)
 
@@ -101,8 +100,7 @@ module _ (files : Program) (ordered : IsOrdered files) where
 
   -- ---- aaload
 
-  made_class : (c d : Name) → is_subclass files c d ≡ true
-      → is_subclass files (cond (is_interface files c) java_lang_object c) (cond (is_interface files d) java_lang_object d) ≡ true
+  made_class : (c d : Name) → is_subclass files c d ≡ true → is_subclass files (cond (is_interface files c) java_lang_object c) (cond (is_interface files d) java_lang_object d) ≡ true
   made_class c d p =
       cond_both (is_interface files d) java_lang_object d (λ y. is_subclass files (cond (is_interface files c) java_lang_object c) y ≡ true) (λ e. to_object e) (λ e. to_class e)
     where
@@ -114,8 +112,7 @@ module _ (files : Program) (ordered : IsOrdered files) where
       to_class e =
           cond_both (is_interface files c) java_lang_object c (λ x. is_subclass files x d ≡ true) (λ i. ⊎_elim (λ same. absurd (false≢true (sym e ∙ subst (λ x. is_interface files x ≡ true) same i))) (λ q. q) (up_one files ordered.rooted _ c d (Some java_lang_object) (ordered.interfaces c i) p)) (λ i. p)
 
-  made_object : (d : Name) → name_eq d java_lang_object ≡ true
-      → name_eq (cond (is_interface files d) java_lang_object d) java_lang_object ≡ true
+  made_object : (d : Name) → name_eq d java_lang_object ≡ true → name_eq (cond (is_interface files d) java_lang_object d) java_lang_object ≡ true
   made_object d p = cond_both (is_interface files d) java_lang_object d (λ x. name_eq x java_lang_object ≡ true) (λ e. classes.name_self java_lang_object) (λ e. p)
 
   made_down : (s t : ReferenceType) → is_assignable files s t ≡ true → is_assignable files (made_type files s) (made_type files t) ≡ true
@@ -129,8 +126,7 @@ module _ (files : Program) (ordered : IsOrdered files) where
   made_down (ReferenceArray a) (PrimitiveArray b) p = absurd (false≢true p)
   made_down (ReferenceArray a) (ReferenceArray b) p = made_down a b p
 
-  array_component : (s : VerificationType) (k : ReferenceType) → is_stack_below files s (OfType (ReferenceArray k)) ≡ true
-      → is_stack_below files (component_type files s) (OfType (made_type files k)) ≡ true
+  array_component : (s : VerificationType) (k : ReferenceType) → is_stack_below files s (OfType (ReferenceArray k)) ≡ true → is_stack_below files (component_type files s) (OfType (made_type files k)) ≡ true
   array_component types.Unusable k q = absurd (false≢true q)
   array_component IntType k q = absurd (false≢true q)
   array_component NullType k q = refl
@@ -140,8 +136,7 @@ module _ (files : Program) (ordered : IsOrdered files) where
   array_component (Uninitialised at c) k q = absurd (false≢true q)
   array_component (UninitialisedThis c) k q = absurd (false≢true q)
 
-  component_down : (s t : VerificationType) → is_stack_below files s t ≡ true → is_of files (ReferenceArray any_object) t ≡ true
-      → is_stack_below files (component_type files s) (component_type files t) ≡ true
+  component_down : (s t : VerificationType) → is_stack_below files s t ≡ true → is_of files (ReferenceArray any_object) t ≡ true → is_stack_below files (component_type files s) (component_type files t) ≡ true
   component_down s types.Unusable q r = absurd (false≢true r)
   component_down s IntType q r = absurd (false≢true r)
   component_down s NullType q r = subst (λ x. is_stack_below files (component_type files x) NullType ≡ true) (sym (null_same s q)) refl
@@ -151,9 +146,7 @@ module _ (files : Program) (ordered : IsOrdered files) where
   component_down s (Uninitialised at c) q r = absurd (false≢true r)
   component_down s (UninitialisedThis c) q r = absurd (false≢true r)
 
-  second_component : (ss ts : List VerificationType) → Pairwise (is_stack_below files) ss ts
-      → Pairwise (type_meets files) (AnInt ∷ AReference (ReferenceArray any_object) ∷ []) ts
-      → is_stack_below files (its_component files ss) (its_component files ts) ≡ true
+  second_component : (ss ts : List VerificationType) → Pairwise (is_stack_below files) ss ts → Pairwise (type_meets files) (AnInt ∷ AReference (ReferenceArray any_object) ∷ []) ts → is_stack_below files (its_component files ss) (its_component files ts) ≡ true
   second_component ss [] q r = absurd r
   second_component ss (x ∷ []) q r = absurd r.1
   second_component ss (x ∷ (y ∷ ts)) q r =

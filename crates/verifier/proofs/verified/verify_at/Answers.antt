@@ -10,6 +10,4 @@ returns-in-Err-Unverified-clause-refused c =
     let m = c.in-Some.method in
     let none = subst (λ files. OnUnverified c.in-Err-Unverified.field-0 (HasNoTyping files (member_of m) (body_of m))) c.in-Some.ensures.files c.in-Err-Unverified.ensures.exact in
     let untyped = subst (λ fault. OnUnverified fault (HasNoTyping c.args.hierarchy.now (member_of m) (body_of m))) c.in-Err-Unverified.field-0-is none in
-    ⊎_elim (λ kind. inl kind) (λ (named : IsRefusalOf c.args.class (member_of m) c.refusal_of.result). inr
-    (record { class = c.args.class; method = c.args.member; member = member_of m; body = body_of m; stands = sym c.in-Some.ensures.value;
-    none = untyped; named = named })) c.refusal_of.ensures
+    ⊎_elim (λ kind. inl kind) (λ (named : IsRefusalOf c.args.class (member_of m) c.refusal_of.result). inr (record { class = c.args.class; method = c.args.member; member = member_of m; body = body_of m; stands = sym c.in-Some.ensures.value; none = untyped; named = named })) c.refusal_of.ensures

@@ -17,6 +17,4 @@ returns-clause-typed c method =
     let at : class_at files c.args.class ≡ Some file = ap (λ s. class_at s c.args.class) (sym c.set.ensures) ∙ sym c.in-Some.ensures in
     let count : c.len-member-end.result ≡ length c.in-Some.file.now.methods.items = omega arith in
     let mapped : length file.methods ≡ length c.in-Some.file.now.methods.items = length-map _ _ in
-    ⊎_elim (λ (l : method < c.len-member-end.result). c.loop-member.invariant method (omega arith)) (λ (l : c.len-member-end.result
-    ≤ method). none_past_methods files file c.args.class method at (omega (arith, count, mapped,
-    l))) (cases_lt method c.len-member-end.result)
+    ⊎_elim (λ (l : method < c.len-member-end.result). c.loop-member.invariant method (omega arith)) (λ (l : c.len-member-end.result ≤ method). none_past_methods files file c.args.class method at (omega (arith, count, mapped, l))) (cases_lt method c.len-member-end.result)
