@@ -1,4 +1,4 @@
-//! What instruction_types has of lead and application.
+//! Where an instruction leads from a frame type, and the frame types that it leaves there (JVMS 4.10.2.2).
 
 mod application;
 mod lead;
