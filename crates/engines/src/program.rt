@@ -265,7 +265,7 @@ fn search<F: Folder, W: Sink>(
         &wanted,
         options.states().min(states_within(options.memory())),
         output,
-        &mut recorder(alloc, folder, &options.record),
+        &mut recorder(alloc, folder, &options.record, false),
     )
 }
 

@@ -6,8 +6,7 @@ use Rattle.std.specs.Io.KnownBytes.{Appends}
 use Rattle.model.specs.Devices.{AppendsFront}
 use Rattle.std.specs.Option.{option_map}
 use Rattle.engines.specs.Refusals.{IsRefused}
-use Rattle.engines.specs.Searches.{IsSearched}
-use Rattle.engines.proofs.SearchLemmas.{file_is_asked_for, is_there, part_is_unsearched, unread_is_unsearched}
+use Rattle.engines.proofs.SearchLemmas.{file_is_asked_for, is_searches, is_there, part_is_unsearched, unread_is_unsearched}
 use Rattle.engines.proofs.searching.search_engine.Goals as goal
 
 pub returns-in_err-read-clause-faulty : goal.returns-in_err-read-clause-faulty
@@ -30,24 +29,30 @@ returns-in_err-searched-clause-faulty g c =
     rw (p.1, p.2) (inl (refl, refl))
 
 pub write_found-requires : goal.write_found-requires
-write_found-requires g c = λ there. subst IsTrue c.is_some-is_recorded.ensures (file_is_asked_for _ _ _ _ _ _ _ c.in_ok-searched.ensures (is_there c.in_ok-searched.searched.file there))
+write_found-requires g c = λ there. subst IsTrue c.is_some-is_recorded.ensures (file_is_asked_for _ _ _ _ _ _ _ c.in_ok-searched.ensures (is_there vec_items c.in_ok-searched.searched.file there))
 
 pub returns-in_err-write_all-clause-faulty : goal.returns-in_err-write_all-clause-faulty
 returns-in_err-write_all-clause-faulty g c =
     let p = err_from_is_err_and c.from_residual-in_err-write_all.result c.from_residual-in_err-write_all.ensures.1 in
     let found = c.in_ok-searched.searched in
-    let by_files = subst (λ files. IsSearched (map vec_items files) c.args.limits.now c.args.wanted.now c.is_some-is_recorded.result found.text.items (option_map vec_items found.file) found.status) c.as_slice-files.ensures.value c.in_ok-searched.ensures in
-    let searched = subst (λ recorded. IsSearched (map vec_items c.in_ok-read.read.items) c.args.limits.now c.args.wanted.now recorded found.text.items (option_map vec_items found.file) found.status) c.is_some-is_recorded.ensures by_files in
+    let searches = is_searches _ _ _ _ vec_items c.in_ok-read.read.items _ _ found.text.items (option_map vec_items found.file) found.status c.in_ok-read.ensures.read c.as_slice-files.ensures.value c.is_some-is_recorded.ensures c.in_ok-searched.ensures in
     let contents = g.W.Sink.contents in
     let written = subst (AppendsFront (contents c.args.report.now) (contents c.write_all.new.self)) c.as_slice.ensures.value c.in_err-write_all.ensures.part in
-    rw (p.1, p.2) (part_is_unsearched _ _ _ _ _ _ _ _ _ (inr (_, _, _, (_, c.in_ok-read.ensures.read, searched), inl (written, refl))))
+    rw (p.1, p.2) (part_is_unsearched _ _ _ _ _ _ _ _ _ (inr (_, _, _, searches, inl (written, refl))))
 
 pub returns-in_err-write_found-clause-faulty : goal.returns-in_err-write_found-clause-faulty
 returns-in_err-write_found-clause-faulty g c =
     let p = err_from_is_err_and c.from_residual-in_err-write_found.result c.from_residual-in_err-write_found.ensures.1 in
     let found = c.in_ok-searched.searched in
-    let by_files = subst (λ files. IsSearched (map vec_items files) c.args.limits.now c.args.wanted.now c.is_some-is_recorded.result found.text.items (option_map vec_items found.file) found.status) c.as_slice-files.ensures.value c.in_ok-searched.ensures in
-    let searched = subst (λ recorded. IsSearched (map vec_items c.in_ok-read.read.items) c.args.limits.now c.args.wanted.now recorded found.text.items (option_map vec_items found.file) found.status) c.is_some-is_recorded.ensures by_files in
+    let searches = is_searches _ _ _ _ vec_items c.in_ok-read.read.items _ _ found.text.items (option_map vec_items found.file) found.status c.in_ok-read.ensures.read c.as_slice-files.ensures.value c.is_some-is_recorded.ensures c.in_ok-searched.ensures in
     let contents = g.W.Sink.contents in
     let written = subst (Appends (contents c.args.report.now) (contents c.write_all.new.self)) c.as_slice.ensures.value c.in_ok-write_all.ensures.written in
-    rw (p.1, p.2) (part_is_unsearched _ _ _ _ _ _ _ _ _ (inr (_, _, _, (_, c.in_ok-read.ensures.read, searched), inr (written, c.in_err-write_found.ensures.part))))
+    rw (p.1, p.2) (part_is_unsearched _ _ _ _ _ _ _ _ _ (inr (_, _, _, searches, inr (written, c.in_err-write_found.ensures.part))))
+
+pub returns-clause-searched : goal.returns-clause-searched
+returns-clause-searched g c =
+    let found = c.in_ok-searched.searched in
+    let searches = is_searches _ _ _ _ vec_items c.in_ok-read.read.items _ _ found.text.items (option_map vec_items found.file) found.status c.in_ok-read.ensures.read c.as_slice-files.ensures.value c.is_some-is_recorded.ensures c.in_ok-searched.ensures in
+    let contents = g.W.Sink.contents in
+    let written = subst (Appends (contents c.args.report.now) (contents c.write_all.new.self)) c.as_slice.ensures.value c.in_ok-write_all.ensures.written in
+    (_, _, searches, written, c.in_ok-write_found.ensures.written)
