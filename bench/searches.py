@@ -1,24 +1,25 @@
 #!/usr/bin/env python3
 """Searches by plain_machine.py: what `jvm search` has to print, worked out by a machine of its own.
 
-    searches.py [--for OUTCOME] FILE..
+    searches.py [--for OUTCOME] [--states N] FILE..
     searches.py --write
 
 States are searched breadth first, the events of each in the order of threads and picks, and a state is told apart from
 others by its objects in the order in which they were made, its classes, threads and stacks, and what was printed. A state is
 kept as the events that lead to it. With --write the searches of the lessons below become cases of `crates/conformance`, with
-what they have to print.
+what they have to print. The schedule of a run that was found is recorded and replayed.
 """
 
 import argparse
 import pathlib
+import re
 import sys
 
 sys.dont_write_bytecode = True
 
 from lessons import LESSONS, compiled
 from plain_frames import Frame
-from plain_machine import Machine, NotEnabled
+from plain_machine import Machine, NotEnabled, status_of, text_of
 from programs import CONFORMANCE
 
 # How the words of a report are ordered.
@@ -118,7 +119,15 @@ def is_wanted(goal, outcome):
         return any(state in RANKS[2:] for state in threads)
     if goal == "uncaught":
         return any(state.startswith("threw") for state in threads)
+    if goal and goal.startswith("differs="):
+        return "".join(f"{number}\n" for number in printed) != text_at(goal.removeprefix("differs="))
     return goal is not None and goal == "output=" + ",".join(map(str, printed))
+
+
+def text_at(path):
+    """A text that is given below, or else lies there."""
+    lines = TEXTS.get(path)
+    return pathlib.Path(path).read_text() if lines is None else "".join(f"{line}\n" for line in lines)
 
 
 def order(outcome):
@@ -132,73 +141,103 @@ def lines_of(outcome):
     return [*map(str, printed), *(f"thread {number} {state}" for number, state in enumerate(threads))]
 
 
-def search(files, goal=None):
-    """What `jvm search` prints, and its status."""
+def search(files, goal, most):
+    """What `jvm search` prints, its status, and the machine that was found."""
     met, states, outcomes = {at(files, ()).key()}, [()], set()
     for events in states:
         machine = at(files, events)
         if machine.is_quiet():
             outcome = machine.outcome()
             if is_wanted(goal, outcome):
-                report = [*lines_of(outcome), f"events {len(events)}", "end quiet"]
-                return "\n".join([*report, f"states {len(states)}", "search found", ""]), 1
+                return text_of(machine, "quiet") + last_lines(states, "found"), 1, machine
             outcomes.add(outcome)
         for after, machine in following(files, events):
             key = machine.key()
             if key not in met:
+                if len(states) == most:
+                    return last_lines(states, "gave up"), 5, None
                 met.add(key)
                 states.append(after)
     text = []
     for number, outcome in enumerate(sorted(outcomes, key=order), 1):
         text += [f"outcome {number}", *lines_of(outcome)]
-    return "\n".join([*text, f"outcomes {len(outcomes)}", f"states {len(states)}", "search complete", ""]), 0
+    return "\n".join([*text, f"outcomes {len(outcomes)}", last_lines(states, "complete")]), 0, None
 
 
-# The lessons that are searched: folder, class files, what for.
+def last_lines(states, word):
+    return f"states {len(states)}\nsearch {word}\n"
+
+
+# The lessons that are searched: folder, class files, and options.
 SEARCHED = [
-    ("lost-update", ["LostUpdate"], None),
-    ("lost-update", ["LostUpdate"], "output=1"),
-    ("lost-update", ["Repaired"], "output=1"),
-    ("lock-order", ["LockOrder"], "deadlock"),
-    ("lock-order", ["Repaired"], "deadlock"),
-    ("missed-notify", ["MissedNotify"], "deadlock"),
-    ("missed-notify", ["Repaired"], "deadlock"),
-    ("class-initialisation", ["Initialisers", "Left", "Right"], "deadlock"),
-    ("interrupted-wait", ["InterruptedWait"], None),
-    ("wrong-waiter", ["WrongWaiter"], "deadlock"),
+    ("lost-update", ["LostUpdate"], ""),
+    ("lost-update", ["LostUpdate"], "--states 100"),
+    ("lost-update", ["LostUpdate"], "--for output=1"),
+    ("lost-update", ["LostUpdate"], "--for differs=two"),
+    ("lost-update", ["Repaired"], "--for output=1"),
+    ("lost-update", ["Repaired"], "--for differs=two"),
+    ("lock-order", ["LockOrder"], "--for deadlock"),
+    ("lock-order", ["Repaired"], "--for deadlock"),
+    ("missed-notify", ["MissedNotify"], "--for deadlock"),
+    ("missed-notify", ["Repaired"], "--for deadlock"),
+    ("class-initialisation", ["Initialisers", "Left", "Right"], "--for deadlock"),
+    ("interrupted-wait", ["InterruptedWait"], ""),
+    ("interrupted-wait", ["InterruptedWait"], "--for uncaught"),
+    ("wrong-waiter", ["WrongWaiter"], "--for deadlock"),
 ]
 
+# The texts that printed numbers are compared with, by their lines.
+TEXTS = {"two": [2]}
 
-def cases():
-    """The text of the cases, and what they have to print."""
-    text = ["# Searches over all schedules, made by `bench/searches.py` over the files of the lessons.", "", "files lessons.cases", ""]
-    printed = []
-    for folder, names, goal in SEARCHED:
-        files = compiled(LESSONS / folder)
-        told, status = search([files[f"{name}.class"] for name in names], goal)
-        name = f"search-{folder}-{names[0]}-{(goal or 'all').replace('=', '-')}"
-        given = f" --for {goal}" if goal else ""
-        text += [f"case {name}", f"  search{given} {' '.join(f'{folder}/{one}.class' for one in names)}"]
-        printed.append(f"case {name}\n{told}status {status}\n")
-    return "\n".join([*text, ""]), "".join(printed)
+HEAD = ["# Searches over all schedules, made by `bench/searches.py` over the files of the lessons.", "", "files lessons.cases", ""]
+
+
+def words_of(words):
+    """The words behind `search`."""
+    parser = argparse.ArgumentParser()
+    parser.add_argument("--for", dest="goal")
+    parser.add_argument("--states", type=int, default=10_000_000)
+    parser.add_argument("files", nargs="+")
+    return parser.parse_args(words)
+
+
+def cases_of(folder, names, options):
+    """The lines of the cases of a search, and what they have to print."""
+    words = words_of([*options.split(), *names])
+    files = compiled(LESSONS / folder)
+    told, status, found = search([files[f"{name}.class"] for name in names], words.goal, words.states)
+    name = "-".join([folder, names[0], re.sub("[ =]", "-", options.replace("--for ", "").replace("--", "")) or "all"])
+    paths = " ".join(f"{folder}/{one}.class" for one in names)
+    record = f"--record {name}.schedule" if words.goal else ""
+    text = [f"case search-{name}", "  " + " ".join(["search", *options.split(), *record.split(), paths])]
+    printed = f"case search-{name}\n{told}status {status}\n"
+    if found:
+        text += [f"case replay-{name}", f"  replay --schedule {name}.schedule {paths}"]
+        printed += f"case replay-{name}\n{text_of(found, 'quiet')}status {status_of(found, 'quiet')}\n"
+    elif record:
+        text += [f"shown {name}.schedule"]
+        printed += f"recorded {name}.schedule is missing\n"
+    return text, printed
 
 
 def write():
-    text, printed = cases()
-    (CONFORMANCE / "data/searches.cases").write_text(text)
+    lines, shown = [*HEAD], ""
+    for name, text in TEXTS.items():
+        lines += [f"text {name}", *(f"  {line}" for line in text), ""]
+    for row in SEARCHED:
+        text, printed = cases_of(*row)
+        lines, shown = [*lines, *text], shown + printed
+    (CONFORMANCE / "data/searches.cases").write_text("\n".join([*lines, ""]))
     stdout = CONFORMANCE / "stdout"
-    before = stdout.read_bytes().split(b"case search-lost-update-LostUpdate-all\n")[0]
-    stdout.write_bytes(before + printed.encode())
+    before = stdout.read_bytes().split(b"case search-")[0]
+    stdout.write_bytes(before + shown.encode())
 
 
 def main():
     if sys.argv[1:] == ["--write"]:
         return write()
-    parser = argparse.ArgumentParser()
-    parser.add_argument("--for", dest="goal")
-    parser.add_argument("files", nargs="+")
-    words = parser.parse_args()
-    text, status = search([pathlib.Path(path).read_bytes() for path in words.files], words.goal)
+    words = words_of(sys.argv[1:])
+    text, status, _ = search([pathlib.Path(path).read_bytes() for path in words.files], words.goal, words.states)
     sys.stdout.write(text)
     return status
 

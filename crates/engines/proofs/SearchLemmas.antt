@@ -1,5 +1,5 @@
 -- Why class files are not searched, and how far what a search says is written.
-use Rattle.std.proofs.Common.{◌≡◌, ℕ, ◌<◌, Bool, List, length, map, Option, Some, None, inl, refl, subst, sym, ◌∙◌}
+use Rattle.std.proofs.Common.{◌≡◌, ℕ, ◌<◌, Bool, false, List, length, map, Option, Some, None, inl, refl, subst, sym, ◌∙◌}
 use Rattle.std.specs.Prelude.{IfOk, IfSome, IsTrue, Result, Ok, Err, is_some}
 use Rattle.std.specs.Option.{option_map}
 use Rattle.std.proofs.lemmas.Bool.{false≢true}
@@ -15,8 +15,8 @@ use Rattle.search.specs.declared.search_reports.answers.Answer.{Answer}
 use Rattle.search.specs.declared.search_reports.answers.Answer.TheVariants as answers
 use Rattle.engines.specs.Devices.{fault_of}
 use Rattle.engines.specs.Engines.{IsOfFile, ReadsEach}
-use Rattle.engines.specs.Runs.{recording_of}
-use Rattle.engines.specs.Searches.{IsFileOf, IsSearched, IsUnsearched, Searches, SearchesPart}
+use Rattle.engines.specs.Runs.{Records, recording_of}
+use Rattle.engines.specs.Searches.{IsFileOf, IsSearched, IsUnsearched, RecordsFound, Searches, SearchesPart}
 use Rattle.engines.specs.declared.fault.Fault.{Fault}
 use Rattle.engines.specs.declared.fault.Fault.TheVariants as faults
 use Rattle.engines.specs.declared.status.Status.{Status}
@@ -69,3 +69,15 @@ pub file_of_found : {F E : Type 0} (bytes : F → List ℕ) (recording : Recordi
 file_of_found bytes recording recorded schedule report (Ok (Some file)) asked spelled = (asked, spelled)
 file_of_found bytes recording recorded schedule report (Ok None) asked spelled = (asked, spelled)
 file_of_found bytes recording recorded schedule report (Err fault) asked spelled = tt
+
+-- ---- the writing of a file
+
+-- where there is a file, it is written as it is for a run
+pub found_is_recorded : (kept made : Option (Option (List ℕ))) (file : Option (List ℕ)) → IsTrue (is_some file) → Records kept made file → RecordsFound kept made file
+found_is_recorded kept made (Some bytes) there records = records
+found_is_recorded kept made None there records = absurd (false≢true there)
+
+-- and where there is none, none is written
+pub none_is_recorded : {F : Type 0} (bytes : F → List ℕ) (kept : Option (Option (List ℕ))) (file : Option F) → is_some file ≡ false → RecordsFound kept kept (option_map bytes file)
+none_is_recorded bytes kept (Some f) there = absurd (false≢true (sym there))
+none_is_recorded bytes kept None there = refl

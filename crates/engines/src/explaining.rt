@@ -4,7 +4,7 @@ use crate::complaint::Complaint;
 use crate::fault::Fault;
 use crate::folder::Folder;
 use crate::given_paths::given_paths;
-use command_line::{Command, command};
+use command_line::{Command, Goal, command};
 use explanation::{GivenFile, explain, explain_schedule, explain_text};
 use std::alloc::{AllocError, Global};
 use std::io;
@@ -59,6 +59,17 @@ fn schedule_of(command: &Command) -> Option<&str> {
         Command::Trace(options) => Some(options.schedule.as_str()),
         Command::Schedule(options) if !options.write => Some(options.file.as_str()),
         _ => None,
+    }
+}
+
+/// The path of the file that is read before the class files, if one is.
+fn first_of(command: &Command) -> Option<&str> {
+    match command {
+        Command::Search(options) => match &options.goal {
+            Some(Goal::Differs(path)) => Some(path.as_str()),
+            _ => None,
+        },
+        _ => schedule_of(command),
     }
 }
 
@@ -121,7 +132,7 @@ fn line_of<F: Folder>(
     let paths = files_of(alloc, folder, command)?;
     let schedule = schedule_of(command);
     match fault {
-        Fault::Device => match of_device(alloc, folder, schedule, &paths, output)? {
+        Fault::Device => match of_device(alloc, folder, first_of(command), &paths, output)? {
             Some(line) => Ok(Some(line)),
             None => unrecorded(alloc, record_of(command)),
         },
@@ -171,7 +182,7 @@ fn given<'a, F: Folder>(
 fn of_device<F: Folder>(
     alloc: Global,
     folder: &F,
-    schedule: Option<&str>,
+    first: Option<&str>,
     paths: &[String],
     output: Option<ErrorKind>,
 ) -> Result<Option<Vec<u8>>, AllocError> {
@@ -179,7 +190,7 @@ fn of_device<F: Folder>(
         let line = format!(in alloc; "the output: {kind}")?;
         return Ok(Some(line.into_bytes()));
     }
-    if let Some(path) = schedule {
+    if let Some(path) = first {
         if let Err(error) = bytes_of(alloc, folder, path) {
             return Ok(Some(format!(in alloc; "{path}: {error}")?.into_bytes()));
         }

@@ -11,7 +11,7 @@ ghost use Rattle.engines.specs.Searches.{IsFileOf, IsSearched, IsUnsearched, Rec
 
 use crate::class_files::read_class_files;
 use crate::fault::Fault;
-use crate::running::{Outcome, recorded_file};
+use crate::running::{Outcome, recorded_file, write_record};
 use crate::status::Status;
 use crate::verification::accepted;
 use command_line::LimitOptions;
@@ -107,12 +107,10 @@ fn write_found<V: Sink>(recorder: &mut Option<V>, file: &Option<Vec<u8>>) -> Res
         (option_map vec_items file.now)) }
     ensures counted { Counts result (option_map_or V.failures recorder.old 0) (option_map_or V.failures recorder.new 0) }
 {
-    let Some(file) = file else {
-        return Ok(());
-    };
-    match recorder {
-        Some(recorder) => recorder.write_all(file.as_slice()),
-        None => Ok(()),
+    if file.is_some() {
+        write_record(recorder, file)
+    } else {
+        Ok(())
     }
 }
 
