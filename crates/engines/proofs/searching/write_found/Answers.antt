@@ -1,8 +1,6 @@
-use Rattle.std.proofs.Common.{◌≡◌, ◌∙◌, refl, sym, vec_items}
+use Rattle.std.proofs.Common.{◌∙◌, sym, vec_items}
 use Rattle.std.specs.Option.{option_map}
 use Rattle.std.proofs.lemmas.Result.{on_ok_weaker}
-use Rattle.engines.specs.Runs.{Records}
-use Rattle.engines.specs.Searches.{RecordsFound}
 use Rattle.engines.proofs.SearchLemmas.{found_is_recorded, is_there, none_is_recorded}
 use Rattle.engines.proofs.searching.write_found.Goals as goal
 
@@ -15,10 +13,8 @@ pub returns-then-is_some-clause-written : goal.returns-then-is_some-clause-writt
 returns-then-is_some-clause-written g c =
     let there = sym c.is_some.ensures ∙ c.if-is_some.true in
     let contents = option_map g.V.Sink.contents in
-    let file = option_map vec_items c.args.file.now in
-    on_ok_weaker c.write_record.result (Records (contents c.args.recorder.now) (contents c.write_record.new.recorder) file) (RecordsFound (contents c.args.recorder.now) (contents c.write_record.new.recorder) file)
-    (found_is_recorded _ _ file (is_there vec_items c.args.file.now there))
-    c.write_record.ensures.written
+    let found = found_is_recorded (contents c.args.recorder.now) (contents c.write_record.new.recorder) (option_map vec_items c.args.file.now) (is_there vec_items c.args.file.now there) in
+    on_ok_weaker c.write_record.result found c.write_record.ensures.written
 
 pub returns-else-is_some-clause-written : goal.returns-else-is_some-clause-written
 returns-else-is_some-clause-written g c = none_is_recorded vec_items _ c.args.file.now (sym c.is_some.ensures ∙ c.if-is_some.false)
