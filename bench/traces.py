@@ -1,7 +1,7 @@
 #!/usr/bin/env python3
 """Traces by plain_machine.py: what `jvm trace` has to print, worked out by a machine of its own.
 
-    traces.py [--columns | --json] [--from N] [--to N] [--only N] --schedule FILE FILE..
+    traces.py [--columns | --json] [--from N] [--to N] [--only N,..] --schedule FILE FILE..
     traces.py --write
 
 The schedule is a text. What an event did is told by the state before it and the state after it, as docs/FORMATS.md says.
@@ -355,8 +355,13 @@ class Traced(Machine):
         return [f"pushes {self.value(top.stack[-1], result)}"]
 
 
+def numbers_of(text):
+    """The numbers of a text, with commas between them; None of no text."""
+    return None if text is None else [int(part) for part in text.split(",")]
+
+
 def trace(files, entries, first=0, last=None, only=None, form="plain"):
-    """What `jvm trace` prints, and its status."""
+    """What `jvm trace` prints, and its status; `only` has the threads that are told."""
     machine, lines, end = Traced(files), [], None
     for thread, pick, repeat in entries:
         for _ in range(repeat):
@@ -369,7 +374,7 @@ def trace(files, entries, first=0, last=None, only=None, form="plain"):
                 end = f"refused {machine.done} {why}"
             if end:
                 break
-            if first <= at and (last is None or at <= last) and only in (None, thread):
+            if first <= at and (last is None or at <= last) and (only is None or thread in only):
                 lines.append(told.line(form) + "\n")
         if end:
             break
@@ -377,11 +382,12 @@ def trace(files, entries, first=0, last=None, only=None, form="plain"):
     return "".join(lines) + text_of(machine, end), status_of(machine, end)
 
 
-# The lessons that are traced: folder, schedule, class files, options, and how the schedule goes on.
+# The lessons that are traced: folder, schedule, class files, options, how the schedule goes on, and what the case is called by.
 TRACED = [
     ("lost-update", "lost", ["LostUpdate"], {}, "1*4 0*10"),
     ("lost-update", "lost", ["LostUpdate"], {"from": 20, "to": 35, "form": "columns"}, "1*4 0*10"),
-    ("lost-update", "lost-repaired", ["Repaired"], {"only": 2}, ""),
+    ("lost-update", "lost", ["LostUpdate"], {"only": "2,1"}, "1*4 0*10", "threads-1-and-2"),
+    ("lost-update", "lost-repaired", ["Repaired"], {"only": "2"}, ""),
     ("bounded-buffer", "barges-in", ["IfForWhile"], {"from": 26}, "1*20"),
     ("wrong-waiter", "second-is-woken", ["WrongWaiter"], {"from": 40}, "0*2 2*5"),
     ("interrupted-wait", "within", ["InterruptedWait"], {"from": 10}, "1*30"),
@@ -435,14 +441,15 @@ def cases():
     """The text of the cases, and what they have to print."""
     text = ["# Traces: runs told event by event, made by `bench/traces.py` over the files of the lessons.", "", "files lessons.cases", ""]
     printed = []
-    for folder, schedule, names, options, more in TRACED:
+    for folder, schedule, names, options, more, *called in TRACED:
         files = compiled(LESSONS / folder)
         stored = re.sub(r"#.*", "", (LESSONS / folder / f"{schedule}.schedule").read_text())
         entries = entries_of(f"{stored} {more}")
         form = options.get("form", "plain")
-        told, status = trace([files[f"{name}.class"] for name in names], entries, options.get("from", 0), options.get("to"), options.get("only"), form)
+        only = numbers_of(options.get("only"))
+        told, status = trace([files[f"{name}.class"] for name in names], entries, options.get("from", 0), options.get("to"), only, form)
         given = "".join(f" --{value}" if key == "form" else f" --{key} {value}" for key, value in options.items())
-        name = f"trace-{folder}-{schedule}{'' if form == 'plain' else f'-{form}'}"
+        name = "-".join(["trace", folder, schedule, *([] if form == "plain" else [form]), *called])
         words = f"trace --schedule {name}.schedule{given} {' '.join(f'{folder}/{name}.class' for name in names)}"
         text += [f"text {name}.schedule", f"  {' '.join([*stored.split(), *more.split()])}", *case_lines(name, None, words)]
         printed.append(f"case {name}\n{told}status {status}\n")
@@ -460,8 +467,10 @@ def write():
     text, printed = cases()
     (CONFORMANCE / "data/traces.cases").write_text(text)
     stdout = CONFORMANCE / "stdout"
-    before = stdout.read_bytes().split(b"case trace-lost-update-lost\n")[0]
-    stdout.write_bytes(before + printed.encode())
+    blocks = re.split(rb"^(?=case )", stdout.read_bytes(), flags=re.M)
+    places = [place for place, block in enumerate(blocks) if block.startswith(b"case trace-")]
+    blocks[places[0] : places[-1] + 1] = [printed.encode()]
+    stdout.write_bytes(b"".join(blocks))
 
 
 def main():
@@ -471,13 +480,14 @@ def main():
     parser.add_argument("--schedule", required=True)
     for form in ("columns", "json"):
         parser.add_argument(f"--{form}", action="store_const", const=form, dest="form", default="plain")
-    for name in ("--from", "--to", "--only"):
+    for name in ("--from", "--to"):
         parser.add_argument(name, type=int, dest=name[2:] + "_")
+    parser.add_argument("--only", dest="only_")
     parser.add_argument("files", nargs="+")
     words = parser.parse_args()
     files = [pathlib.Path(path).read_bytes() for path in words.files]
     entries = entries_of(pathlib.Path(words.schedule).read_text())
-    text, status = trace(files, entries, words.from_ or 0, words.to_, words.only_, words.form)
+    text, status = trace(files, entries, words.from_ or 0, words.to_, numbers_of(words.only_), words.form)
     sys.stdout.write(text)
     return status
 

@@ -1,5 +1,7 @@
 -- What the parser found, and the values of a command.
-use Rattle.std.proofs.Common.{◌≡◌, ℕ, ◌≤◌, List, Option, None, Some, option_map, unwrap_or, get_or, eqb, [], true, false, codes, ◌⊎◌, inl, inr, refl, sym, ap, subst, ◌∙◌, Box, Global}
+use Rattle.std.proofs.Common.{◌≡◌, ℕ, ◌≤◌, ◌<◌, ◌+◌, ◌∷◌, ◌++◌, List, Option, None, Some, option_map, unwrap_or, get_or, eqb, map, take, length, Bor, arith, [], true, false, codes, ◌⊎◌, inl, inr, refl, sym, ap, subst, ◌∙◌, Box, Global}
+use Rattle.std.proofs.lemmas.List.{get_or-map, length-map, map-append, take_more}
+use Rattle.std.proofs.lemmas.List.Elements.{All-get_or, All-more}
 use Rattle.std.specs.Box.{box_value}
 use Rattle.std.specs.Str.Parse.{IsNumeral, digits_value}
 use Rattle.clap.proofs.OnLiterals.{clap_on_literals}
@@ -11,7 +13,7 @@ use Rattle.clap.specs.declared.parser.matches.SubCommand.{SubCommand}
 use Rattle.clap.specs.declared.error.Error.{Error}
 use Rattle.clap.specs.declared.error.kind.ErrorKind.{ErrorKind}
 use Rattle.clap.specs.declared.error.kind.ErrorKind.TheVariants as errors
-use Rattle.command_line.specs.CommandLine.{AreDisasmValues, AreRunValues, AreScheduleValues, AreSearchValues, AreTraceValues, AreValues, AreVerifyValues, Asks, Fails, IsNumber, IsThenRun, Refuses, Spells, SpellsNothing, jvm, usage_by, usage_of}
+use Rattle.command_line.specs.CommandLine.{AreDisasmValues, AreNumbers, AreNumerals, AreRunValues, AreScheduleValues, AreSearchValues, AreTraceValues, AreValues, AreVerifyValues, Asks, Fails, IsNumber, IsNumeralWithin, IsThenRun, Refuses, Spells, SpellsNothing, jvm, parts_of, usage_by, usage_of}
 use Rattle.command_line.specs.declared.usage.Usage.{Usage}
 use Rattle.command_line.specs.declared.usage.Usage.TheVariants.{Parser, Number, Asked, OutOfMemory}
 use Rattle.command_line.specs.declared.options.Command.{Command}
@@ -53,6 +55,35 @@ pub no_number : (text : Text) (least most : ℕ) → (IsNumeral 10 text × (leas
     → (number : Option ℕ) → IsNumber least most (Some text) number → ⊥
 no_number text least most none None is = is
 no_number text least most none (Some number) is = none (is.0, rw (is.1) is.2, rw (is.1) is.3)
+
+pub no_list : (text : Text) (least most : ℕ) → ((numbers : List ℕ) → AreNumerals least most (parts_of text) numbers → ⊥)
+    → (numbers : Option (List ℕ)) → AreNumbers least most (Some text) numbers → ⊥
+no_list text least most none None is = is
+no_list text least most none (Some numbers) is = none numbers is
+
+-- texts that spell numbers, one after another
+module _ (least most : ℕ) (texts : List (Bor Text)) (i : ℕ) (d : Bor Text) (lt : i < length texts) where
+  abbrev spelled : List Text
+  spelled = map (λ text. text.now) texts
+
+  inside : i < length spelled
+  inside = omega (arith, lt, length-map texts (λ (text : Bor Text). text.now))
+
+  here : get_or spelled i d.now ≡ (get_or texts i d).now
+  here = get_or-map (λ (text : Bor Text). text.now) texts i d d.now lt
+
+  pub one_more_numeral : (numbers : List ℕ) → AreNumerals least most (take i (map (λ text. text.now) texts)) numbers
+      → (n : ℕ) → IsNumeralWithin least most (get_or texts i d).now → n ≡ digits_value 10 (get_or texts i d).now
+      → AreNumerals least most (take (i + 1) (map (λ text. text.now) texts)) (numbers ++ n ∷ [])
+  one_more_numeral numbers so_far n within value =
+      let next = ap (λ l. l ++ n ∷ []) so_far.values ∙ ap (λ m. map (digits_value 10) (take i spelled) ++ m ∷ []) (value ∙ ap (digits_value 10) (sym here)) in
+      record {
+        each = All-more (IsNumeralWithin least most) spelled i d.now inside so_far.each (subst (IsNumeralWithin least most) (sym here) within);
+        values = next ∙ sym (ap (map (digits_value 10)) (take_more spelled i d.now inside) ∙ map-append (digits_value 10) (take i spelled) (get_or spelled i d.now ∷ []));
+      }
+
+  pub no_numeral : (IsNumeralWithin least most (get_or texts i d).now → ⊥) → (numbers : List ℕ) → AreNumerals least most (map (λ text. text.now) texts) numbers → ⊥
+  no_numeral none numbers are = none (subst (IsNumeralWithin least most) here (All-get_or (IsNumeralWithin least most) spelled i d.now inside are.each))
 
 -- all the values of an argument
 pub all_is : (matches : ArgMatches) (id : Text) (texts : Option (List Text))

@@ -1,6 +1,7 @@
 -- The command line (own), in the words of the crate `clap`: which options there are, and which command the words
 -- spell.
-use Rattle.std.specs.Prelude.{◌≡◌, ◌≤◌, ◌⊎◌, ℕ, ◌-◌, ◌^◌, Bool, List, ◌∷◌, ◌++◌, map, true, false, codes, Option, Some, None, string_bytes}
+use Rattle.std.specs.Prelude.{◌≡◌, ◌≤◌, ◌⊎◌, ℕ, ◌-◌, ◌^◌, ◌==◌, Bool, List, ◌∷◌, ◌++◌, map, true, false, codes, Option, Some, None, string_bytes, vec_items}
+use Rattle.std.specs.List.{All, slice_split}
 use Rattle.std.specs.Option.{option_map, option_map_or}
 use Rattle.std.specs.Str.{bytes_eq}
 use Rattle.std.specs.Str.Parse.{IsNumeral, digits_value}
@@ -117,12 +118,12 @@ jvm_run = with_files (with_limits (with_rule (with_run_options (new_app (codes "
 abbrev pub jvm_replay : App
 jvm_replay = with_files (with_limits (with_then_run (with_rule (new_app (codes "replay")) schedule_option))) class_files
 
--- which events are told: from one number up to another, of one thread
+-- which events are told: from one number up to another, of some threads
 abbrev pub with_window : App → App
 with_window app = with_rule (with_rule (with_rule app
     (number_option (codes "from") 0 4294967295))
     (number_option (codes "to") 0 4294967295))
-    (number_option (codes "only") 0 65535)
+    (path_option (codes "only"))
 
 -- in which form they are told
 abbrev pub with_form : App → App
@@ -176,6 +177,26 @@ IsNumber least most None None = Unit {0}
 IsNumber least most (Some text) (Some number) = IsNumeral 10 text × (digits_value 10 text ≡ number) × (least ≤ number) × (number ≤ most)
 IsNumber least most None (Some number) = ⊥
 IsNumber least most (Some text) None = ⊥
+
+-- the texts between the commas of a text
+abbrev pub parts_of : Text → List Text
+parts_of text = slice_split (λ b. b == 0x2c) text
+
+-- digits alone spell a number from least to most
+abbrev pub IsNumeralWithin : (least most : ℕ) → Text → Type 0
+IsNumeralWithin least most text = IsNumeral 10 text × (least ≤ digits_value 10 text) × (digits_value 10 text ≤ most)
+
+-- the texts spell these numbers, each one of them
+pub record AreNumerals (least most : ℕ) (texts : List Text) (numbers : List ℕ) : Type 0 where
+  pub each : All (IsNumeralWithin least most) texts
+  pub values : numbers ≡ map (digits_value 10) texts
+
+-- the numbers of an option, with commas between them, where it is there
+abbrev pub AreNumbers : ℕ → ℕ → Option Text → Option (List ℕ) → Type 0
+AreNumbers least most None None = Unit {0}
+AreNumbers least most (Some text) (Some numbers) = AreNumerals least most (parts_of text) numbers
+AreNumbers least most None (Some numbers) = ⊥
+AreNumbers least most (Some text) None = ⊥
 
 pub record AreLimitNumbers (rows : List Row) (limits : LimitOptions) : Type 0 where
   pub objects : IsNumber 0 4000000000 (first_of (codes "objects") rows) limits.objects
@@ -234,7 +255,7 @@ pub record AreTraceValues (rows : List Row) (trace : Trace) : Type 0 where
   pub schedule : first_of (codes "schedule") rows ≡ Some (string_bytes trace.schedule)
   pub from : IsNumber 0 4294967295 (first_of (codes "from") rows) trace.from
   pub to : IsNumber 0 4294967295 (first_of (codes "to") rows) trace.to
-  pub only : IsNumber 0 65535 (first_of (codes "only") rows) trace.only
+  pub only : AreNumbers 0 65535 (first_of (codes "only") rows) (option_map vec_items trace.only)
   pub form : IsTraceForm rows trace.form
   pub limits : AreLimitNumbers rows trace.limits
   pub files : all_of (codes "files") rows ≡ Some (map string_bytes trace.files.items)

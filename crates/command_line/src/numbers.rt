@@ -1,15 +1,15 @@
 //! Options that take a number.
 
-ghost use Rattle.std.specs.Prelude.{◌≡◌, ◌≤◌, false, IfOk, IfErr};
-ghost use Rattle.std.specs.Option.{SomeIff};
-ghost use Rattle.std.specs.Str.Parse.{IsNumeral, digits_value};
+ghost use Rattle.std.specs.Prelude.{◌≡◌, false, map, vec_items, IfOk, IfErr};
+ghost use Rattle.std.specs.Option.{SomeIff, option_map};
+ghost use Rattle.std.specs.Str.Parse.{digits_value};
 ghost use Rattle.clap.specs.Words.{first_of, found_of, rows_of, rule_of};
-ghost use Rattle.command_line.specs.CommandLine.{Asks, IsNumber, Refuses, number_option};
+ghost use Rattle.command_line.specs.CommandLine.{AreNumbers, AreNumerals, Asks, IsNumber, IsNumeralWithin, Refuses, number_option, parts_of, path_option};
 
 use crate::usage::Usage;
 use clap::builder::ValueParser;
 use clap::{Arg, ArgAction, ArgMatches};
-use std::alloc::Global;
+use std::alloc::{AllocError, Global};
 
 /// An option that takes a number: its name, its range, and what its help says.
 #[derive(Clone, Copy)]
@@ -66,7 +66,7 @@ pub(crate) const ONLY: NumberOption = NumberOption {
     name: "only",
     least: 0,
     most: 65_535,
-    help: "The thread whose events are told",
+    help: "The threads whose events are told, with commas between them",
 };
 
 pub(crate) const STATES: NumberOption = NumberOption {
@@ -119,7 +119,7 @@ pub(crate) const FRAMES: NumberOption = NumberOption {
 };
 
 impl NumberOption {
-    /// The option, for the parser.
+    /// The option, for the parser: it takes one number.
     pub(crate) fn argument<'a>(self, alloc: Global) -> Arg<'a>
         ensures rule { rule_of result ≡ number_option self.name.now self.least self.most }
         ensures local { result.global ≡ false }
@@ -129,6 +129,18 @@ impl NumberOption {
             .value_name("NUMBER")
             .action(ArgAction::Set)
             .value_parser(ValueParser::unsigned(u64::from(self.least), u64::from(self.most)))
+            .help(self.help)
+    }
+
+    /// The same, where it takes numbers with commas between them. The parser takes any text for them.
+    pub(crate) fn list_argument<'a>(self, alloc: Global) -> Arg<'a>
+        ensures rule { rule_of result ≡ path_option self.name.now }
+        ensures local { result.global ≡ false }
+    {
+        Arg::new(alloc, self.name)
+            .long(self.name)
+            .value_name("NUMBER")
+            .action(ArgAction::Set)
             .help(self.help)
     }
 
@@ -149,6 +161,55 @@ impl NumberOption {
                 Some(number) => Ok(Some(number)),
                 None => Err(self.refusal(alloc, text)),
             },
+        }
+    }
+
+    /// Its numbers among what the parser found, with commas between them, and `None` where it isn't there.
+    pub(crate) fn numbers(
+        self,
+        alloc: Global,
+        matches: &ArgMatches<'_>,
+    ) -> Result<Option<Vec<u32>>, Usage>
+        ensures numbers { IfOk result (λ found. AreNumbers self.least self.most
+            (first_of self.name.now (rows_of (found_of matches.now))) (option_map vec_items found)) }
+        ensures none { IfErr result (λ usage. Refuses usage ((numbers : _) → AreNumbers self.least self.most
+            (first_of self.name.now (rows_of (found_of matches.now))) numbers → ⊥)) }
+    {
+        match matches.get_str(self.name) {
+            None => Ok(None),
+            Some(text) => {
+                let parts = comma_parts(alloc, text)?;
+                Ok(Some(self.each_of(alloc, parts.as_slice())?))
+            }
+        }
+    }
+
+    /// The numbers that texts spell.
+    fn each_of(self, alloc: Global, texts: &[&str]) -> Result<Vec<u32>, Usage>
+        ensures numbers { IfOk result (λ numbers. AreNumerals self.least self.most (map (λ text. text.now) texts.now) numbers.items) }
+        ensures none { IfErr result (λ usage. Refuses usage ((numbers : _)
+            → AreNumerals self.least self.most (map (λ text. text.now) texts.now) numbers → ⊥)) }
+    {
+        let mut numbers = Vec::with_capacity(alloc, texts.len())?;
+        for text in texts {
+            match decimal(text, self.least, self.most) {
+                Some(number) => numbers.push(number)?,
+                None => return Err(self.part_refusal(alloc, text)),
+            }
+        }
+        Ok(numbers)
+    }
+
+    /// That a part of a list is no number of the option's.
+    fn part_refusal(self, alloc: Global, part: &str) -> Usage
+        ensures { Asks result → ⊥ }
+    {
+        if part.starts_with('+') {
+            return self.refusal(alloc, part);
+        }
+        match part.parse::<u64>() {
+            Ok(number) => Usage::not_within(alloc, self.name, number, self.least, self.most),
+            Err(error) => Usage::not_parsed(alloc, self.name, part, &error),
         }
     }
 
@@ -217,10 +278,16 @@ pub(crate) fn negative_number(words: &[String]) -> Option<(NumberOption, &str)> 
     None
 }
 
+/// The parts of a text between its commas.
+fn comma_parts(alloc: Global, text: &str) -> Result<Vec<&str>, AllocError>
+    ensures { IfOk result (λ found. map (λ part. part.now) found.items ≡ parts_of text.now) }
+{
+    text.split(',').collect(alloc)
+}
+
 /// The number that decimal digits spell, where it lies between these two. Digits alone do, and no sign.
 fn decimal(text: &str, least: u32, most: u32) -> Option<u32>
-    ensures { SomeIff result (IsNumeral 10 text.now × (least ≤ digits_value 10 text.now)
-        × (digits_value 10 text.now ≤ most)) (digits_value 10 text.now) }
+    ensures { SomeIff result (IsNumeralWithin least most text.now) (digits_value 10 text.now) }
 {
     if text.starts_with('+') {
         return None;

@@ -113,8 +113,8 @@ pub struct Trace {
     pub from: Option<u32>,
     /// The number of the last event that is told, and `None` for that of the run.
     pub to: Option<u32>,
-    /// The thread whose events are told, and `None` for all.
-    pub only: Option<u32>,
+    /// The threads whose events are told, and `None` for all.
+    pub only: Option<Vec<u32>>,
     pub form: TraceForm,
     pub limits: LimitOptions,
     /// The paths of the class files. The first holds the class whose `main` is run.

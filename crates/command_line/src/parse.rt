@@ -144,7 +144,7 @@ fn trace_of(alloc: Global, matches: &ArgMatches<'_>) -> Result<Trace, Usage>
     let schedule = required_path_of(alloc, matches, "schedule")?;
     let from = FROM.number(alloc, matches)?;
     let to = TO.number(alloc, matches)?;
-    let only = ONLY.number(alloc, matches)?;
+    let only = ONLY.numbers(alloc, matches)?;
     let form = form_of(alloc, matches)?;
     let limits = limits_of(alloc, matches)?;
     let files = files_of(alloc, matches)?;

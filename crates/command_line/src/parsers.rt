@@ -108,7 +108,7 @@ fn trace_parser<'a>(alloc: Global) -> Result<clap::Command<'a>, AllocError>
     .arg(schedule.required(true))?
     .arg(FROM.argument(alloc))?
     .arg(TO.argument(alloc))?
-    .arg(ONLY.argument(alloc))?
+    .arg(ONLY.list_argument(alloc))?
     .arg(columns)?
     .arg(json)?;
     with_files(

@@ -7,6 +7,7 @@ ghost use Rattle.command_line.specs.declared.usage.Usage.TheVariants.{OutOfMemor
 use clap::error::ErrorKind;
 use std::alloc::{AllocError, AllocFailed, Global};
 use std::fmt;
+use std::num::ParseIntError;
 
 /// How the parser's texts end.
 const MORE: &str = "For more information, try '--help'.";
@@ -32,6 +33,24 @@ impl Usage {
     {
         Usage::told(format!(in alloc;
             "error: invalid value '{text}' for '--{name} <NUMBER>': invalid digit found in string\n\n{MORE}\n"
+        ))
+    }
+
+    /// That a number isn't within the range of the option of this name, in the parser's words.
+    pub(crate) fn not_within(alloc: Global, name: &str, number: u64, least: u32, most: u32) -> Usage
+        ensures { Asks result → ⊥ }
+    {
+        Usage::told(format!(in alloc;
+            "error: invalid value '{number}' for '--{name} <NUMBER>': {number} is not in {least}..={most}\n\n{MORE}\n"
+        ))
+    }
+
+    /// That a text isn't a number of the option of this name, in the parser's words.
+    pub(crate) fn not_parsed(alloc: Global, name: &str, text: &str, error: &ParseIntError) -> Usage
+        ensures { Asks result → ⊥ }
+    {
+        Usage::told(format!(in alloc;
+            "error: invalid value '{text}' for '--{name} <NUMBER>': {error}\n\n{MORE}\n"
         ))
     }
 

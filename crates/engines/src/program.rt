@@ -208,14 +208,17 @@ fn trace<F: Folder, W: Sink>(
 }
 
 /// Which events are told, and in which form: from the first one on, to the last one, and of all threads, where the words don't say.
-fn window_of(options: &Trace) -> Window {
+fn window_of(options: &Trace) -> Window<'_> {
     Window {
         from: u64::from(options.from.unwrap_or(0)),
         to: match options.to {
             Some(last) => u64::from(last),
             None => u64::MAX,
         },
-        only: options.only,
+        only: match &options.only {
+            Some(threads) => Some(threads.as_slice()),
+            None => None,
+        },
         form: match options.form {
             TraceForm::Plain => Form::Plain,
             TraceForm::Columns => Form::Columns,

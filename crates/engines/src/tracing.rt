@@ -29,7 +29,7 @@ pub fn trace_engine<S: Source, W: Sink>(
     schedule: &mut S,
     files: &mut [S],
     limits: &LimitOptions,
-    window: Window,
+    window: Window<'_>,
     output: &mut W,
 ) -> Result<Status, Fault>
     // The lines and the report of what the class files do under the schedule are written, and nothing else.
@@ -53,7 +53,7 @@ pub fn trace_engine<S: Source, W: Sink>(
 fn traced<W: Sink>(
     alloc: Global,
     opened: &Opened,
-    window: Window,
+    window: Window<'_>,
     output: &mut W,
 ) -> Result<Status, DeviceFault>
     ensures traced { IfOk result (λ status. (bytes : _) (options : _)

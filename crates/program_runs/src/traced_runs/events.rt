@@ -17,7 +17,7 @@ use traced_events::Before;
 #[derive(Clone, Copy)]
 pub(crate) struct Telling<'a> {
     pub(crate) teller: &'a Teller<'a>,
-    pub(crate) window: Window,
+    pub(crate) window: Window<'a>,
 }
 
 /// Does an event. Returns why it was not done, or `Most`.

@@ -82,7 +82,7 @@ pub fn trace<W: Sink>(
     verified: &Verified,
     schedule: &Schedule,
     limits: Limits,
-    window: Window,
+    window: Window<'_>,
     output: &mut W,
 ) -> Result<(Report, End), DeviceFault>
     ensures traced { IfOk result (λ r. (text : _) × IsTrace verified.now (events_of schedule.now) limits window r.0 r.1 text

@@ -6,23 +6,23 @@ ghost use Rattle.program_runs.specs.traced_runs.Windows.{has_thread, is_told};
 use model::ScheduleEntry;
 use trace_text::Form;
 
-/// The events that are told: those with a number from `from` to `to`, counted from 0, of one thread, or of all; and the form of
-/// their lines.
+/// The events that are told: those with a number from `from` to `to`, counted from 0, of the threads of a list, or of all; and the
+/// form of their lines.
 #[derive(Clone, Copy, Debug, PartialEq, Eq)]
-pub struct Window {
+pub struct Window<'a> {
     pub from: u64,
     pub to: u64,
-    pub only: Option<u32>,
+    pub only: Option<&'a [u32]>,
     pub form: Form,
 }
 
-impl Window {
+impl Window<'_> {
     /// Whether events of a thread are told.
     pub(crate) fn has_thread(self, thread: u16) -> bool
         ensures { result ≡ has_thread self.only thread }
     {
         match self.only {
-            Some(only) => only == u32::from(thread),
+            Some(only) => only.contains(&u32::from(thread)),
             None => true,
         }
     }
