@@ -34,9 +34,9 @@ pub fn trace_engine<S: Source, W: Sink>(
 ) -> Result<Status, Fault>
     // The lines and the report of what the class files do under the schedule are written, and nothing else.
     ensures traced { IfOk result (λ status. (text : _)
-        × Traces (S.remaining schedule.old) (map S.remaining files.old) limits.now window text status
+        × Traces (S.remaining schedule.old) (map S.remaining files.old) limits.now window.entry text status
         × Appends (W.contents output.old) (W.contents output.new) text) }
-    ensures faulty { IfErr result (IsUntraced (S.remaining schedule.old) (map S.remaining files.old) limits.now window
+    ensures faulty { IfErr result (IsUntraced (S.remaining schedule.old) (map S.remaining files.old) limits.now window.entry
         (W.contents output.old) (W.contents output.new)) }
     ensures schedule_first { IfErr result (λ fault. IsOfSchedule fault → (files.new ≡ files.old)
         ⊎ IsAfterFiles (S.remaining schedule.old) (map S.remaining files.old) limits.now fault) }
@@ -58,11 +58,11 @@ fn traced<W: Sink>(
 ) -> Result<Status, DeviceFault>
     ensures traced { IfOk result (λ status. (bytes : _) (options : _)
         → IsOpened bytes (map vec_items opened.now.files.items) options opened.now.verified (events_of opened.now.schedule) opened.now.limits
-        → (text : _) × IsTraced bytes (map vec_items opened.now.files.items) options window text status
+        → (text : _) × IsTraced bytes (map vec_items opened.now.files.items) options window.entry text status
         × Appends (W.contents output.old) (W.contents output.new) text) }
     ensures part { OnErr result ((bytes : _) (options : _)
         → IsOpened bytes (map vec_items opened.now.files.items) options opened.now.verified (events_of opened.now.schedule) opened.now.limits
-        → TracesFront bytes (map vec_items opened.now.files.items) options window (W.contents output.old) (W.contents output.new)) }
+        → TracesFront bytes (map vec_items opened.now.files.items) options window.entry (W.contents output.old) (W.contents output.new)) }
     ensures counted { Counts result (W.failures output.old) (W.failures output.new) }
 {
     let (report, end) = trace(

@@ -85,10 +85,10 @@ pub fn trace<W: Sink>(
     window: Window<'_>,
     output: &mut W,
 ) -> Result<(Report, End), DeviceFault>
-    ensures traced { IfOk result (λ r. (text : _) × IsTrace verified.now (events_of schedule.now) limits window r.0 r.1 text
+    ensures traced { IfOk result (λ r. (text : _) × IsTrace verified.now (events_of schedule.now) limits window.entry r.0 r.1 text
         × Appends (W.contents output.old) (W.contents output.new) text) }
     ensures part { OnErr result (WritesFront verified.now (events_of schedule.now) limits
-        window (W.contents output.old) (W.contents output.new)) }
+        window.entry (W.contents output.old) (W.contents output.new)) }
     ensures counted { Counts result (W.failures output.old) (W.failures output.new) }
 {
     reports_of_words();

@@ -19,7 +19,7 @@ pub struct Window<'a> {
 impl Window<'_> {
     /// Whether events of a thread are told.
     pub(crate) fn has_thread(self, thread: u16) -> bool
-        ensures { result ≡ has_thread self.only thread }
+        ensures { result ≡ has_thread self.entry.only thread }
     {
         match self.only {
             Some(only) => only.contains(&u32::from(thread)),
@@ -29,7 +29,7 @@ impl Window<'_> {
 
     /// Whether an event is told, by its number and its thread.
     pub(crate) fn has(self, number: u64, thread: u16) -> bool
-        ensures { result ≡ is_told self number thread }
+        ensures { result ≡ is_told self.entry number thread }
     {
         self.from <= number && number <= self.to && self.has_thread(thread)
     }
@@ -37,7 +37,7 @@ impl Window<'_> {
     /// Whether no event of an entry is told that begins at a number.
     pub(crate) fn leaves_out(self, number: u64, entry: ScheduleEntry) -> bool
         requires { number + entry.repeat < 2 ^ 64 }
-        ensures { IsTrue result → (n : _) → number ≤ n → n < number + entry.repeat → is_told self n entry.event.thread ≡ false }
+        ensures { IsTrue result → (n : _) → number ≤ n → n < number + entry.repeat → is_told self.entry n entry.event.thread ≡ false }
     {
         if !self.has_thread(entry.event.thread) {
             return true;
