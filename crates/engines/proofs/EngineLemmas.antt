@@ -52,3 +52,8 @@ pub counts_write : (fault : DeviceFault) (a b c d old new : ℕ) → a ≡ c →
     → CountsWith (fault_of fault) (c + d + old) (a + b + new)
 counts_write devices.Device a b c d old new first second counted = omega (arith, first, second, counted)
 counts_write devices.Memory a b c d old new first second counted = omega (arith, first, second, counted)
+
+-- the same where another count stands behind it
+pub counts_write_before : (fault : DeviceFault) (a b c old new : ℕ) → a ≡ c → CountsFault fault old new → CountsWith (fault_of fault) (c + old + b) (a + new + b)
+counts_write_before devices.Device a b c old new same counted = omega (arith, same, counted)
+counts_write_before devices.Memory a b c old new same counted = omega (arith, same, counted)

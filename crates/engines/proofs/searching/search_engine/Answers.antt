@@ -6,6 +6,7 @@ use Rattle.std.specs.Io.KnownBytes.{Appends}
 use Rattle.model.specs.Devices.{AppendsFront}
 use Rattle.std.specs.Option.{option_map}
 use Rattle.engines.specs.Refusals.{IsRefused}
+use Rattle.engines.proofs.EngineLemmas.{counts_write, counts_write_before}
 use Rattle.engines.proofs.SearchLemmas.{file_is_asked_for, is_searches, is_there, part_is_unsearched, unread_is_unsearched}
 use Rattle.engines.proofs.searching.search_engine.Goals as goal
 
@@ -48,6 +49,16 @@ returns-in_err-write_found-clause-faulty g c =
     let contents = g.W.Sink.contents in
     let written = subst (Appends (contents c.args.report.now) (contents c.write_all.new.self)) c.as_slice.ensures.value c.in_ok-write_all.ensures.written in
     rw (p.1, p.2) (part_is_unsearched _ _ _ _ _ _ _ _ _ (inr (_, _, _, searches, inr (written, c.in_err-write_found.ensures.part))))
+
+pub returns-in_err-write_all-clause-counted : goal.returns-in_err-write_all-clause-counted
+returns-in_err-write_all-clause-counted g c =
+    let p = err_from_is_err_and c.from_residual-in_err-write_all.result c.from_residual-in_err-write_all.ensures.1 in
+    rw (p.1, p.2) (counts_write_before c.in_err-write_all.field-0.0 _ _ _ _ _ c.in_ok-read.ensures.counted c.in_err-write_all.ensures.counted)
+
+pub returns-in_err-write_found-clause-counted : goal.returns-in_err-write_found-clause-counted
+returns-in_err-write_found-clause-counted g c =
+    let p = err_from_is_err_and c.from_residual-in_err-write_found.result c.from_residual-in_err-write_found.ensures.1 in
+    rw (p.1, p.2) (counts_write c.in_err-write_found.field-0.0 _ _ _ _ _ _ c.in_ok-read.ensures.counted c.in_ok-write_all.ensures.counted c.in_err-write_found.ensures.counted)
 
 pub returns-clause-searched : goal.returns-clause-searched
 returns-clause-searched g c =
