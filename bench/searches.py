@@ -197,7 +197,7 @@ def last_lines(states, word):
 # The lessons that are searched: folder, class files, and options.
 SEARCHED = [
     ("lost-update", ["LostUpdate"], ""),
-    ("lost-update", ["LostUpdate"], "--states 100"),
+    ("lost-update", ["LostUpdate"], "--states 50"),
     ("lost-update", ["LostUpdate"], "--for output=1"),
     ("lost-update", ["LostUpdate"], "--for differs=two"),
     ("lost-update", ["Repaired"], "--for output=1"),

@@ -9,7 +9,8 @@ use Rattle.model.specs.Accepted.{IsAccepted}
 use Rattle.model.specs.Classes.{Program, Body, body_of}
 use Rattle.model.specs.Operands.{Slots, values, words, over_values, over_words, operands, word_of}
 use Rattle.model.specs.Outcomes.{Free}
-use Rattle.model.specs.Rows.{Row, row_wants}
+use Rattle.model.specs.Frames.{at_offset}
+use Rattle.model.specs.Rows.{Row, row_wants, after_row, row_target}
 use Rattle.model.specs.Run.{run_from}
 use Rattle.model.specs.Sites.{Site, site_at}
 use Rattle.model.specs.State.{Frame, FrameOf, Invocation, Initialisation, StackOf, State, StateOf}
@@ -36,7 +37,7 @@ use Rattle.local_runs.proofs.Rows.{begins, is_local}
 
 -- ---- lists
 
-get_map : {A B : Type 0} (f : A → B) (xs : List A) (k : ℕ) (y : B) → slice_get (map f xs) k ≡ Some y → (x : A) × ((slice_get xs k ≡ Some x) × (f x ≡ y))
+get_map : {A B : Type 0} (f : A → B) (xs : List A) (k : ℕ) (y : B) → slice_get (map f xs) k ≡ Some y → (x : A) × (slice_get xs k ≡ Some x) × (f x ≡ y)
 get_map f [] k y e = absurd (none-some y e)
 get_map f (x ∷ xs) zero y e = (x, refl, same_Some (f x) y e)
 get_map f (x ∷ xs) (suc k) y e = get_map f xs k y e
@@ -92,7 +93,8 @@ module _ (trees : Program) (p : LinkedProgram) (a : Activation) (code : List Lin
         let row_there : frame_row trees frame ≡ Some row = ap (option_and_then (row_in frame)) body ∙ (ap (option_and_then row_at) there ∙ is_row) in
         let goes : row.fails (operand_words frame row) ≡ false = ap row.fails (words_are row) ∙ passes in
         let put : Option Frame → Option (StackOf Value) = λ o. option_map (λ after. Invocation after ∷ rest) o in
-        (_, ap (λ o. put (option_and_then (after_local frame) o)) row_there ∙ ap (λ b. put (if b then None else _)) goes)
+        let after : Frame = at_offset frame (row_target row (operand_words frame row)) (after_row over_values row frame.place.slots) in
+        (Invocation after ∷ rest, ap (λ o. put (option_and_then (after_local frame) o)) row_there ∙ ap (λ b. put (if b then None else Some after)) goes)
 
     by_instruction : (s : Running) (o : Option LinkedInstruction) → slice_get code r.pc ≡ o → does_in code o r ≡ Some s → (own : StackOf Value) × (local_stack trees (Invocation frame ∷ rest) ≡ Some own)
     by_instruction s None q e = absurd (none-some s e)

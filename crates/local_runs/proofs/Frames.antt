@@ -1,6 +1,6 @@
 -- The frame on top of a thread, where a run has led.
-use Rattle.std.proofs.Common.{◌≡◌, ℕ, List, [], ◌∷◌, ◌++◌, length, replicate, Some, refl, sym, ap, subst, ◌∙◌, append-nil}
-use Rattle.std.specs.Prelude.{slice_get}
+use Rattle.std.proofs.Common.{◌≡◌, ℕ, List, [], ◌∷◌, ◌++◌, length, replicate, Some, Result, Ok, Err, refl, sym, ap, subst, ◌∙◌, append-nil}
+use Rattle.std.specs.Prelude.{slice_get, IfOk}
 use Rattle.std.proofs.lemmas.Option.{same_Some}
 use Rattle.model.specs.declared.event.Event.{Event}
 use Rattle.model.specs.Accepted.{IsAccepted}
@@ -23,6 +23,7 @@ use Rattle.linked_code.specs.declared.instruction.LinkedInstruction.{LinkedInstr
 use Rattle.linked_code.specs.declared.method.LinkedCode.{LinkedCode}
 use Rattle.linked_code.specs.declared.program.LinkedProgram.{LinkedProgram}
 use Rattle.linked_code.specs.Linked.{offset_in}
+use Rattle.linked_code.specs.linked_events.Local.{Running}
 use Rattle.linked_code.specs.local_bursts.Steps.{steps}
 use Rattle.linked_code.specs.thread_stacks.Stacks.{ShownFrame, ShownEntry, Invocation, Initialisation, IsTopFrame}
 use Rattle.machine_state.specs.bursts.Bursts.{code_in, code_if, code_of}
@@ -35,7 +36,7 @@ use Rattle.machine_state.specs.state_events.Whole.{AreStacksLent}
 use Rattle.machine_state.specs.shown_runs.Runs.{HasRun}
 use Rattle.machine_state.proofs.linked_frames.Frames.{top_shown, slots_are, offset_is, top_frame}
 use Rattle.machine_state.proofs.state_events.Places.{set_same}
-use Rattle.local_runs.specs.Local.{LeadsPast, AreLocalAfter, running_of, CanDo, HasTop, AreInstructionsLocal, IsNoneLocal}
+use Rattle.local_runs.specs.Local.{LeadsPast, AreLocalAfter, AreNextLocal, running_of, CanDo, HasTop, AreInstructionsLocal, IsNoneLocal}
 use Rattle.local_runs.proofs.Events.{run_on, chain}
 
 module _ (bursts : AreLocalBursts) (carried : IsStepCarried) (keep : IsStepKept) (theirs : AreLocalEventsTheirOwn) (files : List (List ℕ)) (trees : Program) (accepted : IsAccepted files trees)
@@ -133,6 +134,18 @@ are_local stand lend bursts carried keep theirs p shared t n shown top can files
     in
     by_own bursts carried keep theirs files trees accepted p bounds shared events has t n stand program shown top can own.own own.lends top.stack refl
 
+-- where there was memory for it
+pub local_if : AreInstructionsLocal → (p : LinkedProgram) (shared : Shared) (t : ℕ) (shown : ShownFrame) → HasTop shared t shown → {E : Type 0} (result : Result ℕ E) → IfOk result (CanDo p shown)
+    → IfOk result (AreNextLocal p shared t)
+local_if holds p shared t shown top (Ok n) can = holds p shared t n shown top can
+local_if holds p shared t shown top (Err e) can = tt
+
 pub none_local : IsNoneLocal
 none_local p shared t files trees accepted program bounds events has state reached =
     record { threads = []; last = state; are_local = refl; reached = ap (run trees bounds.frames) (append-nil events) ∙ reached }
+
+-- ---- a copy of the frame
+
+pub can_do : (p : LinkedProgram) (shown : ShownFrame) (code : List LinkedInstruction) (from then : Running) (n : ℕ) → code ≡ code_of p shown.method → from ≡ running_of shown
+    → steps code n from ≡ Some then → CanDo p shown n
+can_do p shown code from then n code_is from_is e = (then, ap (λ l. steps l n (running_of shown)) (sym code_is) ∙ ap (steps code n) (sym from_is) ∙ e)
