@@ -127,12 +127,15 @@ goes_by goes result event old new steps = (
 -- ---- local events
 
 -- what is lent is of the machine
-pub behind_if : (m : MachineOf) (p : LinkedProgram) (shared : Shared) (event : Event) → p ≡ m.program → shared ≡ m.shared → event.pick ≡ 0 → {E : Type 0} (result : Result ℕ E)
-    → IfOk result (AreNextLocal p shared event.thread) → IfOk result (AreLocalBehind m event)
-behind_if m p shared event program_is shared_is plain (Ok n) next files trees events has =
+behind : (m : MachineOf) (p : LinkedProgram) (shared : Shared) (event : Event) (n : ℕ) → p ≡ m.program → shared ≡ m.shared → event.pick ≡ 0 → AreNextLocal p shared event.thread n → AreLocalBehind m event n
+behind m p shared event n program_is shared_is plain next files trees events has =
     let is : event_of event.thread ≡ event = ap (λ k. let e : Event = record { thread = event.thread; pick = k } in e) (sym plain) in
     let here : AreNextLocal m.program m.shared event.thread n = subst (λ q. AreNextLocal q m.shared event.thread n) program_is (subst (λ s. AreNextLocal p s event.thread n) shared_is next) in
     subst (λ e. AreLocalAfter trees m.limits.frames events (replicate n e)) is (here files trees has.accepted has.program (bounds_of m.limits) events has.run)
+
+pub behind_if : (m : MachineOf) (p : LinkedProgram) (shared : Shared) (event : Event) → p ≡ m.program → shared ≡ m.shared → event.pick ≡ 0 → {E : Type 0} (result : Result ℕ E)
+    → IfOk result (AreNextLocal p shared event.thread) → IfOk result (AreLocalBehind m event)
+behind_if m p shared event program_is shared_is plain (Ok n) next = behind m p shared event n program_is shared_is plain next
 behind_if m p shared event program_is shared_is plain (Err e) next = tt
 
 pub none_behind : (m : MachineOf) (event : Event) → AreLocalBehind m event 0
