@@ -44,7 +44,8 @@ module _ (files : Program) where
 
   -- ---- which classes are below which
 
-  within_next : (m : ℕ) (c s d : Name) → superclass_of files c ≡ Some s → is_within files (suc m) c d ≡ (name_eq c d || is_within files m s d)
+  within_next : (m : ℕ) (c s d : Name) → superclass_of files c ≡ Some s
+      → is_within files (suc m) c d ≡ (name_eq c d || is_within files m s d)
   within_next m c s d e = ap (λ o. name_eq c d || option_map_or (λ s. is_within files m s d) o false) e
 
   within_last : (m : ℕ) (c d : Name) → superclass_of files c ≡ None → is_within files (suc m) c d ≡ name_eq c d
@@ -74,7 +75,8 @@ module _ (files : Program) where
       within_next m c h.0 d h.1.0 ∙ ap (λ b. name_eq c d || b) (not_within m k (suc k) h.0 d h.1.1 g (omega arith)) ∙ or-false (name_eq c d)
 
   -- what is above a class, and not so deep, is above its superclass
-  subclass_deeper : (k j : ℕ) (c s d : Name) → superclass_of files c ≡ Some s → HasDepth k s → HasDepth j d → j ≤ k → k < length (classes_of files) → is_subclass files c d ≡ is_subclass files s d
+  subclass_deeper : (k j : ℕ) (c s d : Name) → superclass_of files c ≡ Some s → HasDepth k s → HasDepth j d → j ≤ k
+      → k < length (classes_of files) → is_subclass files c d ≡ is_subclass files s d
   subclass_deeper k j c s d e h g l m =
       let all = length (classes_of files) in
       within_enough (suc k) all c d (s, (e, h)) (omega (arith, m)) ∙ within_next k c s d e
@@ -83,10 +85,12 @@ module _ (files : Program) where
 
   -- ---- the first common class
 
-  common_next : (m : ℕ) (c s d : Name) → superclass_of files c ≡ Some s → common_within files (suc m) c d ≡ cond (is_subclass files d c) (Some c) (common_within files m s d)
+  common_next : (m : ℕ) (c s d : Name) → superclass_of files c ≡ Some s
+      → common_within files (suc m) c d ≡ cond (is_subclass files d c) (Some c) (common_within files m s d)
   common_next m c s d e = ap (λ o. cond (is_subclass files d c) (Some c) (option_and_then (λ s. common_within files m s d) o)) e
 
-  common_last : (m : ℕ) (c d : Name) → superclass_of files c ≡ None → common_within files (suc m) c d ≡ cond (is_subclass files d c) (Some c) None
+  common_last : (m : ℕ) (c d : Name) → superclass_of files c ≡ None
+      → common_within files (suc m) c d ≡ cond (is_subclass files d c) (Some c) None
   common_last m c d e = ap (λ o. cond (is_subclass files d c) (Some c) (option_and_then (λ s. common_within files m s d) o)) e
 
   common_enough : (k m n : ℕ) (c d : Name) → HasDepth k c → k < m → k < n → common_within files m c d ≡ common_within files n c d
@@ -99,7 +103,8 @@ module _ (files : Program) where
       ∙ sym (common_next n c h.0 d h.1.0)
 
   -- it is the same from the superclass of the second class, where that is the deeper one
-  common_deeper : (m k j : ℕ) (c d t : Name) → superclass_of files d ≡ Some t → HasDepth k t → HasDepth j c → j ≤ k → k < length (classes_of files) → common_within files m c d ≡ common_within files m c t
+  common_deeper : (m k j : ℕ) (c d t : Name) → superclass_of files d ≡ Some t → HasDepth k t → HasDepth j c → j ≤ k
+      → k < length (classes_of files) → common_within files m c d ≡ common_within files m c t
   common_deeper zero k j c d t e h g l r = refl
   common_deeper (suc m) k zero c d t e h g l r =
       common_last m c d g ∙ ap (λ b. cond b (Some c) None) (subclass_deeper k zero d t c e h g l r) ∙ sym (common_last m c t g)
@@ -110,7 +115,8 @@ module _ (files : Program) where
       ∙ sym (common_next m c g.0 t g.1.0)
 
   -- and from the superclass of the first class, where that is the deeper one
-  common_above_first : (m k j : ℕ) (c s d : Name) → superclass_of files c ≡ Some s → HasDepth k s → HasDepth j d → j ≤ k → common_within files (suc m) c d ≡ common_within files m s d
+  common_above_first : (m k j : ℕ) (c s d : Name) → superclass_of files c ≡ Some s → HasDepth k s → HasDepth j d → j ≤ k
+      → common_within files (suc m) c d ≡ common_within files m s d
   common_above_first m k j c s d e h g l =
       common_next m c s d e ∙ ap (λ b. cond b (Some c) (common_within files m s d)) (not_within (length (classes_of files)) j (suc k) d c g (s, (e, h)) (omega (arith, l)))
 
@@ -129,7 +135,9 @@ module _ (files : Program) where
   above_more (suc i) j zero c a e h = absurd (omega (arith, e))
   above_more (suc i) j (suc m) c a e h = by (superclass_of files c) refl h (λ s. above_more i j m s a (omega (arith, e)))
     where
-      by : (o : Option Name) → superclass_of files c ≡ o → option_and_then (λ s. class_above files i s) o ≡ Some a → ((s : Name) → class_above files i s ≡ Some a → class_above files m s ≡ class_above files j a) → class_above files (suc m) c ≡ class_above files j a
+      by : (o : Option Name) → superclass_of files c ≡ o → option_and_then (λ s. class_above files i s) o ≡ Some a
+          → ((s : Name) → class_above files i s ≡ Some a → class_above files m s ≡ class_above files j a)
+          → class_above files (suc m) c ≡ class_above files j a
       by None q h more = absurd cc
       by (Some s) q h more = above_next m c s q ∙ more s h
 
@@ -143,7 +151,8 @@ module _ (files : Program) where
   -- ---- subclasses
 
   -- a class is below one of no more superclasses where that stands above it by so many steps
-  pub subclass_raised : (i j k : ℕ) (c d a : Name) → HasDepth k c → HasDepth j d → j + i ≡ k → k < length (classes_of files) → class_above files i c ≡ Some a → is_subclass files c d ≡ name_eq a d
+  pub subclass_raised : (i j k : ℕ) (c d a : Name) → HasDepth k c → HasDepth j d → j + i ≡ k → k < length (classes_of files)
+      → class_above files i c ≡ Some a → is_subclass files c d ≡ name_eq a d
   subclass_raised zero j k c d a h g e l q =
       let same : k ≡ j = omega (arith, e) in
       within_level (length (classes_of files)) j c d (subst (λ n. HasDepth n c) same h) g ∙ ap (λ n. name_eq n d) (itself c a q)
@@ -157,14 +166,16 @@ module _ (files : Program) where
 
   -- ---- the first common superclass, from classes above
 
-  pub join_second : (i k j : ℕ) (c d t : Name) → HasDepth k c → HasDepth j d → k + i ≡ j → j < length (classes_of files) → class_above files i d ≡ Some t → class_join files c d ≡ class_join files c t
+  pub join_second : (i k j : ℕ) (c d t : Name) → HasDepth k c → HasDepth j d → k + i ≡ j → j < length (classes_of files)
+      → class_above files i d ≡ Some t → class_join files c d ≡ class_join files c t
   join_second zero k j c d t h g e l q = ap (class_join files c) (itself d t q)
   join_second (suc i) k zero c d t h g e l q = absurd (omega (arith, e))
   join_second (suc i) k (suc j) c d t h g e l q =
       common_deeper (suc (length (classes_of files))) j k c d g.0 g.1.0 g.1.1 h (omega (arith, e)) (omega (arith, l))
       ∙ join_second i k j c g.0 t h g.1.1 (omega (arith, e)) (omega (arith, l)) (sym (above_next i d g.0 g.1.0) ∙ q)
 
-  pub join_first : (i k j : ℕ) (c d s : Name) → HasDepth k c → HasDepth j d → j + i ≡ k → k < length (classes_of files) → class_above files i c ≡ Some s → class_join files c d ≡ class_join files s d
+  pub join_first : (i k j : ℕ) (c d s : Name) → HasDepth k c → HasDepth j d → j + i ≡ k → k < length (classes_of files)
+      → class_above files i c ≡ Some s → class_join files c d ≡ class_join files s d
   join_first zero k j c d s h g e l q = ap (λ n. class_join files n d) (itself c s q)
   join_first (suc i) zero j c d s h g e l q = absurd (omega (arith, e))
   join_first (suc i) (suc k) j c d s h g e l q =
@@ -174,7 +185,9 @@ module _ (files : Program) where
       ∙ join_first i k j h.0 d s h.1.1 g (omega (arith, e)) (omega (arith, l)) (sym (above_next i c h.0 h.1.0) ∙ q)
 
   -- classes at one depth have that of their superclasses
-  pub join_next : (k : ℕ) (c d s t : Name) → HasDepth (suc k) c → HasDepth (suc k) d → superclass_of files c ≡ Some s → superclass_of files d ≡ Some t → suc k < length (classes_of files) → name_eq c d ≡ false → class_join files c d ≡ class_join files s t
+  pub join_next : (k : ℕ) (c d s t : Name) → HasDepth (suc k) c → HasDepth (suc k) d → superclass_of files c ≡ Some s
+      → superclass_of files d ≡ Some t → suc k < length (classes_of files) → name_eq c d ≡ false
+      → class_join files c d ≡ class_join files s t
   join_next k c d s t h g p q l ne =
       let all = length (classes_of files) in
       let above_c : HasDepth k s = subst (HasDepth k) (one_value (superclass_of files c) h.0 s h.1.0 p) h.1.1 in
@@ -186,7 +199,8 @@ module _ (files : Program) where
       ∙ common_enough k all (suc all) s t above_c (omega (arith, l)) (omega (arith, l))
 
   -- and that of any two above them that are not yet one
-  pub join_skip : (i m : ℕ) (c d a b : Name) → HasDepth m c → HasDepth m d → i ≤ m → m < length (classes_of files) → class_above files i c ≡ Some a → class_above files i d ≡ Some b → name_eq a b ≡ false → class_join files c d ≡ class_join files a b
+  pub join_skip : (i m : ℕ) (c d a b : Name) → HasDepth m c → HasDepth m d → i ≤ m → m < length (classes_of files)
+      → class_above files i c ≡ Some a → class_above files i d ≡ Some b → name_eq a b ≡ false → class_join files c d ≡ class_join files a b
   join_skip zero m c d a b h g e l p q ne = ap (λ n. class_join files n d) (itself c a p) ∙ ap (class_join files a) (itself d b q)
   join_skip (suc i) zero c d a b h g e l p q ne = absurd (omega (arith, e))
   join_skip (suc i) (suc m) c d a b h g e l p q ne =

@@ -46,10 +46,12 @@ module _ (files : Program) where
     pub named : place_of files (name_at files place) ≡ Some place
     pub few : depth_in table place < length (classes_of files)
     pub up : IsUp table place (superclass_of files (name_at files place))
-    -- ---- what was checked
 
 module _ (files : Program) (table : List Lineage) where
-  told_by : (place : ℕ) (file : FileTree) → class_at files place ≡ Some file → has_lineage files table place file ≡ true → Told files table place
+  -- ---- what was checked
+
+  told_by : (place : ℕ) (file : FileTree) → class_at files place ≡ Some file → has_lineage files table place file ≡ true
+      → Told files table place
   told_by place file at e =
       let one = and_parts _ _ e in
       let two = and_parts _ _ one.1 in
@@ -63,7 +65,8 @@ module _ (files : Program) (table : List Lineage) where
         up = subst (IsUp files table place) (sym above) (up_by (super_name_of file) two.1);
       }
     where
-      up_by : (o : Option Name) → option_map_or (is_directly_below files table place) o (is_root table place) ≡ true → IsUp files table place o
+      up_by : (o : Option Name) → option_map_or (is_directly_below files table place) o (is_root table place) ≡ true
+          → IsUp files table place o
       up_by None e = let two = and_parts _ _ e in (eqb-true _ _ two.0, eqb-true _ _ two.1)
       up_by (Some s) e =
           let one = and_parts _ _ e in
@@ -75,7 +78,8 @@ module _ (files : Program) (table : List Lineage) (all_told : HasLineages files 
   pub told : (place : ℕ) → place < length table → Told files table place
   told place l = by (class_at files place) refl (all_told place l)
     where
-      by : (o : Option FileTree) → class_at files place ≡ o → option_map_or (has_lineage files table place) o false ≡ true → Told files table place
+      by : (o : Option FileTree) → class_at files place ≡ o → option_map_or (has_lineage files table place) o false ≡ true
+          → Told files table place
       by None q e = absurd cc
       by (Some file) q e = told_by files table place file q e
 
@@ -91,11 +95,14 @@ module _ (files : Program) (table : List Lineage) (all_told : HasLineages files 
 
   -- ---- depths
 
-  has_depth_by : (n place : ℕ) → depth_in table place < n → place < length table → HasDepth files (depth_in table place) (name_at files place)
+  has_depth_by : (n place : ℕ) → depth_in table place < n → place < length table
+      → HasDepth files (depth_in table place) (name_at files place)
   has_depth_by zero place d l = absurd (omega (arith, d))
   has_depth_by (suc n) place d l = by (superclass_of files (name_at files place)) refl (told place l).up (λ up. has_depth_by n up)
     where
-      by : (o : Option Name) → superclass_of files (name_at files place) ≡ o → IsUp files table place o → ((up : ℕ) → depth_in table up < n → up < length table → HasDepth files (depth_in table up) (name_at files up)) → HasDepth files (depth_in table place) (name_at files place)
+      by : (o : Option Name) → superclass_of files (name_at files place) ≡ o → IsUp files table place o
+          → ((up : ℕ) → depth_in table up < n → up < length table → HasDepth files (depth_in table up) (name_at files up))
+          → HasDepth files (depth_in table place) (name_at files place)
       by None q u before = subst (λ k. HasDepth files k (name_at files place)) (sym u.0) q
       by (Some s) q u before =
           let up = superclass_in table place in
@@ -123,7 +130,8 @@ module _ (files : Program) (table : List Lineage) (all_told : HasLineages files 
   pub record Skipped (place : ℕ) : Type 0 where
     pub within : skip_in table place < length table
     pub less : depth_in table (skip_in table place) ≤ depth_in table place
-    pub above : class_above files (depth_in table place - depth_in table (skip_in table place)) (name_at files place) ≡ Some (name_at files (skip_in table place))
+    pub above : class_above files (depth_in table place - depth_in table (skip_in table place)) (name_at files place)
+        ≡ Some (name_at files (skip_in table place))
 
   none_less : (k : ℕ) (c : Name) → class_above files (k - k) c ≡ Some c
   none_less k c = let z : k - k ≡ 0 = omega arith in ap (λ n. class_above files n c) z
@@ -143,7 +151,9 @@ module _ (files : Program) (table : List Lineage) (all_told : HasLineages files 
       }
 
       -- a class above the superclass
-      further : (s : Name) (p k : ℕ) → superclass_of files (name_at files place) ≡ Some s → name_at files up ≡ s → depth_in table place ≡ suc (depth_in table up) → skip_in table place ≡ p → p < length table → depth_in table p ≤ depth_in table up
+      further : (s : Name) (p k : ℕ) → superclass_of files (name_at files place) ≡ Some s → name_at files up ≡ s
+          → depth_in table place ≡ suc (depth_in table up) → skip_in table place ≡ p → p < length table
+          → depth_in table p ≤ depth_in table up
           → k ≡ depth_in table up - depth_in table p → class_above files k (name_at files up) ≡ Some (name_at files p) → Skipped place
       further s p k q named deep e lp less is h =
           let steps : depth_in table place - depth_in table p ≡ suc k = omega (arith, deep, less, is) in
@@ -154,7 +164,8 @@ module _ (files : Program) (table : List Lineage) (all_told : HasLineages files 
                 (ap (λ m. class_above files m (name_at files place)) steps ∙ above_next files k (name_at files place) s q ∙ ap (class_above files k) (sym named) ∙ h);
           }
 
-      by : (o : Option Name) → superclass_of files (name_at files place) ≡ o → IsUp files table place o → ((p : ℕ) → depth_in table p < n → p < length table → Skipped p) → Skipped place
+      by : (o : Option Name) → superclass_of files (name_at files place) ≡ o → IsUp files table place o
+          → ((p : ℕ) → depth_in table p < n → p < length table → Skipped p) → Skipped place
       by None q u before = to_itself u.1
       by (Some s) q u before =
           ⊎_elim

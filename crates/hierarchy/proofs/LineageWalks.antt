@@ -15,11 +15,13 @@ use Rattle.hierarchy.proofs.LineageLaws.{told, differ, has_depth, directly_above
 module _ (files : Program) (table : List Lineage) (all_told : HasLineages files table) where
   -- ---- to a depth
 
-  pub raised_here : (place depth : ℕ) → depth_in table place ≤ depth → class_above files (depth_in table place - depth) (name_at files place) ≡ Some (name_at files place)
+  pub raised_here : (place depth : ℕ) → depth_in table place ≤ depth
+      → class_above files (depth_in table place - depth) (name_at files place) ≡ Some (name_at files place)
   raised_here place depth l = let z : depth_in table place - depth ≡ 0 = omega (arith, l) in ap (λ n. class_above files n (name_at files place)) z
 
   pub raised_by_skip : (place depth : ℕ) → place < length table → depth ≤ depth_in table (skip_in table place)
-      → class_above files (depth_in table place - depth) (name_at files place) ≡ class_above files (depth_in table (skip_in table place) - depth) (name_at files (skip_in table place))
+      → class_above files (depth_in table place - depth) (name_at files place)
+      ≡ class_above files (depth_in table (skip_in table place) - depth) (name_at files (skip_in table place))
   raised_by_skip place depth l h =
       let skip = skipped files table all_told place l in
       let middle = depth_in table (skip_in table place) in
@@ -34,17 +36,20 @@ module _ (files : Program) (table : List Lineage) (all_told : HasLineages files 
       (up.within, ap (λ n. class_above files n (name_at files place)) steps ∙ above_next files (depth_in table (superclass_in table place) - depth) (name_at files place) (name_at files (superclass_in table place)) up.above)
 
   -- the class that it is raised to has just so many superclasses
-  pub raised_depth : (depth place p : ℕ) → place < length table → depth ≤ depth_in table place → IsRaised files table depth place p → depth_in table p ≡ depth
+  pub raised_depth : (depth place p : ℕ) → place < length table → depth ≤ depth_in table place → IsRaised files table depth place p
+      → depth_in table p ≡ depth
   raised_depth depth place p l h r =
       one_depth files (depth_in table p) depth (name_at files p) (has_depth files table all_told p r.within)
       (depth_above files (depth_in table place - depth) depth (depth_in table place) (name_at files place) (name_at files p) (omega (arith, h)) (has_depth files table all_told place l) r.above)
 
   -- ---- subclasses
 
-  pub not_below : (c d : ℕ) → c < length table → d < length table → depth_in table c < depth_in table d → false ≡ is_subclass files (name_at files c) (name_at files d)
+  pub not_below : (c d : ℕ) → c < length table → d < length table → depth_in table c < depth_in table d
+      → false ≡ is_subclass files (name_at files c) (name_at files d)
   not_below c d lc ld h = sym (no_subclass files (depth_in table c) (depth_in table d) (name_at files c) (name_at files d) (has_depth files table all_told c lc) (has_depth files table all_told d ld) h)
 
-  pub below_raised : (c d p : ℕ) → c < length table → d < length table → depth_in table d ≤ depth_in table c → IsRaised files table (depth_in table d) c p → (p == d) ≡ is_subclass files (name_at files c) (name_at files d)
+  pub below_raised : (c d p : ℕ) → c < length table → d < length table → depth_in table d ≤ depth_in table c
+      → IsRaised files table (depth_in table d) c p → (p == d) ≡ is_subclass files (name_at files c) (name_at files d)
   below_raised c d p lc ld h r =
       same (eqb_tells p d)
       ∙ sym (subclass_raised files (depth_in table c - depth_in table d) (depth_in table d) (depth_in table c) (name_at files c) (name_at files d) (name_at files p) (has_depth files table all_told c lc) (has_depth files table all_told d ld)
@@ -59,20 +64,24 @@ module _ (files : Program) (table : List Lineage) (all_told : HasLineages files 
 
   -- ---- joins
 
-  pub join_of_first_raised : (c d p : ℕ) → c < length table → d < length table → depth_in table d ≤ depth_in table c → IsRaised files table (depth_in table d) c p
+  pub join_of_first_raised : (c d p : ℕ) → c < length table → d < length table → depth_in table d ≤ depth_in table c
+      → IsRaised files table (depth_in table d) c p
       → class_join files (name_at files c) (name_at files d) ≡ class_join files (name_at files p) (name_at files d)
   join_of_first_raised c d p lc ld h r =
       join_first files (depth_in table c - depth_in table d) (depth_in table c) (depth_in table d) (name_at files c) (name_at files d) (name_at files p) (has_depth files table all_told c lc) (has_depth files table all_told d ld)
       (omega (arith, h)) (told files table all_told c lc).few r.above
 
-  pub join_of_second_raised : (c d p : ℕ) → c < length table → d < length table → depth_in table c < depth_in table d → IsRaised files table (depth_in table c) d p
+  pub join_of_second_raised : (c d p : ℕ) → c < length table → d < length table → depth_in table c < depth_in table d
+      → IsRaised files table (depth_in table c) d p
       → class_join files (name_at files c) (name_at files d) ≡ class_join files (name_at files c) (name_at files p)
   join_of_second_raised c d p lc ld h r =
       join_second files (depth_in table d - depth_in table c) (depth_in table c) (depth_in table d) (name_at files c) (name_at files d) (name_at files p) (has_depth files table all_told c lc) (has_depth files table all_told d ld)
       (omega (arith, h)) (told files table all_told d ld).few r.above
 
-  pub met_by_skip : (a b : ℕ) → a < length table → b < length table → depth_in table a ≡ depth_in table b → (skip_in table a ≡ skip_in table b → ⊥) → depth_in table (skip_in table a) ≡ depth_in table (skip_in table b)
-      → class_join files (name_at files a) (name_at files b) ≡ class_join files (name_at files (skip_in table a)) (name_at files (skip_in table b))
+  pub met_by_skip : (a b : ℕ) → a < length table → b < length table → depth_in table a ≡ depth_in table b
+      → (skip_in table a ≡ skip_in table b → ⊥) → depth_in table (skip_in table a) ≡ depth_in table (skip_in table b)
+      → class_join files (name_at files a) (name_at files b)
+      ≡ class_join files (name_at files (skip_in table a)) (name_at files (skip_in table b))
   met_by_skip a b la lb level ne deep =
       let of_a = skipped files table all_told a la in
       let of_b = skipped files table all_told b lb in
@@ -86,9 +95,11 @@ module _ (files : Program) (table : List Lineage) (all_told : HasLineages files 
     pub of_a : superclass_in table a < length table
     pub of_b : superclass_in table b < length table
     pub level : depth_in table (superclass_in table a) ≡ depth_in table (superclass_in table b)
-    pub join : class_join files (name_at files a) (name_at files b) ≡ class_join files (name_at files (superclass_in table a)) (name_at files (superclass_in table b))
+    pub join : class_join files (name_at files a) (name_at files b)
+        ≡ class_join files (name_at files (superclass_in table a)) (name_at files (superclass_in table b))
 
-  pub met_by_one : (a b : ℕ) → a < length table → b < length table → depth_in table a ≡ depth_in table b → (a ≡ b → ⊥) → (depth_in table a ≡ 0 → ⊥) → MetByOne a b
+  pub met_by_one : (a b : ℕ) → a < length table → b < length table → depth_in table a ≡ depth_in table b → (a ≡ b → ⊥)
+      → (depth_in table a ≡ 0 → ⊥) → MetByOne a b
   met_by_one a b la lb level ne deep =
       let up_a = directly_above files table all_told a la deep in
       let up_b = directly_above files table all_told b lb (λ z. deep (level ∙ z)) in

@@ -50,7 +50,8 @@ has_lineage files table place file =
 
 -- it is so of each class that the table has; the empty table has none
 abbrev pub HasLineages : Program → List Lineage → Type 0
-HasLineages files table = (place : ℕ) → place < length table → option_map_or (has_lineage files table place) (class_at files place) false ≡ true
+HasLineages files table =
+    (place : ℕ) → place < length table → option_map_or (has_lineage files table place) (class_at files place) false ≡ true
 
 -- ---- going up
 

@@ -16,7 +16,8 @@ fn class_toward(set: &ClassSet, table: &[Lineage], place: usize, depth: usize) -
     requires within { place < length table.now }
     requires deeper { depth < depth_in table.now place }
     ensures within { result < length table.now }
-    ensures above { class_above set.now (depth_in table.now place - depth) (name_at set.now place) ≡ class_above set.now (depth_in table.now result - depth) (name_at set.now result) }
+    ensures above { class_above set.now (depth_in table.now place - depth) (name_at set.now place)
+        ≡ class_above set.now (depth_in table.now result - depth) (name_at set.now result) }
 {
     let skip = skip_in(table, place);
     if depth <= depth_in(table, skip) {
@@ -55,7 +56,8 @@ fn level_above(set: &ClassSet, table: &[Lineage], level: Level) -> Level
     requires differ { level.first ≡ level.second → ⊥ }
     requires deep { depth_in table.now level.first ≡ 0 → ⊥ }
     ensures level { IsLevel table.now result.first result.second }
-    ensures join { class_join set.now (name_at set.now level.first) (name_at set.now level.second) ≡ class_join set.now (name_at set.now result.first) (name_at set.now result.second) }
+    ensures join { class_join set.now (name_at set.now level.first) (name_at set.now level.second)
+        ≡ class_join set.now (name_at set.now result.first) (name_at set.now result.second) }
 {
     let first = skip_in(table, level.first);
     let second = skip_in(table, level.second);
