@@ -12,23 +12,6 @@ use Rattle.verifier.specs.Agreeing.{is_among, AgreeBut, AgreeAt}
 module _ {A : Type 0} where
   -- ---- items
 
-  pub same_items : (xs ys : List A) → ((k : ℕ) → slice_get xs k ≡ slice_get ys k) → xs ≡ ys
-  same_items [] [] same = refl
-  same_items [] (y ∷ ys) same = absurd (none_is (same zero))
-    where
-      none_is : None ≡ Some y → ⊥
-      none_is e = cc
-  same_items (x ∷ xs) [] same = absurd (some_is (same zero))
-    where
-      some_is : Some x ≡ None → ⊥
-      some_is e = cc
-  same_items (x ∷ xs) (y ∷ ys) same =
-      let head : x ≡ y = first (same zero) in
-      ap (λ z. z ∷ xs) head ∙ ap (λ l. y ∷ l) (same_items xs ys (λ k. same (suc k)))
-    where
-      first : Some x ≡ Some y → x ≡ y
-      first e = cc
-
   set_alike : (xs ys : List A) (i k : ℕ) (v : A) → length xs ≡ length ys → slice_get xs k ≡ slice_get ys k
       → slice_get (slice_set xs i v) k ≡ slice_get (slice_set ys i v) k
   set_alike [] [] i k v l e = refl
@@ -54,35 +37,6 @@ module _ {A : Type 0} where
       record {
         long = length-set xs i v ∙ (a.long ∙ sym (length-set ys i v));
         same = λ k n. set_alike xs ys i k v a.long (a.same k n);
-      }
-
-  -- one of the places that differ may be set
-  pub but_set_one : (ks : List ℕ) (xs : List A) (i : ℕ) (v : A) → is_among ks i ≡ true → AgreeBut ks xs (slice_set xs i v)
-  but_set_one ks xs i v e =
-      record {
-        long = sym (length-set xs i v);
-        same = λ k n. sym (get_set_other xs i k v (λ q. false≢true (sym n ∙ subst (λ j. is_among ks j ≡ true) (sym q) e)));
-      }
-
-  pub but_trans : (ks : List ℕ) (xs ys zs : List A) → AgreeBut ks xs ys → AgreeBut ks ys zs → AgreeBut ks xs zs
-  but_trans ks xs ys zs a b = record { long = a.long ∙ b.long; same = λ k n. a.same k n ∙ b.same k n }
-
-  among_left : (ks js : List ℕ) (k : ℕ) → is_among (ks ++ js) k ≡ false → (is_among ks k ≡ false) × (is_among js k ≡ false)
-  among_left [] js k e = (refl, e)
-  among_left (i ∷ ks) js k e = by (i == k) refl e
-    where
-      by : (b : Bool) → (i == k) ≡ b → is_among (i ∷ (ks ++ js)) k ≡ false → (is_among (i ∷ ks) k ≡ false) × (is_among js k ≡ false)
-      by true q f = absurd (false≢true (sym f ∙ ap (λ b. b || is_among (ks ++ js) k) q))
-      by false q f =
-          let rest = among_left ks js k (sym (ap (λ b. b || is_among (ks ++ js) k) q) ∙ f) in
-          (ap (λ b. b || is_among ks k) q ∙ rest.0, rest.1)
-
-  -- agreement but at some places, and then but at some others
-  pub but_then : (ks js : List ℕ) (xs ys zs : List A) → AgreeBut ks xs ys → AgreeBut js ys zs → AgreeBut (ks ++ js) xs zs
-  but_then ks js xs ys zs a b =
-      record {
-        long = a.long ∙ b.long;
-        same = λ k n. let parts = among_left ks js k n in a.same k parts.0 ∙ b.same k parts.1;
       }
 
   pub but_map : {B : Type 0} (f : A → B) (ks : List ℕ) (xs ys : List A) → AgreeBut ks xs ys → AgreeBut ks (map f xs) (map f ys)

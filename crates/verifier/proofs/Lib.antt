@@ -1,6 +1,7 @@
 pub mod Linked
 pub mod Runs
 pub mod Agreeing
+pub mod Joining
 pub mod Kept
 pub mod Raising
 pub mod Untouched
@@ -10,4 +11,5 @@ pub mod Merges
 pub mod Looked
 pub mod Passing
 pub mod Turns
+pub mod Turned
 pub mod Members
