@@ -6,7 +6,7 @@ ghost use Rattle.search.specs.search_reports.Answers.{Answers, IsAnswerTo};
 
 use crate::run_outcomes::Wanted;
 use crate::search_reports::answers::{Answer, SearchReport};
-use crate::{Verdict, search};
+use crate::{Progress, Verdict, search};
 use model::{End, Limits};
 use program_runs::machine_replay::replay;
 use schedule::Schedule;
@@ -47,9 +47,10 @@ fn answer_to(
 }
 
 /// Searches all schedules of verified class files (JVMS 2.5, 2.6, 5.5, chapter 6; JLS 17), as far as so many states, for a run whose
-/// outcome is wanted. Of runs that never end nothing is said. The only error is a want of memory.
-pub fn search_report(
+/// outcome is wanted. Of runs that never end nothing is said. Meanwhile it tells how far it has come. The only error is a want of memory.
+pub fn search_report<P: Progress>(
     alloc: Global,
+    progress: &P,
     verified: &Verified,
     limits: Limits,
     wanted: &Wanted,
@@ -57,7 +58,7 @@ pub fn search_report(
 ) -> Result<SearchReport, AllocError>
     ensures { IfOk result (λ r. Answers verified.now limits wanted.now r.answer) }
 {
-    let searched = search(alloc, verified, limits, wanted, most)?;
+    let searched = search(alloc, progress, verified, limits, wanted, most)?;
     let states = searched.states;
     let answer = answer_to(alloc, verified, limits, searched.verdict)?;
     Ok(SearchReport { answer, states })
