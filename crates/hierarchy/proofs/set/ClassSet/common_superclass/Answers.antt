@@ -7,5 +7,8 @@ use Rattle.hierarchy.proofs.set.ClassSet.common_superclass.Goals as goal
 pub common_superclass-requires : goal.common_superclass-requires
 common_superclass-requires c =
     let set = c.self.inside in
-    subst (λ files. HasLineages files c.deref.result.now) c.self.view_is
-    (subst (λ (table : List Lineage). HasLineages (files_of (trees_of set.classes.items)) table) (sym c.deref.ensures.value) c.self.invariant.lineages)
+    record {
+      told =
+          subst (λ files. HasLineages files c.deref.result.now) c.self.view_is
+          (subst (λ (table : List Lineage). HasLineages (files_of (trees_of set.classes.items)) table) (sym c.deref.ensures.value) c.self.invariant.lineages);
+    }

@@ -7,5 +7,8 @@ use Rattle.hierarchy.proofs.set.ClassSet.is_subclass_at.Goals as goal
 pub is_subclass_by-requires : goal.is_subclass_by-requires
 is_subclass_by-requires c =
     let set = c.self.inside in
-    subst (λ files. HasLineages files c.deref.result.now) c.self.view_is
-    (subst (λ (table : List Lineage). HasLineages (files_of (trees_of set.classes.items)) table) (sym c.deref.ensures.value) c.self.invariant.lineages)
+    record {
+      told =
+          subst (λ files. HasLineages files c.deref.result.now) c.self.view_is
+          (subst (λ (table : List Lineage). HasLineages (files_of (trees_of set.classes.items)) table) (sym c.deref.ensures.value) c.self.invariant.lineages);
+    }
