@@ -1,17 +1,17 @@
 -- What follows from a table of lineages.
-use Rattle.std.proofs.Common.{◌≡◌, ◌∙◌, ℕ, zero, suc, ◌+◌, ◌-◌, ◌<◌, ◌≤◌, length, Bool, true, false, ◌&&◌, ◌||◌, List, [], Option, Some, None, refl, sym, ap, subst, arith, ⊎_elim}
-use Rattle.std.specs.Prelude.{nat_lt, ◌==◌, slice_get}
+use Rattle.std.proofs.Common.{◌≡◌, ◌∙◌, ℕ, zero, suc, ◌-◌, ◌<◌, ◌≤◌, length, Bool, true, false, List, [], Option, Some, None, refl, sym, ap, subst, arith, ⊎_elim}
+use Rattle.std.specs.Prelude.{◌==◌}
 use Rattle.std.specs.Option.{option_and_then, option_map_or}
-use Rattle.std.proofs.lemmas.Bool.{and_parts, or_cases, eqb-true, ltb-true, both_ways}
+use Rattle.std.proofs.lemmas.Bool.{and_parts, or_cases, eqb-true, ltb-true}
 use Rattle.model.specs.Names.{Name, name_eq}
 use Rattle.model.specs.Tree.{FileTree}
-use Rattle.model.specs.Classes.{Program, name_of, super_name_of, classes_of, class_of, superclass_of, is_named}
+use Rattle.model.specs.Classes.{Program, name_of, super_name_of, classes_of, superclass_of, is_named}
 use Rattle.hierarchy.specs.Places.{class_at, place_of, name_at}
 use Rattle.hierarchy.specs.declared.lineage.Lineage.{Lineage}
-use Rattle.hierarchy.specs.Lineages.{depth_in, superclass_in, skip_in, stands_at, is_root, is_skip, is_directly_below, has_lineage, HasLineages, class_above, IsRaised}
+use Rattle.hierarchy.specs.Lineages.{depth_in, superclass_in, skip_in, stands_at, is_root, is_skip, is_directly_below, has_lineage, HasLineages, class_above}
 use Rattle.hierarchy.proofs.Finding.{position_within}
 use Rattle.hierarchy.proofs.SetLaws.{same_name, class_at_place, name_at_place, no_item}
-use Rattle.hierarchy.proofs.Climbing.{HasDepth, above_next, above_more, depth_above}
+use Rattle.hierarchy.proofs.Climbing.{HasDepth, above_next, above_more}
 
 module _ {A : Type 0} where
   the_same : (o : Option A) (x y : A) → o ≡ Some x → o ≡ Some y → x ≡ y

@@ -1,14 +1,14 @@
 -- Walks upwards by a table of lineages.
-use Rattle.std.proofs.Common.{◌≡◌, ◌∙◌, ℕ, zero, suc, ◌-◌, ◌<◌, ◌≤◌, length, Bool, true, false, List, Some, refl, sym, ap, subst, arith, ◌⊎◌, ⊎_elim}
+use Rattle.std.proofs.Common.{◌≡◌, ◌∙◌, ℕ, suc, ◌-◌, ◌<◌, ◌≤◌, length, true, false, List, Some, sym, ap, subst, arith, ◌⊎◌, ⊎_elim}
 use Rattle.std.specs.Prelude.{◌==◌}
 use Rattle.std.proofs.lemmas.Bool.Decides.{eqb_tells}
-use Rattle.model.specs.Names.{Name, name_eq}
-use Rattle.model.specs.Classes.{Program, classes_of, superclass_of, is_subclass}
+use Rattle.model.specs.Names.{name_eq}
+use Rattle.model.specs.Classes.{Program, classes_of, is_subclass}
 use Rattle.model.specs.TypeJoin.{class_join}
 use Rattle.hierarchy.specs.Places.{name_at}
 use Rattle.hierarchy.specs.declared.lineage.Lineage.{Lineage}
 use Rattle.hierarchy.specs.Lineages.{depth_in, superclass_in, skip_in, HasLineages, class_above, IsRaised}
-use Rattle.hierarchy.proofs.Climbing.{HasDepth, one_depth, above_next, above_more, depth_above, subclass_raised, no_subclass, join_second, join_first, join_next, join_skip, join_same}
+use Rattle.hierarchy.proofs.Climbing.{HasDepth, one_depth, above_next, above_more, depth_above, subclass_raised, no_subclass, join_second, join_first, join_next, join_skip}
 use Rattle.hierarchy.proofs.RowLaws.{name_eq_refl}
 use Rattle.hierarchy.proofs.LineageLaws.{told, differ, has_depth, directly_above, skipped}
 

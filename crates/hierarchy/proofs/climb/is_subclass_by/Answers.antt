@@ -1,4 +1,4 @@
-use Rattle.std.proofs.Common.{◌≡◌, ◌<◌, ◌≤◌, subst, arith}
+use Rattle.std.proofs.Common.{subst, arith}
 use Rattle.hierarchy.specs.Lineages.{depth_in, IsRaised}
 use Rattle.hierarchy.proofs.LineageWalks.{not_below, below_raised}
 use Rattle.hierarchy.proofs.climb.is_subclass_by.Goals as goal
