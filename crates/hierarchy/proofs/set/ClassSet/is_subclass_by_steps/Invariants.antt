@@ -1,6 +1,6 @@
 use Rattle.std.proofs.Common.{◌≡◌, ◌-◌, length}
 use Rattle.model.specs.Classes.{classes_of, is_within, is_subclass}
-use Rattle.hierarchy.proofs.set.ClassSet.is_subclass.Given as goal
+use Rattle.hierarchy.proofs.set.ClassSet.is_subclass_by_steps.Given as goal
 
 abbrev pub invariant-loop-step : goal.invariant-loop-step
 invariant-loop-step l =

@@ -1,10 +1,14 @@
-use Rattle.std.proofs.Common.{◌≡◌, ◌∙◌, List, map, sym, ap, subst}
+use Rattle.std.proofs.Common.{◌≡◌, ◌∙◌, ◌<◌, ℕ, List, [], length, map, sym, ap, subst, arith}
 use Rattle.model.specs.Classes.{Program, classes_of, name_of}
 use Rattle.model.specs.Linkable.{two_of_one_name}
 use Rattle.class_tree.specs.declared.tree.ClassFile.{ClassFile}
 use Rattle.hierarchy.specs.Set.{trees_of, files_of, IsRefused}
 use Rattle.hierarchy.proofs.Adding.{new_trees, its_files, is_whole, all_differ}
-use Rattle.hierarchy.proofs.set.ClassSet.new.Goals as goal
+use Rattle.hierarchy.proofs.set.ClassSet.without_lineages.Goals as goal
+
+-- the empty table has no place
+none_within : {A : Type 0} (place : ℕ) (xs : List A) → xs ≡ [] → place < length xs → ⊥
+none_within place xs e l = omega (arith, l, ap length e)
 
 pub names_of-requires-clause-whole : goal.names_of-requires-clause-whole
 names_of-requires-clause-whole c =
@@ -17,6 +21,7 @@ invariant_of-result c =
     record {
       whole = is_whole c.append.new.self.items (trees_of c.args.files.items) all;
       named = c.in-Ok.ensures.named ∙ ap (λ (l : List ClassFile). map name_of (trees_of l)) c.deref.ensures.value;
+      lineages = λ place l. absurd (none_within place c.new.result.items c.new.ensures.items l);
     }
 
 pub returns-in-Ok-clause-set : goal.returns-in-Ok-clause-set
