@@ -10,7 +10,7 @@ use Rattle.machine_state.specs.declared.state.Shared.{Shared}
 use Rattle.machine.specs.declared.machine.Stopped.{Stopped}
 use Rattle.machine.specs.Machines.{MachineOf}
 use Rattle.machine.specs.machine_reports.Told.{AreQuietAt, Reports}
-use Rattle.program_runs.specs.machine_replay.Shown.{Tells, end_of}
+use Rattle.machine.specs.machine_replay.Shown.{Tells, end_of}
 
 pub tells : (trees : Program) (m : MachineOf) (p : LinkedProgram) (shared : Shared) (limits : Limits) (done : ℕ) (why : Stopped)
     (r : Report) (end : End) (quiet : Bool) (ends : List EndState)

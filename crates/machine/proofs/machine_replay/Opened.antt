@@ -1,14 +1,13 @@
 -- A machine that was opened has done no event.
-use Rattle.std.proofs.Common.{◌≡◌, Result, Ok, Err, sym, ap, subst}
+use Rattle.std.proofs.Common.{Result, Ok, Err, ap}
 use Rattle.std.specs.Prelude.{IfOk}
 use Rattle.model.specs.declared.limits.Limits.{Limits}
 use Rattle.model.specs.Classes.{Program}
 use Rattle.model.specs.LimitStands.{bounds_of}
 use Rattle.linked_code.specs.declared.program.LinkedProgram.{LinkedProgram}
 use Rattle.machine_state.specs.shown_runs.Runs.{AreRunsOpened}
-use Rattle.machine.specs.Machines.{MachineOf, IsOfAccepted, Opens}
-use Rattle.program_runs.specs.verified_programs.Verified.{IsProgramOf}
-use Rattle.program_runs.specs.machine_replay.Shown.{IsOpened}
+use Rattle.machine.specs.Machines.{MachineOf, IsOfAccepted, IsProgramOf, Opens}
+use Rattle.machine.specs.machine_replay.Shown.{IsOpened}
 
 pub of_accepted : (trees : Program) (p : LinkedProgram) → IsProgramOf trees p → IsOfAccepted p
 of_accepted trees p h = record { files = h.files; trees = trees; accepted = h.accepted; program = h.program }
@@ -28,7 +27,7 @@ is_opened opens trees p limits m h o =
     }
 
 -- where there was memory for it
-pub opened_if : AreRunsOpened → (trees : Program) (p q : LinkedProgram) (limits : Limits) → IsProgramOf trees p → q ≡ p
-    → {E : Type 0} (result : Result MachineOf E) → IfOk result (Opens q limits) → IfOk result (IsOpened trees limits)
-opened_if opens trees p q limits h same (Ok m) o = is_opened opens trees q limits m (subst (IsProgramOf trees) (sym same) h) o
-opened_if opens trees p q limits h same (Err e) o = tt
+pub opened_if : AreRunsOpened → (trees : Program) (p : LinkedProgram) (limits : Limits) → IsProgramOf trees p
+    → {E : Type 0} (result : Result MachineOf E) → IfOk result (Opens p limits) → IfOk result (IsOpened trees limits)
+opened_if opens trees p limits h (Ok m) o = is_opened opens trees p limits m h o
+opened_if opens trees p limits h (Err e) o = tt

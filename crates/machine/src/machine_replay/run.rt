@@ -1,15 +1,17 @@
-//! Replaying a schedule over verified class files.
+//! Replaying a schedule over a linked program.
 
 ghost use Rattle.std.specs.Prelude.{◌≡◌, IfOk};
+ghost use Rattle.std.specs.Arc.{arc_value};
 ghost use Rattle.model.specs.Schedule.{events_of};
-ghost use Rattle.program_runs.specs.machine_replay.Replays.{IsReplay};
-ghost use Rattle.program_runs.specs.machine_replay.Shown.{IsOpened, Tells, end_of};
+ghost use Rattle.machine.specs.Machines.{IsProgramOf};
+ghost use Rattle.machine.specs.machine_replay.Replays.{IsReplay};
+ghost use Rattle.machine.specs.machine_replay.Shown.{Tells, end_of};
 
-use crate::verified_programs::verified_program;
+use crate::machine_reports::{is_quiet, report_of};
+use crate::schedule_runs::run_schedule;
+use crate::{Machine, Stopped};
 use hierarchy::ClassSet;
-use machine::machine_reports::{is_quiet, report_of};
-use machine::schedule_runs::run_schedule;
-use machine::{Machine, Stopped};
+use linked_code::LinkedProgram;
 use machine_state::shown_runs::runs_are_opened;
 use model::{End, Limits, Report};
 use run_laws::soundness::no_event_is_wrong;
@@ -17,20 +19,6 @@ use run_laws::word_reports::reports_of_words;
 use schedule::Schedule;
 use std::alloc::{AllocError, Global};
 use std::sync::Arc;
-use verifier::Verified;
-
-/// The machine of verified class files before any event.
-pub fn open_machine(
-    alloc: Global,
-    verified: &Verified,
-    limits: Limits,
-) -> Result<Machine, AllocError>
-    ensures { IfOk result (IsOpened verified.now limits) }
-{
-    runs_are_opened();
-    let program = verified_program(alloc, verified)?;
-    Machine::open(alloc, Arc::new(alloc, program)?, limits)
-}
 
 /// Why no more events were done than so many: where all of them were, by whether any thread may go on.
 fn end_of(why: Stopped, done: u64, quiet: bool) -> End
@@ -68,20 +56,23 @@ pub fn report_after(
     Ok((report, end))
 }
 
-/// Does the events of a schedule over verified class files, as far as they go, under the limits of the run (JVMS 2.5, 2.6, 5.5, chapter
-/// 6; JLS 17). The report is of those that were done, and the end says why no more were. The only error is a want of memory for the machine before any event, or for
-/// the report; where an event wants memory that isn't there, the end says so.
+/// Does the events of a schedule, as far as they go, under the limits of the run (JVMS 2.5, 2.6, 5.5, chapter 6; JLS 17). The program is
+/// that of the classes, which are accepted. The report is of the events that were done, and the end says why no more were. The only error
+/// is a want of memory for the machine before any event, or for the report; where an event wants memory that isn't there, the end says so.
 pub fn replay(
     alloc: Global,
-    verified: &Verified,
+    classes: &ClassSet,
+    program: Arc<LinkedProgram>,
     schedule: &Schedule,
     limits: Limits,
 ) -> Result<(Report, End), AllocError>
-    ensures { IfOk result (λ r. IsReplay verified.now (events_of schedule.now) limits r.0 r.1) }
+    requires { IsProgramOf classes.now (arc_value program) }
+    ensures { IfOk result (λ r. IsReplay classes.now (events_of schedule.now) limits r.0 r.1) }
 {
+    runs_are_opened();
     reports_of_words();
     no_event_is_wrong();
-    let mut machine = open_machine(alloc, verified, limits)?;
+    let mut machine = Machine::open(alloc, program, limits)?;
     let (done, why) = run_schedule(&mut machine, schedule);
-    report_after(alloc, &machine, verified.linked().set(), done, why)
+    report_after(alloc, &machine, classes, done, why)
 }

@@ -1,6 +1,6 @@
 use Rattle.std.proofs.Common.{◌∙◌}
-use Rattle.program_runs.proofs.machine_replay.Telling.{tells}
-use Rattle.program_runs.proofs.machine_replay.run.report_after.Goals as goal
+use Rattle.machine.proofs.machine_replay.Telling.{tells}
+use Rattle.machine.proofs.machine_replay.run.report_after.Goals as goal
 
 pub returns : goal.returns
 returns c =

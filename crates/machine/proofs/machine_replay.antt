@@ -1,3 +1,3 @@
-mod Opened
+pub mod Opened
 mod Telling
 pub mod Replayed

@@ -26,8 +26,8 @@ use Rattle.machine.specs.Machines.{MachineOf}
 use Rattle.machine.specs.schedule_runs.Done as done
 use Rattle.machine.specs.schedule_runs.Done.{EndsBy, HasGone, GoesThrough}
 use Rattle.machine.specs.machine_reports.Told.{ReportsOn}
-use Rattle.program_runs.specs.machine_replay.Replays.{IsRefusedFor, OfNext, EndFits, IsRight, AreOperandsFound, IsReplay}
-use Rattle.program_runs.specs.machine_replay.Shown.{IsOpened, Tells, end_of}
+use Rattle.machine.specs.machine_replay.Replays.{IsRefusedFor, OfNext, EndFits, IsRight, AreOperandsFound, IsReplay}
+use Rattle.machine.specs.machine_replay.Shown.{IsOpened, Tells, end_of}
 
 -- ---- the end
 
@@ -123,11 +123,11 @@ is_replay reported sound trees limits old new schedule result r end opened goes 
     (replayed opened.files trees new schedule result.0 result.1 r end reported sound (goes.1 opened.files trees [] opened.done) tells)
 
 -- and where there is a report
-pub replay_if : AreReportsOfWords → IsNoEventWrong → (trees classes : Program) → classes ≡ trees → (limits : Limits) (old new : MachineOf)
+pub replay_if : AreReportsOfWords → IsNoEventWrong → (trees : Program) (limits : Limits) (old new : MachineOf)
     (schedule : List Event) (result : ℕ × Stopped)
     → IsOpened trees limits old → GoesThrough result schedule old new
-    → {E : Type 0} (ended : Result (Report × End) E) → IfOk ended (λ r. Tells classes new result.0 result.1 r.0 r.1)
+    → {E : Type 0} (ended : Result (Report × End) E) → IfOk ended (λ r. Tells trees new result.0 result.1 r.0 r.1)
     → IfOk ended (λ r. IsReplay trees schedule limits r.0 r.1)
-replay_if reported sound trees classes same limits old new schedule result opened goes (Ok r) tells =
-    is_replay reported sound trees limits old new schedule result r.0 r.1 opened goes (subst (λ t. Tells t new result.0 result.1 r.0 r.1) same tells)
-replay_if reported sound trees classes same limits old new schedule result opened goes (Err e) tells = tt
+replay_if reported sound trees limits old new schedule result opened goes (Ok r) tells =
+    is_replay reported sound trees limits old new schedule result r.0 r.1 opened goes tells
+replay_if reported sound trees limits old new schedule result opened goes (Err e) tells = tt
