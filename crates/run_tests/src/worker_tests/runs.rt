@@ -5,7 +5,7 @@ use crate::worker_tests::program::{limits, verified};
 use engines::Open;
 use made_files::class_builder::PRINTS_SEVEN;
 use model::{End, Limits};
-use program_runs::machine_replay::replay;
+use program_runs::verified_programs::replay;
 use program_runs::workers::{Recorded, run_workers};
 use std::alloc::Global;
 use std::process::Abort;
