@@ -1,7 +1,10 @@
-use Rattle.std.proofs.Common.{◌≡◌, List, ℕ, Vec, Global, ◌++◌, ap, ◌∙◌, map, vec_items}
+use Rattle.std.proofs.Common.{◌≡◌, List, ℕ, Vec, Global, ◌++◌, ap, subst, ◌∙◌, map, vec_items}
 use Rattle.std.specs.List.{flat_map}
 use Rattle.model.specs.declared.report.EndState.{EndState}
+use Rattle.model.specs.Classes.{Program}
 use Rattle.model.specs.Report.{end_state_of, line}
+use Rattle.model.specs.Schedule.{events_of}
+use Rattle.machine.specs.machine_replay.Replays.{IsReplay}
 use Rattle.thread_explanations.specs.Details.{lines_at}
 use Rattle.thread_explanations.specs.Explained.{told_of_all}
 use Rattle.thread_explanations.proofs.explain.explain_threads.Goals as goal
@@ -19,4 +22,6 @@ returns c =
     c.in_ok-push_lines.ensures
     ∙ ap (λ (l : List ℕ). l ++ flat_map line (map vec_items c.deref-3.result.now)) threads
     ∙ ap (λ (lines : List (Vec ℕ Global)). told report.threads.items ++ flat_map line (map vec_items lines)) c.deref-3.ensures.value in
-    (report, c.in_ok-report.field-0-1, c.in_ok-report.ensures, (below, deadlocks, text))
+    let end = c.in_ok-report.field-0-1 in
+    let replayed = subst (λ (t : Program). IsReplay t (events_of c.args.schedule.now) c.args.limits report end) c.set.ensures.same c.in_ok-report.ensures in
+    (report, end, replayed, (below, deadlocks, text))
