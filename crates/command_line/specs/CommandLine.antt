@@ -127,7 +127,7 @@ with_window app = with_rule (with_rule (with_rule app
 
 -- in which form they are told
 abbrev pub with_form : App → App
-with_form app = with_rule (with_rule app (flag (codes "columns"))) (flag (codes "json"))
+with_form app = with_rule (with_rule (with_rule app (flag (codes "columns"))) (flag (codes "json"))) (flag (codes "summary"))
 
 abbrev pub jvm_trace : App
 jvm_trace = with_files (with_limits (with_form (with_window (with_rule (new_app (codes "trace")) schedule_option)))) class_files
@@ -257,6 +257,7 @@ pub record AreTraceValues (rows : List Row) (trace : Trace) : Type 0 where
   pub to : IsNumber 0 4294967295 (first_of (codes "to") rows) trace.to
   pub only : AreNumbers 0 65535 (first_of (codes "only") rows) (option_map vec_items trace.only)
   pub form : IsTraceForm rows trace.form
+  pub summary : trace.summary ≡ is_set (first_of (codes "summary") rows)
   pub limits : AreLimitNumbers rows trace.limits
   pub files : all_of (codes "files") rows ≡ Some (map string_bytes trace.files.items)
   pub explain : trace.explain ≡ is_set (first_of (codes "explain") rows)

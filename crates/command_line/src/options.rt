@@ -116,6 +116,8 @@ pub struct Trace {
     /// The threads whose events are told, and `None` for all.
     pub only: Option<Vec<u32>>,
     pub form: TraceForm,
+    /// Whether a run of local instructions is told in one line.
+    pub summary: bool,
     pub limits: LimitOptions,
     /// The paths of the class files. The first holds the class whose `main` is run.
     pub files: Vec<String>,

@@ -154,6 +154,7 @@ fn trace_of(alloc: Global, matches: &ArgMatches<'_>) -> Result<Trace, Usage>
         to,
         only,
         form,
+        summary: is_set(matches, "summary"),
         limits,
         files,
         explain: is_set(matches, "explain"),

@@ -99,6 +99,11 @@ fn trace_parser<'a>(alloc: Global) -> Result<clap::Command<'a>, AllocError>
     let schedule = path_argument(alloc, "schedule", "The schedule file, or its text");
     let columns = flag_argument(alloc, "columns", "Gives each thread a column of its own");
     let json = flag_argument(alloc, "json", "Tells each event as an object of JSON");
+    let summary = flag_argument(
+        alloc,
+        "summary",
+        "Tells a run of local instructions in one line",
+    );
     let trace = titled(
         alloc,
         "trace",
@@ -110,7 +115,8 @@ fn trace_parser<'a>(alloc: Global) -> Result<clap::Command<'a>, AllocError>
     .arg(TO.argument(alloc))?
     .arg(ONLY.list_argument(alloc))?
     .arg(columns)?
-    .arg(json)?;
+    .arg(json)?
+    .arg(summary)?;
     with_files(
         alloc,
         with_limits(alloc, trace)?,

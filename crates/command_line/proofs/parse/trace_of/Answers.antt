@@ -14,7 +14,8 @@ returns-clause-values c = record {
   to = c.in_ok-to.ensures.number;
   only = c.in_ok-only.ensures.numbers;
   form = c.in_ok-form.ensures.form;
+  summary = c.is_set.ensures;
   limits = c.in_ok-limits.ensures.limits;
   files = c.in_ok-files.ensures.files;
-  explain = c.is_set.ensures;
+  explain = c.is_set-2.ensures;
 }

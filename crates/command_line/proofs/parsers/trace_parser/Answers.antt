@@ -16,7 +16,8 @@ returns c =
     let to = with_argument _ _ _ _ _ from c.argument-2.ensures.rule c.argument-2.ensures.local c.in_ok-arg-3.ensures in
     let only = with_argument _ _ _ _ _ to c.list_argument.ensures.rule c.list_argument.ensures.local c.in_ok-arg-4.ensures in
     let columns = with_argument _ _ _ _ _ only c.flag_argument-columns.ensures.rule c.flag_argument-columns.ensures.local c.in_ok-arg-5.ensures in
-    let json = with_argument _ _ _ _ _ columns c.flag_argument-json.ensures.rule c.flag_argument-json.ensures.local c.in_ok-trace.ensures in
-    let limited = c.in_ok-with_limits.ensures.app ∙ ap with_limits json.0 in
+    let json = with_argument _ _ _ _ _ columns c.flag_argument-json.ensures.rule c.flag_argument-json.ensures.local c.in_ok-arg-6.ensures in
+    let summary = with_argument _ _ _ _ _ json c.flag_argument-summary.ensures.rule c.flag_argument-summary.ensures.local c.in_ok-trace.ensures in
+    let limited = c.in_ok-with_limits.ensures.app ∙ ap with_limits summary.0 in
     IfOk-weaker c.with_files.result _ _ (λ whole is. (is.0 ∙ ap₂ with_files limited c.files_argument.ensures.rule, is.1))
-    (c.with_files.ensures (c.in_ok-with_limits.ensures.local json.1) c.files_argument.ensures.local)
+    (c.with_files.ensures (c.in_ok-with_limits.ensures.local summary.1) c.files_argument.ensures.local)
