@@ -32,7 +32,7 @@ use Rattle.linked_code.specs.thread_stacks.Stacks.{ShownFrame, ShownEntry, Invoc
 use Rattle.machine_state.specs.shown_stacks.Shown.{ShowsStack}
 use Rattle.machine_state.specs.declared.state.Shared.{Shared}
 use Rattle.machine_state.specs.Shown.{IsProgram, IsLent}
-use Rattle.machine_state.specs.linked_frames.Frames.{AreFramesStanding, IsRunning}
+use Rattle.machine_state.specs.linked_frames.Frames.{AreFramesStanding, IsInstruction, IsRunning}
 use Rattle.machine_state.proofs.linked_frames.Frames.{slots_are, top_frame}
 use Rattle.machine_state.specs.state_events.Whole.{AreStacksLent, IsShown}
 use Rattle.machine_state.proofs.state_events.Places.{set_same}
@@ -231,3 +231,18 @@ module _ (lend : AreStacksLent) (stand : AreFramesStanding) (m : MachineOf) (t :
       let own = lend trees m.program (bounds_of m.limits) (inflated trees (bounds_of m.limits).frames done) m.shared has.run.at has.run.shown t stack at stack m.shared
       (record { rest = refl; stacks = sym (set_same m.shared.stacks.items t stack at) }) in
       by_own files trees done has own.own own.lends stack refl
+
+-- ---- what is found of a stack
+
+pub stands_local : (p : LinkedProgram) (stack : List ShownEntry) (found : Option ShownFrame) (shown : ShownFrame) (at : Option LinkedInstruction) (instruction : LinkedInstruction)
+    → IsTopFrame stack found → found ≡ Some shown → IsInstruction p stack at → at ≡ Some instruction → instructions.is_local instruction ≡ true
+    → divides_by_zero instruction (slice_index_or shown.operands 0 0) ≡ false → StandsAtLocal p stack
+stands_local p stack found shown at instruction top found_is is at_is local divides =
+    record {
+      shown = shown;
+      on_top = subst (λ (o : Option ShownFrame). IsTopFrame stack o) found_is top;
+      instruction = instruction;
+      is = subst (λ (o : Option LinkedInstruction). IsInstruction p stack o) at_is is;
+      local = local;
+      divides = divides;
+    }

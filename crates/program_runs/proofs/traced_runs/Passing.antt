@@ -281,6 +281,22 @@ no_times stopped.Most not_most = absurd (not_most refl)
 no_times stopped.NotEnabled not_most = refl
 no_times (stopped.Refused told) not_most = refl
 
+-- once, as often as it was tried
+pub once_tried : (trees : Program) (window : Window) (m : MachineOf) (count : ℕ) (event : Event) (why : Stopped) (after : MachineOf)
+    (old new : Held) (before now : List ℕ) → HasTold trees window m count (event ∷ []) (times why) why after old new before now
+    → HasTold trees window m count (replicate (tried (times why) why) event) (times why) why after old new before now
+once_tried trees window m count event stopped.Most after old new before now told = told
+once_tried trees window m count event stopped.NotEnabled after old new before now told = told
+once_tried trees window m count event (stopped.Refused refusal) after old new before now told = told
+
+-- and not once
+pub never_done : (trees : Program) (window : Window) (m : MachineOf) (count : ℕ) (event : Event) (why : Stopped) → (why ≡ stopped.Most → ⊥)
+    → (after : MachineOf) (old new : Held) (before now : List ℕ) → HasTold trees window m count (event ∷ []) (times why) why after old new before now
+    → HasTold trees window m count (replicate (tried 0 why) event) 0 why after old new before now
+never_done trees window m count event why not_most after old new before now told =
+    subst (λ k. HasTold trees window m count (replicate (tried k why) event) k why after old new before now) (no_times why not_most)
+    (once_tried trees window m count event why after old new before now told)
+
 -- more may be left behind those that were told
 pub short_of_more : (trees : Program) (window : Window) (m : MachineOf) (count : ℕ) (schedule rest all : List Event) (old new : Held) (before : List ℕ)
     → all ≡ schedule ++ rest → StopsShort trees window m count schedule old new before → StopsShort trees window m count all old new before
@@ -296,6 +312,14 @@ short_of_more trees window m count schedule rest all old new before is short fil
       told = cut.told;
       written = cut.written;
     }
+
+-- of an event again and again
+pub short_of_most : (trees : Program) (window : Window) (m : MachineOf) (count : ℕ) (event : Event) (k most : ℕ) → k ≤ most → (old new : Held)
+    (before : List ℕ) → StopsShort trees window m count (replicate k event) old new before → StopsShort trees window m count (replicate most event) old new before
+short_of_most trees window m count event k most within old new before short =
+    let sum : k + (most - k) ≡ most = omega arith in
+    short_of_more trees window m count (replicate k event) (replicate (most - k) event) (replicate most event) old new before
+    (sym (replicate-append-replicate k (most - k) event ∙ ap (λ j. replicate j event) sum)) short
 
 module _ (trees : Program) (window : Window) (m : MachineOf) (count : ℕ) (event : Event) (k : ℕ) (between : MachineOf)
     (old mid : Held) (before gathered : List ℕ)

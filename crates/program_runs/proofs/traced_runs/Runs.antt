@@ -1,5 +1,6 @@
 -- Runs of local events of a thread, one after another.
 use Rattle.std.proofs.Common.{◌≡◌, ◌≤◌, ◌<◌, ◌+◌, ◌⊎◌, inl, inr, ℕ, zero, suc, List, [], ◌∷◌, ◌++◌, length, length-append, length-replicate, replicate, take, true, Option, Some, None, refl, sym, ap, subst, ◌∙◌, append_assoc, arith}
+use Rattle.std.proofs.Math.Seq.{take-append_seam}
 use Rattle.std.proofs.lemmas.List.{append-nil, replicate-append-replicate, take-replicate}
 use Rattle.std.proofs.lemmas.Option.{same_Some}
 use Rattle.model.specs.declared.event.Event.{Event}
@@ -19,8 +20,8 @@ use Rattle.machine.proofs.schedule_runs.Joined.{IsPassed, all_done, begins, goes
 use Rattle.traced_events.specs.declared.frames.FrameBefore.{FrameBefore}
 use Rattle.traced_events.specs.Places.{IsSeenOf, Sees}
 use Rattle.trace_text.specs.Lines.{fold_words}
-use Rattle.program_runs.specs.traced_runs.Locals.{IsNextLocal}
-use Rattle.program_runs.specs.traced_runs.Telling.{AfterRun, AreTold, EndsAt, HasRunOn, HasTold, RunsOn, times, tried}
+use Rattle.program_runs.specs.traced_runs.Locals.{IsNextIn, IsNextLocal}
+use Rattle.program_runs.specs.traced_runs.Telling.{AddsOne, AfterRun, AreTold, EndsAt, HasRunOn, HasTold, RunsOn, times, tried}
 use Rattle.program_runs.specs.traced_runs.Traces.{AreLocal, IsFolded, IsLocalAt, StandsIn, Tells, stack_at}
 use Rattle.program_runs.specs.traced_runs.Windows.{is_told}
 use Rattle.program_runs.specs.declared.traced_runs.window.Window.{Window}
@@ -95,19 +96,25 @@ runs_none window m number method event from trees own numbered files done has at
 
 module _ (window : Window) (m between : MachineOf) (number method : ℕ) (event : Event) (k from to : ℕ) (passed : IsPassed (replicate k event) k m between)
     (runs : (trees : Program) → RunsOn trees window m number method event k from to) where
-  pub runs_more : (n : ℕ) → n ≡ number + k → is_told window n event.thread ≡ true → IsNextLocal between event.thread
-      → (frame : FrameBefore) (found : Option FrameBefore) (class : Option ℕ) → found ≡ Some frame → frame.method ≡ method → IsSeenOf between.program between.shared event.thread found class
+  pub runs_more : (n : ℕ) → n ≡ number + k → (frame : FrameBefore) → IsNextIn window between n event.thread method frame
       → (trees : Program) → RunsOn trees window m number method event (k + 1) from frame.offset
-  runs_more n is told local frame found class is_found same seen trees own numbered files done has at =
+  runs_more n is frame next trees own numbered files done has at =
       let d = done ++ replicate k event in
       let then = (passed.done files trees done has).1 in
-      let here = local_at trees between files d then event.thread frame found class is_found seen (local files trees d then) in
-      let owner : here.0 ≡ own = same_Some here.0 own (sym (subst (λ j. IsMethodAt trees j here.0) same here.1) ∙ numbered) in
+      let here = local_at trees between files d then event.thread frame (Some frame) next.class refl next.seen (next.local files trees d then) in
+      let owner : here.0 ≡ own = same_Some here.0 own (sym (subst (λ j. IsMethodAt trees j here.0) next.same here.1) ∙ numbered) in
       let frames_are : between.limits.frames ≡ m.limits.frames = ap (λ (x : MachineOf). x.limits.frames) passed.same in
       let placed : IsLocalAt trees m.limits.frames d event.thread own frame.offset = subst (λ f. IsLocalAt trees f d event.thread own frame.offset) frames_are
       (subst (λ o. IsLocalAt trees between.limits.frames d event.thread o frame.offset) owner here.2)
       in
-      run_more trees m.limits.frames window own event k done from to (runs trees own numbered files done has at) n (omega (arith, is, at)) told frame.offset placed
+      run_more trees m.limits.frames window own event k done from to (runs trees own numbered files done has at) n (omega (arith, is, at)) next.told frame.offset placed
+
+  -- one more is done
+  pub passed_on : (why : Stopped) → why ≡ stopped.Most → (after : MachineOf) → GoesThrough (times why, why) (event ∷ []) between after
+      → IsPassed (replicate (k + 1) event) (k + 1) m after
+  passed_on why most after once =
+      let done : GoesThrough (1, stopped.Most) (event ∷ []) between after = subst (λ w. GoesThrough (times w, w) (event ∷ []) between after) most once in
+      subst (λ es. IsPassed es (k + 1) m after) (replicate-append-replicate k 1 event) (goes_on (replicate k event) k m between after passed (event ∷ []) 1 done)
 
   -- there are no more
   pub run_ends : GoesThrough (k, stopped.Most) (replicate (tried k stopped.Most) event) m between
@@ -150,6 +157,15 @@ is_most : (why : Stopped) → (why ≡ stopped.Most) ⊎ (why ≡ stopped.Most �
 is_most stopped.Most = inl refl
 is_most stopped.NotEnabled = inr (λ e. cc)
 is_most (stopped.Refused told) = inr (λ e. cc)
+
+-- the line of the first one is taken back
+pub line_taken_back : (trees : Program) (window : Window) (m : MachineOf) (number : ℕ) (event : Event) (before between now : List ℕ) (words : Member → List ℕ) (method : ℕ)
+    → AfterRun trees m number (λ done. AddsOne stopped.Most window.form trees m.limits.frames before between done event)
+    → ((own : Member) → IsMethodAt trees method own → now ≡ take (length before) between ++ words own)
+    → AfterRun trees m number (λ done. (own : Member) → IsMethodAt trees method own → now ≡ before ++ words own)
+line_taken_back trees window m number event before between now words method adds is files done has at own numbered =
+    let added = adds files done has at in
+    is own numbered ∙ ap (λ (l : List ℕ). l ++ words own) (ap (take (length before)) added.1 ∙ take-append_seam before added.0)
 
 -- behind a first event, which was done
 module _ (trees : Program) (window : Window) (m mid after : MachineOf) (number : ℕ) (event : Event) (once : GoesThrough (1, stopped.Most) (event ∷ []) m mid) (k : ℕ) (why : Stopped)
@@ -202,7 +218,7 @@ module _ (trees : Program) (window : Window) (m mid after : MachineOf) (number :
   module _ (summary : window.summary ≡ true) (to_tell : is_told window number event.thread ≡ true) (local : IsNextLocal m event.thread) (from : FrameBefore) (found : Option FrameBefore) (class : Option ℕ)
       (is_found : found ≡ Some from) (seen : IsSeenOf m.program m.shared event.thread found class) (to : ℕ) (runs : RunsOn trees window mid (number + 1) from.method event k from.offset to) where
     pub together : 0 < k → (held : Held) (before now : List ℕ)
-        → ((own : Member) → IsMethodAt trees from.method own → now ≡ before ++ fold_words window.form number (k + 1) event.thread own from.offset to)
+        → AfterRun trees m number (λ done. (own : Member) → IsMethodAt trees from.method own → now ≡ before ++ fold_words window.form number (k + 1) event.thread own from.offset to)
         → HasTold trees window m number (replicate (tried (k + 1) why) event) (k + 1) why after held held before now
     together some held before now line_is =
         record {
@@ -218,7 +234,7 @@ module _ (trees : Program) (window : Window) (m mid after : MachineOf) (number :
               let line = fold_words window.form number (k + 1) event.thread first.0 from.offset to in
               let folded = fold_at m.limits.frames done first.0 (ap (λ n. is_told window n event.thread) at ∙ to_tell) at first.2 k some run in
               subst (λ es. AreTold trees m.limits.frames window done es held held before now) (sym those)
-              (line, group_told trees m.limits.frames window done (event ∷ replicate k event) line (inr (summary, folded)), line_gathered held before now line (line_is first.0 first.1));
+              (line, group_told trees m.limits.frames window done (event ∷ replicate k event) line (inr (summary, folded)), line_gathered held before now line (line_is files done has at first.0 first.1));
         }
       where
         fold_at : (frames : ℕ) (done : List Event) (own : Member) → is_told window (length done) event.thread ≡ true → length done ≡ number → IsLocalAt trees frames done event.thread own from.offset

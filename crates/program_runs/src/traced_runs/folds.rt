@@ -1,9 +1,9 @@
 //! Runs of local events, of which each is told in one line.
 
-ghost use Rattle.std.specs.Prelude.{◌≡◌, ◌+◌, ◌^◌, ◌<◌, ◌≤◌, true, IfOk, replicate};
+ghost use Rattle.std.specs.Prelude.{◌≡◌, ◌+◌, ◌^◌, ◌<◌, ◌≤◌, true, IfOk, Some, replicate};
 ghost use Rattle.machine.specs.declared.machine.Stopped.TheVariants.{Most};
 ghost use Rattle.machine.specs.schedule_runs.Done.{GoesThrough};
-ghost use Rattle.program_runs.specs.traced_runs.Locals.{IsNextLocal};
+ghost use Rattle.program_runs.specs.traced_runs.Locals.{IsNextIn, IsNextLocal};
 ghost use Rattle.program_runs.specs.traced_runs.Telling.{HasTold, RunsOn, tried};
 ghost use Rattle.program_runs.specs.traced_runs.Windows.{is_told};
 
@@ -23,6 +23,27 @@ struct Run {
     to: u16,
 }
 
+/// The frame of a thread before its next event, if that is local and is to be told, and the frame is of a method, by its number.
+fn next_in(
+    machine: &Machine,
+    window: Window<'_>,
+    before: &mut Before,
+    number: u64,
+    thread: u16,
+    method: u32,
+) -> Result<Option<FrameBefore>, AllocError>
+    ensures { IfOk result (λ found. (frame : _) → found ≡ Some frame → IsNextIn window.entry machine.now number thread method frame) }
+{
+    if !window.has(number, thread) || !is_next_local(machine, thread) {
+        return Ok(None);
+    }
+    before.look(machine.shared(), machine.program(), thread)?;
+    match before.frame {
+        Some(frame) if frame.method == method => Ok(Some(frame)),
+        _ => Ok(None),
+    }
+}
+
 /// Behind the first local event of a run does further ones that are to be told, in the same method, at most so many. The line has the
 /// number of the first of these. Returns how many there are, and why there are no more.
 fn run_on(
@@ -40,19 +61,14 @@ fn run_on(
     ensures runs { IfOk result (λ r. (trees : _)
         → RunsOn trees window.entry machine.old line.number from.method line.event r.0.more from.offset r.0.to) }
 {
+    let thread = line.event.thread;
     let mut to = from.offset;
     'run: for more in 0..most {
         let number = line.number + u64::from(more);
-        if !window.has(number, line.event.thread) || !is_next_local(machine, line.event.thread) {
-            return Ok((Run { more, to }, Stopped::Most));
-        }
-        before.look(machine.shared(), machine.program(), line.event.thread)?;
-        let Some(frame) = before.frame else {
+        let next = next_in(machine, window, before, number, thread, from.method)?;
+        let Some(frame) = next else {
             return Ok((Run { more, to }, Stopped::Most));
         };
-        if frame.method != from.method {
-            return Ok((Run { more, to }, Stopped::Most));
-        }
         match once(machine, line.event) {
             Stopped::Most => to = frame.offset,
             why => return Ok((Run { more, to }, why)),
@@ -97,15 +113,16 @@ pub(crate) fn run_of_locals(
         form: line.form,
     };
     let (run, why) = run_on(machine, telling.window, before, behind, from, most - 1)?;
-    if run.more > 0 {
-        let fold = Fold {
-            first: line,
-            from,
-            to: run.to,
-            count: run.more + 1,
-        };
-        lines.text.truncate(start);
-        push_fold(&mut lines.text, telling.teller, fold)?;
+    if run.more == 0 {
+        return Ok((1, why));
     }
+    let fold = Fold {
+        first: line,
+        from,
+        to: run.to,
+        count: run.more + 1,
+    };
+    lines.text.truncate(start);
+    push_fold(&mut lines.text, telling.teller, fold)?;
     Ok((run.more + 1, why))
 }

@@ -31,7 +31,9 @@ fn stands_at_local(program: &LinkedProgram, stack: &ThreadStack) -> bool
     let Some(instruction) = instruction_at(program, stack) else {
         return false;
     };
-    is_local(instruction) && !divides_by_zero(instruction, frame.operand(0))
+    let has_local = is_local(instruction);
+    let has_zero = divides_by_zero(instruction, frame.operand(0));
+    has_local && !has_zero
 }
 
 /// Whether the next event of a thread is local.
@@ -41,9 +43,11 @@ pub(crate) fn is_next_local(machine: &Machine, thread: u16) -> bool
     stacks_are_lent();
     frames_stand();
     let shared = machine.shared();
-    match shared.stacks.get(usize::from(thread)) {
-        Some(stack) => goes_on(&shared.threads, thread)
-            && stands_at_local(machine.program(), stack),
-        None => false,
+    let Some(stack) = shared.stacks.get(usize::from(thread)) else {
+        return false;
+    };
+    if !goes_on(&shared.threads, thread) {
+        return false;
     }
+    stands_at_local(machine.program(), stack)
 }
