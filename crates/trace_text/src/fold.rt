@@ -39,14 +39,18 @@ fn push_last(text: &mut Vec<u8>, form: Form, offset: u16) -> Result<(), AllocErr
 fn push_count(text: &mut Vec<u8>, form: Form, count: u32, last: u64) -> Result<(), AllocError>
     ensures { OnOk result (text.new.items ≡ text.old.items ++ count_in form count last) }
 {
-    if let Form::Json = form {
-        push_number_member(text, "last_event", last)?;
-        return push_number_member(text, "local_instructions", u64::from(count));
+    match form {
+        Form::Json => {
+            push_number_member(text, "last_event", last)?;
+            push_number_member(text, "local_instructions", u64::from(count))
+        }
+        Form::Plain | Form::Columns => {
+            push_words(text, " | ")?;
+            push_number(text, u64::from(count))?;
+            push_words(text, " local instructions, up to event ")?;
+            push_number(text, last)
+        }
     }
-    push_words(text, " | ")?;
-    push_number(text, u64::from(count))?;
-    push_words(text, " local instructions, up to event ")?;
-    push_number(text, last)
 }
 
 /// Writes the line of a run of local instructions behind a text: the numbers of its first event and of its thread, the method, the
