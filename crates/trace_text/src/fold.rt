@@ -36,21 +36,17 @@ fn push_last(text: &mut Vec<u8>, form: Form, offset: u16) -> Result<(), AllocErr
 }
 
 /// ` | 8 local instructions, up to event 19`.
-fn push_count(text: &mut Vec<u8>, form: Form, count: u32, last: u64) -> Result<(), AllocError>
+fn push_count(text: &mut Vec<u8>, form: Form, count: u64, last: u64) -> Result<(), AllocError>
     ensures { OnOk result (text.new.items ≡ text.old.items ++ count_in form count last) }
 {
-    match form {
-        Form::Json => {
-            push_number_member(text, "last_event", last)?;
-            push_number_member(text, "local_instructions", u64::from(count))
-        }
-        Form::Plain | Form::Columns => {
-            push_words(text, " | ")?;
-            push_number(text, u64::from(count))?;
-            push_words(text, " local instructions, up to event ")?;
-            push_number(text, last)
-        }
+    if let Form::Json = form {
+        push_number_member(text, "last_event", last)?;
+        return push_number_member(text, "local_instructions", count);
     }
+    push_words(text, " | ")?;
+    push_number(text, count)?;
+    push_words(text, " local instructions, up to event ")?;
+    push_number(text, last)
 }
 
 /// Writes the line of a run of local instructions behind a text: the numbers of its first event and of its thread, the method, the
@@ -66,6 +62,6 @@ pub fn push_fold(text: &mut Vec<u8>, teller: &Teller<'_>, fold: Fold) -> Result<
     push_head(text, fold.first)?;
     push_frame(text, teller, fold.first.form, fold.from)?;
     push_last(text, fold.first.form, fold.to)?;
-    push_count(text, fold.first.form, fold.count, last)?;
+    push_count(text, fold.first.form, u64::from(fold.count), last)?;
     push_end(text, fold.first.form)
 }
