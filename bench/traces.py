@@ -1,7 +1,7 @@
 #!/usr/bin/env python3
 """Traces by plain_machine.py: what `jvm trace` has to print, worked out by a machine of its own.
 
-    traces.py [--columns | --json] [--from N] [--to N] [--only N,..] --schedule FILE FILE..
+    traces.py [--columns | --json] [--summary] [--from N] [--to N] [--only N,..] --schedule FILE FILE..
     traces.py --write
 
 The schedule is a text. What an event did is told by the state before it and the state after it, as docs/FORMATS.md says.
@@ -41,6 +41,13 @@ PRIMITIVES = {"Z": "boolean", "C": "char", "B": "byte", "S": "short", "I": "int"
 
 # Instructions that put nothing new on the stack, and touch their frame alone.
 SILENT = {"nop", "pop", "pop2", "dup", "dup_x1", "dup_x2", "dup2", "dup2_x1", "dup2_x2", "swap", "checkcast"}
+
+
+# Instructions that touch their frame alone; `ldc` does where it loads an int, and a division where it doesn't throw.
+LOCAL = set(
+    """nop aconst_null bipush sipush pop pop2 dup dup_x1 dup_x2 dup2 dup2_x1 dup2_x2 swap iadd isub imul idiv irem ineg ishl ishr
+    iushr iand ior ixor iinc i2b i2c i2s ldc ldc_w goto goto_w tableswitch lookupswitch""".split()
+) | {name for name in MNEMONICS if re.fullmatch(r"iconst_.*|[ai](load|store)(_\d)?|if.*", name)}
 
 
 def signed(data):
@@ -142,9 +149,9 @@ def json_unit(unit):
 class Told:
     """An event that was done: where its thread stood, as `Class.method offset`, a class or `-`, and the rest of its line."""
 
-    def __init__(self, number, thread, method, source, instruction, words):
+    def __init__(self, number, thread, method, source, instruction, words, local):
         self.number, self.thread, self.method = number, thread, method
-        self.source, self.instruction, self.did = source, instruction, ", ".join(words)
+        self.source, self.instruction, self.did, self.local = source, instruction, ", ".join(words), local
 
     def words(self):
         parts = [str(self.thread), self.method, self.source, self.instruction]
@@ -165,6 +172,23 @@ class Told:
             place = {"class": found[1], "method": found[2], "offset": int(found[3])}
         rest = {"source": self.source, "instruction": self.instruction, "did": self.did}
         return {"event": self.number, "thread": self.thread, **place, **{key: part for key, part in rest.items() if part}}
+
+
+class Folded(Told):
+    """A run of local events of a thread, one after another."""
+
+    def __init__(self, run):
+        first, self.last, self.count = run[0], run[-1].number, len(run)
+        self.to = int(run[-1].method.split()[-1])
+        did = f"{self.count} local instructions, up to event {self.last}"
+        super().__init__(first.number, first.thread, first.method, "", "", [did], True)
+
+    def words(self):
+        return f"{self.thread} {self.method}..{self.to} | {self.did}"
+
+    def members(self):
+        rest = {"last_offset": self.to, "last_event": self.last, "local_instructions": self.count}
+        return {**{key: part for key, part in super().members().items() if key != "did"}, **rest}
 
 
 class Traced(Machine):
@@ -218,8 +242,18 @@ class Traced(Machine):
         thread = self.threads[number] if number < len(self.threads) else None
         if thread is None:
             raise NotEnabled("none")
-        at, place = self.done, self.place(thread)
-        return Told(at, number, *place, self.words(thread, number, pick))
+        at, place, local = self.done, self.place(thread), self.is_local(thread)
+        return Told(at, number, *place, self.words(thread, number, pick), local)
+
+    def is_local(self, thread):
+        """Whether the next event of a thread is that of an instruction which touches its frame alone, and throws nothing."""
+        top = thread.entries[-1] if thread.entries else None
+        if not isinstance(top, Frame) or thread.pending is not None or thread.relock:
+            return False
+        words = instruction(top.method, top.at).split(" ", 1)
+        if words[0] in ("ldc", "ldc_w"):
+            return re.fullmatch(r"-?\d+", words[1]) is not None
+        return words[0] in LOCAL and not (words[0] in ("idiv", "irem") and top.stack[-1] == 0)
 
     def words(self, thread, number, pick):
         """Does an event, and answers what it did."""
@@ -360,10 +394,23 @@ def numbers_of(text):
     return None if text is None else [int(part) for part in text.split(",")]
 
 
-def trace(files, entries, first=0, last=None, only=None, form="plain"):
+def folded(run):
+    """The lines of events of one entry of a schedule: of two or more local ones, one behind the other, a line."""
+    lines, at = [], 0
+    while at < len(run):
+        behind = at + 1
+        while run[at].local and behind < len(run) and run[behind].local and run[behind].number == run[behind - 1].number + 1:
+            behind += 1
+        lines.append(Folded(run[at:behind]) if behind > at + 1 else run[at])
+        at = behind
+    return lines
+
+
+def trace(files, entries, first=0, last=None, only=None, form="plain", summary=False):
     """What `jvm trace` prints, and its status; `only` has the threads that are told."""
     machine, lines, end = Traced(files), [], None
     for thread, pick, repeat in entries:
+        run = []
         for _ in range(repeat):
             at = machine.done
             try:
@@ -375,7 +422,8 @@ def trace(files, entries, first=0, last=None, only=None, form="plain"):
             if end:
                 break
             if first <= at and (last is None or at <= last) and (only is None or thread in only):
-                lines.append(told.line(form) + "\n")
+                run.append(told)
+        lines += [told.line(form) + "\n" for told in (folded(run) if summary else run)]
         if end:
             break
     end = end or ("schedule" if enabled(machine) else "quiet")
@@ -387,8 +435,11 @@ TRACED = [
     ("lost-update", "lost", ["LostUpdate"], {}, "1*4 0*10"),
     ("lost-update", "lost", ["LostUpdate"], {"from": 20, "to": 35, "form": "columns"}, "1*4 0*10"),
     ("lost-update", "lost", ["LostUpdate"], {"only": "2,1"}, "1*4 0*10", "threads-1-and-2"),
+    ("lost-update", "lost", ["LostUpdate"], {"summary": True}, "1*4 0*10", "summary"),
     ("lost-update", "lost-repaired", ["Repaired"], {"only": "2"}, ""),
     ("bounded-buffer", "barges-in", ["IfForWhile"], {"from": 26}, "1*20"),
+    ("bounded-buffer", "barges-in", ["IfForWhile"], {"form": "json", "summary": True}, "1*20", "summary"),
+    ("bounded-buffer", "barges-in", ["IfForWhile"], {"from": 28, "only": "0,2", "form": "columns", "summary": True}, "1*20", "summary"),
     ("wrong-waiter", "second-is-woken", ["WrongWaiter"], {"from": 40}, "0*2 2*5"),
     ("interrupted-wait", "within", ["InterruptedWait"], {"from": 10}, "1*30"),
     ("missed-notify", "in-time", ["MissedNotify"], {"from": 15, "to": 30}, "1*12 0*5"),
@@ -429,6 +480,7 @@ ODD = lined(b'h"a\\l\nf\xc0\x80', b"\xc3\xa9\xed\xa0\xbd\xed\xb8\x80.java")
 
 LINED = [
     ("lines", "plain", lined(), "An exception leaves a synchronized method, and is caught."),
+    ("divides", "summary", lined(), "In a summary what throws has a line of its own."),
     ("names", "json", ODD, "Names have a quotation mark, a backslash, a line feed, a NUL, a letter with an accent, and a face."),
 ]
 
@@ -447,15 +499,17 @@ def cases():
         entries = entries_of(f"{stored} {more}")
         form = options.get("form", "plain")
         only = numbers_of(options.get("only"))
-        told, status = trace([files[f"{name}.class"] for name in names], entries, options.get("from", 0), options.get("to"), only, form)
-        given = "".join(f" --{value}" if key == "form" else f" --{key} {value}" for key, value in options.items())
+        classes, summary = [files[f"{name}.class"] for name in names], options.get("summary", False)
+        told, status = trace(classes, entries, options.get("from", 0), options.get("to"), only, form, summary)
+        flags = {"form": f" --{form}", "summary": " --summary"}
+        given = "".join(flags.get(key, f" --{key} {value}") for key, value in options.items())
         name = "-".join(["trace", folder, schedule, *([] if form == "plain" else [form]), *called])
         words = f"trace --schedule {name}.schedule{given} {' '.join(f'{folder}/{name}.class' for name in names)}"
         text += [f"text {name}.schedule", f"  {' '.join([*stored.split(), *more.split()])}", *case_lines(name, None, words)]
         printed.append(f"case {name}\n{told}status {status}\n")
     text += ["", "# Of the next class files, which tell their source and their lines.", "text lined.schedule", "  0*13"]
     for name, form, data, comment in LINED:
-        told, status = trace([data], [(0, 0, 13)], form=form)
+        told, status = trace([data], [(0, 0, 13)], form=form, summary=form == "summary")
         given = "" if form == "plain" else f" --{form}"
         text += ["", f"# {comment}", *case_lines(f"{name}/A.class", data, None)]
         text += case_lines(f"trace-{name}", None, f"trace{given} --schedule lined.schedule {name}/A.class")
@@ -483,11 +537,12 @@ def main():
     for name in ("--from", "--to"):
         parser.add_argument(name, type=int, dest=name[2:] + "_")
     parser.add_argument("--only", dest="only_")
+    parser.add_argument("--summary", action="store_true")
     parser.add_argument("files", nargs="+")
     words = parser.parse_args()
     files = [pathlib.Path(path).read_bytes() for path in words.files]
     entries = entries_of(pathlib.Path(words.schedule).read_text())
-    text, status = trace(files, entries, words.from_ or 0, words.to_, numbers_of(words.only_), words.form)
+    text, status = trace(files, entries, words.from_ or 0, words.to_, numbers_of(words.only_), words.form, words.summary)
     sys.stdout.write(text)
     return status
 

@@ -224,6 +224,7 @@ fn window_of(options: &Trace) -> Window<'_> {
             TraceForm::Columns => Form::Columns,
             TraceForm::Json => Form::Json,
         },
+        summary: options.summary,
     }
 }
 

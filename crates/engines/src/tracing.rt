@@ -17,13 +17,14 @@ use program_runs::traced_runs::{Window, trace};
 use schedule::report::text;
 use std::alloc::Global;
 
-/// Runs the class files under the schedule, writes a line for each event that is to be told, and then the report. Answers
-/// the status of the report.
+/// Runs the class files under the schedule, writes a line for each event that is to be told, in a summary one for a run of
+/// local ones, and then the report. Answers the status of the report.
 ///
 /// A line says where the event's thread stood before it, in the state to which the events before it led: the method and the
 /// offset of its instruction, and the instruction; or the class that it initialised. Of the source's line, and of what
-/// the event did, nothing is promised. What comes before the run, and its faults, are those of `replay_engine`. Where a
-/// device fails or memory is wanted later, a beginning of what is to be written may be.
+/// the event did, nothing is promised. The line of a run says which events they are, each of them local in the state to which
+/// those before it led, and between which offsets of which method. What comes before the run, and its faults, are those of
+/// `replay_engine`. Where a device fails or memory is wanted later, a beginning of what is to be written may be.
 pub fn trace_engine<S: Source, W: Sink>(
     alloc: Global,
     schedule: &mut S,

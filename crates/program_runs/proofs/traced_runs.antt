@@ -1,4 +1,6 @@
 mod Gathering
+mod Locals
 mod Passing
+mod Runs
 mod Seen
 mod Traced

@@ -1,5 +1,5 @@
 -- The line of an event: where its thread stood, and its instruction (own; JVMS 2.6, 5.5).
-use Rattle.std.specs.Prelude.{◌≡◌, ℕ, ◌-◌, ◌*◌, List, [], ◌∷◌, ◌++◌, length, replicate, codes, min, nat_lt, if◌then◌else◌}
+use Rattle.std.specs.Prelude.{◌≡◌, ℕ, ◌+◌, ◌-◌, ◌*◌, List, [], ◌∷◌, ◌++◌, length, replicate, codes, min, nat_lt, if◌then◌else◌}
 use Rattle.std.specs.Option.{option_map_or}
 use Rattle.model.specs.Classes.{Program, Body, body_of}
 use Rattle.model.specs.Instruction.{sized_at}
@@ -97,3 +97,24 @@ IsLine form trees n t stack line = (source deed : List ℕ) × (line ≡ line_wo
 -- it stands behind a text now
 abbrev pub AddsLine : {A : Type 0} → Form → Program → (n t : ℕ) → StackOf A → (old new : List ℕ) → Type 0
 AddsLine form trees n t stack old new = (line : List ℕ) × (new ≡ old ++ line) × IsLine form trees n t stack line
+
+-- ---- the line of a run of local instructions
+
+-- the offset of the last one
+abbrev pub last_in : Form → ℕ → List ℕ
+last_in Json offset = member (codes "last_offset") (number offset)
+last_in form offset = codes ".." ++ number offset
+
+-- how many they are, and the number of the last event
+abbrev pub count_in : Form → (count last : ℕ) → List ℕ
+count_in Json count last = member (codes "last_event") (number last) ++ member (codes "local_instructions") (number count)
+count_in form count last = codes " | " ++ (number count ++ (codes " local instructions, up to event " ++ number last))
+
+-- so many events of a thread from number n on, in a method, between these offsets
+abbrev pub fold_words : Form → (n count t : ℕ) → Member → (from to : ℕ) → List ℕ
+fold_words form n count t method from to =
+    head_words form n t
+    ++ (frame_in form method from
+    ++ (last_in form to
+    ++ (count_in form count (n + (count - 1))
+    ++ end_words form)))

@@ -1,6 +1,7 @@
 //! The line that tells an event: who did it and where, its instruction, and in words what it did.
 #![tactic(auto)]
 
+mod fold;
 mod form;
 mod json;
 mod line;
@@ -15,6 +16,7 @@ mod threads;
 mod values;
 mod words;
 
+pub use fold::{Fold, push_fold};
 pub use form::Form;
 pub use line::{Line, push_line};
 pub use teller::Teller;

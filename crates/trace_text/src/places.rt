@@ -17,7 +17,7 @@ use traced_events::{Before, FrameBefore};
 use types::method_code::MethodCode;
 
 /// ` Counter.run 12`, of a frame.
-fn push_frame(
+pub(crate) fn push_frame(
     text: &mut Vec<u8>,
     teller: &Teller<'_>,
     form: Form,

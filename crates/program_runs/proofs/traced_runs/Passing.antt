@@ -16,11 +16,11 @@ use Rattle.machine.specs.Machines.{MachineOf}
 use Rattle.machine.specs.schedule_runs.Done.{EndsBy, GoesThrough, HasDone, HasGone, OfNext}
 use Rattle.machine.proofs.schedule_runs.Joined.{IsPassed, begins, goes_on, stops, all_done}
 use Rattle.listings.proofs.disasm.Writing.{none_written}
-use Rattle.program_runs.specs.traced_runs.Telling.{AddsOne, AfterRun, AreCutShort, AreTold, Gathers, HasTold, StopsShort, times}
+use Rattle.program_runs.specs.traced_runs.Telling.{AddsOne, AfterRun, AreCutShort, AreTold, Gathers, HasTold, StopsShort, times, tried}
 use Rattle.program_runs.specs.traced_runs.Traces.{Tells, TellsIf}
 use Rattle.program_runs.specs.traced_runs.Windows.{is_told}
 use Rattle.program_runs.specs.declared.traced_runs.window.Window.{Window}
-use Rattle.program_runs.proofs.traced_runs.Gathering.{Held, gathers_front, gathers_on, line_gathered, more_told, none_gathered, none_told, one_told}
+use Rattle.program_runs.proofs.traced_runs.Gathering.{Held, gathers_front, gathers_on, line_gathered, more_told, none_gathered, none_told, nothing_told, one_told}
 
 -- ---- one event
 
@@ -61,8 +61,8 @@ module _ (trees : Program) (window : Window) (old : MachineOf) (count : ℕ) (ev
         one_told trees frames window done event adds.0 (subst (λ b. TellsIf b window.form trees frames done event adds.0) (sym here) adds.2),
         line_gathered held before now adds.0 adds.1,
       )
-  line_of frames done at told stopped.NotEnabled held before now adds = ([], refl, line_gathered held before now [] (adds ∙ sym (append-nil before)))
-  line_of frames done at told (stopped.Refused refusal) held before now adds = ([], refl, line_gathered held before now [] (adds ∙ sym (append-nil before)))
+  line_of frames done at told stopped.NotEnabled held before now adds = ([], nothing_told trees frames window done, line_gathered held before now [] (adds ∙ sym (append-nil before)))
+  line_of frames done at told (stopped.Refused refusal) held before now adds = ([], nothing_told trees frames window done, line_gathered held before now [] (adds ∙ sym (append-nil before)))
 
   pub line_told : (why : Stopped) (new : MachineOf) (held : Held) (before now : List ℕ) → is_told window count event.thread ≡ true
       → GoesThrough (times why, why) (event ∷ []) old new
@@ -131,7 +131,7 @@ pub record HasPassed (trees : Program) (window : Window) (m : MachineOf) (count 
 pub none_yet : (trees : Program) (window : Window) (m : MachineOf) (count : ℕ) (held : Held) (before : List ℕ)
     → HasPassed trees window m count [] 0 m held held before before
 none_yet trees window m count held before =
-    record { passed = begins m; told = λ files done has at. ([], refl, none_gathered held before) }
+    record { passed = begins m; told = λ files done has at. ([], nothing_told trees m.limits.frames window done, none_gathered held before) }
 
 module _ (trees : Program) (window : Window) (m : MachineOf) (count : ℕ) (schedule : List Event) (n : ℕ) (between : MachineOf)
     (old mid : Held) (before gathered : List ℕ)
@@ -245,7 +245,7 @@ none_done trees window m count schedule held before files done has at =
       state = has.run.lead.state;
       reached = subst (λ es. run trees m.limits.frames es ≡ Some has.run.lead.state) (sym (append-nil done)) has.run.lead.reached;
       text = [];
-      told = refl;
+      told = nothing_told trees m.limits.frames window done;
       written = none_written held (before ++ []);
     }
 
@@ -276,46 +276,86 @@ writing_stops trees window m count schedule n why after old mid new before now h
 
 -- ---- an event again and again
 
-no_times : (why : Stopped) → (why ≡ stopped.Most → ⊥) → times why ≡ 0
+pub no_times : (why : Stopped) → (why ≡ stopped.Most → ⊥) → times why ≡ 0
 no_times stopped.Most not_most = absurd (not_most refl)
 no_times stopped.NotEnabled not_most = refl
 no_times (stopped.Refused told) not_most = refl
 
-module _ (trees : Program) (window : Window) (m : MachineOf) (count : ℕ) (event : Event) (k : ℕ) (between : MachineOf) (old mid : Held)
-    (before gathered : List ℕ)
+-- once, as often as it was tried
+pub once_tried : (trees : Program) (window : Window) (m : MachineOf) (count : ℕ) (event : Event) (why : Stopped) (after : MachineOf)
+    (old new : Held) (before now : List ℕ) → HasTold trees window m count (event ∷ []) (times why) why after old new before now
+    → HasTold trees window m count (replicate (tried (times why) why) event) (times why) why after old new before now
+once_tried trees window m count event stopped.Most after old new before now told = told
+once_tried trees window m count event stopped.NotEnabled after old new before now told = told
+once_tried trees window m count event (stopped.Refused refusal) after old new before now told = told
+
+-- and not once
+pub never_done : (trees : Program) (window : Window) (m : MachineOf) (count : ℕ) (event : Event) (why : Stopped) → (why ≡ stopped.Most → ⊥)
+    → (after : MachineOf) (old new : Held) (before now : List ℕ) → HasTold trees window m count (event ∷ []) (times why) why after old new before now
+    → HasTold trees window m count (replicate (tried 0 why) event) 0 why after old new before now
+never_done trees window m count event why not_most after old new before now told =
+    subst (λ k. HasTold trees window m count (replicate (tried k why) event) k why after old new before now) (no_times why not_most)
+    (once_tried trees window m count event why after old new before now told)
+
+-- more may be left behind those that were told
+pub short_of_more : (trees : Program) (window : Window) (m : MachineOf) (count : ℕ) (schedule rest all : List Event) (old new : Held) (before : List ℕ)
+    → all ≡ schedule ++ rest → StopsShort trees window m count schedule old new before → StopsShort trees window m count all old new before
+short_of_more trees window m count schedule rest all old new before is short files done has at =
+    let cut = short files done has at in
+    record {
+      front = cut.front;
+      left = cut.left ++ rest;
+      events_are = is ∙ ap (λ l. l ++ rest) cut.events_are ∙ append_assoc cut.front cut.left rest;
+      state = cut.state;
+      reached = cut.reached;
+      text = cut.text;
+      told = cut.told;
+      written = cut.written;
+    }
+
+-- of an event again and again
+pub short_of_most : (trees : Program) (window : Window) (m : MachineOf) (count : ℕ) (event : Event) (k most : ℕ) → k ≤ most → (old new : Held)
+    (before : List ℕ) → StopsShort trees window m count (replicate k event) old new before → StopsShort trees window m count (replicate most event) old new before
+short_of_most trees window m count event k most within old new before short =
+    let sum : k + (most - k) ≡ most = omega arith in
+    short_of_more trees window m count (replicate k event) (replicate (most - k) event) (replicate most event) old new before
+    (sym (replicate-append-replicate k (most - k) event ∙ ap (λ j. replicate j event) sum)) short
+
+module _ (trees : Program) (window : Window) (m : MachineOf) (count : ℕ) (event : Event) (k : ℕ) (between : MachineOf)
+    (old mid : Held) (before gathered : List ℕ)
     (so_far : HasPassed trees window m count (replicate k event) k between old mid before gathered) (number : ℕ) (here : number ≡ count + k) where
-  split : (most : ℕ) → k < most → replicate most event ≡ replicate k event ++ (event ∷ [] ++ replicate (most - (k + 1)) event)
-  split most within =
-      let sum : k + (1 + (most - (k + 1))) ≡ most = omega arith in
-      sym (ap (λ l. replicate k event ++ l) (replicate-append-replicate 1 (most - (k + 1)) event) ∙ replicate-append-replicate k (1 + (most - (k + 1))) event ∙ ap (λ j. replicate j event) sum)
+  split : (most n : ℕ) → k + n ≤ most → replicate most event ≡ replicate k event ++ (replicate n event ++ replicate (most - (k + n)) event)
+  split most n within =
+      let sum : k + (n + (most - (k + n))) ≡ most = omega arith in
+      sym (ap (λ l. replicate k event ++ l) (replicate-append-replicate n (most - (k + n)) event) ∙ replicate-append-replicate k (n + (most - (k + n))) event ∙ ap (λ j. replicate j event) sum)
 
-  pub again_on : (why : Stopped) → why ≡ stopped.Most → (after : MachineOf) (new : Held) (now : List ℕ)
-      → HasTold trees window between number (event ∷ []) (times why) why after mid new gathered now
-      → HasPassed trees window m count (replicate (k + 1) event) (k + 1) after old new before now
-  again_on why most after new now next =
-      let placed : HasTold trees window between (count + k) (event ∷ []) (times why) why after mid new gathered now =
-      subst (λ j. HasTold trees window between j (event ∷ []) (times why) why after mid new gathered now) here next
+  pub again_on : (n : ℕ) (why : Stopped) → why ≡ stopped.Most → (after : MachineOf) (new : Held) (now : List ℕ) → HasTold trees window between number (replicate (tried n why) event) n why after mid new gathered now
+      → HasPassed trees window m count (replicate (k + n) event) (k + n) after old new before now
+  again_on n why most after new now next =
+      let placed : HasTold trees window between (count + k) (replicate (tried n why) event) n why after mid new gathered now =
+      subst (λ j. HasTold trees window between j (replicate (tried n why) event) n why after mid new gathered now) here next
       in
-      let done : HasTold trees window between (count + k) (event ∷ []) 1 stopped.Most after mid new gathered now =
-      subst (λ w. HasTold trees window between (count + k) (event ∷ []) (times w) w after mid new gathered now) most placed
+      let all : HasTold trees window between (count + k) (replicate (tried n stopped.Most) event) n stopped.Most after mid new gathered now =
+      subst (λ w. HasTold trees window between (count + k) (replicate (tried n w) event) n w after mid new gathered now) most placed
       in
-      subst (λ es. HasPassed trees window m count es (k + 1) after old new before now) (replicate-append-replicate k 1 event)
-      (told_on trees window m count (replicate k event) k between old mid before gathered so_far (event ∷ []) 1 after new now done)
+      let as_often : tried n stopped.Most ≡ n = omega arith in
+      let done : HasTold trees window between (count + k) (replicate n event) n stopped.Most after mid new gathered now =
+      subst (λ j. HasTold trees window between (count + k) (replicate j event) n stopped.Most after mid new gathered now) as_often all
+      in
+      subst (λ es. HasPassed trees window m count es (k + n) after old new before now) (replicate-append-replicate k n event)
+      (told_on trees window m count (replicate k event) k between old mid before gathered so_far (replicate n event) n after new now done)
 
-  pub again_until : (most : ℕ) → k < most → (why : Stopped) → (why ≡ stopped.Most → ⊥) → (after : MachineOf) (new : Held) (now : List ℕ)
-      → HasTold trees window between number (event ∷ []) (times why) why after mid new gathered now
-      → HasTold trees window m count (replicate most event) k why after old new before now
-  again_until most within why not_most after new now next =
-      let placed : HasTold trees window between (count + k) (event ∷ []) (times why) why after mid new gathered now =
-      subst (λ j. HasTold trees window between j (event ∷ []) (times why) why after mid new gathered now) here next
+  pub again_until : (most n : ℕ) (why : Stopped) → k + tried n why ≤ most → (why ≡ stopped.Most → ⊥) → (after : MachineOf) (new : Held) (now : List ℕ)
+      → HasTold trees window between number (replicate (tried n why) event) n why after mid new gathered now
+      → HasTold trees window m count (replicate most event) (k + n) why after old new before now
+  again_until most n why within not_most after new now next =
+      let placed : HasTold trees window between (count + k) (replicate (tried n why) event) n why after mid new gathered now =
+      subst (λ j. HasTold trees window between j (replicate (tried n why) event) n why after mid new gathered now) here next
       in
-      let none : k + times why ≡ k = omega (arith, no_times why not_most) in
-      subst (λ j. HasTold trees window m count (replicate most event) j why after old new before now) none
-      (told_until trees window m count (replicate k event) k between old mid before gathered so_far (event ∷ []) (times why) why after new now placed not_most (replicate most event)
-      (replicate (most - (k + 1)) event) (split most within))
+      told_until trees window m count (replicate k event) k between old mid before gathered so_far (replicate (tried n why) event) n why after new now placed not_most (replicate most event)
+      (replicate (most - (k + tried n why)) event) (split most (tried n why) within)
 
-  pub again_short : (most : ℕ) → k < most → (new : Held) → StopsShort trees window between number (event ∷ []) mid new gathered
-      → StopsShort trees window m count (replicate most event) old new before
-  again_short most within new next =
-      let placed : StopsShort trees window between (count + k) (event ∷ []) mid new gathered = subst (λ j. StopsShort trees window between j (event ∷ []) mid new gathered) here next in
-      told_short trees window m count (replicate k event) k between old mid before gathered so_far (event ∷ []) new placed (replicate most event) (replicate (most - (k + 1)) event) (split most within)
+  pub again_short : (most left : ℕ) → k + left ≤ most → (new : Held) → StopsShort trees window between number (replicate left event) mid new gathered → StopsShort trees window m count (replicate most event) old new before
+  again_short most left within new next =
+      let placed : StopsShort trees window between (count + k) (replicate left event) mid new gathered = subst (λ j. StopsShort trees window between j (replicate left event) mid new gathered) here next in
+      told_short trees window m count (replicate k event) k between old mid before gathered so_far (replicate left event) new placed (replicate most event) (replicate (most - (k + left)) event) (split most left within)

@@ -41,7 +41,7 @@ sees trees p [] (entry ∷ stack) frame class shows seen = absurd shows
 sees trees p (shown ∷ others) [] frame class shows seen = absurd shows
 
 -- of any thread, one that is not there included
-seen_at : (trees : Program) (p : LinkedProgram) (shown : List (List ShownEntry)) (stacks : List (StackOf ℕ)) (t : ℕ)
+pub seen_at : (trees : Program) (p : LinkedProgram) (shown : List (List ShownEntry)) (stacks : List (StackOf ℕ)) (t : ℕ)
     (frame : Option FrameBefore) (class : Option ℕ) → ShowsStacks trees p shown stacks
     → IsSeenIf p (slice_get shown t) frame class → Sees trees frame class (unwrap_or (slice_get stacks t) [])
 seen_at trees p [] [] t frame class shows seen = seen
@@ -64,7 +64,7 @@ mapped_or : {A B : Type 0} (f : A → B) (found : Option (StackOf A))
 mapped_or f None = refl
 mapped_or f (Some stack) = refl
 
-stack_of_words : (state : State) (t : ℕ) → stack_at (words_of state) t ≡ map_stack word_of (stack_at state t)
+pub stack_of_words : (state : State) (t : ℕ) → stack_at (words_of state) t ≡ map_stack word_of (stack_at state t)
 stack_of_words state t = ap (λ (o : Option (StackOf ℕ)). unwrap_or o []) (slice_get-map (map_stack word_of) state.stacks t) ∙ mapped_or word_of (slice_get state.stacks t)
 
 -- ---- the line of the next event

@@ -25,13 +25,13 @@ use Rattle.listings.proofs.disasm.Writing.{none_written}
 use Rattle.program_runs.specs.traced_runs.Telling.{HasTold, StopsShort}
 use Rattle.program_runs.specs.traced_runs.Traces.{IsTrace, Tells, WritesFront}
 use Rattle.program_runs.specs.declared.traced_runs.window.Window.{Window}
-use Rattle.program_runs.proofs.traced_runs.Gathering.{Held}
+use Rattle.program_runs.proofs.traced_runs.Gathering.{Held, nothing_told}
 
 module _ (trees : Program) (window : Window) (limits : Limits) (events : List Event) where
   -- nothing is written where nothing is done
   pub unwritten : (held : Held) → WritesFront trees events limits window held held
   unwritten held =
-      record { front = []; left = events; events_are = refl; state = opening values trees; reached = refl; text = []; told = refl; written = none_written held [] }
+      record { front = []; left = events; events_are = refl; state = opening values trees; reached = refl; text = []; told = nothing_told trees limits.frames window []; written = none_written held [] }
 
   module _ (old : MachineOf) (opened : IsOpened trees limits old) where
     frames_are : old.limits.frames ≡ limits.frames

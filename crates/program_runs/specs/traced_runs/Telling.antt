@@ -1,17 +1,19 @@
 -- What the parts of a trace leave: lines of events that were done, some of which are still to be written (own).
-use Rattle.std.specs.Prelude.{◌≡◌, ℕ, List, ◌++◌, Option, Some, true, length, take}
+use Rattle.std.specs.Prelude.{◌≡◌, ◌+◌, ◌-◌, ℕ, zero, suc, List, ◌++◌, Option, Some, true, length, replicate, take}
 use Rattle.std.specs.Io.KnownBytes.{Appends}
 use Rattle.model.specs.declared.event.Event.{Event}
 use Rattle.model.specs.Classes.{Program}
 use Rattle.model.specs.Devices.{AppendsFront}
+use Rattle.model.specs.Names.{Member}
 use Rattle.model.specs.Run.{run}
 use Rattle.model.specs.State.{State}
+use Rattle.linked_code.specs.Numbers.{IsMethodAt}
 use Rattle.machine.specs.declared.machine.Stopped.{Stopped}
 use Rattle.machine.specs.declared.machine.Stopped.TheVariants as stopped
 use Rattle.machine.specs.Machines.{MachineOf}
 use Rattle.machine.specs.schedule_runs.Done.{HasDone, GoesThrough}
 use Rattle.trace_text.specs.declared.form.Form.{Form}
-use Rattle.program_runs.specs.traced_runs.Traces.{Tells, TellsIf}
+use Rattle.program_runs.specs.traced_runs.Traces.{AreLocal, IsLocalAt, Tells, TellsIf}
 use Rattle.program_runs.specs.declared.traced_runs.window.Window.{Window}
 
 -- how often an event was done that was tried once
@@ -23,6 +25,27 @@ times (stopped.Refused told) = 0
 -- so it is, whatever run of so many events of whatever files with these trees a machine has done
 abbrev pub AfterRun : Program → MachineOf → (count : ℕ) → (List Event → Type 0) → Type 0
 AfterRun trees m count P = (files : List (List ℕ)) (done : List Event) → HasDone m files trees done → length done ≡ count → P done
+
+-- of an event that was done so often, how often it was tried
+abbrev pub tried : (count : ℕ) → Stopped → ℕ
+tried count why = count + (1 - times why)
+
+-- ---- runs of local events
+
+-- before the last one of some more events the thread stands at this offset; where there are none, before those that came before them
+abbrev pub EndsAt : Program → (frames : ℕ) → (t : ℕ) → Member → (done : List Event) → Event → (count : ℕ) → (from to : ℕ) → Type 0
+EndsAt trees frames t method done event zero from to = to ≡ from
+EndsAt trees frames t method done event (suc count) from to = IsLocalAt trees frames (done ++ replicate count event) t method to
+
+-- an event was done again and again, each time a local one of this method, that is to be told
+pub record HasRunOn (trees : Program) (frames : ℕ) (window : Window) (method : Member) (done : List Event) (event : Event) (count from to : ℕ) : Type 0 where
+  pub local : AreLocal trees frames window event.thread method done (replicate count event)
+  pub ends : EndsAt trees frames event.thread method done event count from to
+
+-- so it is in the method with a number, after whatever run
+abbrev pub RunsOn : Program → Window → MachineOf → (number : ℕ) → (method : ℕ) → Event → (count from to : ℕ) → Type 0
+RunsOn trees window m number method event count from to =
+    (own : Member) → IsMethodAt trees method own → AfterRun trees m number (λ done. HasRunOn trees m.limits.frames window own done event count from to)
 
 -- ---- lines that are gathered
 

@@ -1,11 +1,15 @@
 //! Events that are done, each with its line.
 
-ghost use Rattle.std.specs.Prelude.{◌≡◌, ◌+◌, ◌^◌, ◌<◌, [], ◌∷◌, IfOk, OnErr, replicate};
+ghost use Rattle.std.specs.Prelude.{◌≡◌, ◌+◌, ◌^◌, ◌<◌, ◌≤◌, [], ◌∷◌, IfOk, OnErr, replicate};
 ghost use Rattle.model.specs.Devices.{Counts};
+ghost use Rattle.machine.specs.declared.machine.Stopped.TheVariants.{Most};
 ghost use Rattle.machine.specs.schedule_runs.Done.{GoesThrough};
-ghost use Rattle.program_runs.specs.traced_runs.Telling.{AddsOne, AfterRun, HasTold, StopsShort, times};
+ghost use Rattle.traced_events.specs.Places.{IsSeenOf};
+ghost use Rattle.program_runs.specs.traced_runs.Telling.{AddsOne, AfterRun, HasTold, StopsShort, times, tried};
 
+use crate::traced_runs::folds::run_of_locals;
 use crate::traced_runs::lines::Lines;
+use crate::traced_runs::locals::is_next_local;
 use crate::traced_runs::window::Window;
 use machine::{Machine, Stopped};
 use model::{DeviceFault, Event, ScheduleEntry, Sink};
@@ -21,7 +25,7 @@ pub(crate) struct Telling<'a> {
 }
 
 /// Does an event. Returns why it was not done, or `Most`.
-fn once(machine: &mut Machine, event: Event) -> Stopped
+pub(crate) fn once(machine: &mut Machine, event: Event) -> Stopped
     ensures { GoesThrough (times result, result) (event ∷ []) machine.old machine.new }
 {
     let (_, why) = machine.repeat(event, 1);
@@ -29,7 +33,7 @@ fn once(machine: &mut Machine, event: Event) -> Stopped
 }
 
 /// Does an event, and gathers its line. Returns why it was not done, or `Most`.
-fn told_event(
+pub(crate) fn told_event(
     machine: &mut Machine,
     teller: &Teller<'_>,
     before: &mut Before,
@@ -37,6 +41,7 @@ fn told_event(
     lines: &mut Lines,
 ) -> Result<Stopped, AllocError>
     ensures goes { IfOk result (λ why. GoesThrough (times why, why) (line.event ∷ []) machine.old machine.new) }
+    ensures seen { IfOk result (λ why. IsSeenOf machine.old.program machine.old.shared line.event.thread before.new.frame before.new.class) }
     ensures told { IfOk result (λ why. AfterRun teller.now.linked.now machine.old line.number (λ done.
         AddsOne why line.form teller.now.linked.now machine.old.limits.frames lines.old.text.items lines.new.text.items done line.event)) }
 {
@@ -83,6 +88,42 @@ fn event<W: Sink>(
     Ok(why)
 }
 
+/// Does an event again and again, at least once and at most so often, and tells it: each time in a line, or a run of local ones in one.
+/// Returns how many were done, and why no more.
+fn some_events<W: Sink>(
+    machine: &mut Machine,
+    telling: Telling<'_>,
+    before: &mut Before,
+    line: Line,
+    most: u32,
+    lines: &mut Lines,
+    output: &mut W,
+) -> Result<(u32, Stopped), DeviceFault>
+    requires form { line.form ≡ telling.window.form }
+    requires some { 1 ≤ most }
+    requires numbered { line.number + most < 2 ^ 64 }
+    ensures some { IfOk result (λ r. r.1 ≡ Most → 1 ≤ r.0) }
+    ensures bound { IfOk result (λ r. r.0 ≤ most) }
+    ensures within { IfOk result (λ r. tried r.0 r.1 ≤ most) }
+    ensures told { IfOk result (λ r. HasTold telling.entry.teller.now.linked.now telling.entry.window machine.old line.number (replicate (tried r.0 r.1) line.event) r.0 r.1 machine.new
+        (W.contents output.old) (W.contents output.new) lines.old.text.items lines.new.text.items) }
+    ensures part { OnErr result (StopsShort telling.entry.teller.now.linked.now telling.entry.window machine.old line.number (replicate most line.event)
+        (W.contents output.old) (W.contents output.new) lines.old.text.items) }
+    ensures counted { Counts result (W.failures output.old) (W.failures output.new) }
+{
+    let thread = line.event.thread;
+    let window = telling.window;
+    if window.summary && window.has(line.number, thread) && is_next_local(machine, thread) {
+        let done = run_of_locals(machine, telling, before, line, most, lines)?;
+        lines.ease(output)?;
+        return Ok(done);
+    }
+    match event(machine, telling, before, line, lines, output)? {
+        Stopped::Most => Ok((1, Stopped::Most)),
+        why => Ok((0, why)),
+    }
+}
+
 /// Does the events of an entry, of which the first has a number, and tells those that are to be told. Returns how many were done, and
 /// why no more.
 pub(crate) fn entry<W: Sink>(
@@ -106,13 +147,17 @@ pub(crate) fn entry<W: Sink>(
     if telling.window.leaves_out(first, entry) {
         return Ok(machine.repeat(entry.event, entry.repeat));
     }
-    'events: for done in 0..entry.repeat {
+    let mut done = 0u32;
+    'events: while done < entry.repeat {
         let line = Line {
             number: first + u64::from(done),
             event: entry.event,
             form: telling.window.form,
         };
-        match event(machine, telling, before, line, lines, output)? {
+        let left = entry.repeat - done;
+        let (count, why) = some_events(machine, telling, before, line, left, lines, output)?;
+        done += count;
+        match why {
             Stopped::Most => {}
             why => return Ok((done, why)),
         }

@@ -1,7 +1,9 @@
 //! A run under a schedule, told event by event.
 
 mod events;
+mod folds;
 mod lines;
+mod locals;
 mod run;
 mod window;
 

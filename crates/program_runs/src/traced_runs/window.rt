@@ -14,6 +14,8 @@ pub struct Window<'a> {
     pub to: u64,
     pub only: Option<&'a [u32]>,
     pub form: Form,
+    /// Whether a run of local events is told in one line.
+    pub summary: bool,
 }
 
 impl Window<'_> {

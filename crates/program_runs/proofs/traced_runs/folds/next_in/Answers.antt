@@ -1,0 +1,1 @@
+use Rattle.program_runs.proofs.traced_runs.folds.next_in.Goals as goal
