@@ -9,7 +9,7 @@ use Rattle.model.specs.declared.limits.Limits.{Limits}
 use Rattle.model.specs.Classes.{Program}
 use Rattle.run_laws.specs.interleavings.Ends.{Has}
 use Rattle.machine_state.specs.Shown.{IsProgram}
-use Rattle.local_runs.specs.Local.{AreLocalAfter}
+use Rattle.search.specs.local_runs.Local.{AreLocalAfter}
 use Rattle.search.specs.met_states.Met.{IsNextMet, AreListed, AreNewStatesMet, AreMetStatesKept}
 use Rattle.search.specs.States.{StatesOf, IsSchedule, IsMetFrom, Grows, GrowsTo, IsLocalFrom, IsPushed}
 

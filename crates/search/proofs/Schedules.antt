@@ -17,7 +17,7 @@ use Rattle.machine_state.specs.declared.state.Shared.{Shared}
 use Rattle.machine.specs.Machines.{MachineOf}
 use Rattle.machine_state.specs.same_states.Same.{AreAlike}
 use Rattle.machine_state.specs.shown_runs.Runs.{HasRun}
-use Rattle.local_runs.specs.Local.{AreLocalAfter}
+use Rattle.search.specs.local_runs.Local.{AreLocalAfter}
 use Rattle.schedule.specs.schedule_tree.Trees.{way_at, with_way}
 use Rattle.search.specs.met_states.Met.{AreAlikeStatesMet}
 use Rattle.search.specs.Machines.{IsAt, GoesBy, HasDoneMore, GoesPast}

@@ -33,7 +33,7 @@ use Rattle.machine.specs.machine_reports.Told.{AreQuietAt, Reports}
 use Rattle.search.specs.declared.run_outcomes.outcomes.Outcome.{Outcome as TheOutcome}
 use Rattle.machine.proofs.schedule_runs.Repeated.{entry_gone}
 use Rattle.machine_state.specs.thread_bursts.Threads.{event_of}
-use Rattle.local_runs.specs.Local.{AreLocalAfter, AreNextLocal}
+use Rattle.search.specs.local_runs.Local.{AreLocalAfter, AreNextLocal}
 use Rattle.search.specs.Machines.{IsAt, GoesBy, HasDoneMore, AreLocalBehind, GoesPast, TellsOutcome}
 
 -- ---- before any event

@@ -17,7 +17,7 @@ use Rattle.machine_state.specs.Shown.{IsProgram}
 use Rattle.machine_state.specs.shown_runs.Runs.{GoesOn}
 use Rattle.machine.specs.Machines.{MachineOf}
 use Rattle.machine.specs.schedule_runs.Done.{HasDone}
-use Rattle.local_runs.specs.Local.{AreLocalAfter}
+use Rattle.search.specs.local_runs.Local.{AreLocalAfter}
 use Rattle.search.specs.declared.run_outcomes.outcomes.Outcome.{Outcome as TheOutcome}
 use Rattle.search.specs.run_outcomes.Outcomes.{told_by}
 

@@ -10,7 +10,7 @@ use Rattle.run_laws.specs.interleavings.Ends.{Has}
 use Rattle.linked_code.specs.declared.program.LinkedProgram.{LinkedProgram}
 use Rattle.machine_state.specs.Shown.{IsProgram}
 use Rattle.machine.specs.Machines.{MachineOf}
-use Rattle.local_runs.specs.Local.{AreLocalAfter}
+use Rattle.search.specs.local_runs.Local.{AreLocalAfter}
 use Rattle.search.specs.met_states.Met.{IsNextMet}
 use Rattle.search.specs.Machines.{IsAt}
 

@@ -6,10 +6,10 @@ ghost use Rattle.model.specs.Schedule.{events_of};
 ghost use Rattle.machine.specs.Machines.{IsOfAccepted};
 ghost use Rattle.search.specs.Machines.{IsAt, GoesBy, HasDoneMore, AreLocalBehind, GoesPast, TellsOutcome};
 
+use crate::local_runs::local_count;
 use crate::run_outcomes::Outcome;
 use hierarchy::ClassSet;
 use linked_code::LinkedProgram;
-use local_runs::local_count;
 use machine::machine_reports::{is_quiet, report_of};
 use machine::schedule_runs::run_schedule;
 use machine::{Machine, Stopped};

@@ -16,7 +16,7 @@ use Rattle.model.specs.Words.{words_of}
 use Rattle.run_laws.proofs.typed_runs.Settled.{lengths_same}
 use Rattle.run_laws.specs.searches.Picks.{ArePicksInOrder}
 use Rattle.machine_state.specs.same_states.Same.{AreWordsTold}
-use Rattle.local_runs.specs.Local.{LeadsPast, AreLocalAfter}
+use Rattle.search.specs.local_runs.Local.{LeadsPast, AreLocalAfter}
 use Rattle.search.specs.met_states.Met.{AreAlikeStatesMet, AreNewStatesMet, AreHigherPicksLeft, AreOtherThreadsLeft, AreMetStatesKept, AreSearchesWhole}
 
 -- ---- one event more

@@ -12,7 +12,7 @@ use Rattle.linked_code.specs.declared.program.LinkedProgram.{LinkedProgram}
 use Rattle.machine_state.specs.declared.state.Shared.{Shared}
 use Rattle.machine_state.specs.same_states.Same.{AreAlike}
 use Rattle.machine_state.specs.shown_runs.Runs.{HasRun}
-use Rattle.local_runs.specs.Local.{AreLocalAfter}
+use Rattle.search.specs.local_runs.Local.{AreLocalAfter}
 
 -- where the event leads on from where the first events led, one of the schedules has met the state, or one to which local events lead
 -- from there

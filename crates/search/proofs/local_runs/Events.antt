@@ -33,7 +33,7 @@ use Rattle.linked_code.specs.local_bursts.Steps.{does_at, does_in, then_at, step
 use Rattle.run_laws.specs.word_operands.Operands.{IsOnTop}
 use Rattle.machine_state.specs.thread_bursts.Threads.{event_of, with_top, Activation, RunsCode, frame_in, AreLocalBursts}
 use Rattle.machine_state.proofs.thread_bursts.Events.{set_set, set_same, still_on_top, still_counted}
-use Rattle.local_runs.proofs.Rows.{begins, is_local}
+use Rattle.search.proofs.local_runs.Rows.{begins, is_local}
 
 -- ---- lists
 

@@ -1,6 +1,6 @@
 use Rattle.linked_code.specs.thread_stacks.Stacks.{shown_frame}
-use Rattle.local_runs.proofs.Frames.{can_do}
-use Rattle.local_runs.proofs.counting.count_in.Goals as goal
+use Rattle.search.proofs.local_runs.Frames.{can_do}
+use Rattle.search.proofs.local_runs.counting.count_in.Goals as goal
 
 pub returns-clause-can : goal.returns-clause-can
 returns-clause-can c =

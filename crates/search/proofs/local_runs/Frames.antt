@@ -36,8 +36,8 @@ use Rattle.machine_state.specs.state_events.Whole.{AreStacksLent}
 use Rattle.machine_state.specs.shown_runs.Runs.{HasRun}
 use Rattle.machine_state.proofs.linked_frames.Frames.{top_shown, slots_are, offset_is, top_frame}
 use Rattle.machine_state.proofs.state_events.Places.{set_same}
-use Rattle.local_runs.specs.Local.{LeadsPast, AreLocalAfter, AreNextLocal, running_of, CanDo, HasTop, AreInstructionsLocal, IsNoneLocal}
-use Rattle.local_runs.proofs.Events.{run_on, chain}
+use Rattle.search.specs.local_runs.Local.{LeadsPast, AreLocalAfter, AreNextLocal, running_of, CanDo, HasTop, AreInstructionsLocal, IsNoneLocal}
+use Rattle.search.proofs.local_runs.Events.{run_on, chain}
 
 module _ (bursts : AreLocalBursts) (carried : IsStepCarried) (keep : IsStepKept) (theirs : AreLocalEventsTheirOwn) (files : List (List ℕ)) (trees : Program) (accepted : IsAccepted files trees)
     (p : LinkedProgram) (bounds : Bounds) (shared : Shared) (events : List Event) (has : HasRun trees p bounds shared events) (t n : ℕ) where

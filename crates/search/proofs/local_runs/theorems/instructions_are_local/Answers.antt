@@ -1,5 +1,5 @@
-use Rattle.local_runs.proofs.Frames.{are_local}
-use Rattle.local_runs.proofs.theorems.instructions_are_local.Goals as goal
+use Rattle.search.proofs.local_runs.Frames.{are_local}
+use Rattle.search.proofs.local_runs.theorems.instructions_are_local.Goals as goal
 
 pub returns : goal.returns
 returns c =

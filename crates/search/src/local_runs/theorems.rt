@@ -1,6 +1,6 @@
 //! What is known of local instructions behind a run. Each function here is a theorem, and does nothing.
 
-ghost use Rattle.local_runs.specs.Local.{AreInstructionsLocal, IsNoneLocal};
+ghost use Rattle.search.specs.local_runs.Local.{AreInstructionsLocal, IsNoneLocal};
 
 use machine_state::linked_frames::frames_stand;
 use machine_state::state_events::stacks_are_lent;

@@ -1,6 +1,6 @@
 use Rattle.linked_code.specs.thread_stacks.Stacks.{shown_frame}
-use Rattle.local_runs.proofs.Frames.{local_if}
-use Rattle.local_runs.proofs.counting.local_count.Goals as goal
+use Rattle.search.proofs.local_runs.Frames.{local_if}
+use Rattle.search.proofs.local_runs.counting.local_count.Goals as goal
 
 pub returns-in-Some-clause-local : goal.returns-in-Some-clause-local
 returns-in-Some-clause-local c =
