@@ -15,7 +15,6 @@ use schedule::{Schedule, read_schedule};
 use std::alloc::Global;
 use std::env::Args;
 use std::fs;
-use std::sync::Arc;
 use std::time::Instant;
 use verifier::{Verified, verify};
 
@@ -82,7 +81,7 @@ fn tell(rt: &HostRuntime, machine: &Machine, done: u64, why: Stopped) -> Result<
 /// A machine of verified class files.
 fn machine_of(alloc: Global, verified: &Verified) -> Result<Machine> {
     let limits = Limits::new(1_000_000, 4_000_000, 1_000, 1_000, 1_000).context("the limits")?;
-    let program = Arc::new(alloc, verified_program(alloc, verified)?)?;
+    let program = verified_program(alloc, verified)?;
     Ok(Machine::open(alloc, program, limits)?)
 }
 

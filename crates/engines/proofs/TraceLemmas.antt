@@ -10,7 +10,7 @@ use Rattle.model.specs.declared.report.Report.{Report}
 use Rattle.model.specs.Classes.{Program}
 use Rattle.model.specs.Devices.{AppendsFront}
 use Rattle.listings.proofs.disasm.Writing.{appends_on, then_fails}
-use Rattle.program_runs.specs.machine_replay.Replays.{text_of}
+use Rattle.machine.specs.machine_replay.Replays.{text_of}
 use Rattle.program_runs.specs.traced_runs.Traces.{IsTrace}
 use Rattle.program_runs.specs.declared.traced_runs.window.Window.{Window}
 use Rattle.command_line.specs.declared.options.LimitOptions.{LimitOptions}

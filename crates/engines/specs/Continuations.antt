@@ -6,7 +6,7 @@ use Rattle.model.specs.declared.report.Report.{Report}
 use Rattle.model.specs.declared.end.End.{End}
 use Rattle.model.specs.Classes.{Program}
 use Rattle.model.specs.Schedule.{ScheduleFile, events_of}
-use Rattle.program_runs.specs.machine_replay.Replays.{text_of}
+use Rattle.machine.specs.machine_replay.Replays.{text_of}
 use Rattle.program_runs.specs.continued_runs.Continuing.{GoesOn}
 use Rattle.program_runs.specs.declared.continued_runs.run.Continued.{Continued}
 use Rattle.program_runs.specs.declared.continued_runs.run.Continued.TheVariants.{Whole, Part}

@@ -10,7 +10,7 @@ use Rattle.model.specs.Devices.{AppendsFront}
 use Rattle.model.specs.Classes.{Program}
 use Rattle.model.specs.Accepted.{IsAccepted}
 use Rattle.model.specs.Schedule.{Recording, ScheduleFile}
-use Rattle.program_runs.specs.machine_replay.Replays.{text_of}
+use Rattle.machine.specs.machine_replay.Replays.{text_of}
 use Rattle.program_runs.specs.worlds.Records.{IsRecorded}
 use Rattle.command_line.specs.Choices.{AreChosen}
 use Rattle.command_line.specs.declared.options.LimitOptions.{LimitOptions}

@@ -6,7 +6,7 @@ use Rattle.model.specs.declared.report.Report.{Report}
 use Rattle.model.specs.declared.end.End.{End}
 use Rattle.model.specs.Devices.{AppendsFront}
 use Rattle.model.specs.Classes.{Program}
-use Rattle.program_runs.specs.machine_replay.Replays.{text_of}
+use Rattle.machine.specs.machine_replay.Replays.{text_of}
 use Rattle.program_runs.specs.traced_runs.Traces.{IsTrace, WritesFront}
 use Rattle.program_runs.specs.declared.traced_runs.window.Window.{Window}
 use Rattle.command_line.specs.declared.options.LimitOptions.{LimitOptions}

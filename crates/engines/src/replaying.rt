@@ -12,7 +12,7 @@ use crate::opening::{Opened, open};
 use crate::status::Status;
 use command_line::LimitOptions;
 use model::{Sink, Source};
-use program_runs::machine_replay::replay;
+use program_runs::verified_programs::replay;
 use schedule::report::text;
 use std::alloc::{AllocError, Global};
 

@@ -6,7 +6,7 @@ ghost use Rattle.std.specs.Io.KnownBytes.{Appends};
 ghost use Rattle.model.specs.Accepted.{IsAccepted};
 ghost use Rattle.model.specs.Devices.{Counts};
 ghost use Rattle.model.specs.Schedule.{ScheduleFile, events_of};
-ghost use Rattle.program_runs.specs.machine_replay.Replays.{text_of};
+ghost use Rattle.machine.specs.machine_replay.Replays.{text_of};
 ghost use Rattle.program_runs.specs.worlds.Records.{IsRecordOf};
 ghost use Rattle.engines.specs.Engines.{CountsFailure};
 ghost use Rattle.engines.specs.Statuses.{status_of};

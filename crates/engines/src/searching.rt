@@ -16,6 +16,7 @@ use crate::status::Status;
 use crate::verification::accepted;
 use command_line::LimitOptions;
 use model::{DeviceFault, Limits, Sink, Source};
+use program_runs::verified_programs::verified_program;
 use search::run_outcomes::Wanted;
 use search::search_reports::{Answer, search_report};
 use std::alloc::{AllocError, Global};
@@ -73,7 +74,9 @@ fn searched(
         searched.text.items (option_map vec_items searched.file) searched.status) }
 {
     let limits = limits.limits();
-    let searched = search_report(alloc, verified, limits, wanted, most)?;
+    let program = verified_program(alloc, verified)?;
+    let classes = verified.linked().set();
+    let searched = search_report(alloc, classes, program, limits, wanted, most)?;
     let text = searched.text(alloc)?;
     let file = found_file(alloc, is_recorded, files, limits, &searched.answer)?;
     let status = Status::of_search(&searched.answer);

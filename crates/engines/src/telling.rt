@@ -9,6 +9,7 @@ use crate::recording::limits_of;
 use crate::verification::accepted;
 use command_line::LimitOptions;
 use model::Source;
+use program_runs::verified_programs::verified_program;
 use std::alloc::Global;
 use std::io;
 use std::io::Write;
@@ -69,7 +70,8 @@ pub(crate) fn told_threads<T: Source, S: Source>(
     let files = read_class_files(alloc, files)?;
     let limits = limits_of(&recorded, files.as_slice(), limits)?;
     let verified = accepted(alloc, files.as_slice())?;
-    Ok(explain_threads(alloc, &verified, &schedule, limits)?)
+    let program = verified_program(alloc, &verified)?;
+    Ok(explain_threads(alloc, verified.linked(), &program, &schedule, limits)?)
 }
 
 /// The same of the schedule that was recorded. Nothing, where none was kept.

@@ -11,3 +11,6 @@ pub mod FieldLaws
 pub mod CycleLaws
 pub mod TypeLaws
 pub mod Apart
+pub mod Climbing
+pub mod LineageLaws
+pub mod LineageWalks

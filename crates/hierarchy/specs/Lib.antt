@@ -5,3 +5,4 @@ pub mod Above
 pub mod Ranks
 pub mod Fields
 pub mod Types
+pub mod Lineages

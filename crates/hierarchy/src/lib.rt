@@ -1,11 +1,13 @@
 //! Sets of classes (JVMS 5.3), and which field or method a symbolic reference names in them (JVMS 5.4.3).
 #![tactic(auto)]
 
+mod climb;
 mod components;
 mod cycles;
 mod declared;
 mod fields;
 mod hierarchy;
+mod lineage;
 mod lookup;
 mod name_set;
 mod order;

@@ -1,18 +1,21 @@
 //! The classes of a program, by their names.
 
-ghost use Rattle.std.specs.Prelude.{◌≡◌, length, map, false, option_map, IfOk, IfErr, OnOk};
+ghost use Rattle.std.specs.Prelude.{◌≡◌, length, map, false, Some, option_map, IfOk, IfErr, IfSome, OnOk};
 ghost use Rattle.model.specs.Classes.{classes_of, class_of, superclass_of, is_subclass, is_interface, name_of, super_name_of};
+ghost use Rattle.model.specs.TypeJoin.{class_join};
 ghost use Rattle.model.specs.Linkable.{stands, DuplicateClass, two_of_one_name};
 ghost use Rattle.model.specs.BuiltIn.{built_in_classes as classes_of_the_model};
 ghost use Rattle.class_tree.specs.View.{file_of};
 ghost use Rattle.hierarchy.specs.Set.{trees_of, files_of, IsRefused};
-ghost use Rattle.hierarchy.specs.Places.{place_of, class_at};
+ghost use Rattle.hierarchy.specs.Places.{place_of, class_at, name_at};
 
+use crate::climb::{common_superclass, is_subclass_by};
+use crate::lineage::{Lineage, lineages};
 use crate::refusal::SetRefusal;
 use class_tree::ClassFile;
 use class_tree::builtin::built_in_classes;
 use indexmap::IndexSet;
-use std::alloc::Global;
+use std::alloc::{AllocError, Global};
 use std::marker::Model;
 
 /// The classes of a program: the built-in ones, then those of its files in their order. No two have one name.
@@ -21,6 +24,8 @@ pub struct ClassSet {
     classes: Vec<ClassFile>,
     /// The name of each class.
     names: IndexSet<Vec<u8>>,
+    /// How each class stands below its superclasses. Empty where a superclass isn't found, or a class is above itself.
+    lineages: Vec<Lineage>,
 }
 
 impl Model for ClassSet {
@@ -32,7 +37,7 @@ impl Model for ClassSet {
 
     ghost view = { λ s. files_of (trees_of s.classes.items) };
 
-    ghost invariant = { λ s. Holds (trees_of s.classes.items) (map (λ name. name.items) s.names.keys) };
+    ghost invariant = { λ s. Holds (trees_of s.classes.items) (map (λ name. name.items) s.names.keys) s.lineages.items };
 }
 
 /// The name of the class that a file declares (JVMS 4.1, this_class).
@@ -74,8 +79,8 @@ fn names_of(
 }
 
 impl ClassSet {
-    /// The set of the built-in classes and those of files, unless two have one name.
-    pub fn new(alloc: Global, files: Vec<ClassFile>) -> Result<ClassSet, SetRefusal>
+    /// The same set as `new`, with an empty table.
+    fn without_lineages(alloc: Global, files: Vec<ClassFile>) -> Result<ClassSet, SetRefusal>
         ensures set { IfOk result (λ set. set ≡ trees_of files.items) }
         ensures differ { OnOk result (stands (trees_of files.items) DuplicateClass ≡ false) }
         ensures refused { IfErr result (IsRefused (trees_of files.items)) }
@@ -85,9 +90,34 @@ impl ClassSet {
         let built_in = classes.len();
         classes.append(&mut files)?;
         match names_of(alloc, &classes, built_in) {
-            Ok(names) => Ok(ClassSet { classes, names }),
+            Ok(names) => Ok(ClassSet {
+                classes,
+                names,
+                lineages: Vec::new(alloc),
+            }),
             Err(refusal) => Err(refusal),
         }
+    }
+
+    /// The same set, with the table of its classes.
+    fn with_lineages(alloc: Global, set: ClassSet) -> Result<ClassSet, AllocError>
+        ensures { IfOk result (λ whole. whole ≡ set) }
+    {
+        let mut whole = set;
+        let lineages = lineages(alloc, &whole)?;
+        whole.lineages = lineages;
+        Ok(whole)
+    }
+
+    /// The set of the built-in classes and those of files, unless two have one name.
+    pub fn new(alloc: Global, files: Vec<ClassFile>) -> Result<ClassSet, SetRefusal>
+        ensures set { IfOk result (λ set. set ≡ trees_of files.items) }
+        ensures differ { OnOk result (stands (trees_of files.items) DuplicateClass ≡ false) }
+        ensures refused { IfErr result (IsRefused (trees_of files.items)) }
+    {
+        let set = ClassSet::without_lineages(alloc, files)?;
+        let whole = ClassSet::with_lineages(alloc, set)?;
+        Ok(whole)
     }
 
     /// How many classes there are.
@@ -131,8 +161,27 @@ impl ClassSet {
         superclass_name(class)
     }
 
-    /// Whether the first class is the second, or a subclass of it (JVMS 2.4). Takes no memory.
-    pub fn is_subclass(&self, class: &[u8], superclass: &[u8]) -> bool
+    /// The name of the class at a place; no bytes where there is no class.
+    pub fn name_at(&self, place: usize) -> &[u8]
+        ensures { result.now ≡ name_at self.now place }
+    {
+        match self.class_at(place) {
+            Some(class) => class_name(class),
+            None => b"",
+        }
+    }
+
+    /// The first of the superclasses of a class, or that class, of which another class is a subclass, or which is that. Takes no
+    /// memory, and a few steps more where the superclasses are twice as many. None, too, where a superclass isn't found or a
+    /// class is above itself.
+    pub fn common_superclass(&self, c: usize, d: usize) -> Option<usize>
+        ensures { IfSome result (λ p. class_join self.now (name_at self.now c) (name_at self.now d) ≡ Some (name_at self.now p)) }
+    {
+        common_superclass(self, &self.lineages, c, d)
+    }
+
+    /// The same as `is_subclass`, step by step.
+    fn is_subclass_by_steps(&self, class: &[u8], superclass: &[u8]) -> bool
         ensures { result ≡ is_subclass self.now class.now superclass.now }
     {
         let mut class = class;
@@ -146,6 +195,29 @@ impl ClassSet {
             class = next;
         }
         class == superclass
+    }
+
+    /// Whether the class at a place is that at another, or a subclass of it (JVMS 2.4). Takes no memory.
+    pub fn is_subclass_at(&self, class: usize, superclass: usize) -> bool
+        ensures { result ≡ is_subclass self.now (name_at self.now class) (name_at self.now superclass) }
+    {
+        match is_subclass_by(self, &self.lineages, class, superclass) {
+            Some(is) => is,
+            None => self.is_subclass_by_steps(self.name_at(class), self.name_at(superclass)),
+        }
+    }
+
+    /// Whether the first class is the second, or a subclass of it (JVMS 2.4). Takes no memory.
+    pub fn is_subclass(&self, class: &[u8], superclass: &[u8]) -> bool
+        ensures { result ≡ is_subclass self.now class.now superclass.now }
+    {
+        let Some(place) = self.place_of(class) else {
+            return class == superclass;
+        };
+        let Some(above) = self.place_of(superclass) else {
+            return self.is_subclass_by_steps(class, superclass);
+        };
+        self.is_subclass_at(place, above)
     }
 
     /// Whether the class of a name is there and is an interface (JVMS 4.1, ACC_INTERFACE).

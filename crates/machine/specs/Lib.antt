@@ -1,6 +1,7 @@
 pub mod Machines
 pub mod Tops
 pub mod machine_bursts
+pub mod machine_replay
 pub mod machine_reports
 pub mod object_bursts
 pub mod object_events

@@ -49,6 +49,12 @@ pub record IsOfAccepted (p : LinkedProgram) : Type 0 where
   pub accepted : IsAccepted files trees
   pub program : IsProgram trees p
 
+-- the program that was linked from these files, which are accepted (JVMS 4.10, 5.4)
+pub record IsProgramOf (trees : Program) (p : LinkedProgram) : Type 0 where
+  pub files : List (List ℕ)
+  pub accepted : IsAccepted files trees
+  pub program : IsProgram trees p
+
 -- the machine of a program before any event, with no lock inflated
 abbrev pub Opens : LinkedProgram → Limits → MachineOf → Type 0
 Opens p limits m =

@@ -3,6 +3,7 @@
 
 mod machine;
 pub mod machine_bursts;
+pub mod machine_replay;
 pub mod machine_reports;
 pub mod object_bursts;
 pub mod object_events;

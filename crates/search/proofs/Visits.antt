@@ -11,9 +11,8 @@ use Rattle.model.specs.LimitStands.{bounds_of, within_limits}
 use Rattle.model.specs.Run.{run, is_quiet}
 use Rattle.model.specs.State.{State}
 use Rattle.run_laws.specs.interleavings.Ends.{Outcome, outcome_of, EndsWith, Has}
-use Rattle.machine.specs.Machines.{MachineOf}
+use Rattle.machine.specs.Machines.{MachineOf, IsProgramOf}
 use Rattle.machine.specs.schedule_runs.Done.{HasDone}
-use Rattle.program_runs.specs.verified_programs.Verified.{IsProgramOf}
 use Rattle.search.specs.met_states.Met.{AreMetStatesKept}
 use Rattle.search.specs.declared.run_outcomes.outcomes.Outcome.{Outcome as TheOutcome}
 use Rattle.search.specs.declared.run_outcomes.wanted.Wanted.{Wanted}

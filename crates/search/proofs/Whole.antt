@@ -9,8 +9,7 @@ use Rattle.model.specs.Schedule.{events_of}
 use Rattle.run_laws.specs.interleavings.Ends.{Outcome, Has}
 use Rattle.run_laws.specs.searches.Searches.{AreSearchesComplete}
 use Rattle.linked_code.specs.declared.program.LinkedProgram.{LinkedProgram}
-use Rattle.machine.specs.Machines.{IsOfAccepted}
-use Rattle.program_runs.specs.verified_programs.Verified.{IsProgramOf}
+use Rattle.machine.specs.Machines.{IsOfAccepted, IsProgramOf}
 use Rattle.search.specs.met_states.Met.{IsNextMet, HasMetAll, AreSearchesWhole}
 use Rattle.search.specs.declared.run_outcomes.wanted.Wanted.{Wanted}
 use Rattle.search.specs.run_outcomes.Outcomes.{IsWanted}
@@ -78,16 +77,15 @@ module _ (trees : Program) (limits : Limits) (want : Wanted) (s : StatesOf) (out
       → IsFound trees limits want (events_of schedule)
   found_by v s_new new schedule visits is = subst (λ x. Visits trees limits want number x s_new new) is (visits_by v s_new new visits)
 
--- ---- the opening state of verified class files
+-- ---- the opening state of a program
 
 pub accepted_of : (trees : Program) (p : LinkedProgram) → IsProgramOf trees p → IsOfAccepted p
 accepted_of trees p program = record { files = program.files; trees = trees; accepted = program.accepted; program = program.program }
 
-module _ (trees set : Program) (limits : Limits) (want : Wanted) (p : LinkedProgram) (s : StatesOf) (set_is : set ≡ trees)
-    (s_is : s ≡ one_state p limits) where
-  pub none_visited_in : IsProgramOf trees p → HasVisited set s.limits want s [] 0
+module _ (trees : Program) (limits : Limits) (want : Wanted) (p : LinkedProgram) (s : StatesOf) (s_is : s ≡ one_state p limits) where
+  pub none_visited_in : IsProgramOf trees p → HasVisited trees s.limits want s [] 0
   none_visited_in program =
-      subst (λ x. HasVisited x s.limits want s [] 0) (sym set_is) (subst (λ (x : StatesOf). HasVisited trees x.limits want x [] 0) (sym s_is) (none_visited trees limits want p program))
+      subst (λ (x : StatesOf). HasVisited trees x.limits want x [] 0) (sym s_is) (none_visited trees limits want p program)
 
-  pub says_in : (v : Verdict) → Says set s.limits want v → Says trees limits want v
-  says_in v says = subst (λ x. Says x limits want v) set_is (subst (λ l. Says set l want v) (ap (λ (x : StatesOf). x.limits) s_is) says)
+  pub says_in : (v : Verdict) → Says trees s.limits want v → Says trees limits want v
+  says_in v says = subst (λ l. Says trees l want v) (ap (λ (x : StatesOf). x.limits) s_is) says

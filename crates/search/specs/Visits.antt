@@ -7,7 +7,7 @@ use Rattle.model.specs.Run.{run, is_quiet}
 use Rattle.model.specs.Schedule.{events_of}
 use Rattle.model.specs.State.{State}
 use Rattle.run_laws.specs.interleavings.Ends.{Outcome, outcome_of, EndsWith, Has}
-use Rattle.program_runs.specs.verified_programs.Verified.{IsProgramOf}
+use Rattle.machine.specs.Machines.{IsProgramOf}
 use Rattle.search.specs.declared.run_outcomes.wanted.Wanted.{Wanted}
 use Rattle.search.specs.declared.run_outcomes.outcomes.Outcome.{Outcome as TheOutcome}
 use Rattle.search.specs.run_outcomes.Outcomes.{told_by, IsWanted, IsAdded}

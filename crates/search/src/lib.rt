@@ -1,4 +1,4 @@
-//! A search over all schedules of verified class files: every outcome that any of them can have, or one that is wanted.
+//! A search over all schedules of a program: every outcome that any of them can have, or one that is wanted.
 #![tactic(auto)]
 
 mod expanding;

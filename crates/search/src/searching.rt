@@ -1,6 +1,8 @@
 //! The search.
 
 ghost use Rattle.std.specs.Prelude.{◌<◌, [], length, IfOk};
+ghost use Rattle.std.specs.Arc.{arc_value};
+ghost use Rattle.machine.specs.Machines.{IsProgramOf};
 ghost use Rattle.search.specs.Verdicts.{Says};
 ghost use Rattle.search.specs.Visits.{HasVisited, Visits, ListsOr};
 
@@ -10,13 +12,12 @@ use crate::met_states::{met_states_are_kept, searches_are_whole};
 use crate::run_outcomes::{Outcome, Outcomes, Wanted};
 use crate::states::States;
 use hierarchy::ClassSet;
+use linked_code::LinkedProgram;
 use model::Limits;
-use program_runs::verified_programs::verified_program;
 use run_laws::searches::searches_are_complete;
 use schedule::Schedule;
 use std::alloc::{AllocError, Global};
 use std::sync::Arc;
-use verifier::Verified;
 
 /// What a search answers.
 #[derive(Drop)]
@@ -123,20 +124,21 @@ fn visit_all(
     }
 }
 
-/// Searches all schedules of verified class files (JVMS 2.5, 2.6, 5.5, chapter 6; JLS 17), as far as so many states, for a run whose
-/// outcome is wanted. Of runs that never end nothing is said. The only error is a want of memory.
+/// Searches all schedules of a program (JVMS 2.5, 2.6, 5.5, chapter 6; JLS 17), which is that of the classes, as far as so many states,
+/// for a run whose outcome is wanted. Of runs that never end nothing is said. The only error is a want of memory.
 pub fn search(
     alloc: Global,
-    verified: &Verified,
+    classes: &ClassSet,
+    program: Arc<LinkedProgram>,
     limits: Limits,
     wanted: &Wanted,
     most: u32,
 ) -> Result<Searched, AllocError>
-    ensures { IfOk result (λ s. Says verified.now limits wanted.now s.verdict) }
+    requires { IsProgramOf classes.now (arc_value program) }
+    ensures { IfOk result (λ s. Says classes.now limits wanted.now s.verdict) }
 {
-    let program = Arc::new(alloc, verified_program(alloc, verified)?)?;
     let mut states = States::new(alloc, program, limits)?;
-    let verdict = visit_all(alloc, verified.linked().set(), wanted, &mut states, most)?;
+    let verdict = visit_all(alloc, classes, wanted, &mut states, most)?;
     Ok(Searched {
         verdict,
         states: states.len(),

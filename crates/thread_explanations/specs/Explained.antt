@@ -7,7 +7,7 @@ use Rattle.model.specs.declared.limits.Limits.{Limits}
 use Rattle.model.specs.declared.report.Report.{Report}
 use Rattle.model.specs.Classes.{Program}
 use Rattle.model.specs.Report.{ThreadEnd, Ended, Threw, Blocked, Waiting, Joining, Initialising, Runnable, end_state_of, line, thread_line}
-use Rattle.program_runs.specs.machine_replay.Replays.{IsReplay}
+use Rattle.machine.specs.machine_replay.Replays.{IsReplay}
 
 -- lines that are indented by two spaces
 abbrev pub indented : List (List ℕ) → List ℕ

@@ -1,5 +1,8 @@
 //! What is told below the lines of a report.
 
+ghost use Rattle.std.specs.Arc.{arc_value};
+ghost use Rattle.machine.specs.Machines.{IsOfAccepted};
+
 use crate::awaited::{Awaited, awaited_by};
 use crate::deadlocks::deadlock_lines;
 use crate::lines::{Facts, ThreadFacts};
@@ -7,15 +10,15 @@ use crate::stacks::StackPlaces;
 use crate::throws::{Thrown, throws_of};
 use linked_code::LinkedProgram;
 use linked_code::thread_stacks::ThreadStack;
+use linker::Linked;
+use machine::Machine;
 use machine::schedule_runs::run_schedule;
 use machine_state::Shared;
 use model::{EndState, Limits};
-use program_runs::machine_replay::open_machine;
 use schedule::Schedule;
 use std::alloc::{AllocError, Global};
 use std::sync::Arc;
 use trace_text::program_names::ProgramNames;
-use verifier::Verified;
 
 /// What is told of the threads of a run, in lines.
 #[derive(Drop)]
@@ -99,18 +102,20 @@ fn thread_lines(
 /// What is told of threads that stand so after the events of the schedule, for which these are done again.
 pub(crate) fn details_of(
     alloc: Global,
-    verified: &Verified,
+    linked: &Linked,
+    program: &Arc<LinkedProgram>,
     schedule: &Schedule,
     limits: Limits,
     ends: &[EndState],
-) -> Result<Details, AllocError> {
-    let mut machine = open_machine(alloc, verified, limits)?;
+) -> Result<Details, AllocError>
+    requires { IsOfAccepted (arc_value program.now) }
+{
+    let mut machine = Machine::open(alloc, Arc::try_clone(program)?, limits)?;
     let _ = run_schedule(&mut machine, schedule);
-    let program = Arc::try_clone(machine.program())?;
-    let names = ProgramNames::new(alloc, verified.linked(), &program)?;
+    let names = ProgramNames::new(alloc, linked, program)?;
     let mut shared = machine.into_shared();
-    let throws = throws_of(alloc, verified, schedule, limits, &shared)?;
-    let threads = facts_of(alloc, &mut shared, &program, ends, throws)?;
+    let throws = throws_of(alloc, program, schedule, limits, &shared)?;
+    let threads = facts_of(alloc, &mut shared, program, ends, throws)?;
     let facts = Facts {
         alloc,
         names: &names,

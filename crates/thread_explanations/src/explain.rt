@@ -1,19 +1,23 @@
 //! The text of what the threads of a run are about.
 
 ghost use Rattle.std.specs.Prelude.{◌≡◌, ◌++◌, IfOk, OnOk, codes, map, vec_items};
+ghost use Rattle.std.specs.Arc.{arc_value};
 ghost use Rattle.std.specs.List.{flat_map};
 ghost use Rattle.model.specs.Report.{end_state_of, line};
 ghost use Rattle.model.specs.Schedule.{events_of};
+ghost use Rattle.machine.specs.Machines.{IsProgramOf};
 ghost use Rattle.thread_explanations.specs.Explained.{ExplainsRun, indented, told_of, told_of_all};
 ghost use Rattle.thread_explanations.specs.Details.{lines_at};
 
 use crate::details::{Details, details_of};
+use linked_code::LinkedProgram;
+use linker::Linked;
+use machine::machine_replay::replay;
 use model::{EndState, Limits};
-use program_runs::machine_replay::replay;
 use schedule::Schedule;
 use schedule::report::push_thread;
 use std::alloc::{AllocError, Global};
-use verifier::Verified;
+use std::sync::Arc;
 
 /// A line with its end.
 fn push_line(text: &mut Vec<u8>, words: &[u8]) -> Result<(), AllocError>
@@ -94,20 +98,24 @@ fn push_threads(
     Ok(())
 }
 
-/// What the threads are about that did not end normally, after the events of a schedule over verified class files, as far as they go,
-/// under the limits of the run (JVMS 2.10, 5.5; JLS 17). Of each stands its line of the report, and below it indented lines: where its
-/// frames stand, or stood when it threw the exception that ended it, and what it waits for. A line for each deadlock stands behind them.
-/// Of a run in which all threads ended normally nothing is told. The only error is a want of memory.
+/// What the threads are about that did not end normally, after the events of a schedule, as far as they go, under the limits of the run
+/// (JVMS 2.10, 5.5; JLS 17). The program is that of the linked class files, which are accepted. Of each thread stands its line of the
+/// report, and below it indented lines: where its frames stand, or stood when it threw the exception that ended it, and what it waits
+/// for. A line for each deadlock stands behind them. Of a run in which all threads ended normally nothing is told. The only error is a
+/// want of memory.
 pub fn explain_threads(
     alloc: Global,
-    verified: &Verified,
+    linked: &Linked,
+    program: &Arc<LinkedProgram>,
     schedule: &Schedule,
     limits: Limits,
 ) -> Result<Vec<u8>, AllocError>
-    ensures { IfOk result (λ text. ExplainsRun verified.now (events_of schedule.now) limits text.items) }
+    requires { IsProgramOf linked.now (arc_value program.now) }
+    ensures { IfOk result (λ text. ExplainsRun linked.now (events_of schedule.now) limits text.items) }
 {
-    let (report, _) = replay(alloc, verified, schedule, limits)?;
-    let details = details_of(alloc, verified, schedule, limits, &report.threads)?;
+    let replayed = Arc::try_clone(program)?;
+    let (report, _) = replay(alloc, linked.set(), replayed, schedule, limits)?;
+    let details = details_of(alloc, linked, program, schedule, limits, &report.threads)?;
     let mut text = Vec::new(alloc);
     push_threads(alloc, &mut text, &report.threads, &details)?;
     push_lines(&mut text, &details.deadlocks)?;

@@ -1,15 +1,19 @@
 //! Exceptions that ended threads, and from where they were thrown (JVMS 2.10).
 
+ghost use Rattle.std.specs.Arc.{arc_value};
+ghost use Rattle.machine.specs.Machines.{IsOfAccepted};
+
 use crate::following::follow;
 use crate::stacks::StackPlaces;
 use crate::watch::{Throw, Watch};
 use heap::java_threads::ThreadStatus;
+use linked_code::LinkedProgram;
+use machine::Machine;
 use machine_state::Shared;
 use model::Limits;
-use program_runs::machine_replay::open_machine;
 use schedule::Schedule;
 use std::alloc::{AllocError, Global};
-use verifier::Verified;
+use std::sync::Arc;
 
 /// The exception on account of which an initialisation failed (JVMS 5.5, step 11).
 #[derive(Drop)]
@@ -64,15 +68,17 @@ fn causes_of(alloc: Global, watches: &[Watch]) -> Result<Option<Vec<Watch>>, All
 /// Does the events of the schedule once more, and looks at those that the watches are for.
 fn watched(
     alloc: Global,
-    verified: &Verified,
+    program: &Arc<LinkedProgram>,
     schedule: &Schedule,
     limits: Limits,
     watches: Option<Vec<Watch>>,
-) -> Result<Vec<Watch>, AllocError> {
+) -> Result<Vec<Watch>, AllocError>
+    requires { IsOfAccepted (arc_value program.now) }
+{
     let Some(mut watches) = watches else {
         return Ok(Vec::new(alloc));
     };
-    let mut machine = open_machine(alloc, verified, limits)?;
+    let mut machine = Machine::open(alloc, Arc::try_clone(program)?, limits)?;
     follow(alloc, &mut machine, schedule, &mut watches)?;
     Ok(watches)
 }
@@ -114,15 +120,17 @@ fn stack_of(throw: Option<Throw>) -> Option<StackPlaces> {
 /// where one of them has a cause. None where no thread was ended by one.
 pub(crate) fn throws_of(
     alloc: Global,
-    verified: &Verified,
+    program: &Arc<LinkedProgram>,
     schedule: &Schedule,
     limits: Limits,
     shared: &Shared,
-) -> Result<Vec<Thrown>, AllocError> {
+) -> Result<Vec<Thrown>, AllocError>
+    requires { IsOfAccepted (arc_value program.now) }
+{
     let sought = watches_of(alloc, shared)?;
-    let watches = watched(alloc, verified, schedule, limits, sought)?;
+    let watches = watched(alloc, program, schedule, limits, sought)?;
     let sought = causes_of(alloc, &watches)?;
-    let causes = watched(alloc, verified, schedule, limits, sought)?;
+    let causes = watched(alloc, program, schedule, limits, sought)?;
     let mut causes = causes.into_iter();
     let mut throws = Vec::new(alloc);
     for watch in watches {

@@ -1,5 +1,4 @@
 pub mod Classes
-pub mod Climbing
 pub mod References
 pub mod Pairwise
 pub mod FrameTypes

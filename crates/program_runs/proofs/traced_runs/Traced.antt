@@ -17,10 +17,10 @@ use Rattle.run_laws.specs.soundness.Runs.{IsNoEventWrong}
 use Rattle.run_laws.specs.word_reports.Reports.{AreReportsOfWords}
 use Rattle.machine.specs.declared.machine.Stopped.{Stopped}
 use Rattle.machine.specs.Machines.{MachineOf}
-use Rattle.program_runs.specs.machine_replay.Replays.{IsReplay}
-use Rattle.program_runs.specs.machine_replay.Shown.{IsOpened}
-use Rattle.program_runs.specs.machine_replay.Shown as shown
-use Rattle.program_runs.proofs.machine_replay.Replayed.{is_replay}
+use Rattle.machine.specs.machine_replay.Replays.{IsReplay}
+use Rattle.machine.specs.machine_replay.Shown.{IsOpened}
+use Rattle.machine.specs.machine_replay.Shown as shown
+use Rattle.machine.proofs.machine_replay.Replayed.{is_replay}
 use Rattle.listings.proofs.disasm.Writing.{none_written}
 use Rattle.program_runs.specs.traced_runs.Telling.{HasTold, StopsShort}
 use Rattle.program_runs.specs.traced_runs.Traces.{IsTrace, Tells, WritesFront}

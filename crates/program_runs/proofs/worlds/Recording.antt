@@ -18,8 +18,8 @@ use Rattle.linked_code.specs.declared.program.LinkedProgram.{LinkedProgram}
 use Rattle.machine_state.specs.declared.state.Shared.{Shared}
 use Rattle.machine_state.specs.shown_runs.Runs.{HasRun}
 use Rattle.machine.specs.machine_reports.Told.{ReportsOn, Reports}
-use Rattle.program_runs.specs.machine_replay.Replays.{IsRight}
-use Rattle.program_runs.proofs.machine_replay.Replayed.{told_of, operands_found}
+use Rattle.machine.specs.machine_replay.Replays.{IsRight}
+use Rattle.machine.proofs.machine_replay.Replayed.{told_of, operands_found}
 use Rattle.program_runs.specs.declared.worlds.records.Recorded.{Recorded}
 use Rattle.program_runs.specs.worlds.Worlds.{WorldOf, Holds, EndFits}
 use Rattle.program_runs.specs.worlds.Records.{IsRecorded, IsRecordOf, Keeps}

@@ -25,7 +25,7 @@ use Rattle.machine.specs.declared.machine.Stopped.TheVariants as stopped
 use Rattle.machine.specs.Machines.{MachineOf}
 use Rattle.machine.specs.Tops.{plain}
 use Rattle.machine.specs.schedule_runs.Done.{OfNext, EndsBy}
-use Rattle.program_runs.proofs.machine_replay.Replayed.{refused_for}
+use Rattle.machine.proofs.machine_replay.Replayed.{refused_for}
 use Rattle.program_runs.specs.worlds.Turns.{MayStep, MayNone, IsFound, AreIdle, IsNext}
 use Rattle.program_runs.specs.worlds.Worlds.{WorldOf, Holds, EndFits, HasRepeated, TakesTurn, stopped_end}
 

@@ -9,7 +9,7 @@ use Rattle.model.specs.Schedule.{events_of}
 use Rattle.model.specs.State.{State}
 use Rattle.machine.specs.declared.machine.Stopped.{Stopped}
 use Rattle.machine.specs.declared.machine.Stopped.TheVariants as stopped
-use Rattle.program_runs.specs.machine_replay.Replays.{IsReplay}
+use Rattle.machine.specs.machine_replay.Replays.{IsReplay}
 use Rattle.machine.specs.schedule_runs.Done.{EndsBy}
 use Rattle.program_runs.specs.worlds.Records.{IsRecordOf}
 use Rattle.program_runs.specs.continued_runs.Turns.{AreInTurn}

@@ -8,7 +8,7 @@ use Rattle.model.specs.Classes.{Program}
 use Rattle.model.specs.Devices.{AppendsFront}
 use Rattle.model.specs.Run.{run}
 use Rattle.model.specs.State.{StackOf, State, StateOf}
-use Rattle.program_runs.specs.machine_replay.Replays.{IsReplay}
+use Rattle.machine.specs.machine_replay.Replays.{IsReplay}
 use Rattle.trace_text.specs.Lines.{IsLine}
 use Rattle.trace_text.specs.declared.form.Form.{Form}
 use Rattle.program_runs.specs.traced_runs.Windows.{is_told}

@@ -12,7 +12,7 @@ use Rattle.model.specs.Report.{end_state_of}
 use Rattle.model.specs.Run.{run}
 use Rattle.model.specs.Schedule.{events_of}
 use Rattle.model.specs.State.{State}
-use Rattle.program_runs.specs.machine_replay.Replays.{IsRight, AreOperandsFound, text_of}
+use Rattle.machine.specs.machine_replay.Replays.{IsRight, AreOperandsFound, text_of}
 use Rattle.program_runs.specs.declared.worlds.records.Recorded.{Recorded}
 use Rattle.program_runs.specs.worlds.Worlds.{WorldOf, EndFits}
 

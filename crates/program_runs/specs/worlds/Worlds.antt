@@ -14,7 +14,7 @@ use Rattle.machine.specs.Machines.{MachineOf}
 use Rattle.machine.specs.Tops.{plain}
 use Rattle.machine.specs.declared.machine.Stopped.{Stopped}
 use Rattle.machine.specs.declared.machine.Stopped.TheVariants as stopped
-use Rattle.program_runs.specs.machine_replay.Replays.{IsRefusedFor}
+use Rattle.machine.specs.machine_replay.Replays.{IsRefusedFor}
 use Rattle.machine.specs.schedule_runs.Done.{HasDone, HasGone}
 use Rattle.program_runs.specs.worlds.Turns.{IsNext}
 

@@ -7,7 +7,7 @@ ghost use Rattle.program_runs.specs.continued_runs.Continuing.{GoesOn};
 
 use crate::continued_runs::following::follow;
 use crate::continued_runs::rotation::take_turns;
-use crate::machine_replay::replay;
+use crate::verified_programs::replay;
 use crate::worlds::{Recorded, World};
 use machine::Stopped;
 use model::{End, Limits, Report};

@@ -7,10 +7,11 @@ ghost use Rattle.model.specs.Schedule.{events_of};
 ghost use Rattle.program_runs.specs.traced_runs.Telling.{HasTold, StopsShort};
 ghost use Rattle.program_runs.specs.traced_runs.Traces.{IsTrace, WritesFront};
 
-use crate::machine_replay::{open_machine, report_after};
 use crate::traced_runs::events::{Telling, entry};
 use crate::traced_runs::lines::Lines;
 use crate::traced_runs::window::Window;
+use crate::verified_programs::open_machine;
+use machine::machine_replay::report_after;
 use machine::{Machine, Stopped};
 use model::{DeviceFault, End, Limits, Report, Sink};
 use run_laws::soundness::no_event_is_wrong;

@@ -1,5 +1,5 @@
-//! The linked program of verified class files: here the verifier and the machine meet.
+//! Verified class files, linked and run: here the verifier and the machine meet.
 
 mod program;
 
-pub use program::verified_program;
+pub use program::{open_machine, replay, verified_program};

@@ -4,7 +4,7 @@ ghost use Rattle.std.specs.Prelude.{◌≡◌, length, IfOk};
 ghost use Rattle.std.specs.Arc.{arc_value};
 ghost use Rattle.program_runs.specs.worlds.Worlds.{Holds, IsNew};
 
-use crate::machine_replay::open_machine;
+use crate::verified_programs::open_machine;
 use machine::Machine;
 use model::{End, Limits};
 use schedule::recorded_events::RecordedEvents;

@@ -11,7 +11,7 @@ use Rattle.model.specs.declared.report.Report.{Report}
 use Rattle.model.specs.Classes.{Program}
 use Rattle.model.specs.LimitStands.{bounds_of}
 use Rattle.model.specs.Meaning.{meaning}
-use Rattle.program_runs.specs.machine_replay.Replays.{IsReplay, EndFits, text_of}
+use Rattle.machine.specs.machine_replay.Replays.{IsReplay, EndFits, text_of}
 use Rattle.search.specs.declared.searching.Verdict.{Verdict}
 use Rattle.search.specs.declared.searching.Verdict.TheVariants as verdict
 use Rattle.search.specs.declared.search_reports.answers.Answer.{Answer}

@@ -7,7 +7,7 @@ use Rattle.model.specs.declared.report.Report.{Report}
 use Rattle.model.specs.Classes.{Program}
 use Rattle.model.specs.Meaning.{meaning}
 use Rattle.model.specs.Schedule.{events_of}
-use Rattle.program_runs.specs.machine_replay.Replays.{text_of}
+use Rattle.machine.specs.machine_replay.Replays.{text_of}
 use Rattle.search.specs.declared.run_outcomes.wanted.Wanted.{Wanted}
 use Rattle.search.specs.declared.searching.Verdict.{Verdict}
 use Rattle.search.specs.Verdicts.{IsFound, IsComplete, Says}

@@ -1,7 +1,15 @@
-use Rattle.std.proofs.Common.{arith, map, vec_items}
+use Rattle.std.proofs.Common.{arith, map, sym, subst, vec_items, ◌∙◌}
+use Rattle.std.specs.Arc.{arc_value}
 use Rattle.std.proofs.lemmas.List.{length-map}
+use Rattle.model.specs.Classes.{Program}
+use Rattle.machine.specs.Machines.{IsProgramOf}
+use Rattle.search.specs.search_reports.Answers.{Answers}
 use Rattle.engines.proofs.RunLemmas.{few_files}
 use Rattle.engines.proofs.searching.searched.Goals as goal
+
+pub search_report-requires : goal.search_report-requires
+search_report-requires c =
+    subst (λ (t : Program). IsProgramOf t (arc_value c.in_ok-program.program)) (sym (c.set-classes.ensures.same ∙ c.linked.ensures.same)) c.in_ok-program.ensures
 
 pub found_file-requires : goal.found_file-requires
 found_file-requires c = omega (arith, few_files (map vec_items c.args.files.now) c.args.verified.now c.requires, length-map c.args.files.now vec_items)
@@ -16,7 +24,7 @@ returns c =
       chosen = c.limits-limits.ensures;
       answer = found.answer;
       states = found.states;
-      answers = c.in_ok-searched.ensures;
+      answers = subst (λ (t : Program). Answers t c.limits-limits.result c.args.wanted.now found.answer) (c.set-classes.ensures.same ∙ c.linked.ensures.same) c.in_ok-searched.ensures;
       told = c.in_ok-text.ensures;
       spelled = c.in_ok-file.ensures;
       ended = c.of_search-status.ensures;

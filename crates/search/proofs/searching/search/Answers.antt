@@ -1,9 +1,11 @@
-use Rattle.std.proofs.Common.{◌∙◌}
 use Rattle.std.specs.Arc.{arc_value}
-use Rattle.search.proofs.Whole.{says_in}
+use Rattle.search.proofs.Whole.{none_visited_in, says_in}
 use Rattle.search.proofs.searching.search.Goals as goal
+
+pub visit_all-requires : goal.visit_all-requires
+visit_all-requires c =
+    none_visited_in c.args.classes.now c.args.limits c.args.wanted.now (arc_value c.args.program) c.in_ok-states.states c.in_ok-states.ensures c.requires
 
 pub returns : goal.returns
 returns c =
-    says_in c.args.verified.now c.set.result.now c.args.limits c.args.wanted.now (arc_value c.in_ok-program.program) c.in_ok-states.states (c.set.ensures.same ∙ c.linked.ensures.same) c.in_ok-states.ensures
-    c.in_ok-verdict.verdict c.in_ok-verdict.ensures
+    says_in c.args.classes.now c.args.limits c.args.wanted.now (arc_value c.args.program) c.in_ok-states.states c.in_ok-states.ensures c.in_ok-verdict.verdict c.in_ok-verdict.ensures

@@ -2,7 +2,7 @@ use Rattle.std.proofs.Common.{sym, subst, ap}
 use Rattle.std.specs.Arc.{arc_value}
 use Rattle.model.specs.Classes.{Program}
 use Rattle.model.specs.Schedule.{events_of}
-use Rattle.program_runs.specs.machine_replay.Replays.{IsReplay}
+use Rattle.machine.specs.machine_replay.Replays.{IsReplay}
 use Rattle.program_runs.specs.worlds.Worlds.{IsNew}
 use Rattle.program_runs.proofs.continued_runs.Continuing.{stuck, whole_of}
 use Rattle.program_runs.proofs.continued_runs.run.run_on.Goals as goal

@@ -2,7 +2,7 @@ use Rattle.std.proofs.Common.{◌≡◌, [], subst, sym, ◌∙◌}
 use Rattle.std.proofs.lemmas.Result.{err_from_is_err_and}
 use Rattle.model.specs.Classes.{Program}
 use Rattle.model.specs.Schedule.{events_of}
-use Rattle.program_runs.specs.machine_replay.Shown.{Tells}
+use Rattle.machine.specs.machine_replay.Shown.{Tells}
 use Rattle.listings.proofs.disasm.Writing.{none_written}
 use Rattle.program_runs.specs.traced_runs.Telling.{HasTold, StopsShort}
 use Rattle.program_runs.proofs.traced_runs.Passing.{writing_stops}

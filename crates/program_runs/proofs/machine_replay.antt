@@ -1,3 +1,0 @@
-mod Opened
-mod Telling
-pub mod Replayed
