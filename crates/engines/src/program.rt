@@ -25,7 +25,7 @@ use model::{DeviceFault, Sink, Source};
 use program_runs::traced_runs::{Form, Window};
 use program_runs::workers::Gate;
 use search::run_outcomes::Wanted;
-use search::states_within;
+use search::{Progress, states_within};
 use std::alloc::{AllocError, Global};
 use std::sync::Wait;
 use std::thread::Threads;
@@ -35,9 +35,9 @@ use std::thread::Threads;
 /// The files that they name are those of the folder; the text of a schedule that is to become a file is read from the
 /// input. A report, a listing, the line of a verification, the text of a schedule, or the help or the version that the words
 /// ask for is written to the output, and nothing else but a schedule file, where one is asked for, to the folder. The gate is
-/// told what the workers of a run do. The complaint is for the caller to tell, and so is the explanation: where the words ask for
+/// told what the workers of a run do, and how far a search has come. The complaint is for the caller to tell, and so is the explanation: where the words ask for
 /// one by `--explain`, it is what the threads of a run are about that did not end normally.
-pub fn run<R: Threads + Wait + Sync, G: Gate + Sync, F: Folder, I: Source, W: Sink>(
+pub fn run<R: Threads + Wait + Sync, G: Gate + Progress + Sync, F: Folder, I: Source, W: Sink>(
     rt: &R,
     alloc: Global,
     gate: &G,
@@ -81,7 +81,7 @@ fn told<W: Sink>(alloc: Global, usage: Usage, output: &mut W) -> Result<Status, 
 }
 
 /// Does what a command says.
-fn done<R: Threads + Wait + Sync, G: Gate + Sync, F: Folder, I: Source, W: Sink>(
+fn done<R: Threads + Wait + Sync, G: Gate + Progress + Sync, F: Folder, I: Source, W: Sink>(
     rt: &R,
     alloc: Global,
     gate: &G,
@@ -95,7 +95,7 @@ fn done<R: Threads + Wait + Sync, G: Gate + Sync, F: Folder, I: Source, W: Sink>
         Command::Run(options) => run_files(rt, alloc, gate, folder, options, output, explanation),
         Command::Replay(options) => replay(alloc, folder, options, output, explanation),
         Command::Trace(options) => trace(alloc, folder, options, output, explanation),
-        Command::Search(options) => search(alloc, folder, options, output),
+        Command::Search(options) => search(alloc, gate, folder, options, output),
         Command::Verify(options) => verify(alloc, folder, options, output),
         Command::Disasm(options) => disasm(alloc, folder, options, output),
         Command::Schedule(options) => schedule(alloc, folder, options, input, output),
@@ -253,8 +253,9 @@ fn explained_record<F: Folder>(
 }
 
 /// `search`.
-fn search<F: Folder, W: Sink>(
+fn search<P: Progress, F: Folder, W: Sink>(
     alloc: Global,
+    progress: &P,
     folder: &F,
     options: &Search,
     output: &mut W,
@@ -263,6 +264,7 @@ fn search<F: Folder, W: Sink>(
     let mut files = sources(alloc, folder, &options.files)?;
     search_engine(
         alloc,
+        progress,
         files.as_mut_slice(),
         &options.limits,
         &wanted,

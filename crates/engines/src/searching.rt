@@ -17,6 +17,7 @@ use crate::verification::accepted;
 use command_line::LimitOptions;
 use model::{DeviceFault, Limits, Sink, Source};
 use program_runs::verified_programs::verified_program;
+use search::Progress;
 use search::run_outcomes::Wanted;
 use search::search_reports::{Answer, search_report};
 use std::alloc::{AllocError, Global};
@@ -26,9 +27,10 @@ use verifier::Verified;
 /// then the schedule file of the run that was found, where one is asked for; and answers the status.
 ///
 /// A fault of the class files is answered before anything runs, and nothing is written then; nor is anything after a want of memory in
-/// the search. The bytes of both are made before the first is written.
-pub fn search_engine<S: Source, W: Sink, V: Sink>(
+/// the search. The bytes of both are made before the first is written. The progress is told how far the search has come.
+pub fn search_engine<P: Progress, S: Source, W: Sink, V: Sink>(
     alloc: Global,
+    progress: &P,
     files: &mut [S],
     limits: &LimitOptions,
     wanted: &Wanted,
@@ -53,15 +55,25 @@ pub fn search_engine<S: Source, W: Sink, V: Sink>(
     let files = read.as_slice();
     let verified = accepted(alloc, files)?;
     let is_recorded = recorder.is_some();
-    let searched = searched(alloc, &verified, files, limits, wanted, most, is_recorded)?;
+    let searched = searched(
+        alloc,
+        progress,
+        &verified,
+        files,
+        limits,
+        wanted,
+        most,
+        is_recorded,
+    )?;
     report.write_all(searched.text.as_slice())?;
     write_found(recorder, &searched.file)?;
     Ok(searched.status)
 }
 
 /// Searches accepted class files, and makes what is to be written.
-fn searched(
+fn searched<P: Progress>(
     alloc: Global,
+    progress: &P,
     verified: &Verified,
     files: &[Vec<u8>],
     limits: &LimitOptions,
@@ -76,7 +88,7 @@ fn searched(
     let limits = limits.limits();
     let program = verified_program(alloc, verified)?;
     let classes = verified.linked().set();
-    let searched = search_report(alloc, classes, program, limits, wanted, most)?;
+    let searched = search_report(alloc, progress, classes, program, limits, wanted, most)?;
     let text = searched.text(alloc)?;
     let file = found_file(alloc, is_recorded, files, limits, &searched.answer)?;
     let status = Status::of_search(&searched.answer);

@@ -1,4 +1,4 @@
-//! What a terminal shows of a run that takes more than a second.
+//! What a terminal shows of a run or a search that takes more than a second.
 
 use engines::Gate;
 use std::io;
@@ -7,23 +7,23 @@ use std::rt::Clock;
 use std::sync::atomic::{AtomicU64, Ordering};
 use std::time::Instant;
 
-/// How many events are done, at the least, between two looks at the clock.
-const EVENTS: u32 = 1024;
+/// How many events are done, or states met, at the least, between two looks at the clock.
+const BETWEEN: u32 = 1024;
 
-/// A gate that tells each second on the standard error how many events are done, on one line.
+/// A gate that tells each second on the standard error how many events are done, or states met, on one line.
 #[derive(Drop)]
 pub struct Progress<'a, R> {
     rt: &'a R,
-    /// When the run began, where there is something to tell.
+    /// When the run or the search began, where there is something to tell.
     start: Option<Instant>,
-    /// How many times so many events were done when the clock was looked at.
+    /// How many times so many were done or met when the clock was looked at.
     looks: AtomicU64,
     /// How many seconds had passed when the line was told. 0: there is none.
     seconds: AtomicU64,
 }
 
 impl<'a, R: Clock + Eprint> Progress<'a, R> {
-    /// The progress of a run that begins now. Nothing is told unless it is wanted, and the clock can be read.
+    /// The progress of a run or a search that begins now. Nothing is told unless it is wanted, and the clock can be read.
     pub fn new(rt: &'a R, is_wanted: bool) -> Progress<'a, R> {
         let start = if is_wanted {
             Instant::now(rt).ok()
@@ -38,13 +38,23 @@ impl<'a, R: Clock + Eprint> Progress<'a, R> {
         }
     }
 
-    /// Tells how many events are done, where another second has passed.
-    fn tell(&self, start: Instant, events: u32) {
+    /// Looks at the clock, where enough more are done since the last look, and tells how many of them there are, where another
+    /// second has passed.
+    fn look(&self, number: u32, of: &str) {
+        if let Some(start) = self.start {
+            if rises(&self.looks, u64::from(number / BETWEEN)) {
+                self.tell(start, number, of);
+            }
+        }
+    }
+
+    /// Tells how many of them there are, where another second has passed.
+    fn tell(&self, start: Instant, number: u32, of: &str) {
         let Ok(passed) = start.elapsed(self.rt) else {
             return;
         };
         if rises(&self.seconds, passed.as_secs()) {
-            let _ = eprint!(self.rt; "\r{events} events\x1b[K");
+            let _ = eprint!(self.rt; "\r{number} {of}\x1b[K");
         }
     }
 
@@ -62,11 +72,13 @@ impl<R: Clock + Eprint> Gate for Progress<'_, R> {
     fn burst_ends(&self, _thread: u16) {}
 
     fn turn_ends(&self, events: u32) {
-        if let Some(start) = self.start {
-            if rises(&self.looks, u64::from(events / EVENTS)) {
-                self.tell(start, events);
-            }
-        }
+        self.look(events, "events");
+    }
+}
+
+impl<R: Clock + Eprint> engines::Progress for Progress<'_, R> {
+    fn states_met(&self, states: u32) {
+        self.look(states, "states");
     }
 }
 

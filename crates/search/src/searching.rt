@@ -9,6 +9,7 @@ ghost use Rattle.search.specs.Visits.{HasVisited, Visits, ListsOr};
 use crate::expanding::expand;
 use crate::machines::outcome_of;
 use crate::met_states::{met_states_are_kept, searches_are_whole};
+use crate::progress::Progress;
 use crate::run_outcomes::{Outcome, Outcomes, Wanted};
 use crate::states::States;
 use hierarchy::ClassSet;
@@ -93,9 +94,10 @@ fn visit_state(
     }
 }
 
-/// Visits states from the opening state on, up to so many.
-fn visit_all(
+/// Visits states from the opening state on, up to so many, and tells how far it has come.
+fn visit_all<P: Progress>(
     alloc: Global,
+    progress: &P,
     classes: &ClassSet,
     wanted: &Wanted,
     states: &mut States,
@@ -111,6 +113,7 @@ fn visit_all(
         if number >= states.len() {
             return Ok(Verdict::Complete(outcomes));
         }
+        progress.states_met(states.len());
         match visit_state(alloc, classes, wanted, states, &mut outcomes, number, most)? {
             Visit::Visited => {}
             Visit::Found(schedule) => return Ok(Verdict::Found(schedule)),
@@ -125,9 +128,11 @@ fn visit_all(
 }
 
 /// Searches all schedules of a program (JVMS 2.5, 2.6, 5.5, chapter 6; JLS 17), which is that of the classes, as far as so many states,
-/// for a run whose outcome is wanted. Of runs that never end nothing is said. The only error is a want of memory.
-pub fn search(
+/// for a run whose outcome is wanted. Of runs that never end nothing is said. Meanwhile it tells how far it has come. The only error is a
+/// want of memory.
+pub fn search<P: Progress>(
     alloc: Global,
+    progress: &P,
     classes: &ClassSet,
     program: Arc<LinkedProgram>,
     limits: Limits,
@@ -138,7 +143,7 @@ pub fn search(
     ensures { IfOk result (λ s. Says classes.now limits wanted.now s.verdict) }
 {
     let mut states = States::new(alloc, program, limits)?;
-    let verdict = visit_all(alloc, classes, wanted, &mut states, most)?;
+    let verdict = visit_all(alloc, progress, classes, wanted, &mut states, most)?;
     Ok(Searched {
         verdict,
         states: states.len(),

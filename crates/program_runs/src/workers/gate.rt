@@ -11,15 +11,3 @@ pub trait Gate {
     /// So many events are done in all.
     fn turn_ends(&self, events: u32);
 }
-
-/// A gate that does nothing.
-#[derive(Drop)]
-pub struct Open;
-
-impl Gate for Open {
-    fn burst_begins(&self, _thread: u16) {}
-
-    fn burst_ends(&self, _thread: u16) {}
-
-    fn turn_ends(&self, _events: u32) {}
-}

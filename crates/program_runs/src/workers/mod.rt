@@ -5,5 +5,5 @@ mod held;
 mod work;
 
 pub use crate::worlds::Recorded;
-pub use gate::{Gate, Open};
+pub use gate::Gate;
 pub use work::run_workers;

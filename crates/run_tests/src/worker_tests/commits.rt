@@ -2,8 +2,9 @@
 
 use crate::worker_tests::files::{LOST_UPDATE, POPS_EIGHT, POPS_SEVEN, WIDE_INCREMENT};
 use crate::worker_tests::program::{is_of, limits, verified};
+use engines::Open;
 use model::End;
-use program_runs::workers::{Open, run_workers};
+use program_runs::workers::run_workers;
 use program_runs::worlds::{Commit, World};
 use std::alloc::Global;
 use std::test::Fail;

@@ -2,10 +2,11 @@
 
 use crate::worker_tests::files::{COUNTER_UNDER_LOCK, LOST_UPDATE};
 use crate::worker_tests::program::{limits, verified};
+use engines::Open;
 use made_files::class_builder::PRINTS_SEVEN;
 use model::{End, Limits};
 use program_runs::verified_programs::replay;
-use program_runs::workers::{Open, Recorded, run_workers};
+use program_runs::workers::{Recorded, run_workers};
 use std::alloc::Global;
 use std::process::Abort;
 use std::sync::{Arc, Wait};

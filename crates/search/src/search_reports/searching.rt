@@ -8,7 +8,7 @@ ghost use Rattle.search.specs.search_reports.Answers.{Answers, IsAnswerTo};
 
 use crate::run_outcomes::Wanted;
 use crate::search_reports::answers::{Answer, SearchReport};
-use crate::{Verdict, search};
+use crate::{Progress, Verdict, search};
 use hierarchy::ClassSet;
 use linked_code::LinkedProgram;
 use machine::machine_replay::replay;
@@ -55,9 +55,11 @@ fn answer_to(
 }
 
 /// Searches all schedules of a program (JVMS 2.5, 2.6, 5.5, chapter 6; JLS 17), which is that of the classes, as far as so many states,
-/// for a run whose outcome is wanted. Of runs that never end nothing is said. The only error is a want of memory.
-pub fn search_report(
+/// for a run whose outcome is wanted. Of runs that never end nothing is said. Meanwhile it tells how far it has come. The only error is a
+/// want of memory.
+pub fn search_report<P: Progress>(
     alloc: Global,
+    progress: &P,
     classes: &ClassSet,
     program: Arc<LinkedProgram>,
     limits: Limits,
@@ -68,7 +70,15 @@ pub fn search_report(
     ensures { IfOk result (λ r. Answers classes.now limits wanted.now r.answer) }
 {
     let searched_program = Arc::try_clone(&program)?;
-    let searched = search(alloc, classes, searched_program, limits, wanted, most)?;
+    let searched = search(
+        alloc,
+        progress,
+        classes,
+        searched_program,
+        limits,
+        wanted,
+        most,
+    )?;
     let states = searched.states;
     let answer = answer_to(alloc, classes, program, limits, searched.verdict)?;
     Ok(SearchReport { answer, states })
