@@ -2,7 +2,7 @@ use Rattle.std.proofs.Common.{◌∙◌, ap, subst, rules, tests, Ok}
 use Rattle.machine_state.specs.declared.answers.Answer.TheVariants as answer
 use Rattle.search.specs.Machines.{GoesBy}
 use Rattle.search.proofs.Expanded.{event_at, thread_met, pick_met}
-use Rattle.search.proofs.Growth.{within}
+use Rattle.search.proofs.Growth.{within, further}
 use Rattle.search.proofs.Schedules.{past_after, past_local}
 use Rattle.search.proofs.expanding.expand_thread.Goals as goal
 
@@ -20,7 +20,8 @@ add-requires-is_after c =
     (subst (λ r. GoesBy r (event_at c.args.thread c.picks.pick) c.picks.machine c.go_on.new.machine) (c.in-Ok-Done.is ∙ ap Ok c.in-Ok-Done.field-0-is) c.go_on.ensures) c.in_ok-entry.ensures
 
 pub machine-requires : goal.machine-requires
-machine-requires c = within c.args.states.now c.add.new.self _ c.args.number c.requires.number
+machine-requires c =
+    within c.args.states.now c.add.new.self (further c.args.states.now c.picks.states c.add.new.self c.picks.invariant.0.grows c.in_ok-add.ensures.grows) c.args.number c.requires.number
 
 pub returns-in-Ok-NotEnabled : goal.returns-in-Ok-NotEnabled
 returns-in-Ok-NotEnabled c =
