@@ -4,7 +4,8 @@
     searches.py [--for OUTCOME] [--states N] FILE..
     searches.py --write
 
-States are searched breadth first, the events of each in the order of threads and picks, and a state is told apart from
+States are searched breadth first, the events of each in the order of threads and picks, and behind an event with pick 0 the
+local instructions of its thread, at most 1,024, are done, too. A state is told apart from
 others by its objects in the order in which they were made, its classes, threads and stacks, and what was printed. A state is
 kept as the events that lead to it. With --write the searches of the lessons below become cases of `crates/conformance`, with
 what they have to print. The schedule of a run that was found is recorded and replayed.
@@ -18,7 +19,7 @@ import sys
 sys.dont_write_bytecode = True
 
 from lessons import LESSONS, compiled
-from plain_frames import Frame
+from plain_frames import Frame, short
 from plain_machine import Machine, NotEnabled, status_of, text_of
 from programs import CONFORMANCE
 
@@ -101,6 +102,27 @@ def at(files, events):
     return machine
 
 
+# Instructions that touch what threads share, make something, call, return or may throw.
+SHARED = {*range(0x2E, 0x36), *range(0x4F, 0x57), *range(0xAC, 0xB2), *range(0xB2, 0xC4)}
+
+# How many local instructions are done at most.
+MOST = 1024
+
+
+def is_local(thread):
+    """Whether the next event of a thread is a local instruction, which throws nothing."""
+    top = thread.entries[-1] if thread.entries else None
+    if thread.has_ended or thread.waits or thread.relock or thread.pending or not isinstance(top, Frame):
+        return False
+    opcode = top.method.code[top.at]
+    if opcode in (0x12, 0x13):
+        index = top.method.code[top.at + 1] if opcode == 0x12 else short(top, 1)
+        return top.method.owner.pool[index][0] == "int"
+    if opcode in (0x6C, 0x70) and top.stack[-1] == 0:
+        return False
+    return opcode not in SHARED
+
+
 def following(files, events):
     """The states to which an event leads from the end of these, in the order of threads and picks."""
     for thread in range(len(at(files, events).threads)):
@@ -110,7 +132,11 @@ def following(files, events):
                 machine.step(thread, pick)
             except NotEnabled:
                 break
-            yield (*events, (thread, pick)), machine
+            more = 0
+            while pick == 0 and more < MOST and is_local(machine.threads[thread]):
+                machine.step(thread)
+                more += 1
+            yield (*events, *[(thread, pick)] * (1 + more)), machine
 
 
 def is_wanted(goal, outcome):
@@ -171,7 +197,7 @@ def last_lines(states, word):
 # The lessons that are searched: folder, class files, and options.
 SEARCHED = [
     ("lost-update", ["LostUpdate"], ""),
-    ("lost-update", ["LostUpdate"], "--states 100"),
+    ("lost-update", ["LostUpdate"], "--states 50"),
     ("lost-update", ["LostUpdate"], "--for output=1"),
     ("lost-update", ["LostUpdate"], "--for differs=two"),
     ("lost-update", ["Repaired"], "--for output=1"),

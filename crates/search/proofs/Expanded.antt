@@ -1,8 +1,9 @@
 -- The states to which events lead from a state, as far as a loop has come.
-use Rattle.std.proofs.Common.{◌≡◌, ℕ, ◌+◌, ◌<◌, ◌≤◌, List, [], length, Bool, true, false, ◌⊎◌, inl, inr, nat_le, Result, Ok, Err, refl, sym, ap, subst, ◌∙◌, below_none, below_more, arith}
+use Rattle.std.proofs.Common.{◌≡◌, ℕ, ◌+◌, ◌<◌, ◌≤◌, List, [], length, Bool, true, false, ◌⊎◌, inl, inr, nat_le, Option, Some, None, Result, Ok, Err, refl, sym, ap, subst, ◌∙◌, below_none, below_more, arith}
 use Rattle.std.specs.Prelude.{IfOk}
 use Rattle.std.proofs.lemmas.Bool.Decides.{leb_tells}
 use Rattle.model.specs.declared.event.Event.{Event}
+use Rattle.model.specs.declared.event.ScheduleEntry.{ScheduleEntry}
 use Rattle.model.specs.declared.limits.Limits.{Limits}
 use Rattle.model.specs.Accepted.{IsAccepted}
 use Rattle.model.specs.Classes.{Program}
@@ -10,10 +11,11 @@ use Rattle.model.specs.LimitStands.{bounds_of}
 use Rattle.machine_state.specs.declared.answers.Answer.TheVariants as answer
 use Rattle.machine_state.specs.Shown.{IsProgram}
 use Rattle.machine.specs.Machines.{MachineOf}
+use Rattle.machine.specs.schedule_runs.Done.{HasDone}
 use Rattle.search.specs.met_states.Met.{IsNextMet, AreHigherPicksLeft, AreOtherThreadsLeft, AreMetStatesKept}
 use Rattle.search.specs.Machines.{GoesBy}
-use Rattle.search.specs.States.{StatesOf, IsSchedule, IsInState, IsMetFrom, AreMetByThread, AreMetByThreads, AreAllMet, Grows, GrowsTo}
-use Rattle.search.proofs.Growth.{stays, further, within, earlier, still_met, went_on}
+use Rattle.search.specs.States.{StatesOf, IsSchedule, IsInState, IsMetFrom, AreMetByThread, AreMetByThreads, AreAllMet, Grows, GrowsTo, GrowsAgain}
+use Rattle.search.proofs.Growth.{stays, further, within, earlier, still_met, gave_up, went_on}
 use Rattle.search.proofs.Shown.{run_of}
 
 -- so it is of each below a number
@@ -70,6 +72,35 @@ all_picks higher number thread i old new m then so_far there goes =
     by pick (inl h) = above pick h.1
     by pick (inr h) = so_far.each pick h.1
 
+-- where nothing was done it is in the same state
+same_state : (s : StatesOf) (number : ℕ) (event : Event) (m then : MachineOf) → IsInState s number m → GoesBy (Ok answer.NotEnabled) event m then → IsInState s number then
+same_state s number event m then there goes events is =
+    let at = there events is in
+    record {
+      program = ap (λ (x : MachineOf). x.program) goes.0 ∙ at.program;
+      limits_are = ap (λ (x : MachineOf). x.limits) goes.0 ∙ at.limits_are;
+      done = λ files trees accepted program.
+          let has = at.done files trees accepted program in
+          let still : HasDone (record m { shared = then.shared }) files trees events =
+          record { accepted = accepted; program = has.program; run = (goes.1 files trees events has).1 }
+          in
+          subst (λ x. HasDone x files trees events) (sym goes.0) still;
+    }
+
+pub thread_met : AreHigherPicksLeft → (number thread i : ℕ) (old new : StatesOf) (m then : MachineOf) → HasGrown (IsPickMet number thread) old new i → IsInState new number m
+    → GoesBy (Ok answer.NotEnabled) (event_at thread i) m then → GrowsAgain (λ s. AreMetByThread s number thread) number old new (Some then)
+thread_met higher number thread i old new m then so_far there goes =
+    let grown = all_picks higher number thread i old new m then so_far there goes in
+    (grown.grows, grown.then refl, same_state new number (event_at thread i) m then there goes)
+
+-- a pick is met once its entry has been added
+pub pick_met : AreMetStatesKept → (number thread i : ℕ) (entry : ScheduleEntry) (old mid new : StatesOf) → number < length mid.schedules → entry.event ≡ event_at thread i
+    → HasGrown (IsPickMet number thread) old mid i → (went_on : Bool) → GrowsTo (λ s. IsMetFrom s number entry.event) mid new went_on → went_on ≡ true
+    → HasGrown (IsPickMet number thread) old new (i + 1)
+pick_met kept number thread i entry old mid new lt is so_far went_on more e =
+    goes_further_if (IsPickMet number thread) old mid new i (pick_kept kept number thread mid new lt) so_far went_on
+    (subst (λ x. GrowsTo (λ s. IsMetFrom s number x) mid new went_on) is more) e
+
 -- ---- threads
 
 abbrev pub IsThreadMet : (number : ℕ) → StatesOf → ℕ → Type 0
@@ -78,6 +109,19 @@ IsThreadMet number s thread = AreMetByThread s number thread
 pub thread_kept : AreMetStatesKept → (number : ℕ) (mid new : StatesOf) → number < length mid.schedules → (k : ℕ) → Grows mid new
     → IsThreadMet number mid k → IsThreadMet number new k
 thread_kept kept number mid new lt k grows met pick = still_met mid new grows number lt kept (event_at k pick) (met pick)
+
+pub next_thread : AreMetStatesKept → (number i : ℕ) (old mid new : StatesOf) → number < length mid.schedules → HasGrown (IsThreadMet number) old mid i → (o : Option MachineOf) (m : MachineOf)
+    → GrowsAgain (λ s. AreMetByThread s number i) number mid new o → o ≡ Some m → HasGrown (IsThreadMet number) old new (i + 1) × IsInState new number m
+next_thread kept number i old mid new lt so_far o m again e =
+    let there = subst (GrowsAgain (λ s. AreMetByThread s number i) number mid new) e again in (
+      goes_further (IsThreadMet number) old mid new i (thread_kept kept number mid new lt) so_far (went_on (λ s. IsThreadMet number s i) mid new there.0 there.1),
+      there.2,
+    )
+
+pub no_thread : (number threads i : ℕ) (old mid new : StatesOf) → HasGrown (IsThreadMet number) old mid i → (o : Option MachineOf) → GrowsAgain (λ s. AreMetByThread s number i) number mid new o → o ≡ None
+    → GrowsTo (λ s. AreMetByThreads s number threads) old new false
+no_thread number threads i old mid new so_far o again e =
+    gave_up (λ s. AreMetByThreads s number threads) old new (further old mid new so_far.grows (subst (GrowsAgain (λ s. AreMetByThread s number i) number mid new) e again))
 
 pub all_threads : (number threads at : ℕ) (old new : StatesOf) → at ≡ threads → HasGrown (IsThreadMet number) old new at
     → GrowsTo (λ s. AreMetByThreads s number threads) old new true

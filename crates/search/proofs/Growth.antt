@@ -1,14 +1,17 @@
 -- States that have grown in number.
-use Rattle.std.proofs.Common.{◌≡◌, ℕ, ◌<◌, List, [], length, get_or, Bool, true, false, Some, refl, sym, ap, subst, ◌∙◌}
+use Rattle.std.proofs.Common.{◌≡◌, ℕ, ◌<◌, List, [], ◌∷◌, ◌++◌, length, get_or, replicate, Bool, true, false, Some, refl, sym, ap, subst, ◌∙◌}
 use Rattle.std.specs.Prelude.{slice_get}
 use Rattle.std.proofs.lemmas.Bool.{false≢true}
 use Rattle.std.proofs.lemmas.Option.{same_Some, slice_get-get_or, slice_get_within}
 use Rattle.model.specs.declared.event.Event.{Event}
+use Rattle.model.specs.declared.event.ScheduleEntry.{ScheduleEntry}
 use Rattle.model.specs.declared.limits.Limits.{Limits}
 use Rattle.model.specs.Classes.{Program}
+use Rattle.run_laws.specs.interleavings.Ends.{Has}
 use Rattle.machine_state.specs.Shown.{IsProgram}
+use Rattle.search.specs.local_runs.Local.{AreLocalAfter}
 use Rattle.search.specs.met_states.Met.{IsNextMet, AreListed, AreNewStatesMet, AreMetStatesKept}
-use Rattle.search.specs.States.{StatesOf, IsSchedule, IsMetFrom, Grows, GrowsTo, IsPushed}
+use Rattle.search.specs.States.{StatesOf, IsSchedule, IsMetFrom, Grows, GrowsTo, IsLocalFrom, IsPushed}
 
 pub stays : (s : StatesOf) → Grows s s
 stays s = record { program = refl; limits_are = refl; kept = λ number events is. is }
@@ -49,8 +52,17 @@ gave_up P old new grows = record { grows = grows; then = λ e. absurd (false≢t
 pub went_on : (P : StatesOf → Type 0) (old new : StatesOf) → Grows old new → P new → GrowsTo P old new true
 went_on P old new grows holds = record { grows = grows; then = λ e. holds }
 
-pub new_met : AreNewStatesMet → (number : ℕ) (event : Event) (old new : StatesOf) → IsPushed number event old new
-    → GrowsTo (λ s. IsMetFrom s number event) old new true
-new_met holds number event old new pushed =
-    went_on (λ s. IsMetFrom s number event) old new pushed.grows
-    (λ events is files trees accepted program. holds trees new.limits.frames new.schedules events event (pushed.has events is))
+pub new_met : AreNewStatesMet → (number : ℕ) (entry : ScheduleEntry) (old new : StatesOf) → number < length old.schedules → IsLocalFrom old number entry → IsPushed number entry old new
+    → GrowsTo (λ s. IsMetFrom s number entry.event) old new true
+new_met holds number entry old new lt local pushed = went_on (λ s. IsMetFrom s number entry.event) old new pushed.grows met
+  where
+    met : IsMetFrom new number entry.event
+    met events is files trees accepted program =
+        let before = local.are events (earlier old new pushed.grows number lt events is) files trees accepted (subst (IsProgram trees) pushed.grows.program program) in
+        let past : AreLocalAfter trees new.limits.frames (events ++ entry.event ∷ []) (replicate local.local entry.event) =
+        subst (λ (l : Limits). AreLocalAfter trees l.frames (events ++ entry.event ∷ []) (replicate local.local entry.event)) (sym pushed.grows.limits_are) before
+        in
+        let has : Has new.schedules (events ++ entry.event ∷ replicate local.local entry.event) =
+        subst (λ n. Has new.schedules (events ++ replicate n entry.event)) local.repeat (pushed.has events is)
+        in
+        holds trees new.limits.frames new.schedules events (replicate local.local entry.event) entry.event past has

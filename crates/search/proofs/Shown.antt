@@ -1,9 +1,10 @@
 -- Machines that show where schedules led.
-use Rattle.std.proofs.Common.{◌≡◌, ℕ, List, [], ◌∷◌, ◌++◌, map, Option, Some, None, Result, Ok, Err, Bool, true, false, refl, sym, ap, subst, ◌∙◌}
+use Rattle.std.proofs.Common.{◌≡◌, ◌<◌, ◌≤◌, ◌+◌, ◌^◌, ℕ, List, [], ◌∷◌, ◌++◌, map, replicate, Option, Some, None, Result, Ok, Err, Bool, true, false, refl, sym, ap, subst, ◌∙◌, arith}
 use Rattle.std.specs.Prelude.{IfOk}
 use Rattle.std.proofs.lemmas.List.{append-nil}
 use Rattle.std.proofs.lemmas.Option.{same_Some}
 use Rattle.model.specs.declared.event.Event.{Event}
+use Rattle.model.specs.declared.event.ScheduleEntry.{ScheduleEntry}
 use Rattle.model.specs.declared.limits.Limits.{Limits}
 use Rattle.model.specs.declared.report.EndState.{EndState}
 use Rattle.model.specs.declared.report.Report.{Report}
@@ -13,6 +14,7 @@ use Rattle.model.specs.LimitStands.{bounds_of, inflated}
 use Rattle.model.specs.Meaning.{thread_ends}
 use Rattle.model.specs.Report.{ThreadEnd, end_state_of}
 use Rattle.model.specs.Run.{run, is_quiet}
+use Rattle.model.specs.Schedule.{EntryFits}
 use Rattle.model.specs.State.{State, StateOf}
 use Rattle.run_laws.specs.word_reports.Reports.{AreReportsOfWords}
 use Rattle.run_laws.specs.interleavings.Ends.{Outcome, outcome_of}
@@ -25,11 +27,14 @@ use Rattle.machine_state.specs.Shown.{IsProgram}
 use Rattle.machine_state.specs.shown_runs.Runs.{HasRun, AreRunsOpened, AreRunsGoingOn}
 use Rattle.machine.specs.declared.machine.Stopped.{Stopped}
 use Rattle.machine.specs.declared.machine.Stopped.TheVariants as stopped
-use Rattle.machine.specs.Machines.{MachineOf, Opens, Steps}
+use Rattle.machine.specs.Machines.{MachineOf, Opens, Steps, Repeats}
 use Rattle.machine.specs.schedule_runs.Done.{HasDone, EndsBy, GoesThrough}
 use Rattle.machine.specs.machine_reports.Told.{AreQuietAt, Reports}
 use Rattle.search.specs.declared.run_outcomes.outcomes.Outcome.{Outcome as TheOutcome}
-use Rattle.search.specs.Machines.{IsAt, GoesBy, TellsOutcome}
+use Rattle.machine.proofs.schedule_runs.Repeated.{entry_gone}
+use Rattle.machine_state.specs.thread_bursts.Threads.{event_of}
+use Rattle.search.specs.local_runs.Local.{AreLocalAfter, AreNextLocal}
+use Rattle.search.specs.Machines.{IsAt, GoesBy, HasDoneMore, AreLocalBehind, GoesPast, TellsOutcome}
 
 -- ---- before any event
 
@@ -51,21 +56,42 @@ opened_if opens p limits (Err e) o = tt
 
 -- ---- a schedule, and an event
 
+-- where no event of it is left
+pub all_done : (schedule : List Event) (old new : MachineOf) (result : ℕ × Stopped) → GoesThrough result schedule old new → result.1 ≡ stopped.Most
+    → (files : List (List ℕ)) (trees : Program) (events : List Event) → HasDone old files trees events → HasDone new files trees (events ++ schedule)
+all_done schedule old new result goes most files trees events done =
+    let gone = goes.1 files trees events done in
+    let none : gone.left ≡ [] =
+    subst (λ why. EndsBy why trees (bounds_of new.limits) gone.done.run.lead.state (events ++ gone.front) gone.left) most gone.ends
+    in
+    let all : gone.front ≡ schedule = sym (gone.schedule_is ∙ (ap (λ l. gone.front ++ l) none ∙ append-nil gone.front)) in
+    subst (λ l. HasDone new files trees (events ++ l)) all gone.done
+
+pub more_done : (event : Event) (n : ℕ) (old new : MachineOf) (result : ℕ × Stopped) → Repeats result event n old new → result.1 ≡ stopped.Most → HasDoneMore event n old new
+more_done event n old new result repeats most =
+    let goes = entry_gone result event n old new repeats in
+    record {
+      program = ap (λ (x : MachineOf). x.program) goes.0;
+      limits_are = ap (λ (x : MachineOf). x.limits) goes.0;
+      done = all_done (replicate n event) old new result goes most;
+    }
+
 module _ (p : LinkedProgram) (limits : Limits) (events : List Event) where
-  pub gone_through : (schedule : List Event) (old new : MachineOf) (result : ℕ × Stopped) → IsAt p limits events old
-      → GoesThrough result schedule old new → result.1 ≡ stopped.Most
+  pub gone_through : (schedule : List Event) (old new : MachineOf) (result : ℕ × Stopped) → IsAt p limits events old → GoesThrough result schedule old new → result.1 ≡ stopped.Most
       → IsAt p limits (events ++ schedule) new
   gone_through schedule old new result at goes most =
       record {
         program = ap (λ (x : MachineOf). x.program) goes.0 ∙ at.program;
         limits_are = ap (λ (x : MachineOf). x.limits) goes.0 ∙ at.limits_are;
-        done = λ files trees accepted program.
-            let gone = goes.1 files trees events (at.done files trees accepted program) in
-            let none : gone.left ≡ [] =
-            subst (λ why. EndsBy why trees (bounds_of new.limits) gone.done.run.lead.state (events ++ gone.front) gone.left) most gone.ends
-            in
-            let all : gone.front ≡ schedule = sym (gone.schedule_is ∙ (ap (λ l. gone.front ++ l) none ∙ append-nil gone.front)) in
-            subst (λ l. HasDone new files trees (events ++ l)) all gone.done;
+        done = λ files trees accepted program. all_done schedule old new result goes most files trees events (at.done files trees accepted program);
+      }
+
+  pub gone_more : (event : Event) (n : ℕ) (old new : MachineOf) → IsAt p limits events old → HasDoneMore event n old new → IsAt p limits (events ++ replicate n event) new
+  gone_more event n old new at more =
+      record {
+        program = more.program ∙ at.program;
+        limits_are = more.limits_are ∙ at.limits_are;
+        done = λ files trees accepted program. more.done files trees events (at.done files trees accepted program);
       }
 
   pub gone_on : (event : Event) (old new : MachineOf) → IsAt p limits events old → GoesBy (Ok answer.Done) event old new
@@ -97,6 +123,33 @@ goes_by goes result event old new steps = (
       goes files trees has.accepted old.program (bounds_of old.limits) events old.shared new.shared has.run event result
       (steps.1 files trees (inflated trees old.limits.frames events) has.run.at (record { accepted = has.accepted; program = has.program; shown = has.run.shown })),
 )
+
+-- ---- local events
+
+-- what is lent is of the machine
+behind : (m : MachineOf) (p : LinkedProgram) (shared : Shared) (event : Event) (n : ℕ) → p ≡ m.program → shared ≡ m.shared → event.pick ≡ 0 → AreNextLocal p shared event.thread n → AreLocalBehind m event n
+behind m p shared event n program_is shared_is plain next files trees events has =
+    let is : event_of event.thread ≡ event = ap (λ k. let e : Event = record { thread = event.thread; pick = k } in e) (sym plain) in
+    let here : AreNextLocal m.program m.shared event.thread n = subst (λ q. AreNextLocal q m.shared event.thread n) program_is (subst (λ s. AreNextLocal p s event.thread n) shared_is next) in
+    subst (λ e. AreLocalAfter trees m.limits.frames events (replicate n e)) is (here files trees has.accepted has.program (bounds_of m.limits) events has.run)
+
+pub behind_if : (m : MachineOf) (p : LinkedProgram) (shared : Shared) (event : Event) → p ≡ m.program → shared ≡ m.shared → event.pick ≡ 0 → {E : Type 0} (result : Result ℕ E)
+    → IfOk result (AreNextLocal p shared event.thread) → IfOk result (AreLocalBehind m event)
+behind_if m p shared event program_is shared_is plain (Ok n) next = behind m p shared event n program_is shared_is plain next
+behind_if m p shared event program_is shared_is plain (Err e) next = tt
+
+pub none_behind : (m : MachineOf) (event : Event) → AreLocalBehind m event 0
+none_behind m event files trees events has state reached =
+    record { threads = []; last = state; are_local = refl; reached = ap (run trees m.limits.frames) (append-nil events) ∙ reached }
+
+pub entry_fits : (event : Event) (n : ℕ) → event.thread < 2 ^ 16 → event.pick < 2 ^ 16 → n ≤ 1024 → (0 < n → event.pick ≡ 0) → EntryFits (record { event = event; repeat = 1 + n })
+entry_fits event n thread pick most plain =
+    record { thread = thread; pick = pick; repeat = (omega arith, omega (arith, most)); alone = λ more. plain (omega (arith, more)) }
+
+pub past : (event : Event) (n : ℕ) (old new : MachineOf) → event.thread < 2 ^ 16 → event.pick < 2 ^ 16 → n ≤ 1024 → (0 < n → event.pick ≡ 0) → AreLocalBehind old event n → HasDoneMore event n old new
+    → GoesPast event old new (record { event = event; repeat = 1 + n })
+past event n old new thread pick most plain local more =
+    record { event_is = refl; fits = entry_fits event n thread pick most plain; local = n; repeat = omega arith; are_local = local; more = more }
 
 -- ---- an outcome
 

@@ -1,11 +1,13 @@
 -- Machines that show where a schedule led (own).
-use Rattle.std.specs.Prelude.{◌≡◌, ℕ, List, [], ◌∷◌, ◌++◌, Option, Some, None, Result, IsTrue, IsFalse}
+use Rattle.std.specs.Prelude.{◌≡◌, ℕ, suc, List, [], ◌∷◌, ◌++◌, Option, Some, None, Result, IsTrue, IsFalse, replicate}
 use Rattle.model.specs.declared.event.Event.{Event}
+use Rattle.model.specs.declared.event.ScheduleEntry.{ScheduleEntry}
 use Rattle.model.specs.declared.limits.Limits.{Limits}
 use Rattle.model.specs.Accepted.{IsAccepted}
 use Rattle.model.specs.Classes.{Program}
 use Rattle.model.specs.LimitStands.{bounds_of}
 use Rattle.model.specs.Run.{run, is_quiet}
+use Rattle.model.specs.Schedule.{EntryFits}
 use Rattle.model.specs.State.{State}
 use Rattle.run_laws.specs.interleavings.Ends.{outcome_of}
 use Rattle.linked_code.specs.declared.program.LinkedProgram.{LinkedProgram}
@@ -15,6 +17,7 @@ use Rattle.machine_state.specs.Shown.{IsProgram}
 use Rattle.machine_state.specs.shown_runs.Runs.{GoesOn}
 use Rattle.machine.specs.Machines.{MachineOf}
 use Rattle.machine.specs.schedule_runs.Done.{HasDone}
+use Rattle.search.specs.local_runs.Local.{AreLocalAfter}
 use Rattle.search.specs.declared.run_outcomes.outcomes.Outcome.{Outcome as TheOutcome}
 use Rattle.search.specs.run_outcomes.Outcomes.{told_by}
 
@@ -31,6 +34,26 @@ GoesBy result event old new =
     (new ≡ record old { shared = new.shared })
     × ((files : List (List ℕ)) (trees : Program) (events : List Event) (has : HasDone old files trees events)
     → GoesOn trees old.program (bounds_of old.limits) events has.run.lead.state event result new.shared)
+
+-- so many events like this one have been done
+pub record HasDoneMore (event : Event) (n : ℕ) (old new : MachineOf) : Type 0 where
+  pub program : new.program ≡ old.program
+  pub limits_are : new.limits ≡ old.limits
+  pub done : (files : List (List ℕ)) (trees : Program) (events : List Event) → HasDone old files trees events → HasDone new files trees (events ++ replicate n event)
+
+-- so many like it are next, and each is local
+abbrev pub AreLocalBehind : MachineOf → Event → ℕ → Type 0
+AreLocalBehind m event n =
+    (files : List (List ℕ)) (trees : Program) (events : List Event) → HasDone m files trees events → AreLocalAfter trees m.limits.frames events (replicate n event)
+
+-- behind an event that was done, those that the entry has more of it have been done, too, and each is local
+pub record GoesPast (event : Event) (old new : MachineOf) (entry : ScheduleEntry) : Type 0 where
+  pub event_is : entry.event ≡ event
+  pub fits : EntryFits entry
+  pub local : ℕ
+  pub repeat : entry.repeat ≡ suc local
+  pub are_local : AreLocalBehind old event local
+  pub more : HasDoneMore event local old new
 
 -- the outcome of a state in which no thread may step; none, where one may
 abbrev pub IsOutcomeOf : Program → (frames : ℕ) → State → Option TheOutcome → Type 0

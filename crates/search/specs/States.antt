@@ -1,13 +1,16 @@
 -- The states that a search has met, each by a schedule that leads there (own).
-use Rattle.std.specs.Prelude.{◌≡◌, ◌<◌, ℕ, List, [], ◌∷◌, ◌++◌, Some, Bool, IsTrue, slice_get}
+use Rattle.std.specs.Prelude.{◌≡◌, ◌<◌, ℕ, suc, List, [], ◌∷◌, ◌++◌, Option, Some, None, Bool, IsTrue, replicate, slice_get}
 use Rattle.model.specs.declared.event.Event.{Event}
+use Rattle.model.specs.declared.event.ScheduleEntry.{ScheduleEntry}
 use Rattle.model.specs.declared.limits.Limits.{Limits}
 use Rattle.model.specs.Accepted.{IsAccepted}
 use Rattle.model.specs.Classes.{Program}
+use Rattle.model.specs.Schedule.{EntryFits}
 use Rattle.run_laws.specs.interleavings.Ends.{Has}
 use Rattle.linked_code.specs.declared.program.LinkedProgram.{LinkedProgram}
 use Rattle.machine_state.specs.Shown.{IsProgram}
 use Rattle.machine.specs.Machines.{MachineOf}
+use Rattle.search.specs.local_runs.Local.{AreLocalAfter}
 use Rattle.search.specs.met_states.Met.{IsNextMet}
 use Rattle.search.specs.Machines.{IsAt}
 
@@ -56,11 +59,30 @@ pub record GrowsTo (P : StatesOf → Type 0) (old new : StatesOf) (went_on : Boo
   pub grows : Grows old new
   pub then : IsTrue went_on → P new
 
--- the machine is in the state to which the event leads from the one of this number
-abbrev pub IsAfter : StatesOf → (number : ℕ) → Event → MachineOf → Type 0
-IsAfter s number event m = (events : List Event) → IsSchedule s number events → IsAt s.program s.limits (events ++ event ∷ []) m
+-- it has grown; and unless it gave up, this is so, and the machine is in the state of this number
+abbrev pub GrowsAgain : (P : StatesOf → Type 0) (number : ℕ) (old new : StatesOf) → Option MachineOf → Type 0
+GrowsAgain P number old new None = Grows old new
+GrowsAgain P number old new (Some m) = Grows old new × P new × IsInState new number m
 
--- the schedule that goes on by the event has been added
-pub record IsPushed (number : ℕ) (event : Event) (old new : StatesOf) : Type 0 where
+-- ---- an event with those behind it
+
+-- the events of an entry, behind those that led to a state
+abbrev pub with_entry : List Event → ScheduleEntry → List Event
+with_entry events entry = events ++ replicate entry.repeat entry.event
+
+-- from the state of this number, those behind the first event of the entry are local
+pub record IsLocalFrom (s : StatesOf) (number : ℕ) (entry : ScheduleEntry) : Type 0 where
+  pub fits : EntryFits entry
+  pub local : ℕ
+  pub repeat : entry.repeat ≡ suc local
+  pub are : (events : List Event) → IsSchedule s number events → (files : List (List ℕ)) (trees : Program) → IsAccepted files trees → IsProgram trees s.program
+      → AreLocalAfter trees s.limits.frames (events ++ entry.event ∷ []) (replicate local entry.event)
+
+-- the machine is in the state to which the entry leads from the one of this number
+abbrev pub IsAfter : StatesOf → (number : ℕ) → ScheduleEntry → MachineOf → Type 0
+IsAfter s number entry m = (events : List Event) → IsSchedule s number events → IsAt s.program s.limits (with_entry events entry) m
+
+-- the schedule that goes on by the entry has been added
+pub record IsPushed (number : ℕ) (entry : ScheduleEntry) (old new : StatesOf) : Type 0 where
   pub grows : Grows old new
-  pub has : (events : List Event) → IsSchedule new number events → Has new.schedules (events ++ event ∷ [])
+  pub has : (events : List Event) → IsSchedule new number events → Has new.schedules (with_entry events entry)

@@ -2,6 +2,7 @@
 #![tactic(auto)]
 
 mod expanding;
+pub mod local_runs;
 mod machines;
 pub mod met_states;
 mod progress;

@@ -1,11 +1,12 @@
 //! A machine that shows where a schedule led.
 
-ghost use Rattle.std.specs.Prelude.{[], IfOk};
+ghost use Rattle.std.specs.Prelude.{◌≡◌, ◌<◌, ◌≤◌, [], IfOk, OnOk};
 ghost use Rattle.std.specs.Arc.{arc_value};
 ghost use Rattle.model.specs.Schedule.{events_of};
 ghost use Rattle.machine.specs.Machines.{IsOfAccepted};
-ghost use Rattle.search.specs.Machines.{IsAt, GoesBy, TellsOutcome};
+ghost use Rattle.search.specs.Machines.{IsAt, GoesBy, HasDoneMore, AreLocalBehind, GoesPast, TellsOutcome};
 
+use crate::local_runs::local_count;
 use crate::run_outcomes::Outcome;
 use hierarchy::ClassSet;
 use linked_code::LinkedProgram;
@@ -14,7 +15,7 @@ use machine::schedule_runs::run_schedule;
 use machine::{Machine, Stopped};
 use machine_state::shown_runs::{runs_are_opened, runs_go_on};
 use machine_state::{Answer, Refusal};
-use model::{Event, Limits};
+use model::{Event, Limits, ScheduleEntry};
 use run_laws::word_reports::reports_of_words;
 use schedule::Schedule;
 use std::alloc::{AllocError, Global};
@@ -57,6 +58,47 @@ pub(crate) fn go_on(machine: &mut Machine, event: Event) -> Result<Answer, Refus
 {
     runs_go_on();
     machine.step(event)
+}
+
+/// Does so many events like this one, which can be done, so that the only error is a want of memory.
+pub(crate) fn do_more(machine: &mut Machine, event: Event, count: u32) -> Result<(), AllocError>
+    ensures { OnOk result (HasDoneMore event count machine.old machine.new) }
+{
+    let (_done, why) = machine.repeat(event, count);
+    match why {
+        Stopped::Most => Ok(()),
+        _ => Err(AllocError),
+    }
+}
+
+/// How many events like this one are next in a machine that has done it, each of which is local. The only error is a want of memory.
+fn local_behind(alloc: Global, machine: &Machine, event: Event) -> Result<u32, AllocError>
+    ensures local { IfOk result (AreLocalBehind machine.now event) }
+    ensures alone { IfOk result (λ count. 0 < count → event.pick ≡ 0) }
+    ensures most { IfOk result (λ count. count ≤ 1024) }
+{
+    if event.pick == 0 {
+        local_count(alloc, machine.program(), machine.shared(), event.thread)
+    } else {
+        Ok(0)
+    }
+}
+
+/// Does the local events that come behind an event that was done: those of the same thread. Answers the entry of all these events. The
+/// only error is a want of memory.
+pub(crate) fn go_past(
+    alloc: Global,
+    machine: &mut Machine,
+    event: Event,
+) -> Result<ScheduleEntry, AllocError>
+    ensures { IfOk result (GoesPast event machine.old machine.new) }
+{
+    let count = local_behind(alloc, machine, event)?;
+    do_more(machine, event, count)?;
+    Ok(ScheduleEntry {
+        event,
+        repeat: 1 + count,
+    })
 }
 
 /// The outcome of the state that a machine is in, if no thread may step there. The classes are those of its files.

@@ -87,7 +87,7 @@ fn visit_state(
     if is_found(alloc, wanted, outcomes, outcome)? {
         return Ok(Visit::Found(states.schedule(number)?));
     }
-    if expand(states, number, &machine, most)? {
+    if expand(alloc, states, number, machine, most)? {
         Ok(Visit::Visited)
     } else {
         Ok(Visit::GaveUp)

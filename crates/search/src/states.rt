@@ -2,18 +2,17 @@
 
 ghost use Rattle.std.specs.Prelude.{◌≡◌, ◌<◌, ◌+◌, ◌^◌, length, IfOk, OnOk, IsTrue};
 ghost use Rattle.std.specs.Arc.{arc_value};
-ghost use Rattle.model.specs.Schedule.{events_of};
+ghost use Rattle.model.specs.Schedule.{EntryFits, events_of};
 ghost use Rattle.machine.specs.Machines.{IsOfAccepted};
-ghost use Rattle.search.specs.States.{one_state, IsSchedule, IsInState, IsMetFrom, GrowsTo, IsAfter, IsPushed};
+ghost use Rattle.search.specs.States.{one_state, IsSchedule, IsInState, IsMetFrom, GrowsTo, IsLocalFrom, IsAfter, IsPushed};
 
-use crate::machines::{at_schedule, go_on, opened};
+use crate::machines::{at_schedule, do_more, opened};
 use crate::met_states::{alike_states_are_met, new_states_are_met};
 use crate::state_index::{StateIndex, hash_of};
 use linked_code::LinkedProgram;
 use machine::Machine;
-use machine_state::Answer;
 use machine_state::same_states::are_alike;
-use model::{Event, Limits, ScheduleEntry};
+use model::{Limits, ScheduleEntry};
 use schedule::Schedule;
 use schedule::schedule_tree::ScheduleTree;
 use std::alloc::{AllocError, Global};
@@ -104,43 +103,61 @@ impl States {
         )
     }
 
-    /// A machine in the state to which an event leads from a state, which was done there before, so that the only error is a want of
-    /// memory.
-    fn machine_after(&self, number: u32, event: Event) -> Result<Machine, AllocError>
+    /// A machine in the state to which an entry leads from a state, whose events were done there before, so that the only error is a want
+    /// of memory.
+    fn machine_after(&self, number: u32, entry: ScheduleEntry) -> Result<Machine, AllocError>
         requires { number < length self.now.schedules }
-        ensures { IfOk result (IsAfter self.now number event) }
+        ensures { IfOk result (IsAfter self.now number entry) }
     {
         let mut machine = self.machine(number)?;
-        match go_on(&mut machine, event) {
-            Ok(Answer::Done) => Ok(machine),
-            Ok(Answer::NotEnabled) => Err(AllocError),
-            Err(_) => Err(AllocError),
-        }
+        do_more(&mut machine, entry.event, entry.repeat)?;
+        Ok(machine)
     }
 
-    /// Whether an event leads from a state to one that was met.
-    fn leads_to(&self, number: u32, event: Event, met: u32) -> Result<bool, AllocError>
-        requires number { number < length self.now.schedules }
+    /// Whether an entry leads from a state to one that was met. This machine is in the state to which it leads.
+    fn leads_to(
+        &self,
+        number: u32,
+        entry: ScheduleEntry,
+        machine: Machine,
+        met: u32,
+    ) -> Result<bool, AllocError>
+        requires local { IsLocalFrom self.now number entry }
+        requires is_after { IsAfter self.now number entry machine }
         requires met { met < length self.now.schedules }
-        ensures { IfOk result (λ b. IsTrue b → IsMetFrom self.now number event) }
+        ensures { IfOk result (λ b. IsTrue b → IsMetFrom self.now number entry.event) }
     {
         alike_states_are_met();
-        let one = self.machine_after(number, event)?;
         let other = self.machine(met)?;
-        Ok(are_alike(one.into_shared(), other.into_shared()))
+        Ok(are_alike(machine.into_shared(), other.into_shared()))
     }
 
-    /// Whether the state to which an event leads from a state, and which has this hash, was met.
-    fn is_met(&self, number: u32, event: Event, hash: u64) -> Result<bool, AllocError>
-        requires { number < length self.now.schedules }
-        ensures { IfOk result (λ b. IsTrue b → IsMetFrom self.now number event) }
+    /// Whether the state to which an entry leads from a state was met. This machine is in that state, which has this hash.
+    fn is_met(
+        &self,
+        number: u32,
+        entry: ScheduleEntry,
+        machine: Machine,
+        hash: u64,
+    ) -> Result<bool, AllocError>
+        requires number { number < length self.now.schedules }
+        requires local { IsLocalFrom self.now number entry }
+        requires is_after { IsAfter self.now number entry machine }
+        ensures { IfOk result (λ b. IsTrue b → IsMetFrom self.now number entry.event) }
     {
-        let mut candidate = self.index.last(hash);
+        let Some(last) = self.index.last(hash) else {
+            return Ok(false);
+        };
+        if self.leads_to(number, entry, machine, last)? {
+            return Ok(true);
+        }
+        let mut candidate = self.index.before(last, hash);
         'candidates: for _ in 0..self.len() {
             let Some(met) = candidate else {
                 return Ok(false);
             };
-            if self.leads_to(number, event, met)? {
+            let machine = self.machine_after(number, entry)?;
+            if self.leads_to(number, entry, machine, met)? {
                 return Ok(true);
             }
             candidate = self.index.before(met, hash);
@@ -148,37 +165,40 @@ impl States {
         Ok(false)
     }
 
-    /// Adds the schedule that goes on from that of a state by an event.
-    fn push(&mut self, number: u32, event: Event, hash: u64) -> Result<(), AllocError>
+    /// Adds the schedule that goes on from that of a state by an entry.
+    fn push(&mut self, number: u32, entry: ScheduleEntry, hash: u64) -> Result<(), AllocError>
         requires number { number < length self.old.schedules }
         requires room { length self.old.schedules + 1 < 2 ^ 32 }
-        ensures { OnOk result (IsPushed number event self.old self.new) }
+        requires fits { EntryFits entry }
+        ensures { OnOk result (IsPushed number entry self.old self.new) }
     {
-        self.tree.push(number, ScheduleEntry { event, repeat: 1 })?;
+        self.tree.push(number, entry)?;
         self.index.push(hash)
     }
 
-    /// Adds the state to which an event leads from a state, and in which this machine is, unless it was met. Answers false, and adds
+    /// Adds the state to which an entry leads from a state, and in which this machine is, unless it was met. Answers false, and adds
     /// nothing, where there would be more states than so many. The only error is a want of memory.
     pub(crate) fn add(
         &mut self,
         number: u32,
-        event: Event,
-        machine: &Machine,
+        entry: ScheduleEntry,
+        machine: Machine,
         most: u32,
     ) -> Result<bool, AllocError>
-        requires { number < length self.old.schedules }
-        ensures { IfOk result (GrowsTo (λ s. IsMetFrom s number event) self.old self.new) }
+        requires number { number < length self.old.schedules }
+        requires local { IsLocalFrom self.old number entry }
+        requires is_after { IsAfter self.old number entry machine }
+        ensures { IfOk result (GrowsTo (λ s. IsMetFrom s number entry.event) self.old self.new) }
     {
         new_states_are_met();
         let hash = hash_of(machine.shared());
-        if self.is_met(number, event, hash)? {
+        if self.is_met(number, entry, machine, hash)? {
             return Ok(true);
         }
         if self.len() >= most {
             return Ok(false);
         }
-        self.push(number, event, hash)?;
+        self.push(number, entry, hash)?;
         Ok(true)
     }
 }

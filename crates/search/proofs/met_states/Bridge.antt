@@ -3,18 +3,20 @@ use Rattle.std.proofs.Common.{◌≡◌, ◌≤◌, ℕ, List, [], ◌∷◌, �
 use Rattle.std.specs.Prelude.{slice_get}
 use Rattle.std.specs.Option.{option_and_then}
 use Rattle.std.proofs.lemmas.Bool.{false≢true}
+use Rattle.std.proofs.lemmas.List.{append_assoc}
 use Rattle.std.proofs.lemmas.Option.{same_Some, none-some, slice_get_past}
 use Rattle.model.specs.declared.event.Event.{Event}
 use Rattle.model.specs.Classes.{Program}
 use Rattle.model.specs.Opening.{opening}
 use Rattle.model.specs.Operands.{values}
-use Rattle.model.specs.Run.{run_from}
+use Rattle.model.specs.Run.{run, run_from}
 use Rattle.model.specs.State.{types_of, State, StateOf}
 use Rattle.model.specs.Step.{SteppedOf, NotEnabled, WrongKind, Next, is_enabled_by, next_by, event_of, stepped, step}
 use Rattle.model.specs.Words.{words_of}
 use Rattle.run_laws.proofs.typed_runs.Settled.{lengths_same}
 use Rattle.run_laws.specs.searches.Picks.{ArePicksInOrder}
 use Rattle.machine_state.specs.same_states.Same.{AreWordsTold}
+use Rattle.search.specs.local_runs.Local.{LeadsPast, AreLocalAfter}
 use Rattle.search.specs.met_states.Met.{AreAlikeStatesMet, AreNewStatesMet, AreHigherPicksLeft, AreOtherThreadsLeft, AreMetStatesKept, AreSearchesWhole}
 
 -- ---- one event more
@@ -32,27 +34,42 @@ run_more trees frames (first ∷ events) from state next event r e = by (step tr
     by None q rest = absurd (none-some state q)
     by (Some s) q rest = rest s q
 
+-- with others behind it
+module _ (trees : Program) (frames : ℕ) (events more : List Event) (event : Event) (past : AreLocalAfter trees frames (events ++ event ∷ []) more) (state next : State) (r : run trees frames events ≡ Some state)
+    (e : step trees frames state event ≡ Some next) where
+  pub leads : LeadsPast trees frames (events ++ event ∷ []) more next
+  leads = past next (run_more trees frames events (opening values trees) state next event r e)
+
+  pub reached : run trees frames (events ++ event ∷ more) ≡ Some leads.last
+  reached = subst (λ l. run trees frames l ≡ Some leads.last) (append_assoc events (event ∷ []) more) leads.reached
+
 pub alike_met : AreWordsTold → AreAlikeStatesMet
-alike_met words_told trees p bounds schedules events schedule event one other has first second alike state next r e =
-    let longer = run_more trees bounds.frames events (opening values trees) state next event r e in
-    let is : first.lead.state ≡ next = same_Some first.lead.state next (sym first.lead.reached ∙ longer) in
+alike_met words_told trees p bounds schedules events more schedule event one other past has first second alike state next r e =
+    let l = leads trees bounds.frames events more event past state next r e in
+    let longer = reached trees bounds.frames events more event past state next r e in
+    let is : first.lead.state ≡ l.last = same_Some first.lead.state l.last (sym first.lead.reached ∙ longer) in
     let same : first.at ≡ second.at = words_told trees p bounds _ _ one other first.at second.at first.shown second.shown alike in
     record {
-      schedule = schedule;
-      has = has;
-      met = second.lead.state;
-      leads = second.lead.reached;
-      same = sym second.lead.are.are ∙ (sym same ∙ (first.lead.are.are ∙ ap words_of is));
+      threads = l.threads;
+      last = l.last;
+      are_local = l.are_local;
+      is_met = record {
+        schedule = schedule;
+        has = has;
+        met = second.lead.state;
+        leads = second.lead.reached;
+        same = sym second.lead.are.are ∙ (sym same ∙ (first.lead.are.are ∙ ap words_of is));
+      };
     }
 
 pub new_met : AreNewStatesMet
-new_met trees frames schedules events event has state next r e =
+new_met trees frames schedules events more event past has state next r e =
+    let l = leads trees frames events more event past state next r e in
     record {
-      schedule = events ++ event ∷ [];
-      has = has;
-      met = next;
-      leads = run_more trees frames events (opening values trees) state next event r e;
-      same = refl;
+      threads = l.threads;
+      last = l.last;
+      are_local = l.are_local;
+      is_met = record { schedule = events ++ event ∷ more; has = has; met = l.last; leads = reached trees frames events more event past state next r e; same = refl };
     }
 
 -- ---- events that lead nowhere
@@ -83,8 +100,14 @@ others_left trees p bounds schedules events event shared has past state next r e
 
 pub kept_met : AreMetStatesKept
 kept_met trees frames some all events event listed met state next r e =
-    let m = met state next r e in
-    record { schedule = m.schedule; has = listed m.schedule m.has; met = m.met; leads = m.leads; same = m.same }
+    let f = met state next r e in
+    let m = f.is_met in
+    record {
+      threads = f.threads;
+      last = f.last;
+      are_local = f.are_local;
+      is_met = record { schedule = m.schedule; has = listed m.schedule m.has; met = m.met; leads = m.leads; same = m.same };
+    }
 
 pub whole : AreSearchesWhole
 whole trees frames schedules outcomes s =
@@ -95,7 +118,7 @@ whole trees frames schedules outcomes s =
         are_local = refl;
         is_met = record { schedule = []; has = s.opened; met = opening values trees; leads = refl; same = refl };
       };
-      closed = λ schedule state next event has r e. record { threads = []; last = next; are_local = refl; is_met = s.met schedule event has state next r e };
+      closed = λ schedule state next event has r e. s.met schedule event has state next r e;
       listed = s.listed;
       only = s.only;
     }

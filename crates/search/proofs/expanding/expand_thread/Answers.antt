@@ -1,27 +1,37 @@
 use Rattle.std.proofs.Common.{◌∙◌, ap, subst, rules, tests, Ok}
 use Rattle.machine_state.specs.declared.answers.Answer.TheVariants as answer
 use Rattle.search.specs.Machines.{GoesBy}
-use Rattle.search.specs.States.{AreMetByThread}
-use Rattle.search.proofs.Expanded.{IsPickMet, event_at, goes_further_if, pick_kept, all_picks}
-use Rattle.search.proofs.Growth.{within, gave_up}
+use Rattle.search.proofs.Expanded.{event_at, thread_met, pick_met}
+use Rattle.search.proofs.Growth.{within, further}
+use Rattle.search.proofs.Schedules.{past_after, past_local}
 use Rattle.search.proofs.expanding.expand_thread.Goals as goal
 
-pub machine-requires : goal.machine-requires
-machine-requires c = within c.args.states.now c.picks.states c.picks.invariant.grows c.args.number c.requires
+pub add-requires-number : goal.add-requires-number
+add-requires-number c = within c.args.states.now c.picks.states c.picks.invariant.0.grows c.args.number c.requires.number
 
-pub add-requires : goal.add-requires
-add-requires c = within c.args.states.now c.picks.states c.picks.invariant.grows c.args.number c.requires
+pub add-requires-local : goal.add-requires-local
+add-requires-local c =
+    past_local c.picks.states c.args.number (event_at c.args.thread c.picks.pick) c.in_ok-entry.entry c.picks.machine c.go_on.new.machine c.go_past.new.machine c.picks.invariant.1
+    (subst (λ r. GoesBy r (event_at c.args.thread c.picks.pick) c.picks.machine c.go_on.new.machine) (c.in-Ok-Done.is ∙ ap Ok c.in-Ok-Done.field-0-is) c.go_on.ensures) c.in_ok-entry.ensures
+
+pub add-requires-is_after : goal.add-requires-is_after
+add-requires-is_after c =
+    past_after c.picks.states c.args.number (event_at c.args.thread c.picks.pick) c.in_ok-entry.entry c.picks.machine c.go_on.new.machine c.go_past.new.machine c.picks.invariant.1
+    (subst (λ r. GoesBy r (event_at c.args.thread c.picks.pick) c.picks.machine c.go_on.new.machine) (c.in-Ok-Done.is ∙ ap Ok c.in-Ok-Done.field-0-is) c.go_on.ensures) c.in_ok-entry.ensures
+
+pub machine-requires : goal.machine-requires
+machine-requires c =
+    within c.args.states.now c.add.new.self (further c.args.states.now c.picks.states c.add.new.self c.picks.invariant.0.grows c.in_ok-add.ensures.grows) c.args.number c.requires.number
 
 pub returns-in-Ok-NotEnabled : goal.returns-in-Ok-NotEnabled
 returns-in-Ok-NotEnabled c =
-    all_picks c.higher_picks_are_left.ensures.holds c.args.number c.args.thread c.picks.pick c.args.states.now c.picks.states c.in_ok-machine.machine c.go_on.new.machine c.picks.invariant c.in_ok-machine.ensures
-    (subst (λ r. GoesBy r (event_at c.args.thread c.picks.pick) c.in_ok-machine.machine c.go_on.new.machine) (c.in-Ok-NotEnabled.is ∙ ap Ok c.in-Ok-NotEnabled.field-0-is) c.go_on.ensures)
+    thread_met c.higher_picks_are_left.ensures.holds c.args.number c.args.thread c.picks.pick c.args.states.now c.picks.states c.picks.machine c.go_on.new.machine c.picks.invariant.0 c.picks.invariant.1
+    (subst (λ r. GoesBy r (event_at c.args.thread c.picks.pick) c.picks.machine c.go_on.new.machine) (c.in-Ok-NotEnabled.is ∙ ap Ok c.in-Ok-NotEnabled.field-0-is) c.go_on.ensures)
 
 pub picks-preserved : goal.picks-preserved
-picks-preserved c =
-    let lt = within c.args.states.now c.picks.states c.picks.invariant.grows c.args.number c.requires in
-    goes_further_if (IsPickMet c.args.number c.args.thread) c.args.states.now c.picks.states c.add.new.self c.picks.pick (pick_kept c.met_states_are_kept.ensures.holds c.args.number c.args.thread c.picks.states c.add.new.self lt)
-    c.picks.invariant c.in_ok-add-in-Ok-Done.field-0 c.in_ok-add-in-Ok-Done.ensures (search (rules, tests))
-
-pub returns : goal.returns
-returns c = gave_up (λ s. AreMetByThread s c.args.number c.args.thread) c.args.states.now c.picks.states c.picks.invariant.grows
+picks-preserved c = (
+  pick_met c.met_states_are_kept.ensures.holds c.args.number c.args.thread c.picks.pick c.in_ok-entry.entry c.args.states.now c.picks.states c.add.new.self
+      (within c.args.states.now c.picks.states c.picks.invariant.0.grows c.args.number c.requires.number)
+      c.in_ok-entry.ensures.event_is c.picks.invariant.0 c.in_ok-add.field-0 c.in_ok-add.ensures (search (rules, tests)),
+  c.in_ok-machine.ensures,
+)
