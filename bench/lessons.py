@@ -23,7 +23,7 @@ import tempfile
 sys.dont_write_bytecode = True
 
 from plain_machine import Machine, NotEnabled, Refused, status_of, text_of
-from programs import CONFORMANCE, ROOT, blocks_of, enabled, hex_lines
+from programs import CONFORMANCE, ROOT, before_cases, blocks_of, enabled, hex_lines
 
 LESSONS = ROOT / "lessons"
 
@@ -134,7 +134,7 @@ def written(text, printed):
     """Writes the cases, and what they must print behind that of all others."""
     stdout = (CONFORMANCE / "stdout").read_bytes().decode("latin-1")
     kept = [block for name, block in blocks_of(stdout).items() if name not in blocks_of(printed)]
-    (CONFORMANCE / "stdout").write_bytes(("".join(kept) + printed).encode("latin-1"))
+    (CONFORMANCE / "stdout").write_bytes((before_cases(stdout) + "".join(kept) + printed).encode("latin-1"))
     (CONFORMANCE / "data/lessons.cases").write_text(text)
 
 

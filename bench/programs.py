@@ -232,6 +232,11 @@ def cases_of(program, java):
     return "\n".join([*text, ""]), "".join(printed), differing
 
 
+def before_cases(printed):
+    """What stands before the first case: what the trials print."""
+    return re.split(r"(?m)^case ", printed)[0]
+
+
 def blocks_of(printed):
     """What each case prints, by its name, in order."""
     return {block.split("\n")[0]: "case " + block for block in re.split(r"(?m)^case ", printed)[1:]}
@@ -268,7 +273,7 @@ def written(texts, printed):
     own = {name for one in printed.values() for name in blocks_of(one)}
     lines = (CONFORMANCE / "data/programs.cases").read_text().splitlines()
     programs = [line[5:] for line in lines if line.startswith("case ")]
-    blocks = []
+    blocks = [before_cases(stdout)]
     for name, block in blocks_of(stdout).items():
         if name not in own:
             blocks.append(block)

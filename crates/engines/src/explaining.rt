@@ -5,7 +5,7 @@ use crate::fault::Fault;
 use crate::folder::Folder;
 use crate::given_paths::given_paths;
 use command_line::{Command, Goal, command};
-use explanation::{GivenFile, explain, explain_schedule, explain_text};
+use explanations::refusal_explanations::{GivenFile, explain, explain_schedule, explain_text};
 use std::alloc::{AllocError, Global};
 use std::io;
 use std::io::{ErrorKind, Read};

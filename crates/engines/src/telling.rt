@@ -8,12 +8,12 @@ use crate::opening::read_given;
 use crate::recording::limits_of;
 use crate::verification::accepted;
 use command_line::LimitOptions;
+use explanations::thread_explanations::explain_threads;
 use model::Source;
 use program_runs::verified_programs::verified_program;
 use std::alloc::Global;
 use std::io;
 use std::io::Write;
-use thread_explanations::explain_threads;
 
 /// The file that is to be recorded, if one is. Its bytes are kept, where they are wanted.
 #[derive(Drop)]

@@ -17,9 +17,9 @@ use Rattle.machine.specs.declared.machine.Stopped.TheVariants as stopped
 use Rattle.machine.specs.Machines.{MachineOf}
 use Rattle.machine.specs.schedule_runs.Done.{GoesThrough, HasDone}
 use Rattle.machine.proofs.schedule_runs.Joined.{IsPassed, all_done, begins, goes_on, stops}
-use Rattle.traced_events.specs.declared.frames.FrameBefore.{FrameBefore}
-use Rattle.traced_events.specs.Places.{IsSeenOf, Sees}
-use Rattle.trace_text.specs.Lines.{fold_words}
+use Rattle.traces.specs.declared.traced_events.frames.FrameBefore.{FrameBefore}
+use Rattle.traces.specs.traced_events.Places.{IsSeenOf, Sees}
+use Rattle.traces.specs.Lines.{fold_words}
 use Rattle.program_runs.specs.traced_runs.Locals.{IsNextIn, IsNextLocal}
 use Rattle.program_runs.specs.traced_runs.Telling.{AddsOne, AfterRun, AreTold, EndsAt, HasRunOn, HasTold, RunsOn, times, tried}
 use Rattle.program_runs.specs.traced_runs.Traces.{AreLocal, IsFolded, IsLocalAt, StandsIn, Tells, stack_at}

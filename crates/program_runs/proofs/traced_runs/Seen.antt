@@ -15,10 +15,10 @@ use Rattle.machine_state.specs.shown_stacks.Shown.{ShowsStack, offset_at}
 use Rattle.machine_state.specs.state_events.Whole.{ShowsStacks}
 use Rattle.machine.specs.Machines.{MachineOf}
 use Rattle.machine.specs.schedule_runs.Done.{HasDone}
-use Rattle.traced_events.specs.declared.frames.FrameBefore.{FrameBefore}
-use Rattle.traced_events.specs.Places.{IsSeen, IsSeenIf, IsSeenOf, Sees}
-use Rattle.trace_text.specs.declared.form.Form.{Form}
-use Rattle.trace_text.specs.Lines.{AddsLine, IsLine}
+use Rattle.traces.specs.declared.traced_events.frames.FrameBefore.{FrameBefore}
+use Rattle.traces.specs.traced_events.Places.{IsSeen, IsSeenIf, IsSeenOf, Sees}
+use Rattle.traces.specs.declared.form.Form.{Form}
+use Rattle.traces.specs.Lines.{AddsLine, IsLine}
 use Rattle.program_runs.specs.traced_runs.Traces.{TellsIf, stack_at}
 
 -- ---- on top of its stack

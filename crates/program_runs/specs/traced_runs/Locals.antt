@@ -11,8 +11,8 @@ use Rattle.machine_state.specs.linked_frames.Frames.{IsInstruction}
 use Rattle.machine_instructions.specs.local_instructions.Local as instructions
 use Rattle.machine.specs.Machines.{MachineOf}
 use Rattle.machine.specs.schedule_runs.Done.{HasDone}
-use Rattle.traced_events.specs.declared.frames.FrameBefore.{FrameBefore}
-use Rattle.traced_events.specs.Places.{IsSeenOf}
+use Rattle.traces.specs.declared.traced_events.frames.FrameBefore.{FrameBefore}
+use Rattle.traces.specs.traced_events.Places.{IsSeenOf}
 use Rattle.program_runs.specs.traced_runs.Windows.{is_told}
 use Rattle.program_runs.specs.declared.traced_runs.window.Window.{Window}
 

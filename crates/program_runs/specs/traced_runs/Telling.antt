@@ -12,7 +12,7 @@ use Rattle.machine.specs.declared.machine.Stopped.{Stopped}
 use Rattle.machine.specs.declared.machine.Stopped.TheVariants as stopped
 use Rattle.machine.specs.Machines.{MachineOf}
 use Rattle.machine.specs.schedule_runs.Done.{HasDone, GoesThrough}
-use Rattle.trace_text.specs.declared.form.Form.{Form}
+use Rattle.traces.specs.declared.form.Form.{Form}
 use Rattle.program_runs.specs.traced_runs.Traces.{AreLocal, IsLocalAt, Tells, TellsIf}
 use Rattle.program_runs.specs.declared.traced_runs.window.Window.{Window}
 

@@ -13,8 +13,8 @@ use Rattle.model.specs.Run.{run}
 use Rattle.model.specs.State.{Invocation, Initialisation, StackOf, State, StateOf}
 use Rattle.run_laws.specs.interleavings.Local.{is_local}
 use Rattle.machine.specs.machine_replay.Replays.{IsReplay}
-use Rattle.trace_text.specs.Lines.{IsLine, fold_words}
-use Rattle.trace_text.specs.declared.form.Form.{Form}
+use Rattle.traces.specs.Lines.{IsLine, fold_words}
+use Rattle.traces.specs.declared.form.Form.{Form}
 use Rattle.program_runs.specs.traced_runs.Windows.{is_told}
 use Rattle.program_runs.specs.declared.traced_runs.window.Window.{Window}
 

@@ -4,7 +4,7 @@ ghost use Rattle.std.specs.Prelude.{◌≡◌, ◌+◌, ◌^◌, ◌<◌, ◌≤
 ghost use Rattle.model.specs.Devices.{Counts};
 ghost use Rattle.machine.specs.declared.machine.Stopped.TheVariants.{Most};
 ghost use Rattle.machine.specs.schedule_runs.Done.{GoesThrough};
-ghost use Rattle.traced_events.specs.Places.{IsSeenOf};
+ghost use Rattle.traces.specs.traced_events.Places.{IsSeenOf};
 ghost use Rattle.program_runs.specs.traced_runs.Telling.{AddsOne, AfterRun, HasTold, StopsShort, times, tried};
 
 use crate::traced_runs::folds::run_of_locals;
@@ -14,8 +14,8 @@ use crate::traced_runs::window::Window;
 use machine::{Machine, Stopped};
 use model::{DeviceFault, Event, ScheduleEntry, Sink};
 use std::alloc::AllocError;
-use trace_text::{Line, Teller, push_line};
-use traced_events::Before;
+use traces::traced_events::Before;
+use traces::{Line, Teller, push_line};
 
 /// Who tells which events.
 #[derive(Clone, Copy)]

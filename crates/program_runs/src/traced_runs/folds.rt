@@ -13,8 +13,8 @@ use crate::traced_runs::locals::is_next_local;
 use crate::traced_runs::window::Window;
 use machine::{Machine, Stopped};
 use std::alloc::AllocError;
-use trace_text::{Fold, Line, push_fold};
-use traced_events::{Before, FrameBefore};
+use traces::traced_events::{Before, FrameBefore};
+use traces::{Fold, Line, push_fold};
 
 /// How many events of a run there are behind its first one, and the offset at which the thread stood before the last one.
 #[derive(Clone, Copy)]

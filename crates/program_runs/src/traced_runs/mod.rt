@@ -8,5 +8,5 @@ mod run;
 mod window;
 
 pub use run::trace;
-pub use trace_text::Form;
+pub use traces::Form;
 pub use window::Window;

@@ -19,8 +19,8 @@ use run_laws::word_reports::reports_of_words;
 use schedule::Schedule;
 use std::alloc::Global;
 use std::sync::Arc;
-use trace_text::Teller;
-use traced_events::Before;
+use traces::Teller;
+use traces::traced_events::Before;
 use verifier::Verified;
 
 /// Does the events of a schedule, as far as they go, and gathers the lines of those that are to be told. Returns how many were done, and

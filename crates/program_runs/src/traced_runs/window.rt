@@ -4,7 +4,7 @@ ghost use Rattle.std.specs.Prelude.{◌≡◌, ◌+◌, ◌^◌, ◌<◌, ◌≤
 ghost use Rattle.program_runs.specs.traced_runs.Windows.{has_thread, is_told};
 
 use model::ScheduleEntry;
-use trace_text::Form;
+use traces::Form;
 
 /// The events that are told: those with a number from `from` to `to`, counted from 0, of the threads of a list, or of all; and the
 /// form of their lines.

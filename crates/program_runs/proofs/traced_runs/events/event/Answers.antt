@@ -1,6 +1,6 @@
 use Rattle.std.proofs.Common.{◌≡◌, ◌∷◌, [], Bool, false, true, subst, sym, ◌∙◌}
 use Rattle.std.proofs.lemmas.Result.{err_from_is_err_and}
-use Rattle.trace_text.specs.declared.form.Form.{Form}
+use Rattle.traces.specs.declared.form.Form.{Form}
 use Rattle.program_runs.specs.traced_runs.Telling.{AddsOne, AfterRun, HasTold, times}
 use Rattle.program_runs.specs.traced_runs.Windows.{is_told}
 use Rattle.program_runs.proofs.traced_runs.Passing.{eased, line_told, none_done, none_of_event, writing_stops}

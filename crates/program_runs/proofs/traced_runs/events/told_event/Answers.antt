@@ -1,5 +1,5 @@
 use Rattle.std.proofs.Common.{◌∙◌, subst}
-use Rattle.traced_events.specs.Places.{IsSeenOf}
+use Rattle.traces.specs.traced_events.Places.{IsSeenOf}
 use Rattle.program_runs.proofs.traced_runs.Seen.{own_line}
 use Rattle.program_runs.proofs.traced_runs.events.told_event.Goals as goal
 

@@ -1,5 +1,5 @@
 use Rattle.std.proofs.Common.{◌≡◌, ◌+◌, ap, arith, replicate, subst, sym, ◌∙◌}
-use Rattle.trace_text.specs.declared.form.Form.{Form}
+use Rattle.traces.specs.declared.form.Form.{Form}
 use Rattle.machine.specs.declared.machine.Stopped.TheVariants as stopped
 use Rattle.program_runs.specs.traced_runs.Telling.{AddsOne, AfterRun, HasTold, times, tried}
 use Rattle.program_runs.proofs.traced_runs.Passing.{line_told, never_done}

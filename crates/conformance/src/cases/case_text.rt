@@ -1,0 +1,339 @@
+//! The reading of a text of cases.
+
+use crate::cases::case::{Case, CaseKind, CommandLine, RecordedRuns, Way};
+use crate::cases::change::{change, push_hexadecimal};
+use crate::cases::text_fault::{LineFault, TextFault};
+use engines::Folder;
+use indexmap::IndexMap;
+use std::alloc::{AllocError, Global};
+use std::io::Read;
+use std::str;
+
+/// What a text gives: files by their names, the ways in which class files are run, and cases in order.
+#[derive(Drop)]
+pub struct CaseText {
+    pub files: IndexMap<String, Vec<u8>>,
+    pub ways: Vec<Way>,
+    pub cases: Vec<Case>,
+    /// How many lines are read.
+    lines: usize,
+    others: Vec<OtherText>,
+}
+
+/// A text whose files are there, too.
+#[derive(Drop)]
+struct OtherText {
+    /// The line that names it.
+    line: usize,
+    name: String,
+}
+
+/// What the indented lines belong to.
+#[derive(Clone, Copy)]
+enum Section {
+    /// No section has begun.
+    None,
+    /// The bytes of the last file.
+    Bytes,
+    /// The lines of the last file.
+    Lines,
+    /// Changes of the last file.
+    Changes,
+    /// Ways of running.
+    Ways,
+    /// What the last case says.
+    Case,
+}
+
+/// Reads a text, and the files of the texts that it names, which lie beside it. A file of which another is a changed copy
+/// may be one of the folder.
+pub fn read_cases<F: Folder>(
+    alloc: Global,
+    folder: &F,
+    path: &str,
+    text: &str,
+) -> Result<CaseText, TextFault> {
+    let mut read = read_text(alloc, folder, text)?;
+    for other in &read.others {
+        match take_files(alloc, folder, path, other.name.as_str(), &mut read.files) {
+            Ok(()) => {}
+            Err(fault) => {
+                return Err(TextFault {
+                    line: other.line,
+                    fault,
+                });
+            }
+        }
+    }
+    Ok(read)
+}
+
+/// Reads a text alone.
+fn read_text<F: Folder>(alloc: Global, folder: &F, text: &str) -> Result<CaseText, TextFault> {
+    let mut read = CaseText::new(alloc);
+    let mut section = Section::None;
+    for line in text.lines() {
+        read.lines = read.lines.saturating_add(1);
+        match read.take_line(alloc, folder, section, line) {
+            Ok(next) => section = next,
+            Err(fault) => {
+                return Err(TextFault {
+                    line: read.lines,
+                    fault,
+                });
+            }
+        }
+    }
+    Ok(read)
+}
+
+/// Puts the files of another text, which lies beside one, to these. Files that have their names are replaced.
+fn take_files<F: Folder>(
+    alloc: Global,
+    folder: &F,
+    path: &str,
+    name: &str,
+    files: &mut IndexMap<String, Vec<u8>>,
+) -> Result<(), LineFault> {
+    let beside = match path.rsplit_once('/') {
+        Some((parent, _)) => format!(in alloc; "{parent}/{name}")?,
+        None => String::from_str(alloc, name)?,
+    };
+    let bytes = bytes_of(alloc, folder, beside.as_str())?;
+    let Ok(text) = str::from_utf8(bytes.as_slice()) else {
+        return Err(LineFault::OtherText);
+    };
+    let Ok(other) = read_text(alloc, folder, text) else {
+        return Err(LineFault::OtherText);
+    };
+    for (name, bytes) in &other.files {
+        files.insert(name.clone()?, bytes.clone()?)?;
+    }
+    Ok(())
+}
+
+impl CaseText {
+    /// A text without a line.
+    fn new(alloc: Global) -> CaseText {
+        CaseText {
+            files: IndexMap::new(alloc),
+            ways: Vec::new(alloc),
+            cases: Vec::new(alloc),
+            lines: 0,
+            others: Vec::new(alloc),
+        }
+    }
+
+    /// Takes one more line, and answers the section that it belongs to.
+    fn take_line<F: Folder>(
+        &mut self,
+        alloc: Global,
+        folder: &F,
+        section: Section,
+        line: &str,
+    ) -> Result<Section, LineFault> {
+        let words: Vec<&str> = line.split_whitespace().collect(alloc)?;
+        if words.is_empty() || line.starts_with('#') {
+            return Ok(section);
+        }
+        if !line.starts_with(' ') {
+            return self.begin(alloc, folder, words.as_slice());
+        }
+        match section {
+            Section::None => return Err(LineFault::Stray),
+            Section::Bytes => push_hexadecimal(self.last_file()?, words.as_slice())?,
+            Section::Lines => push_line(self.last_file()?, words.as_slice())?,
+            Section::Changes => change(alloc, self.last_file()?, words.as_slice())?,
+            Section::Ways => self.add_way(alloc, words.as_slice())?,
+            Section::Case => self.say(alloc, words.as_slice())?,
+        }
+        Ok(section)
+    }
+
+    /// Begins the section that the words say.
+    fn begin<F: Folder>(
+        &mut self,
+        alloc: Global,
+        folder: &F,
+        words: &[&str],
+    ) -> Result<Section, LineFault> {
+        match words {
+            ["file", name] => {
+                self.give(alloc, name, Vec::new(alloc))?;
+                Ok(Section::Bytes)
+            }
+            ["file", name, "from", other] => {
+                let bytes = self.copy_of(alloc, folder, other)?;
+                self.give(alloc, name, bytes)?;
+                Ok(Section::Changes)
+            }
+            ["text", name] => {
+                self.give(alloc, name, Vec::new(alloc))?;
+                Ok(Section::Lines)
+            }
+            ["case", name] => {
+                let line = CommandLine::new(alloc)?;
+                self.begin_case(alloc, name, CaseKind::Command(line))?;
+                Ok(Section::Case)
+            }
+            ["recorded", name] => {
+                let runs = RecordedRuns::new(alloc);
+                self.begin_case(alloc, name, CaseKind::Recorded(runs))?;
+                Ok(Section::Case)
+            }
+            ["runs"] => Ok(Section::Ways),
+            _ => self.note(alloc, words),
+        }
+    }
+
+    /// Notes what a line says that has no indented lines.
+    fn note(&mut self, alloc: Global, words: &[&str]) -> Result<Section, LineFault> {
+        match words {
+            ["files", name] => {
+                let name = String::from_str(alloc, name)?;
+                self.others.push(OtherText {
+                    line: self.lines,
+                    name,
+                })?;
+                Ok(Section::None)
+            }
+            ["input", name] => {
+                self.last_command()?.input = Some(String::from_str(alloc, name)?);
+                Ok(Section::None)
+            }
+            ["shown", name] => {
+                self.last_command()?.shown = Some(String::from_str(alloc, name)?);
+                Ok(Section::None)
+            }
+            _ => Err(LineFault::Section),
+        }
+    }
+
+    /// Gives a file of this name.
+    fn give(&mut self, alloc: Global, name: &str, bytes: Vec<u8>) -> Result<(), LineFault> {
+        if self.files.contains_key(name) {
+            return Err(LineFault::GivenTwice);
+        }
+        self.files.insert(String::from_str(alloc, name)?, bytes)?;
+        Ok(())
+    }
+
+    /// The bytes of the file of this name: one of the text, or else of the folder.
+    fn copy_of<F: Folder>(
+        &self,
+        alloc: Global,
+        folder: &F,
+        name: &str,
+    ) -> Result<Vec<u8>, LineFault> {
+        match self.files.get(name) {
+            Some(bytes) => Ok(bytes.clone()?),
+            None => bytes_of(alloc, folder, name),
+        }
+    }
+
+    /// The file that was given last.
+    fn last_file(&mut self) -> Result<&mut Vec<u8>, LineFault> {
+        let last = self.files.len().saturating_sub(1);
+        self.files.get_index_mut(last).ok_or(LineFault::Stray)
+    }
+
+    /// Adds a way of running: how often, and the options.
+    fn add_way(&mut self, alloc: Global, words: &[&str]) -> Result<(), LineFault> {
+        let [times, options @ ..] = words else {
+            return Err(LineFault::Times);
+        };
+        let Ok(times) = times.parse::<u32>() else {
+            return Err(LineFault::Times);
+        };
+        let mut way = Way {
+            times,
+            options: Vec::new(alloc),
+        };
+        push_words(alloc, &mut way.options, options)?;
+        self.ways.push(way)?;
+        Ok(())
+    }
+
+    /// Begins a case, of which nothing is said so far.
+    fn begin_case(&mut self, alloc: Global, name: &str, kind: CaseKind) -> Result<(), AllocError> {
+        let name = String::from_str(alloc, name)?;
+        self.cases.push(Case { name, kind })?;
+        Ok(())
+    }
+
+    /// The command line of the last case.
+    fn last_command(&mut self) -> Result<&mut CommandLine, LineFault> {
+        let Some(case) = self.cases.last_mut() else {
+            return Err(LineFault::Stray);
+        };
+        match &mut case.kind {
+            CaseKind::Command(line) => Ok(line),
+            CaseKind::Recorded(_) => Err(LineFault::Stray),
+        }
+    }
+
+    /// The last case says these words.
+    fn say(&mut self, alloc: Global, words: &[&str]) -> Result<(), LineFault> {
+        let Some(case) = self.cases.last_mut() else {
+            return Err(LineFault::Stray);
+        };
+        match &mut case.kind {
+            CaseKind::Command(line) => {
+                if line.words.len() > 1 {
+                    return Err(LineFault::SecondLine);
+                }
+                push_words(alloc, &mut line.words, words)?;
+            }
+            CaseKind::Recorded(runs) => {
+                if runs.files.is_empty() {
+                    push_words(alloc, &mut runs.files, words)?;
+                } else {
+                    runs.beginnings.push(beginning(alloc, words)?)?;
+                }
+            }
+        }
+        Ok(())
+    }
+}
+
+fn push_words(alloc: Global, to: &mut Vec<String>, words: &[&str]) -> Result<(), AllocError> {
+    for word in words {
+        to.push(String::from_str(alloc, word)?)?;
+    }
+    Ok(())
+}
+
+/// Puts a line of these words, with a space between two, to a file.
+fn push_line(to: &mut Vec<u8>, words: &[&str]) -> Result<(), AllocError> {
+    let mut gap = "";
+    for word in words {
+        to.extend_from_slice(gap.as_bytes())?;
+        to.extend_from_slice(word.as_bytes())?;
+        gap = " ";
+    }
+    to.push(b'\n')?;
+    Ok(())
+}
+
+/// The beginning of a report that prints these numbers and no other.
+fn beginning(alloc: Global, numbers: &[&str]) -> Result<String, AllocError> {
+    let mut text = String::new(alloc);
+    for number in numbers {
+        text.push_str(number)?;
+        text.push('\n')?;
+    }
+    text.push_str("thread 0 ")?;
+    Ok(text)
+}
+
+/// The bytes of a file of the folder.
+fn bytes_of<F: Folder>(alloc: Global, folder: &F, name: &str) -> Result<Vec<u8>, LineFault> {
+    let Ok(mut file) = folder.open(name) else {
+        return Err(LineFault::Unreadable);
+    };
+    let mut bytes = Vec::new(alloc);
+    match file.read_to_end(&mut bytes) {
+        Ok(_) => Ok(bytes),
+        Err(_) => Err(LineFault::Unreadable),
+    }
+}

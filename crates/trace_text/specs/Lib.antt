@@ -1,3 +1,0 @@
-pub mod JsonTexts
-pub mod Lines
-pub mod Methods
