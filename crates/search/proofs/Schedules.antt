@@ -70,9 +70,9 @@ module _ (s : StatesOf) (number : ℕ) where
     pub past_local : IsLocalFrom s number entry
     past_local =
         record {
-          fits = past.fits;
           local = past.local;
           repeat = past.repeat;
+          alone = λ more. ap (λ (e : Event). e.pick) past.event_is ∙ past.alone more;
           are = λ events is files trees accepted program.
               let at = done events is in
               let local = past.are_local files trees (events ++ event ∷ []) (at.done files trees accepted program) in
