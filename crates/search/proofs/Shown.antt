@@ -1,22 +1,20 @@
 -- Machines that show where schedules led.
-use Rattle.std.proofs.Common.{◌≡◌, ◌<◌, ◌≤◌, ◌+◌, ◌^◌, ℕ, List, [], ◌∷◌, ◌++◌, map, replicate, Option, Some, None, Result, Ok, Err, Bool, true, false, refl, sym, ap, subst, ◌∙◌, arith}
+use Rattle.std.proofs.Common.{◌≡◌, ◌<◌, ◌+◌, ℕ, List, [], ◌∷◌, ◌++◌, map, replicate, Some, None, Result, Ok, Err, Bool, true, false, refl, sym, ap, subst, ◌∙◌, arith}
 use Rattle.std.specs.Prelude.{IfOk}
 use Rattle.std.proofs.lemmas.List.{append-nil}
 use Rattle.std.proofs.lemmas.Option.{same_Some}
 use Rattle.model.specs.declared.event.Event.{Event}
-use Rattle.model.specs.declared.event.ScheduleEntry.{ScheduleEntry}
 use Rattle.model.specs.declared.limits.Limits.{Limits}
-use Rattle.model.specs.declared.report.EndState.{EndState}
 use Rattle.model.specs.declared.report.Report.{Report}
 use Rattle.model.specs.Accepted.{IsAccepted}
 use Rattle.model.specs.Classes.{Program}
 use Rattle.model.specs.LimitStands.{bounds_of, inflated}
 use Rattle.model.specs.Meaning.{thread_ends}
-use Rattle.model.specs.Report.{ThreadEnd, end_state_of}
+use Rattle.model.specs.Report.{end_state_of}
 use Rattle.model.specs.Run.{run, is_quiet}
 use Rattle.model.specs.State.{State, StateOf}
 use Rattle.run_laws.specs.word_reports.Reports.{AreReportsOfWords}
-use Rattle.run_laws.specs.interleavings.Ends.{Outcome, outcome_of}
+use Rattle.run_laws.specs.interleavings.Ends.{Outcome}
 use Rattle.linked_code.specs.declared.program.LinkedProgram.{LinkedProgram}
 use Rattle.machine_state.specs.declared.answers.Answer.{Answer}
 use Rattle.machine_state.specs.declared.answers.Answer.TheVariants as answer
@@ -29,7 +27,6 @@ use Rattle.machine.specs.declared.machine.Stopped.TheVariants as stopped
 use Rattle.machine.specs.Machines.{MachineOf, Opens, Steps, Repeats}
 use Rattle.machine.specs.schedule_runs.Done.{HasDone, EndsBy, GoesThrough}
 use Rattle.machine.specs.machine_reports.Told.{AreQuietAt, Reports}
-use Rattle.search.specs.declared.run_outcomes.outcomes.Outcome.{Outcome as TheOutcome}
 use Rattle.machine.proofs.schedule_runs.Repeated.{entry_gone}
 use Rattle.machine_state.specs.thread_bursts.Threads.{event_of}
 use Rattle.search.specs.local_runs.Local.{AreLocalAfter, AreNextLocal}

@@ -1,5 +1,4 @@
 use Rattle.std.proofs.Common.{◌∙◌, ap, subst, rules, tests, Ok}
-use Rattle.machine_state.specs.declared.answers.Answer.TheVariants as answer
 use Rattle.search.specs.Machines.{GoesBy}
 use Rattle.search.proofs.Expanded.{event_at, thread_met, pick_met}
 use Rattle.search.proofs.Growth.{within, further}

@@ -1,4 +1,4 @@
-use Rattle.std.proofs.Common.{rules, tests, arith}
+use Rattle.std.proofs.Common.{arith}
 use Rattle.search.proofs.Expanded.{no_thread, next_thread, all_threads}
 use Rattle.search.proofs.Growth.{within}
 use Rattle.search.proofs.expanding.expand_threads.Goals as goal

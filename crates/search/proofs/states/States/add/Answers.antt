@@ -11,4 +11,3 @@ returns-then-len-most c = gave_up (λ s. IsMetFrom s c.args.number c.args.entry.
 
 pub returns : goal.returns
 returns c = new_met c.new_states_are_met.ensures.holds c.args.number c.args.entry c.args.self.now c.push.new.self c.requires.number c.requires.local c.in_ok-push.ensures
-
