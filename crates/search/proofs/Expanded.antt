@@ -1,12 +1,10 @@
 -- The states to which events lead from a state, as far as a loop has come.
-use Rattle.std.proofs.Common.{◌≡◌, ℕ, ◌+◌, ◌<◌, ◌≤◌, List, [], length, Bool, true, false, ◌⊎◌, inl, inr, nat_le, Option, Some, None, Result, Ok, Err, refl, sym, ap, subst, ◌∙◌, below_none, below_more, arith}
+use Rattle.std.proofs.Common.{◌≡◌, ℕ, ◌+◌, ◌<◌, ◌≤◌, length, Bool, true, false, ◌⊎◌, inl, inr, nat_le, Option, Some, None, Result, Ok, Err, refl, sym, ap, subst, ◌∙◌, below_none, below_more, arith}
 use Rattle.std.specs.Prelude.{IfOk}
 use Rattle.std.proofs.lemmas.Bool.Decides.{leb_tells}
 use Rattle.model.specs.declared.event.Event.{Event}
 use Rattle.model.specs.declared.event.ScheduleEntry.{ScheduleEntry}
 use Rattle.model.specs.declared.limits.Limits.{Limits}
-use Rattle.model.specs.Accepted.{IsAccepted}
-use Rattle.model.specs.Classes.{Program}
 use Rattle.model.specs.LimitStands.{bounds_of}
 use Rattle.machine_state.specs.declared.answers.Answer.TheVariants as answer
 use Rattle.machine_state.specs.Shown.{IsProgram}
@@ -14,8 +12,8 @@ use Rattle.machine.specs.Machines.{MachineOf}
 use Rattle.machine.specs.schedule_runs.Done.{HasDone}
 use Rattle.search.specs.met_states.Met.{IsNextMet, AreHigherPicksLeft, AreOtherThreadsLeft, AreMetStatesKept}
 use Rattle.search.specs.Machines.{GoesBy}
-use Rattle.search.specs.States.{StatesOf, IsSchedule, IsInState, IsMetFrom, AreMetByThread, AreMetByThreads, AreAllMet, Grows, GrowsTo, GrowsAgain}
-use Rattle.search.proofs.Growth.{stays, further, within, earlier, still_met, gave_up, went_on}
+use Rattle.search.specs.States.{StatesOf, IsInState, IsMetFrom, AreMetByThread, AreMetByThreads, AreAllMet, Grows, GrowsTo, GrowsAgain}
+use Rattle.search.proofs.Growth.{stays, further, earlier, still_met, gave_up, went_on}
 use Rattle.search.proofs.Shown.{run_of}
 
 -- so it is of each below a number

@@ -1,10 +1,10 @@
 -- The schedules of the states that were met.
 use Rattle.std.proofs.Common.{◌≡◌, ℕ, zero, suc, ◌<◌, List, [], ◌∷◌, ◌++◌, length, map, get_or, replicate, Some, Result, Ok, Err, refl, sym, ap, subst, ◌∙◌}
-use Rattle.std.specs.Prelude.{slice_get, slice_index_or, IfOk, OnOk}
+use Rattle.std.specs.Prelude.{slice_get, IfOk, OnOk}
 use Rattle.std.specs.Option.{option_map}
 use Rattle.std.proofs.lemmas.List.{append-nil, append_assoc, map_push, length-map}
 use Rattle.std.proofs.lemmas.List.Concat.{flat_map-append}
-use Rattle.std.proofs.lemmas.Option.{same_Some, none-some, slice_get-map, slice_get-get_or, slice_get_within, get_or_from_slice_get}
+use Rattle.std.proofs.lemmas.Option.{same_Some, none-some, slice_get-map, slice_get-get_or}
 use Rattle.model.specs.declared.event.Event.{Event}
 use Rattle.model.specs.declared.event.ScheduleEntry.{ScheduleEntry}
 use Rattle.model.specs.declared.limits.Limits.{Limits}
@@ -13,15 +13,14 @@ use Rattle.model.specs.Schedule.{events_of}
 use Rattle.linked_code.specs.declared.program.LinkedProgram.{LinkedProgram}
 use Rattle.run_laws.specs.interleavings.Ends.{Has}
 use Rattle.machine_state.specs.declared.answers.Answer.TheVariants as answer
-use Rattle.machine_state.specs.declared.state.Shared.{Shared}
 use Rattle.machine.specs.Machines.{MachineOf}
 use Rattle.machine_state.specs.same_states.Same.{AreAlike}
 use Rattle.machine_state.specs.shown_runs.Runs.{HasRun}
 use Rattle.search.specs.local_runs.Local.{AreLocalAfter}
-use Rattle.schedule.specs.schedule_tree.Trees.{way_at, with_way}
+use Rattle.schedule.specs.schedule_tree.Trees.{with_way}
 use Rattle.search.specs.met_states.Met.{AreAlikeStatesMet}
 use Rattle.search.specs.Machines.{IsAt, GoesBy, HasDoneMore, GoesPast}
-use Rattle.search.specs.States.{StatesOf, IsSchedule, IsInState, IsMetFrom, Grows, with_entry, IsLocalFrom, IsAfter, IsPushed}
+use Rattle.search.specs.States.{StatesOf, IsSchedule, IsInState, IsMetFrom, with_entry, IsLocalFrom, IsAfter, IsPushed}
 use Rattle.search.proofs.Shown.{gone_on, gone_more, run_of}
 
 -- ---- a schedule by its number
@@ -70,9 +69,9 @@ module _ (s : StatesOf) (number : ℕ) where
     pub past_local : IsLocalFrom s number entry
     past_local =
         record {
-          fits = past.fits;
           local = past.local;
           repeat = past.repeat;
+          alone = λ more. ap (λ (e : Event). e.pick) past.event_is ∙ past.alone more;
           are = λ events is files trees accepted program.
               let at = done events is in
               let local = past.are_local files trees (events ++ event ∷ []) (at.done files trees accepted program) in

@@ -1,23 +1,20 @@
 -- Machines that show where schedules led.
-use Rattle.std.proofs.Common.{◌≡◌, ◌<◌, ◌≤◌, ◌+◌, ◌^◌, ℕ, List, [], ◌∷◌, ◌++◌, map, replicate, Option, Some, None, Result, Ok, Err, Bool, true, false, refl, sym, ap, subst, ◌∙◌, arith}
+use Rattle.std.proofs.Common.{◌≡◌, ◌<◌, ◌+◌, ℕ, List, [], ◌∷◌, ◌++◌, map, replicate, Some, None, Result, Ok, Err, Bool, true, false, refl, sym, ap, subst, ◌∙◌, arith}
 use Rattle.std.specs.Prelude.{IfOk}
 use Rattle.std.proofs.lemmas.List.{append-nil}
 use Rattle.std.proofs.lemmas.Option.{same_Some}
 use Rattle.model.specs.declared.event.Event.{Event}
-use Rattle.model.specs.declared.event.ScheduleEntry.{ScheduleEntry}
 use Rattle.model.specs.declared.limits.Limits.{Limits}
-use Rattle.model.specs.declared.report.EndState.{EndState}
 use Rattle.model.specs.declared.report.Report.{Report}
 use Rattle.model.specs.Accepted.{IsAccepted}
 use Rattle.model.specs.Classes.{Program}
 use Rattle.model.specs.LimitStands.{bounds_of, inflated}
 use Rattle.model.specs.Meaning.{thread_ends}
-use Rattle.model.specs.Report.{ThreadEnd, end_state_of}
+use Rattle.model.specs.Report.{end_state_of}
 use Rattle.model.specs.Run.{run, is_quiet}
-use Rattle.model.specs.Schedule.{EntryFits}
 use Rattle.model.specs.State.{State, StateOf}
 use Rattle.run_laws.specs.word_reports.Reports.{AreReportsOfWords}
-use Rattle.run_laws.specs.interleavings.Ends.{Outcome, outcome_of}
+use Rattle.run_laws.specs.interleavings.Ends.{Outcome}
 use Rattle.linked_code.specs.declared.program.LinkedProgram.{LinkedProgram}
 use Rattle.machine_state.specs.declared.answers.Answer.{Answer}
 use Rattle.machine_state.specs.declared.answers.Answer.TheVariants as answer
@@ -30,7 +27,6 @@ use Rattle.machine.specs.declared.machine.Stopped.TheVariants as stopped
 use Rattle.machine.specs.Machines.{MachineOf, Opens, Steps, Repeats}
 use Rattle.machine.specs.schedule_runs.Done.{HasDone, EndsBy, GoesThrough}
 use Rattle.machine.specs.machine_reports.Told.{AreQuietAt, Reports}
-use Rattle.search.specs.declared.run_outcomes.outcomes.Outcome.{Outcome as TheOutcome}
 use Rattle.machine.proofs.schedule_runs.Repeated.{entry_gone}
 use Rattle.machine_state.specs.thread_bursts.Threads.{event_of}
 use Rattle.search.specs.local_runs.Local.{AreLocalAfter, AreNextLocal}
@@ -142,14 +138,9 @@ pub none_behind : (m : MachineOf) (event : Event) → AreLocalBehind m event 0
 none_behind m event files trees events has state reached =
     record { threads = []; last = state; are_local = refl; reached = ap (run trees m.limits.frames) (append-nil events) ∙ reached }
 
-pub entry_fits : (event : Event) (n : ℕ) → event.thread < 2 ^ 16 → event.pick < 2 ^ 16 → n ≤ 1024 → (0 < n → event.pick ≡ 0) → EntryFits (record { event = event; repeat = 1 + n })
-entry_fits event n thread pick most plain =
-    record { thread = thread; pick = pick; repeat = (omega arith, omega (arith, most)); alone = λ more. plain (omega (arith, more)) }
-
-pub past : (event : Event) (n : ℕ) (old new : MachineOf) → event.thread < 2 ^ 16 → event.pick < 2 ^ 16 → n ≤ 1024 → (0 < n → event.pick ≡ 0) → AreLocalBehind old event n → HasDoneMore event n old new
+pub past : (event : Event) (n : ℕ) (old new : MachineOf) → (0 < n → event.pick ≡ 0) → AreLocalBehind old event n → HasDoneMore event n old new
     → GoesPast event old new (record { event = event; repeat = 1 + n })
-past event n old new thread pick most plain local more =
-    record { event_is = refl; fits = entry_fits event n thread pick most plain; local = n; repeat = omega arith; are_local = local; more = more }
+past event n old new plain local more = record { event_is = refl; local = n; repeat = omega arith; alone = plain; are_local = local; more = more }
 
 -- ---- an outcome
 

@@ -1,18 +1,16 @@
 -- A search whose states have all been visited is whole.
-use Rattle.std.proofs.Common.{◌≡◌, ℕ, suc, ◌+◌, ◌<◌, ◌≤◌, List, [], ◌∷◌, length, sym, ap, subst, refl, arith}
+use Rattle.std.proofs.Common.{◌≡◌, ℕ, suc, ◌+◌, ◌<◌, ◌≤◌, List, [], length, sym, ap, subst, refl, arith}
 use Rattle.std.proofs.lemmas.Option.{none-some, slice_get_within}
-use Rattle.model.specs.declared.event.Event.{Event}
 use Rattle.model.specs.declared.event.ScheduleEntry.{ScheduleEntry}
 use Rattle.model.specs.declared.limits.Limits.{Limits}
 use Rattle.model.specs.Classes.{Program}
 use Rattle.model.specs.Schedule.{events_of}
-use Rattle.run_laws.specs.interleavings.Ends.{Outcome, Has}
+use Rattle.run_laws.specs.interleavings.Ends.{Outcome}
 use Rattle.run_laws.specs.searches.Searches.{AreSearchesComplete}
 use Rattle.linked_code.specs.declared.program.LinkedProgram.{LinkedProgram}
 use Rattle.machine.specs.Machines.{IsOfAccepted, IsProgramOf}
 use Rattle.search.specs.met_states.Met.{IsNextMet, HasMetAll, AreSearchesWhole}
 use Rattle.search.specs.declared.run_outcomes.wanted.Wanted.{Wanted}
-use Rattle.search.specs.run_outcomes.Outcomes.{IsWanted}
 use Rattle.search.specs.States.{StatesOf, one_state}
 use Rattle.search.specs.Verdicts.{IsFound, IsComplete, Says}
 use Rattle.search.specs.declared.searching.Verdict.{Verdict}

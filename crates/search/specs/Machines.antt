@@ -1,5 +1,5 @@
 -- Machines that show where a schedule led (own).
-use Rattle.std.specs.Prelude.{◌≡◌, ℕ, suc, List, [], ◌∷◌, ◌++◌, Option, Some, None, Result, IsTrue, IsFalse, replicate}
+use Rattle.std.specs.Prelude.{◌≡◌, ◌<◌, ℕ, suc, List, ◌++◌, Option, Some, None, Result, IsTrue, IsFalse, replicate}
 use Rattle.model.specs.declared.event.Event.{Event}
 use Rattle.model.specs.declared.event.ScheduleEntry.{ScheduleEntry}
 use Rattle.model.specs.declared.limits.Limits.{Limits}
@@ -7,7 +7,6 @@ use Rattle.model.specs.Accepted.{IsAccepted}
 use Rattle.model.specs.Classes.{Program}
 use Rattle.model.specs.LimitStands.{bounds_of}
 use Rattle.model.specs.Run.{run, is_quiet}
-use Rattle.model.specs.Schedule.{EntryFits}
 use Rattle.model.specs.State.{State}
 use Rattle.run_laws.specs.interleavings.Ends.{outcome_of}
 use Rattle.linked_code.specs.declared.program.LinkedProgram.{LinkedProgram}
@@ -49,9 +48,9 @@ AreLocalBehind m event n =
 -- behind an event that was done, those that the entry has more of it have been done, too, and each is local
 pub record GoesPast (event : Event) (old new : MachineOf) (entry : ScheduleEntry) : Type 0 where
   pub event_is : entry.event ≡ event
-  pub fits : EntryFits entry
   pub local : ℕ
   pub repeat : entry.repeat ≡ suc local
+  pub alone : 0 < local → event.pick ≡ 0
   pub are_local : AreLocalBehind old event local
   pub more : HasDoneMore event local old new
 

@@ -5,7 +5,6 @@ use Rattle.model.specs.declared.event.ScheduleEntry.{ScheduleEntry}
 use Rattle.model.specs.declared.limits.Limits.{Limits}
 use Rattle.model.specs.Accepted.{IsAccepted}
 use Rattle.model.specs.Classes.{Program}
-use Rattle.model.specs.Schedule.{EntryFits}
 use Rattle.run_laws.specs.interleavings.Ends.{Has}
 use Rattle.linked_code.specs.declared.program.LinkedProgram.{LinkedProgram}
 use Rattle.machine_state.specs.Shown.{IsProgram}
@@ -72,9 +71,9 @@ with_entry events entry = events ++ replicate entry.repeat entry.event
 
 -- from the state of this number, those behind the first event of the entry are local
 pub record IsLocalFrom (s : StatesOf) (number : ℕ) (entry : ScheduleEntry) : Type 0 where
-  pub fits : EntryFits entry
   pub local : ℕ
   pub repeat : entry.repeat ≡ suc local
+  pub alone : 0 < local → entry.event.pick ≡ 0
   pub are : (events : List Event) → IsSchedule s number events → (files : List (List ℕ)) (trees : Program) → IsAccepted files trees → IsProgram trees s.program
       → AreLocalAfter trees s.limits.frames (events ++ entry.event ∷ []) (replicate local entry.event)
 

@@ -1,5 +1,5 @@
 -- What a search over all schedules answers (own; JLS 17).
-use Rattle.std.specs.Prelude.{◌≡◌, ℕ, List, IsTrue}
+use Rattle.std.specs.Prelude.{List, IsTrue}
 use Rattle.model.specs.declared.event.Event.{Event}
 use Rattle.model.specs.declared.limits.Limits.{Limits}
 use Rattle.model.specs.Classes.{Program}

@@ -1,21 +1,21 @@
 -- Local instructions by linked code as local events over values.
-use Rattle.std.proofs.Common.{◌≡◌, ℕ, zero, suc, List, [], ◌∷◌, ◌++◌, length, map, replicate, if◌then◌else◌, Bool, false, Option, Some, None, refl, sym, ap, subst, ◌∙◌}
-use Rattle.std.specs.Prelude.{slice_get, slice_set}
+use Rattle.std.proofs.Common.{◌≡◌, ℕ, zero, suc, List, [], ◌∷◌, ◌++◌, length, map, replicate, if◌then◌else◌, false, Option, Some, None, refl, sym, ap, subst, ◌∙◌}
+use Rattle.std.specs.Prelude.{slice_get}
 use Rattle.std.specs.Option.{option_map, option_and_then}
 use Rattle.std.proofs.lemmas.Option.{same_Some, none-some}
 use Rattle.model.specs.declared.event.Event.{Event}
 use Rattle.model.specs.declared.value.Value.{Value}
 use Rattle.model.specs.Accepted.{IsAccepted}
-use Rattle.model.specs.Classes.{Program, Body, body_of}
-use Rattle.model.specs.Operands.{Slots, values, words, over_values, over_words, operands, word_of}
+use Rattle.model.specs.Classes.{Program, body_of}
+use Rattle.model.specs.Operands.{values, words, over_values, over_words, operands, word_of}
 use Rattle.model.specs.Outcomes.{Free}
 use Rattle.model.specs.Frames.{at_offset}
 use Rattle.model.specs.Rows.{Row, row_wants, after_row, row_target}
 use Rattle.model.specs.Run.{run_from}
 use Rattle.model.specs.Sites.{Site, site_at}
 use Rattle.model.specs.State.{Frame, FrameOf, Invocation, Initialisation, StackOf, State, StateOf}
-use Rattle.model.specs.Step.{SteppedOf, Next, next_by, stepped, step}
-use Rattle.model.specs.Words.{map_slots, map_frame, map_entry, map_stack, words_of, AreWordsOf}
+use Rattle.model.specs.Step.{Next, next_by, stepped, step}
+use Rattle.model.specs.Words.{map_slots, map_frame, map_stack, words_of, AreWordsOf}
 use Rattle.run_laws.proofs.laws.WordLists.{operands_words}
 use Rattle.run_laws.specs.soundness.Runs.{IsStepKept}
 use Rattle.run_laws.specs.word_runs.Words.{IsStepCarried, map_stepped}
@@ -26,7 +26,7 @@ use Rattle.run_laws.specs.searches.Searches.{AreLocal}
 use Rattle.linked_code.specs.declared.instruction.LinkedInstruction.{LinkedInstruction}
 use Rattle.linked_code.specs.LocalRows.{IsLocal}
 use Rattle.linked_code.specs.Linked.{offset_in}
-use Rattle.linked_code.specs.linked_events.Local.{Running, slots_of, does_local, DoesRow}
+use Rattle.linked_code.specs.linked_events.Local.{Running, slots_of, DoesRow}
 use Rattle.linked_code.proofs.linked_events.LocalRows.{does_rows}
 use Rattle.linked_code.specs.declared.program.LinkedProgram.{LinkedProgram}
 use Rattle.linked_code.specs.local_bursts.Steps.{does_at, does_in, then_at, steps}

@@ -1,6 +1,6 @@
 -- The frame on top of a thread, where a run has led.
-use Rattle.std.proofs.Common.{◌≡◌, ℕ, List, [], ◌∷◌, ◌++◌, length, replicate, Some, Result, Ok, Err, refl, sym, ap, subst, ◌∙◌, append-nil}
-use Rattle.std.specs.Prelude.{slice_get, IfOk}
+use Rattle.std.proofs.Common.{◌≡◌, ℕ, List, [], ◌∷◌, replicate, Some, Result, Ok, Err, refl, sym, ap, subst, ◌∙◌, append-nil}
+use Rattle.std.specs.Prelude.{IfOk}
 use Rattle.std.proofs.lemmas.Option.{same_Some}
 use Rattle.model.specs.declared.event.Event.{Event}
 use Rattle.model.specs.Accepted.{IsAccepted}
@@ -8,7 +8,7 @@ use Rattle.model.specs.Classes.{Program}
 use Rattle.model.specs.LimitStands.{Bounds, inflated}
 use Rattle.model.specs.Opening.{opening}
 use Rattle.model.specs.Operands.{Slots, values}
-use Rattle.model.specs.Run.{run, run_from}
+use Rattle.model.specs.Run.{run}
 use Rattle.model.specs.Sites.{MeaningOf, Site}
 use Rattle.model.specs.State as model
 use Rattle.model.specs.State.{FrameOf, StackOf, State, StateOf, Thread}

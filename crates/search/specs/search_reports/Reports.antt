@@ -1,9 +1,8 @@
 -- The text of what a search answers (own).
-use Rattle.std.specs.Prelude.{◌≡◌, ℕ, suc, ℤ, pos, List, [], ◌∷◌, ◌++◌, length, map, codes, refl}
+use Rattle.std.specs.Prelude.{◌≡◌, ℕ, suc, pos, List, [], ◌∷◌, ◌++◌, length, map, codes, refl}
 use Rattle.std.specs.Fmt.{digits}
 use Rattle.model.specs.declared.end.End.TheVariants as ends
-use Rattle.model.specs.declared.report.Report.{Report}
-use Rattle.model.specs.Report.{Ended, Blocked, end_state_of, number, line, thread_lines, report_text}
+use Rattle.model.specs.Report.{Ended, end_state_of, number, line, thread_lines, report_text}
 use Rattle.run_laws.specs.interleavings.Ends.{Outcome}
 use Rattle.search.specs.run_outcomes.Outcomes.{printed_text}
 use Rattle.search.specs.declared.search_reports.answers.Answer.{Answer}

@@ -1,4 +1,3 @@
-use Rattle.std.proofs.Common.{◌<◌}
 use Rattle.search.specs.States.{IsInState}
 use Rattle.search.proofs.Expanded.{HasGrown, IsPickMet}
 use Rattle.search.proofs.expanding.expand_thread.Given as goal

@@ -2,4 +2,4 @@ use Rattle.search.specs.Visits.{HasVisited}
 use Rattle.search.proofs.searching.visit_all.Given as goal
 
 abbrev pub invariant-states : goal.invariant-states
-invariant-states l = HasVisited l.classes l.fn.states.limits l.wanted l.states l.outcomes l.number
+invariant-states g l = HasVisited l.classes l.fn.states.limits l.wanted l.states l.outcomes l.number
