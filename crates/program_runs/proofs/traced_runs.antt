@@ -1,5 +1,5 @@
 mod Gathering
-mod Locals
+mod LocalEvents
 mod Passing
 mod Runs
 mod Seen

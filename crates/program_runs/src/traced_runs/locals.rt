@@ -1,6 +1,6 @@
 //! Which events are local: those of an instruction that touches its frame alone, and throws nothing.
 
-ghost use Rattle.std.specs.Prelude.{◌≡◌, IsTrue};
+ghost use Rattle.std.specs.Prelude.{◌≡◌, IsTrue, option_map, slice_get};
 ghost use Rattle.program_runs.specs.traced_runs.Locals.{IsNextLocal, StandsAtLocal, divides_by_zero as is_division};
 
 use linked_code::thread_stacks::ThreadStack;
@@ -8,6 +8,7 @@ use linked_code::{LinkedInstruction, LinkedProgram};
 use machine::Machine;
 use machine::top_frames::goes_on;
 use machine_instructions::local_instructions::is_local;
+use machine_state::Shared;
 use machine_state::linked_frames::{frames_stand, instruction_at};
 use machine_state::state_events::stacks_are_lent;
 
@@ -36,6 +37,13 @@ fn stands_at_local(program: &LinkedProgram, stack: &ThreadStack) -> bool
     has_local && !has_zero
 }
 
+/// The stack of a thread, if there is such a thread.
+fn stack_of(shared: &Shared, thread: u16) -> Option<&ThreadStack>
+    ensures { option_map (λ s. s.now) result ≡ slice_get shared.now.stacks.items thread }
+{
+    shared.stacks.get(usize::from(thread))
+}
+
 /// Whether the next event of a thread is local.
 pub(crate) fn is_next_local(machine: &Machine, thread: u16) -> bool
     ensures { IsTrue result → IsNextLocal machine.now thread }
@@ -43,7 +51,7 @@ pub(crate) fn is_next_local(machine: &Machine, thread: u16) -> bool
     stacks_are_lent();
     frames_stand();
     let shared = machine.shared();
-    let Some(stack) = shared.stacks.get(usize::from(thread)) else {
+    let Some(stack) = stack_of(shared, thread) else {
         return false;
     };
     if !goes_on(&shared.threads, thread) {

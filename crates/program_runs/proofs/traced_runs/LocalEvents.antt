@@ -117,7 +117,7 @@ local_row_of trees p at code site k i e l = (l.row, l.is, λ slots d. ap (λ (r 
 -- ---- a frame at one
 
 module _ (trees : Program) (frame : Frame) (rest : StackOf Value) (row : Row) (row_is : frame_row trees frame ≡ Some row) (fails_not : row.fails (operand_words frame row) ≡ false) where
-  after : Frame
+  abbrev after : Frame
   after = at_offset frame (row_target row (operand_words frame row)) (after_row over_values row frame.place.slots)
 
   goes : after_local frame row ≡ Some after
