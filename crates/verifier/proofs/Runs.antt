@@ -1,6 +1,6 @@
 -- The types of runs, as one type more is looked at.
-use Rattle.std.proofs.Common.{◌≡◌, ℕ, ◌<◌, ◌≤◌, ◌+◌, ◌-◌, List, [], ◌∷◌, ◌++◌, length, take, get_or, sym, ap, ◌∙◌, arith}
-use Rattle.std.specs.Prelude.{replicate}
+use Rattle.std.proofs.Common.{◌≡◌, ℕ, zero, suc, ◌<◌, ◌≤◌, ◌+◌, ◌-◌, List, [], ◌∷◌, ◌++◌, length, take, get_or, Option, Some, None, refl, sym, ap, ◌∙◌, arith}
+use Rattle.std.specs.Prelude.{replicate, slice_set}
 use Rattle.std.proofs.lemmas.List.{append_assoc, append-nil, replicate_more, take_more}
 use Rattle.std.proofs.lemmas.Grind.{flat_map-append}
 use Rattle.verifier.specs.Packed.{unpacked}
@@ -41,3 +41,26 @@ module _ (runs : List Run) (types : List VerificationType) (b i : ℕ) (d : Veri
       ∙ (ap (λ k. unpacked (runs ++ run_here ∷ []) ++ replicate (i + 1 - k) (get_or types k d)) f
       ∙ (ap (λ k. unpacked (runs ++ run_here ∷ []) ++ replicate k x) one
       ∙ (ap (λ l. l ++ x ∷ []) ended ∙ sym (take_more types i d within))))
+
+-- ---- another type at a place
+
+abbrev pub set_left : VerificationType → Option ℕ → List VerificationType → List VerificationType
+set_left of None types = types
+set_left of (Some k) types = slice_set types k of
+
+pub set_front : (n k : ℕ) (t of : VerificationType) (rest : List VerificationType) → k < n
+    → slice_set (replicate n t ++ rest) k of ≡ slice_set (replicate n t) k of ++ rest
+set_front zero k t of rest l = absurd (omega (arith, l))
+set_front (suc n) zero t of rest l = refl
+set_front (suc n) (suc k) t of rest l = let m : k < n = omega (arith, l) in ap (λ ts. t ∷ ts) (set_front n k t of rest m)
+
+pub set_back : (n k j : ℕ) (t of : VerificationType) (rest : List VerificationType) → n + j ≡ k
+    → slice_set (replicate n t ++ rest) k of ≡ replicate n t ++ slice_set rest j of
+set_back zero k j t of rest e = let same : k ≡ j = omega (arith, e) in ap (λ i. slice_set rest i of) same
+set_back (suc n) zero j t of rest e = absurd (omega (arith, e))
+set_back (suc n) (suc k) j t of rest e = let m : n + j ≡ k = omega (arith, e) in ap (λ ts. t ∷ ts) (set_back n k j t of rest m)
+
+pub set_among : (n k j : ℕ) (t of : VerificationType) → k + suc j ≡ n → slice_set (replicate n t) k of ≡ replicate k t ++ of ∷ replicate j t
+set_among zero k j t of e = absurd (omega (arith, e))
+set_among (suc n) zero j t of e = let same : n ≡ j = omega (arith, e) in ap (λ i. of ∷ replicate i t) same
+set_among (suc n) (suc k) j t of e = let m : k + suc j ≡ n = omega (arith, e) in ap (λ ts. t ∷ ts) (set_among n k j t of m)

@@ -1,19 +1,26 @@
 //! The worklist (JVMS 4.10.2.2): it takes the lowest offset that waits, and merges what its instruction leads to.
 
-ghost use Rattle.std.specs.Prelude.{◌≡◌, ◌<◌, length, OnOk, IfOk, IfErr, IfSome};
+ghost use Rattle.std.specs.Prelude.{◌≡◌, ◌<◌, List, length, Some, OnOk, IfOk, IfErr, IfSome};
 ghost use Rattle.model.specs.InstructionStarts.{starts as starts_of};
 ghost use Rattle.model.specs.Typing.{HasTyping};
 ghost use Rattle.run_laws.specs.typing_search.Search.{HasNoTyping};
 ghost use Rattle.types.specs.method_code.Linked.{IsLinked};
 ghost use Rattle.types.specs.method_code.View.{files_of, member_of, body_of};
+ghost use Rattle.verifier.specs.declared.flow.handler.Handler.{Handler as SpecHandler};
 ghost use Rattle.verifier.specs.flow.Handlers.{AreHandlers};
-ghost use Rattle.verifier.specs.Found.{tables_in, waiting_again, IsSearch, HasTurned};
+ghost use Rattle.run_laws.specs.typing_search.Tables.{typing_of};
+ghost use Rattle.verifier.specs.Packed.{parts_in};
+ghost use Rattle.verifier.specs.Found.{tables_in, waiting_again, AreOver, IsSearch, HasTurned};
+ghost use Rattle.verifier.specs.Looks.{LeavesAt, IsLook, AreLooks, HasLed};
 ghost use Rattle.verifier.specs.Near.{IsNear};
 ghost use Rattle.verifier.specs.Verified.{OnUnverified};
 
 use crate::fault::MethodFault;
-use crate::flow::{Handler, Lead, entry_frame, flow_at, handlers};
+use crate::flow::{
+    Handler, Lead, all_leads, entry_frame, flow_at, handlers, leaves_at, targets_of,
+};
 use crate::found::{Edge, Found, Origin};
+use crate::look::Look;
 use crate::near::{Near, near_found};
 use crate::packed::PackedFrame;
 use opcodes::starts;
@@ -26,6 +33,7 @@ fn begin(alloc: Global, method: &MethodCode<'_>, starts: &[bool]) -> Result<Foun
     requires starts { starts.now ≡ starts_of (body_of method.now).code.code }
     ensures search { IfOk result (λ found. IsSearch (files_of method.now) (member_of method.now) (body_of method.now)
         (tables_in (files_of method.now) found)) }
+    ensures looks { IfOk result (λ found. (hs : List SpecHandler) → AreLooks method.now hs found) }
     ensures exact { IfErr result (λ fault. OnUnverified
         fault (HasNoTyping (files_of method.now) (member_of method.now) (body_of method.now))) }
 {
@@ -59,6 +67,72 @@ fn last_if_near(
     near_found(alloc, found, before, last)
 }
 
+/// Merges what changed before the instruction at an offset since it was looked at, which has nothing to do with it.
+fn pass_on(
+    alloc: Global,
+    method: &MethodCode<'_>,
+    handlers: &[Handler],
+    found: &mut Found,
+    offset: usize,
+    before: &PackedFrame,
+    look: &Look,
+) -> Result<(), AllocError>
+    requires linked { IsLinked (files_of method.now) }
+    requires over { AreOver (body_of method.now) (tables_in (files_of method.now) found.old) }
+    requires left { LeavesAt method.now offset look.now.changed.items }
+    requires typed { typing_of (tables_in (files_of method.now) found.old).types offset ≡ Some (parts_in (files_of method.now) before.now) }
+    requires look { IsLook method.now handlers.now (typing_of (tables_in (files_of method.now) found.old).types)
+        offset (parts_in (files_of method.now) before.now) look.now }
+    ensures { OnOk result (HasLed method.now handlers.now found.old offset look.now.targets.items found.new) }
+{
+    let leads = all_leads(alloc, handlers, offset, &look.targets)?;
+    found.raise_all(alloc, method, &leads, before, &look.changed)
+}
+
+/// Merges what the instruction at an offset leads to, as if it was not looked at before. The last one that was taken off is told.
+/// Answers the offsets to which it leads, its handlers aside.
+fn look_at(
+    alloc: Global,
+    method: &MethodCode<'_>,
+    starts: &[bool],
+    handlers: &[Handler],
+    found: &mut Found,
+    offset: usize,
+    before: PackedFrame,
+    last: usize,
+) -> Result<Vec<usize>, MethodFault>
+    requires linked { IsLinked (files_of method.now) }
+    requires starts { starts.now ≡ starts_of (body_of method.now).code.code }
+    requires handlers { AreHandlers method.now handlers.now }
+    requires typed { typing_of (tables_in (files_of method.now) found.old).types offset ≡ Some (parts_in (files_of method.now) before) }
+    requires search { IsSearch (files_of method.now) (member_of method.now) (body_of method.now)
+        (waiting_again (tables_in (files_of method.now) found.old) offset) }
+    ensures led { IfOk result (λ targets. HasLed method.now handlers.now found.old offset targets.items found.new) }
+    ensures exact { IfErr result (λ fault. OnUnverified
+        fault (HasNoTyping (files_of method.now) (member_of method.now) (body_of method.now))) }
+{
+    let mut frame = before.unpack(alloc)?;
+    match flow_at(alloc, method, handlers, offset, &mut frame) {
+        Err(_) => Err(MethodFault::OutOfMemory),
+        Ok(None) => Err(MethodFault::Unverified { offset }),
+        Ok(Some(leads)) => {
+            let targets = targets_of(alloc, &leads)?;
+            let after = PackedFrame::pack(alloc, &frame)?;
+            let near = last_if_near(alloc, found, &before, offset, last, &leads)?;
+            let origin = Origin {
+                offset,
+                before,
+                after,
+                near,
+            };
+            match found.merge_all(alloc, method, starts, origin, &leads) {
+                Ok(()) => Ok(targets),
+                Err(fault) => Err(fault),
+            }
+        }
+    }
+}
+
 /// Merges what the instruction at an offset leads to, which has been taken off. The last one that was taken off is told.
 fn turn(
     alloc: Global,
@@ -75,8 +149,10 @@ fn turn(
     requires offset { offset < length found.old.types.items }
     requires search { IsSearch (files_of method.now) (member_of method.now) (body_of method.now)
         (waiting_again (tables_in (files_of method.now) found.old) offset) }
+    requires looks { AreLooks method.now handlers.now found.old }
     ensures turned { OnOk result (HasTurned (files_of method.now) (member_of method.now) (body_of method.now)
         (tables_in (files_of method.now) found.old) (tables_in (files_of method.now) found.new)) }
+    ensures looks { OnOk result (AreLooks method.now handlers.now found.new) }
     ensures exact { IfErr result (λ fault. OnUnverified
         fault (HasNoTyping (files_of method.now) (member_of method.now) (body_of method.now))) }
 {
@@ -84,24 +160,19 @@ fn turn(
         return Ok(());
     };
     let before = packed.copy(alloc)?;
-    let mut frame = packed.unpack(alloc)?;
-    match flow_at(alloc, method, handlers, offset, &mut frame) {
-        Err(_) => Err(MethodFault::OutOfMemory),
-        Ok(None) => Err(MethodFault::Unverified { offset }),
-        Ok(Some(leads)) => {
-            let after = PackedFrame::pack(alloc, &frame)?;
-            let near = last_if_near(alloc, found, &before, offset, last, &leads)?;
-            let origin = Origin {
-                offset,
-                before,
-                after,
-                near,
-            };
-            match found.merge_all(alloc, method, starts, origin, &leads) {
-                Ok(()) => Ok(()),
-                Err(fault) => Err(fault),
-            }
+    if let Some(look) = found.take_look(offset) {
+        if leaves_at(method, offset, &look.changed) {
+            pass_on(alloc, method, handlers, found, offset, &before, &look)?;
+            found.settle(alloc, offset, look.targets);
+            return Ok(());
         }
+    }
+    match look_at(alloc, method, starts, handlers, found, offset, before, last) {
+        Ok(targets) => {
+            found.settle(alloc, offset, targets);
+            Ok(())
+        }
+        Err(fault) => Err(fault),
     }
 }
 

@@ -1,10 +1,10 @@
 //! Frame types as a search keeps them.
 
-ghost use Rattle.std.specs.Prelude.{◌≡◌, [], ◌∷◌, length, slice_index_or, IfOk, OnOk, IsTrue};
+ghost use Rattle.std.specs.Prelude.{◌≡◌, [], ◌∷◌, length, slice_index_or, slice_set, IfOk, OnOk, IsTrue};
 ghost use Rattle.types.specs.declared.verification_type.VerificationType.TheVariants as type;
 ghost use Rattle.verifier.specs.Packed.{parts_of};
 
-use crate::run::{Run, are_same_runs, are_same_types, runs_of, type_at, types_of};
+use crate::run::{Run, are_same_runs, are_same_types, runs_of, runs_with, type_at, types_of};
 use std::alloc::{AllocError, Global};
 use std::marker::Model;
 use types::{FrameType, VerificationType};
@@ -79,6 +79,29 @@ impl PackedFrame {
         self.stack.clear();
         self.stack.push(t)?;
         Ok(())
+    }
+
+    /// Gives a local variable another type.
+    pub fn set_local(
+        &mut self,
+        alloc: Global,
+        local: usize,
+        t: VerificationType,
+    ) -> Result<(), AllocError>
+        ensures locals { OnOk result (self.new.locals ≡ slice_set self.old.locals local t) }
+        ensures stack { self.new.stack ≡ self.old.stack }
+        ensures constructed { self.new.constructed ≡ self.old.constructed }
+    {
+        let locals = runs_with(alloc, &self.locals, local, t)?;
+        self.locals = locals;
+        Ok(())
+    }
+
+    /// Whether two have the same stack.
+    pub fn has_same_stack(&self, other: &PackedFrame) -> bool
+        ensures { IsTrue result → self.now.stack ≡ other.now.stack }
+    {
+        are_same_types(&self.stack, &other.stack)
     }
 
     /// Whether two are the same frame type.

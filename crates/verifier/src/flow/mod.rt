@@ -7,8 +7,9 @@ mod lead;
 mod local;
 mod stand;
 mod successors;
+mod untouched;
 
 pub use entry::entry_frame;
-pub use flow::flow_at;
+pub use flow::{flow_at, leaves_at};
 pub use handler::{Handler, handlers};
-pub use lead::Lead;
+pub use lead::{Lead, all_leads, targets_of};
