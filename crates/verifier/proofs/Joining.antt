@@ -5,20 +5,24 @@ use Rattle.std.specs.List.{filter}
 use Rattle.std.proofs.lemmas.Bool.{false≢true, or_parts, or_cases, eqb-true, eq-eqb, cases_eq}
 use Rattle.std.proofs.lemmas.List.{length-set, take_more}
 use Rattle.std.proofs.lemmas.List.Folds.{list_any_more}
-use Rattle.std.proofs.lemmas.Option.{same_Some, slice_get_past, slice_get_within, slice_get-get_or, get_or_from_slice_get}
+use Rattle.std.proofs.lemmas.Option.{same_Some, slice_get-map, slice_get_past, slice_get_within, slice_get-get_or, get_or_from_slice_get}
 use Rattle.model.specs.Classes.{Program}
 use Rattle.model.specs.Step.{covers}
 use Rattle.model.specs.TypeJoin.{local_join}
 use Rattle.types.specs.View.{type_in}
 use Rattle.types.specs.declared.verification_type.VerificationType.{VerificationType}
 use Rattle.types.specs.declared.verification_type.VerificationType.TheVariants as type
+use Rattle.run_laws.specs.laws.Steps.{Rooted}
+use Rattle.run_laws.proofs.typing_search.Joins.{local_is}
 use Rattle.run_laws.proofs.typing_search.Merging.{get_set_here, get_set_other}
 use Rattle.verifier.specs.declared.flow.handler.Handler.{Handler}
 use Rattle.verifier.specs.declared.flow.lead.Lead.{Lead}
 use Rattle.verifier.specs.flow.Leads.{lead_on, lead_to, handler_leads, all_leads, targets_by, targets_in}
-use Rattle.verifier.specs.Agreeing.{is_among, AgreeBut}
+use Rattle.verifier.specs.Agreeing.{is_among, AgreeBut, AgreeAt}
 use Rattle.verifier.specs.Changes.{PartsDiffer, IsJoined}
 use Rattle.verifier.specs.Packed.{Parts}
+use Rattle.verifier.proofs.Agreeing.{map_index}
+use Rattle.verifier.proofs.Kept.{kept_local}
 
 -- ---- one place more
 
@@ -112,13 +116,13 @@ agree_but from to n places long past done =
 
 -- ---- joins in place
 
-module _ (files : Program) (locals : List ℕ) (n d : ℕ) (within : n < length locals) (there frame join next : Parts)
+module _ (files : Program) (rooted : Rooted files) (locals : List ℕ) (n d : ℕ) (within : n < length locals) (there frame join next : Parts)
     (done : IsJoined files (take n locals) there frame join) (t : VerificationType) where
   abbrev local : ℕ
   local = get_or locals n d
 
   pub joined_more :
-      type_in files t ≡ local_join files (type_in files (slice_index_or there.locals local type.Unusable)) (type_in files (slice_index_or frame.locals local type.Unusable))
+      type_in files t ≡ local_join files (type_in files (slice_index_or join.locals local type.Unusable)) (type_in files (slice_index_or frame.locals local type.Unusable))
       → next.locals ≡ slice_set join.locals local t → next.stack ≡ join.stack → next.constructed ≡ join.constructed
       → IsJoined files (take (n + 1) locals) there frame next
   joined_more is set stack constructed =
@@ -164,8 +168,45 @@ module _ (files : Program) (locals : List ℕ) (n d : ℕ) (within : n < length 
           ap (λ j. option_map (type_in files) (slice_get next.locals j)) q
           ∙ (ap (option_map (type_in files)) written
           ∙ (ap (λ u. Some u) is
-          ∙ (ap (λ u. Some (local_join files (type_in files u) (type_in files (slice_index_or frame.locals local type.Unusable)))) (get_or_from_slice_get there.locals local x type.Unusable in_there)
-          ∙ ap (λ u. Some (local_join files (type_in files x) (type_in files u))) (get_or_from_slice_get frame.locals local y type.Unusable in_frame))))
+          ∙ (ap (λ u. Some (local_join files (type_in files (slice_index_or join.locals local type.Unusable)) (type_in files u))) (get_or_from_slice_get frame.locals local y type.Unusable in_frame)
+          ∙ ap (λ u. Some u) (joined_once x y in_there in_frame))))
+
+      -- what was joined already is so once more
+      joined_once : (x y : VerificationType) → slice_get there.locals local ≡ Some x → slice_get frame.locals local ≡ Some y
+          → local_join files (type_in files (slice_index_or join.locals local type.Unusable)) (type_in files y) ≡ local_join files (type_in files x) (type_in files y)
+      joined_once x y f g = by_first (is_among (take n locals) local) refl
+        where
+          by_first : (b : Bool) → is_among (take n locals) local ≡ b
+              → local_join files (type_in files (slice_index_or join.locals local type.Unusable)) (type_in files y) ≡ local_join files (type_in files x) (type_in files y)
+          by_first false e =
+              ap (λ u. local_join files (type_in files u) (type_in files y)) (get_or_from_slice_get join.locals local x type.Unusable (sym (done.differ.locals.same local e) ∙ f))
+          by_first true e =
+              let s = local_join files (type_in files x) (type_in files y) in
+              let now : type_in files (slice_index_or join.locals local type.Unusable) ≡ s =
+              map_index (type_in files) join.locals local type.Unusable s (slice_get-map (type_in files) join.locals local ∙ done.joins local e x y f g) in
+              ap (λ u. local_join files u (type_in files y)) now ∙ kept_local files s (type_in files y) (local_is files rooted (type_in files x) (type_in files y)).1
+
+-- ---- what some local variables hold
+
+set_same : (xs ys : List VerificationType) (k : ℕ) (d : VerificationType) → length xs ≡ length ys
+    → slice_get (slice_set xs k (slice_index_or ys k d)) k ≡ slice_get ys k
+set_same [] [] k d l = refl
+set_same [] (y ∷ ys) k d l = absurd cc
+set_same (x ∷ xs) [] k d l = absurd cc
+set_same (x ∷ xs) (y ∷ ys) zero d l = refl
+set_same (x ∷ xs) (y ∷ ys) (suc k) d l = let m : length xs ≡ length ys = omega (arith, l) in set_same xs ys k d m
+
+pub holds_more : (locals : List ℕ) (n d : ℕ) (xs ys next : List VerificationType) (u : VerificationType) → n < length locals → length xs ≡ length ys
+    → AgreeAt (take n locals) xs ys → next ≡ slice_set xs (get_or locals n d) (slice_index_or ys (get_or locals n d) u) → AgreeAt (take (n + 1) locals) next ys
+holds_more locals n d xs ys next u within long at set k e = ap (λ l. slice_get l k) set ∙ by (get_or locals n d == k) refl
+  where
+    by : (b : Bool) → (get_or locals n d == k) ≡ b → slice_get (slice_set xs (get_or locals n d) (slice_index_or ys (get_or locals n d) u)) k ≡ slice_get ys k
+    by true q =
+        let same : get_or locals n d ≡ k = eqb-true (get_or locals n d) k q in
+        subst (λ j. slice_get (slice_set xs j (slice_index_or ys j u)) k ≡ slice_get ys k) (sym same) (set_same xs ys k u long)
+    by false q =
+        get_set_other xs (get_or locals n d) k (slice_index_or ys (get_or locals n d) u) (λ r. false≢true (sym q ∙ eq-eqb (get_or locals n d) k (sym r)))
+        ∙ at k (⊎_elim (λ r. r) (λ r. absurd (false≢true (sym q ∙ r))) (or_cases (is_among (take n locals) k) (get_or locals n d == k) (sym (list_any_more (λ i. i == k) locals n d within) ∙ e)))
 
 -- ---- targets
 

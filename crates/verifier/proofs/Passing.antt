@@ -19,7 +19,7 @@ use Rattle.verifier.specs.declared.look.Look.{Look}
 use Rattle.verifier.specs.flow.Leads.{all_leads}
 use Rattle.verifier.specs.Agreeing.{AgreeAt, DifferIn, HaveMoved}
 use Rattle.verifier.specs.Changes.{fits, IsJoined}
-use Rattle.verifier.specs.Looks.{offset_of, typing_in, LeavesAt, IsLook, AreLooks, KeepsLooks, NotesAt, RaisesTo, RaisesAll, HasLed}
+use Rattle.verifier.specs.Looks.{offset_of, typing_in, MayPass, AreLooks, KeepsLooks, NotesAt, RaisesTo, RaisesAll, HasLed}
 use Rattle.verifier.specs.Packed.{Parts, parts_in}
 use Rattle.verifier.specs.Found.{tables_in, AreOver, MergesInto}
 use Rattle.verifier.proofs.Entries.{entry_written}
@@ -164,21 +164,27 @@ module _ (m : MethodCode) (ordered : IsOrdered (files_of m)) (before : Found) (l
 
 -- ---- an instruction that was looked at
 
+-- what the local variables that changed are is all that is asked
+moved_as : (ks : List ℕ) (s t : FrameType) → AgreeAt ks s.slots.locals t.slots.locals → (xs ys : List Led) → HaveMoved ks t xs ys → HaveMoved ks s xs ys
+moved_as ks s t at [] [] h = tt
+moved_as ks s t at [] (y ∷ ys) h = absurd h
+moved_as ks s t at (x ∷ xs) [] h = absurd h
+moved_as ks s t at (x ∷ xs) (y ∷ ys) h = (h.0, h.1, λ k e. h.2 k e ∙ sym (at k e), moved_as ks s t at xs ys h.3)
+
 module _ (m : MethodCode) (hs : List Handler) (before after : Found) (offset : ℕ) (frame : Parts) (look : Look) (leads : List Lead) where
-  pub passed_on : LeavesAt m offset look.changed.items → typing_in m before offset ≡ Some (parts_in (files_of m) frame)
-      → IsLook m hs (typing_in m before) offset (parts_in (files_of m) frame) look → leads ≡ all_leads offset hs look.targets.items
+  pub passed_on : MayPass m hs before offset frame look → leads ≡ all_leads offset hs look.targets.items
       → RaisesAll m before (map offset_of leads) frame look.changed.items after → HasLed m hs before offset look.targets.items after
-  passed_on left typed l e raises =
-      let t = parts_in (files_of m) frame in
-      let moves = flow_moves look.changed.items (files_of m) l.before t l.since (member_of m) (body_of m) offset left l.leads l.flows in
+  passed_on may e raises =
+      let l = may.look in
+      let moves = flow_moves look.changed.items (files_of m) l.before may.t l.since (member_of m) (body_of m) offset may.left l.leads l.flows in
       let to : map place l.leads ≡ map offset_of leads = l.to ∙ ap (map offset_of) (sym e) in
-      let merged = raises l.leads moves.0 to l.reached moves.1.1 in
+      let merged = raises l.leads moves.0 to l.reached (moved_as look.changed.items (parts_in (files_of m) frame) may.t may.holds l.leads moves.0 moves.1.1) in
       record {
-        t = t;
+        t = may.t;
         leads = moves.0;
-        typed = typed;
+        typed = may.typed;
         flows = moves.1.0;
-        to = moved_places m (typing_in m before) look.changed.items t l.leads moves.0 moves.1.1 ∙ l.to;
+        to = moved_places m (typing_in m before) look.changed.items may.t l.leads moves.0 moves.1.1 ∙ l.to;
         merged = merged.0;
         looks = merged.1;
       }

@@ -64,3 +64,21 @@ pub set_among : (n k j : ℕ) (t of : VerificationType) → k + suc j ≡ n → 
 set_among zero k j t of e = absurd (omega (arith, e))
 set_among (suc n) zero j t of e = let same : n ≡ j = omega (arith, e) in ap (λ i. of ∷ replicate i t) same
 set_among (suc n) (suc k) j t of e = let m : k + suc j ≡ n = omega (arith, e) in ap (λ ts. t ∷ ts) (set_among n k j t of m)
+
+-- ---- a run that grows
+
+pub grown : (runs front after : List Run) (last run next : Run) → runs ≡ front ++ last ∷ [] → after ≡ front ++ next ∷ [] → last.of ≡ run.of
+    → next.of ≡ last.of → next.count ≡ last.count + run.count → unpacked after ≡ unpacked runs ++ replicate run.count run.of
+grown runs front after last run next e f g h i =
+    let types : List Run → List VerificationType = λ rs. unpacked rs in
+    ap types f
+    ∙ (flat_map-append (λ (r : Run). replicate r.count r.of) front (next ∷ [])
+    ∙ (ap (λ l. unpacked front ++ l) (append-nil (replicate next.count next.of)
+    ∙ (ap (λ n. replicate n next.of) i ∙ (ap (λ t. replicate (last.count + run.count) t) h ∙ replicate_both last.count run.count last.of)))
+    ∙ (sym (append_assoc (unpacked front) (replicate last.count last.of) (replicate run.count last.of))
+    ∙ (ap (λ t. (unpacked front ++ replicate last.count last.of) ++ replicate run.count t) g
+    ∙ ap (λ l. l ++ replicate run.count run.of) (sym (ap types e ∙ (flat_map-append (λ (r : Run). replicate r.count r.of) front (last ∷ []) ∙ ap (λ l. unpacked front ++ l) (append-nil (replicate last.count last.of)))))))))
+  where
+    replicate_both : (m n : ℕ) (t : VerificationType) → replicate (m + n) t ≡ replicate m t ++ replicate n t
+    replicate_both zero n t = let e : zero + n ≡ n = omega arith in ap (λ k. replicate k t) e
+    replicate_both (suc m) n t = let e : suc m + n ≡ suc (m + n) = omega arith in ap (λ k. replicate k t) e ∙ ap (λ l. t ∷ l) (replicate_both m n t)

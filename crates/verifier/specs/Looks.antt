@@ -51,6 +51,15 @@ AreLooks m hs found =
 abbrev pub KeepsLooks : MethodCode → Found → Found → Type 0
 KeepsLooks m before after = (hs : List Handler) → AreLooks m hs before → AreLooks m hs after
 
+-- An instruction was looked at, and has nothing to do with what changed since. This frame type has in these local variables what that
+-- before the instruction has.
+pub record MayPass (m : MethodCode) (hs : List Handler) (found : Found) (offset : ℕ) (frame : Parts) (look : Look) : Type 0 where
+  pub t : frames.FrameType
+  pub typed : typing_in m found offset ≡ Some t
+  pub look : IsLook m hs (typing_in m found) offset t look
+  pub left : LeavesAt m offset look.changed.items
+  pub holds : AgreeAt look.changed.items (parts_in (files_of m) frame).slots.locals t.slots.locals
+
 -- ---- as frame types change
 
 -- a look after more local variables changed

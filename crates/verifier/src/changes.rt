@@ -1,6 +1,6 @@
 //! Local variables that changed, merged into a frame type.
 
-ghost use Rattle.std.specs.Prelude.{◌≡◌, IfOk};
+ghost use Rattle.std.specs.Prelude.{◌≡◌, OnOk};
 ghost use Rattle.std.specs.List.{list_all};
 ghost use Rattle.types.specs.method_code.Linked.{IsLinked};
 ghost use Rattle.types.specs.method_code.View.{files_of};
@@ -31,21 +31,20 @@ pub(crate) fn all_fit(
     locals.iter().all(|local| fits(set, there, frame, *local))
 }
 
-/// The frame type that is there, with the joins of both in these local variables.
-pub(crate) fn joined(
+/// Joins what local variables hold in a frame type into these of that there.
+pub(crate) fn join_locals(
     alloc: Global,
     method: &MethodCode<'_>,
-    there: &PackedFrame,
+    there: &mut PackedFrame,
     frame: &PackedFrame,
     locals: &[usize],
-) -> Result<PackedFrame, AllocError>
+) -> Result<(), AllocError>
     requires { IsLinked (files_of method.now) }
-    ensures { IfOk result (IsJoined (files_of method.now) locals.now there.now frame.now) }
+    ensures { OnOk result (IsJoined (files_of method.now) locals.now there.old frame.now there.new) }
 {
-    let mut join = there.copy(alloc)?;
     'locals: for local in locals {
         let t = local_join(method.set(), there.local_at(*local), frame.local_at(*local));
-        join.set_local(alloc, *local, t)?;
+        there.set_local(alloc, *local, t)?;
     }
-    Ok(join)
+    Ok(())
 }

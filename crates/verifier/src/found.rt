@@ -1,6 +1,6 @@
 //! The frame types that a search has found, and how more are merged into them.
 
-ghost use Rattle.std.specs.Prelude.{◌≡◌, ◌×◌, ◌<◌, [], ◌∷◌, length, map, false, true, slice_get, slice_index_or, slice_set, Some, None, OnOk, IfOk, IfErr, IfSome, IsSomeAnd};
+ghost use Rattle.std.specs.Prelude.{◌≡◌, ◌<◌, [], ◌∷◌, length, map, false, true, slice_get, slice_index_or, slice_set, Some, None, OnOk, IfOk, IfErr, IfSome, IsSomeAnd};
 ghost use Rattle.model.specs.InstructionStarts.{starts as starts_of};
 ghost use Rattle.model.specs.Step.{covers};
 ghost use Rattle.run_laws.specs.typing_search.Tables.{waiting_at};
@@ -12,7 +12,7 @@ ghost use Rattle.verifier.specs.Looks.{offset_of, KeepsLooks, NotesAt, NotesChan
 ghost use Rattle.verifier.specs.Near.{AreKnown, IsSameOrigin};
 ghost use Rattle.verifier.specs.Verified.{OnUnverified};
 
-use crate::changes::{all_fit, joined};
+use crate::changes::{all_fit, join_locals};
 use crate::fault::MethodFault;
 use crate::flow::{Handler, Lead};
 use crate::frames::is_sized;
@@ -31,6 +31,8 @@ pub(crate) struct Found {
     pub waiting: Waiting,
     /// The instructions that were looked at, of which something is known.
     pub looks: Vec<Option<Look>>,
+    /// The last instruction with handlers that was looked at.
+    pub last: usize,
 }
 
 /// The instruction at an offset leads to another offset.
@@ -77,6 +79,7 @@ impl Found {
             types,
             waiting,
             looks,
+            last: 0,
         })
     }
 
@@ -244,14 +247,16 @@ impl Found {
         if to >= self.types.len() {
             return Ok(());
         }
-        let Some(there) = &self.types[to] else {
+        let Some(there) = &mut self.types[to] else {
             return Ok(());
         };
         if all_fit(method.set(), there, frame, changed) {
             return Ok(());
         }
-        let join = joined(alloc, method, there, frame, changed)?;
-        self.put_changed(to, join, changed)
+        join_locals(alloc, method, there, frame, changed)?;
+        self.note(to, changed)?;
+        self.waiting.add(to);
+        Ok(())
     }
 
     /// The same at each offset to which leads are, in their order.

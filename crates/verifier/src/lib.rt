@@ -8,6 +8,7 @@ pub mod flow;
 pub mod flow_effects;
 mod found;
 mod frames;
+mod locals;
 mod look;
 mod method;
 mod near;

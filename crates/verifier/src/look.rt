@@ -1,7 +1,7 @@
 //! Instructions that were looked at. While the frame type before one changes in few local variables with which it has nothing to do,
 //! these alone are merged into where it leads.
 
-ghost use Rattle.std.specs.Prelude.{◌≡◌, ◌×◌, ◌==◌, ℕ, false, OnOk, IfOk, IfSome};
+ghost use Rattle.std.specs.Prelude.{◌≡◌, ◌==◌, ℕ, false, OnOk, IfOk, IfSome};
 ghost use Rattle.verifier.specs.Looks.{is_among};
 
 use std::alloc::AllocError;

@@ -11,7 +11,7 @@ ghost use Rattle.verifier.specs.flow.Handlers.{AreHandlers};
 ghost use Rattle.run_laws.specs.typing_search.Tables.{typing_of};
 ghost use Rattle.verifier.specs.Packed.{parts_in};
 ghost use Rattle.verifier.specs.Found.{tables_in, waiting_again, AreOver, IsSearch, HasTurned};
-ghost use Rattle.verifier.specs.Looks.{LeavesAt, IsLook, AreLooks, HasLed};
+ghost use Rattle.verifier.specs.Looks.{MayPass, AreLooks, HasLed};
 ghost use Rattle.verifier.specs.Near.{IsNear};
 ghost use Rattle.verifier.specs.Verified.{OnUnverified};
 
@@ -46,51 +46,54 @@ fn begin(alloc: Global, method: &MethodCode<'_>, starts: &[bool]) -> Result<Foun
     }
 }
 
-/// The instruction that was looked at last, if it is near to the one at an offset, which leads to handlers.
+/// Whether an instruction that leads so leads to handlers, which come last.
+fn has_handlers(leads: &[Lead]) -> bool {
+    match leads.last() {
+        Some(lead) => lead.handler.is_some(),
+        None => false,
+    }
+}
+
+/// The instruction with handlers that was looked at last, if it is near to the one at an offset, which leads to handlers.
 fn last_if_near(
     alloc: Global,
     found: &Found,
     before: &PackedFrame,
     offset: usize,
-    last: usize,
     leads: &[Lead],
 ) -> Result<Option<Near>, AllocError>
     ensures near { IfOk result (λ o. IfSome o (IsNear found.now before.now)) }
     ensures other { IfOk result (λ o. IfSome o (λ near. near.offset ≡ offset → ⊥)) }
 {
-    let Some(lead) = leads.last() else {
-        return Ok(None);
-    };
-    if lead.handler.is_none() || last == offset {
+    let last = found.last;
+    if !has_handlers(leads) || last == offset {
         return Ok(None);
     }
     near_found(alloc, found, before, last)
 }
 
-/// Merges what changed before the instruction at an offset since it was looked at, which has nothing to do with it.
+/// Merges what changed before the instruction at an offset since it was looked at, which has nothing to do with it: what a
+/// frame type holds in these local variables.
 fn pass_on(
     alloc: Global,
     method: &MethodCode<'_>,
     handlers: &[Handler],
     found: &mut Found,
     offset: usize,
-    before: &PackedFrame,
+    frame: &PackedFrame,
     look: &Look,
 ) -> Result<(), AllocError>
     requires linked { IsLinked (files_of method.now) }
     requires over { AreOver (body_of method.now) (tables_in (files_of method.now) found.old) }
-    requires left { LeavesAt method.now offset look.now.changed.items }
-    requires typed { typing_of (tables_in (files_of method.now) found.old).types offset ≡ Some (parts_in (files_of method.now) before.now) }
-    requires look { IsLook method.now handlers.now (typing_of (tables_in (files_of method.now) found.old).types)
-        offset (parts_in (files_of method.now) before.now) look.now }
+    requires passes { MayPass method.now handlers.now found.old offset frame.now look.now }
     ensures { OnOk result (HasLed method.now handlers.now found.old offset look.now.targets.items found.new) }
 {
     let leads = all_leads(alloc, handlers, offset, &look.targets)?;
-    found.raise_all(alloc, method, &leads, before, &look.changed)
+    found.raise_all(alloc, method, &leads, frame, &look.changed)
 }
 
-/// Merges what the instruction at an offset leads to, as if it was not looked at before. The last one that was taken off is told.
-/// Answers the offsets to which it leads, its handlers aside.
+/// Merges what the instruction at an offset leads to, as if it was not looked at before. Answers the offsets to which it leads,
+/// its handlers aside.
 fn look_at(
     alloc: Global,
     method: &MethodCode<'_>,
@@ -99,7 +102,6 @@ fn look_at(
     found: &mut Found,
     offset: usize,
     before: PackedFrame,
-    last: usize,
 ) -> Result<Vec<usize>, MethodFault>
     requires linked { IsLinked (files_of method.now) }
     requires starts { starts.now ≡ starts_of (body_of method.now).code.code }
@@ -118,7 +120,10 @@ fn look_at(
         Ok(Some(leads)) => {
             let targets = targets_of(alloc, &leads)?;
             let after = PackedFrame::pack(alloc, &frame)?;
-            let near = last_if_near(alloc, found, &before, offset, last, &leads)?;
+            let near = last_if_near(alloc, found, &before, offset, &leads)?;
+            if has_handlers(&leads) {
+                found.last = offset;
+            }
             let origin = Origin {
                 offset,
                 before,
@@ -133,7 +138,7 @@ fn look_at(
     }
 }
 
-/// Merges what the instruction at an offset leads to, which has been taken off. The last one that was taken off is told.
+/// Merges what the instruction at an offset leads to, which has been taken off.
 fn turn(
     alloc: Global,
     method: &MethodCode<'_>,
@@ -141,7 +146,6 @@ fn turn(
     handlers: &[Handler],
     found: &mut Found,
     offset: usize,
-    last: usize,
 ) -> Result<(), MethodFault>
     requires linked { IsLinked (files_of method.now) }
     requires starts { starts.now ≡ starts_of (body_of method.now).code.code }
@@ -156,18 +160,20 @@ fn turn(
     ensures exact { IfErr result (λ fault. OnUnverified
         fault (HasNoTyping (files_of method.now) (member_of method.now) (body_of method.now))) }
 {
+    let taken = found.take_look(offset);
     let Some(packed) = &found.types[offset] else {
         return Ok(());
     };
-    let before = packed.copy(alloc)?;
-    if let Some(look) = found.take_look(offset) {
+    if let Some(look) = taken {
         if leaves_at(method, offset, &look.changed) {
-            pass_on(alloc, method, handlers, found, offset, &before, &look)?;
+            let frame = packed.only(alloc, &look.changed)?;
+            pass_on(alloc, method, handlers, found, offset, &frame, &look)?;
             found.settle(alloc, offset, look.targets);
             return Ok(());
         }
     }
-    match look_at(alloc, method, starts, handlers, found, offset, before, last) {
+    let before = packed.copy(alloc)?;
+    match look_at(alloc, method, starts, handlers, found, offset, before) {
         Ok(targets) => {
             found.settle(alloc, offset, targets);
             Ok(())
@@ -189,12 +195,10 @@ pub fn verify_method(alloc: Global, method: &MethodCode<'_>) -> Result<(), Metho
         Ok(found) => found,
         Err(fault) => return Err(fault),
     };
-    let mut last: usize = 0;
     while let Some(offset) = found.waiting.take_lowest() {
-        if let Err(fault) = turn(alloc, method, &starts, &handlers, &mut found, offset, last) {
+        if let Err(fault) = turn(alloc, method, &starts, &handlers, &mut found, offset) {
             return Err(fault);
         }
-        last = offset;
     }
     Ok(())
 }

@@ -1,6 +1,6 @@
 //! Runs of types: so many of one type, one after another.
 
-ghost use Rattle.std.specs.Prelude.{◌≡◌, ◌<◌, ◌++◌, ◌∷◌, [], ◌-◌, replicate, slice_index_or, slice_set, OnOk, IfOk, IsTrue};
+ghost use Rattle.std.specs.Prelude.{◌≡◌, ◌<◌, ◌++◌, ◌∷◌, [], ◌-◌, replicate, slice_index_or, slice_set, true, false, OnOk, IfOk, IsTrue};
 ghost use Rattle.types.specs.declared.verification_type.VerificationType.TheVariants as type;
 ghost use Rattle.verifier.specs.Packed.{unpacked};
 
@@ -118,11 +118,29 @@ fn add_run(types: &mut Vec<VerificationType>, run: Run) -> Result<(), AllocError
     types.resize(room, run.of)
 }
 
+/// Adds the types of a run to the last run, where they are of its type.
+fn extend_last(runs: &mut [Run], run: Run) -> bool
+    ensures added { result ≡ true → unpacked runs.new ≡ unpacked runs.old ++ replicate run.count run.of }
+    ensures same { result ≡ false → runs.new ≡ runs.old }
+{
+    let Some(last) = runs.last_mut() else {
+        return false;
+    };
+    if !is_same_type(last.of, run.of) {
+        return false;
+    }
+    let Some(count) = last.count.checked_add(run.count) else {
+        return false;
+    };
+    last.count = count;
+    true
+}
+
 /// Adds a run, but none of no types.
 fn push_run(runs: &mut Vec<Run>, run: Run) -> Result<(), AllocError>
     ensures { OnOk result (unpacked runs.new.items ≡ unpacked runs.old.items ++ replicate run.count run.of) }
 {
-    if run.count == 0 {
+    if run.count == 0 || extend_last(runs, run) {
         return Ok(());
     }
     runs.push(run)?;
