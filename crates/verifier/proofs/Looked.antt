@@ -1,6 +1,6 @@
 -- What is known of instructions stays so while frame types are merged.
 use Rattle.std.proofs.Common.{◌≡◌, ℕ, zero, suc, List, [], ◌∷◌, length, map, Bool, true, false, Option, Some, None, refl, sym, ap, ◌∙◌, subst, ⊎_elim}
-use Rattle.std.specs.Prelude.{replicate, slice_get, slice_set, option_map}
+use Rattle.std.specs.Prelude.{replicate, slice_get, slice_set, option_map, IfSome}
 use Rattle.std.proofs.lemmas.Bool.{cases_eq, false≢true}
 use Rattle.std.proofs.lemmas.Option.{same_Some}
 use Rattle.model.specs.TypeOrder.{FrameType}
@@ -18,7 +18,7 @@ use Rattle.verifier.specs.declared.look.Look.{Look}
 use Rattle.verifier.specs.flow.Leads.{all_leads}
 use Rattle.verifier.specs.Agreeing.{is_among, AgreeBut, DifferIn}
 use Rattle.verifier.specs.Changes.{PartsDiffer}
-use Rattle.verifier.specs.Looks.{offset_of, typing_in, IsLook, AreLooks, KeepsLooks, IsLookAfter, NotesAt, SettlesAt, HasLed}
+use Rattle.verifier.specs.Looks.{offset_of, typing_in, IsLook, AreLooks, KeepsLooks, NotesAt, NotesChange, SettlesAt, HasLed}
 use Rattle.verifier.specs.Packed.{Parts, parts_in}
 use Rattle.verifier.specs.Found.{tables_in}
 use Rattle.verifier.proofs.Agreeing.{but_self}
@@ -126,7 +126,8 @@ module _ (m : MethodCode) (rooted : Rooted (files_of m)) where
             (λ n. other None set k look n e t f)
             (cases_eq k to)
 
-        module _ (changed : List ℕ) (there : Parts) (at : F to ≡ Some (parts_in (files_of m) there)) (differ : PartsDiffer changed there next)
+        module _ (changed : List ℕ) (there : Parts) (at : F to ≡ Some (parts_in (files_of m) there))
+            (differ : (look : Look) → slice_get after.looks.items to ≡ Some (Some look) → PartsDiffer changed there next)
             (notes : NotesAt to changed before.looks.items after.looks.items) where
           noted_here : (look : Look) → slice_get after.looks.items to ≡ Some (Some look) → (t : FrameType) → G to ≡ Some t → IsLook m hs G to t look
           noted_here look e t f =
@@ -137,7 +138,7 @@ module _ (m : MethodCode) (rooted : Rooted (files_of m)) where
                 leads = l.leads;
                 since =
                     subst (DifferIn look.changed.items l.before) (sym (here t f))
-                    (differ_either old.0.changed.items changed look.changed.items l.before (parts_in (files_of m) there) (parts_in (files_of m) next) old.1.1.changed l.since (differ_in (files_of m) changed there next differ));
+                    (differ_either old.0.changed.items changed look.changed.items l.before (parts_in (files_of m) there) (parts_in (files_of m) next) old.1.1.changed l.since (differ_in (files_of m) changed there next (differ look e)));
                 flows = l.flows;
                 to = l.to ∙ ap (λ tos. map offset_of (all_leads to hs tos)) (sym old.1.1.targets);
                 reached = all_up (files_of m) rooted F G raised l.leads l.reached;
@@ -172,7 +173,7 @@ module _ (m : MethodCode) (rooted : Rooted (files_of m)) where
       -- what is known once all is merged to which an instruction led
       module _ (begun : Found) (offset : ℕ) (targets : List ℕ) (led : HasLed m hs begun offset targets before) (settles : SettlesAt offset targets before after) (are : AreLooks m hs before) where
         by_waits : (b : Bool) → waits before.waiting offset ≡ b → AreLooks m hs after
-        by_waits true w = kept_all (settles.waits w) are
+        by_waits true w = kept_all (settles.stays w) are
         by_waits false w = settled
           where
             new : (look : Look) × ((after.looks.items ≡ slice_set before.looks.items offset (Some look)) × (look.targets.items ≡ targets) × (look.changed.items ≡ []))
@@ -202,6 +203,66 @@ module _ (m : MethodCode) (rooted : Rooted (files_of m)) where
 
         pub kept_settling : AreLooks m hs after
         kept_settling = by_waits (waits before.waiting offset) refl
+
+-- ---- what is noted
+
+set_twice : {A : Type 0} (xs : List A) (k : ℕ) (v w : A) → slice_set (slice_set xs k v) k w ≡ slice_set xs k w
+set_twice [] k v w = refl
+set_twice (x ∷ xs) zero v w = refl
+set_twice (x ∷ xs) (suc k) v w = ap (λ l. x ∷ l) (set_twice xs k v w)
+
+pub notes_nothing : (offset : ℕ) (changed : List ℕ) (before after : List (Option Look)) → after ≡ slice_set before offset None → NotesAt offset changed before after
+notes_nothing offset changed before after e = record { entry = None; set = e; noted = λ look f. absurd (none_is look f) }
+
+pub notes_more : (offset : ℕ) (changed : List ℕ) (before taken after : List (Option Look)) (old : Look) (entry : Option Look)
+    → slice_get before offset ≡ Some (Some old) → taken ≡ slice_set before offset None → after ≡ slice_set taken offset entry
+    → IfSome entry (λ look. look.targets.items ≡ old.targets.items)
+    → IfSome entry (λ look. (k : ℕ) → is_among look.changed.items k ≡ false → (is_among old.changed.items k ≡ false) × (is_among changed k ≡ false))
+    → NotesAt offset changed before after
+notes_more offset changed before taken after old entry at e f targets changes =
+    record {
+      entry = entry;
+      set = f ∙ (ap (λ l. slice_set l offset entry) e ∙ set_twice before offset None entry);
+      noted = λ look q.
+          (old, (at, record {
+            targets = subst (λ o. IfSome o (λ l. l.targets.items ≡ old.targets.items)) q targets;
+            changed = subst (λ o. IfSome o (λ l. (k : ℕ) → is_among l.changed.items k ≡ false → (is_among old.changed.items k ≡ false) × (is_among changed k ≡ false))) q changes;
+          }));
+    }
+
+-- nothing is known where a frame type was put that was not there
+pub changes_nothing : (offset : ℕ) (join : Parts) (before after : Found) → after.looks.items ≡ slice_set before.looks.items offset None
+    → NotesChange offset join before after
+changes_nothing offset join before after e =
+    record {
+      changed = [];
+      differ = λ there f look g. absurd (none_is look (value_set before.looks.items offset None (Some look) (ap (λ l. slice_get l offset) (sym e) ∙ g)));
+      notes = notes_nothing offset [] before.looks.items after.looks.items e;
+    }
+
+pub changes_some : (offset : ℕ) (join there : Parts) (changed : List ℕ) (before after : Found) → slice_get before.types.items offset ≡ Some (Some there)
+    → PartsDiffer changed there join → NotesAt offset changed before.looks.items after.looks.items → NotesChange offset join before after
+changes_some offset join there changed before after at differ notes =
+    record {
+      changed = changed;
+      differ = λ other f look g. subst (λ p. PartsDiffer changed p join) (same_Some there other (same_Some (Some there) (Some other) (sym at ∙ f))) differ;
+      notes = notes;
+    }
+
+-- ---- what is settled
+
+true_false : true ≡ false → ⊥
+true_false e = cc
+
+pub settles_waiting : (offset : ℕ) (targets : List ℕ) (before after : Found) → waits before.waiting offset ≡ true → after.looks.items ≡ before.looks.items
+    → SettlesAt offset targets before after
+settles_waiting offset targets before after w e = record { stays = λ v. e; settled = λ v. absurd (true_false (sym w ∙ v)) }
+
+pub settles_new : (offset : ℕ) (targets : List ℕ) (before after : Found) (look : Look) → waits before.waiting offset ≡ false
+    → after.looks.items ≡ slice_set before.looks.items offset (Some look) → look.targets.items ≡ targets → look.changed.items ≡ []
+    → SettlesAt offset targets before after
+settles_new offset targets before after look w e f g =
+    record { stays = λ v. absurd (true_false (sym v ∙ w)); settled = λ v. (look, (e, f, g)) }
 
 -- ---- nothing is known yet
 

@@ -1,9 +1,9 @@
 -- Changes of a frame type that are merged where its instruction leads.
 use Rattle.std.proofs.Common.{◌≡◌, ℕ, zero, suc, ◌+◌, ◌<◌, ◌≤◌, List, [], ◌∷◌, ◌++◌, length, map, take, get_or, Bool, true, false, Option, Some, None, refl, sym, ap, ◌∙◌, subst, arith}
-use Rattle.std.specs.Prelude.{slice_get, slice_set}
+use Rattle.std.specs.Prelude.{slice_get, slice_set, option_map}
 use Rattle.std.specs.List.{list_all}
-use Rattle.std.proofs.lemmas.Option.{same_Some, slice_get-map, slice_get-get_or}
-use Rattle.std.proofs.lemmas.List.{length-map, take_all}
+use Rattle.std.proofs.lemmas.Option.{same_Some, slice_get-map, slice_get-get_or, slice_get_past}
+use Rattle.std.proofs.lemmas.List.{length-map, length-set, take_all}
 use Rattle.model.specs.TypeOrder.{FrameType, is_frame_below}
 use Rattle.model.specs.Typing.{Typing, Reaches, flow}
 use Rattle.types.specs.declared.method_code.declaration.MethodCode.{MethodCode}
@@ -41,8 +41,23 @@ place lead = lead.0
 -- ---- one offset
 
 module _ (m : MethodCode) (ordered : IsOrdered (files_of m)) where
+  -- the tables are as long as before
+  pub over_written : (before after : Found) (to : ℕ) (entry : Option Parts) → after.types.items ≡ slice_set before.types.items to entry
+      → after.waiting ≡ waiting_at before.waiting to → AreOver (body_of m) (tables_in (files_of m) before) → AreOver (body_of m) (tables_in (files_of m) after)
+  over_written before after to entry e f over =
+      record {
+        types = length-map _ after.types.items ∙ (ap length e ∙ (length-set before.types.items to entry ∙ (sym (length-map _ before.types.items) ∙ over.types)));
+        waiting = ap length f ∙ (length-set before.waiting to true ∙ over.waiting);
+      }
+
   pub raises_nothing : (found : Found) (to : ℕ) (frame : Parts) (changed : List ℕ) → typing_in m found to ≡ None → RaisesTo m found to frame changed found
   raises_nothing found to frame changed none = λ u t r d a. absurd (none_some r.there (sym none ∙ r.typed))
+
+  pub raises_past : (found : Found) (to : ℕ) (frame : Parts) (changed : List ℕ) → length found.types.items ≤ to → RaisesTo m found to frame changed found
+  raises_past found to frame changed l = raises_nothing found to frame changed (ap entry_of (slice_get_past (tables_in (files_of m) found).types to (omega (arith, l, long))))
+    where
+      long : length (tables_in (files_of m) found).types ≡ length found.types.items
+      long = length-map (option_map (parts_in (files_of m))) found.types.items
 
   module _ (before : Found) (over : AreOver (body_of m) (tables_in (files_of m) before)) (to : ℕ) (there frame : Parts) (changed : List ℕ)
       (at : slice_get before.types.items to ≡ Some (Some there)) where
@@ -72,7 +87,7 @@ module _ (m : MethodCode) (ordered : IsOrdered (files_of m)) where
         let merged : MergesInto m before ((to, t) ∷ []) after =
         merges.joined (files_of m) ordered (body_of m) (tables_in (files_of m) before) over to t (tables_in (files_of m) after) (parts_in (files_of m) there) (parts_in (files_of m) join) typed
         (not_below (files_of m) changed there frame t a some) joins (entry_written (files_of m) before.types.items after.types.items to join types) waiting in
-        (merged, λ hs are. kept_noting m ordered.rooted before after to join types merged.merged.raised hs are changed there (ap entry_of typed) is.differ notes)
+        (merged, λ hs are. kept_noting m ordered.rooted before after to join types merged.merged.raised hs are changed there (ap entry_of typed) (λ look e. is.differ) notes)
 
 -- ---- several offsets
 
@@ -175,7 +190,7 @@ module _ (m : MethodCode) (hs : List Handler) (before after : Found) (offset : �
   pub passed_on : MayPass m hs before offset frame look → leads ≡ all_leads offset hs look.targets.items
       → RaisesAll m before (map offset_of leads) frame look.changed.items after → HasLed m hs before offset look.targets.items after
   passed_on may e raises =
-      let l = may.look in
+      let l = may.looked in
       let moves = flow_moves look.changed.items (files_of m) l.before may.t l.since (member_of m) (body_of m) offset may.left l.leads l.flows in
       let to : map place l.leads ≡ map offset_of leads = l.to ∙ ap (map offset_of) (sym e) in
       let merged = raises l.leads moves.0 to l.reached (moved_as look.changed.items (parts_in (files_of m) frame) may.t may.holds l.leads moves.0 moves.1.1) in

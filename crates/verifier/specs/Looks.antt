@@ -56,16 +56,16 @@ KeepsLooks m before after = (hs : List Handler) → AreLooks m hs before → Are
 pub record MayPass (m : MethodCode) (hs : List Handler) (found : Found) (offset : ℕ) (frame : Parts) (look : Look) : Type 0 where
   pub t : frames.FrameType
   pub typed : typing_in m found offset ≡ Some t
-  pub look : IsLook m hs (typing_in m found) offset t look
+  pub looked : IsLook m hs (typing_in m found) offset t look
   pub left : LeavesAt m offset look.changed.items
   pub holds : AgreeAt look.changed.items (parts_in (files_of m) frame).slots.locals t.slots.locals
 
 -- ---- as frame types change
 
 -- a look after more local variables changed
-pub record IsLookAfter (changed : List ℕ) (before after : Look) : Type 0 where
+pub record IsLookAfter (locals : List ℕ) (before after : Look) : Type 0 where
   pub targets : after.targets.items ≡ before.targets.items
-  pub changed : (k : ℕ) → is_among after.changed.items k ≡ false → (is_among before.changed.items k ≡ false) × (is_among changed k ≡ false)
+  pub changed : (k : ℕ) → is_among after.changed.items k ≡ false → (is_among before.changed.items k ≡ false) × (is_among locals k ≡ false)
 
 -- at an offset nothing is known any more, or local variables were noted that changed
 pub record NotesAt (offset : ℕ) (changed : List ℕ) (before after : List (Option Look)) : Type 0 where
@@ -73,15 +73,16 @@ pub record NotesAt (offset : ℕ) (changed : List ℕ) (before after : List (Opt
   pub set : after ≡ slice_set before offset entry
   pub noted : (look : Look) → entry ≡ Some look → (old : Look) × ((slice_get before offset ≡ Some (Some old)) × IsLookAfter changed old look)
 
--- so it is of local variables in which a frame type differs from that there
+-- so it is of local variables in which a frame type differs from that there, where something is known still
 pub record NotesChange (offset : ℕ) (join : Parts) (before after : Found) : Type 0 where
   pub changed : List ℕ
-  pub differ : (there : Parts) → slice_get before.types.items offset ≡ Some (Some there) → PartsDiffer changed there join
+  pub differ : (there : Parts) → slice_get before.types.items offset ≡ Some (Some there) → (look : Look)
+      → slice_get after.looks.items offset ≡ Some (Some look) → PartsDiffer changed there join
   pub notes : NotesAt offset changed before.looks.items after.looks.items
 
 -- at an offset that doesn't wait it is known that its instruction led to these, and that nothing changed since
 pub record SettlesAt (offset : ℕ) (targets : List ℕ) (before after : Found) : Type 0 where
-  pub waits : waits before.waiting offset ≡ true → after.looks.items ≡ before.looks.items
+  pub stays : waits before.waiting offset ≡ true → after.looks.items ≡ before.looks.items
   pub settled : waits before.waiting offset ≡ false → (look : Look) × ((after.looks.items ≡ slice_set before.looks.items offset (Some look))
       × (look.targets.items ≡ targets) × (look.changed.items ≡ []))
 

@@ -2,7 +2,7 @@
 //! these alone are merged into where it leads.
 
 ghost use Rattle.std.specs.Prelude.{◌≡◌, ◌==◌, ℕ, false, OnOk, IfOk, IfSome};
-ghost use Rattle.verifier.specs.Looks.{is_among};
+ghost use Rattle.verifier.specs.Agreeing.{is_among};
 
 use std::alloc::AllocError;
 

@@ -2,7 +2,7 @@
 
 ghost use Rattle.std.specs.Prelude.{◌≡◌, IfOk, IfSome};
 ghost use Rattle.verifier.specs.Changes.{PartsDiffer};
-ghost use Rattle.verifier.specs.Looks.{AgreeBut};
+ghost use Rattle.verifier.specs.Agreeing.{AgreeBut};
 ghost use Rattle.verifier.specs.Near.{IsNear};
 
 use crate::found::Found;

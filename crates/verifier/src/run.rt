@@ -171,7 +171,8 @@ fn push_with(
             of: run.of,
             count: run.count - place - 1,
         },
-    )
+    )?;
+    Ok(())
 }
 
 /// The runs with another type at a place; past their end they are the same.
