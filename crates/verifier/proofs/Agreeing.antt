@@ -42,7 +42,7 @@ module _ {A : Type 0} where
   pub but_map : {B : Type 0} (f : A → B) (ks : List ℕ) (xs ys : List A) → AgreeBut ks xs ys → AgreeBut ks (map f xs) (map f ys)
   but_map f ks xs ys a =
       record {
-        long = length-map f xs ∙ (a.long ∙ sym (length-map f ys));
+        long = length-map xs f ∙ (a.long ∙ sym (length-map ys f));
         same = λ k n. slice_get-map f xs k ∙ (ap (option_map f) (a.same k n) ∙ sym (slice_get-map f ys k));
       }
 

@@ -102,17 +102,14 @@ agree_but from to n places long past done =
       same = λ k e. by k e (slice_get to k) refl;
     }
   where
-    by : (k : ℕ) → is_among places k ≡ false → (o : Option VerificationType) → slice_get to k ≡ o → slice_get from k ≡ slice_get to k
-    by k e (Some t) q = let within = slice_get_within to k t q in done k (omega (arith, within, past)) e
-    by k e None q = slice_get_past from k (omega (arith, long, outside k q)) ∙ sym q
-
-    outside : (k : ℕ) → slice_get to k ≡ None → length to ≤ k
-    outside k q = none_past to k q
-
     none_past : (ts : List VerificationType) (k : ℕ) → slice_get ts k ≡ None → length ts ≤ k
     none_past [] k q = omega arith
     none_past (t ∷ ts) zero q = absurd cc
     none_past (t ∷ ts) (suc k) q = let l = none_past ts k q in omega (arith, l)
+
+    by : (k : ℕ) → is_among places k ≡ false → (o : Option VerificationType) → slice_get to k ≡ o → slice_get from k ≡ slice_get to k
+    by k e (Some t) q = let within = slice_get_within to k t q in done k (omega (arith, within, past)) e
+    by k e None q = let outside = none_past to k q in slice_get_past from k (omega (arith, long, outside)) ∙ sym q
 
 -- ---- joins in place
 
@@ -143,17 +140,24 @@ module _ (files : Program) (rooted : Rooted files) (locals : List ℕ) (n d : �
           done.differ.locals.same k e.0
           ∙ (sym (get_set_other join.locals local k t (λ q. false≢true (sym e.1 ∙ eq-eqb local k (sym q)))) ∙ ap (λ l. slice_get l k) (sym set))
 
-      by : (k : ℕ) → is_among (take (n + 1) locals) k ≡ true → (x y : VerificationType) → slice_get there.locals k ≡ Some x → slice_get frame.locals k ≡ Some y
-          → (b : Bool) → (local == k) ≡ b → option_map (type_in files) (slice_get next.locals k) ≡ Some (local_join files (type_in files x) (type_in files y))
-      by k e x y f g true q = here k x y f g (sym (eqb-true local k q))
-      by k e x y f g false q =
-          ap (λ l. option_map (type_in files) (slice_get l k)) set
-          ∙ (ap (option_map (type_in files)) (get_set_other join.locals local k t (λ r. false≢true (sym q ∙ eq-eqb local k (sym r))))
-          ∙ done.joins k (before k e q) x y f g)
-
       before : (k : ℕ) → is_among (take (n + 1) locals) k ≡ true → (local == k) ≡ false → is_among (take n locals) k ≡ true
       before k e q =
           ⊎_elim (λ r. r) (λ r. absurd (false≢true (sym q ∙ r))) (or_cases (is_among (take n locals) k) (local == k) (sym (list_any_more (λ i. i == k) locals n d within) ∙ e))
+
+      -- what was joined already is so once more
+      joined_once : (x y : VerificationType) → slice_get there.locals local ≡ Some x → slice_get frame.locals local ≡ Some y
+          → local_join files (type_in files (slice_index_or join.locals local type.Unusable)) (type_in files y) ≡ local_join files (type_in files x) (type_in files y)
+      joined_once x y f g = by_first (is_among (take n locals) local) refl
+        where
+          by_first : (b : Bool) → is_among (take n locals) local ≡ b
+              → local_join files (type_in files (slice_index_or join.locals local type.Unusable)) (type_in files y) ≡ local_join files (type_in files x) (type_in files y)
+          by_first false e =
+              ap (λ u. local_join files (type_in files u) (type_in files y)) (get_or_from_slice_get join.locals local x type.Unusable (sym (done.differ.locals.same local e) ∙ f))
+          by_first true e =
+              let s = local_join files (type_in files x) (type_in files y) in
+              let now : type_in files (slice_index_or join.locals local type.Unusable) ≡ s =
+              map_index (type_in files) join.locals local type.Unusable s (slice_get-map (type_in files) join.locals local ∙ done.joins local e x y f g) in
+              ap (λ u. local_join files u (type_in files y)) now ∙ kept_local files s (type_in files y) (local_is files rooted (type_in files x) (type_in files y)).1
 
       here : (k : ℕ) (x y : VerificationType) → slice_get there.locals k ≡ Some x → slice_get frame.locals k ≡ Some y → k ≡ local
           → option_map (type_in files) (slice_get next.locals k) ≡ Some (local_join files (type_in files x) (type_in files y))
@@ -171,20 +175,13 @@ module _ (files : Program) (rooted : Rooted files) (locals : List ℕ) (n d : �
           ∙ (ap (λ u. Some (local_join files (type_in files (slice_index_or join.locals local type.Unusable)) (type_in files u))) (get_or_from_slice_get frame.locals local y type.Unusable in_frame)
           ∙ ap (λ u. Some u) (joined_once x y in_there in_frame))))
 
-      -- what was joined already is so once more
-      joined_once : (x y : VerificationType) → slice_get there.locals local ≡ Some x → slice_get frame.locals local ≡ Some y
-          → local_join files (type_in files (slice_index_or join.locals local type.Unusable)) (type_in files y) ≡ local_join files (type_in files x) (type_in files y)
-      joined_once x y f g = by_first (is_among (take n locals) local) refl
-        where
-          by_first : (b : Bool) → is_among (take n locals) local ≡ b
-              → local_join files (type_in files (slice_index_or join.locals local type.Unusable)) (type_in files y) ≡ local_join files (type_in files x) (type_in files y)
-          by_first false e =
-              ap (λ u. local_join files (type_in files u) (type_in files y)) (get_or_from_slice_get join.locals local x type.Unusable (sym (done.differ.locals.same local e) ∙ f))
-          by_first true e =
-              let s = local_join files (type_in files x) (type_in files y) in
-              let now : type_in files (slice_index_or join.locals local type.Unusable) ≡ s =
-              map_index (type_in files) join.locals local type.Unusable s (slice_get-map (type_in files) join.locals local ∙ done.joins local e x y f g) in
-              ap (λ u. local_join files u (type_in files y)) now ∙ kept_local files s (type_in files y) (local_is files rooted (type_in files x) (type_in files y)).1
+      by : (k : ℕ) → is_among (take (n + 1) locals) k ≡ true → (x y : VerificationType) → slice_get there.locals k ≡ Some x → slice_get frame.locals k ≡ Some y
+          → (b : Bool) → (local == k) ≡ b → option_map (type_in files) (slice_get next.locals k) ≡ Some (local_join files (type_in files x) (type_in files y))
+      by k e x y f g true q = here k x y f g (sym (eqb-true local k q))
+      by k e x y f g false q =
+          ap (λ l. option_map (type_in files) (slice_get l k)) set
+          ∙ (ap (option_map (type_in files)) (get_set_other join.locals local k t (λ r. false≢true (sym q ∙ eq-eqb local k (sym r))))
+          ∙ done.joins k (before k e q) x y f g)
 
 -- ---- what some local variables hold
 

@@ -9,6 +9,7 @@ pub mod Nears
 pub mod Entries
 pub mod Merges
 pub mod Looked
+pub mod Puts
 pub mod Passing
 pub mod Turns
 pub mod Turned

@@ -46,7 +46,7 @@ module _ (m : MethodCode) (ordered : IsOrdered (files_of m)) where
       → after.waiting ≡ waiting_at before.waiting to → AreOver (body_of m) (tables_in (files_of m) before) → AreOver (body_of m) (tables_in (files_of m) after)
   over_written before after to entry e f over =
       record {
-        types = length-map _ after.types.items ∙ (ap length e ∙ (length-set before.types.items to entry ∙ (sym (length-map _ before.types.items) ∙ over.types)));
+        types = length-map after.types.items _ ∙ (ap length e ∙ (length-set before.types.items to entry ∙ (sym (length-map before.types.items _) ∙ over.types)));
         waiting = ap length f ∙ (length-set before.waiting to true ∙ over.waiting);
       }
 
@@ -57,7 +57,7 @@ module _ (m : MethodCode) (ordered : IsOrdered (files_of m)) where
   raises_past found to frame changed l = raises_nothing found to frame changed (ap entry_of (slice_get_past (tables_in (files_of m) found).types to (omega (arith, l, long))))
     where
       long : length (tables_in (files_of m) found).types ≡ length found.types.items
-      long = length-map (option_map (parts_in (files_of m))) found.types.items
+      long = length-map found.types.items (option_map (parts_in (files_of m)))
 
   module _ (before : Found) (over : AreOver (body_of m) (tables_in (files_of m) before)) (to : ℕ) (there frame : Parts) (changed : List ℕ)
       (at : slice_get before.types.items to ≡ Some (Some there)) where
@@ -173,7 +173,7 @@ module _ (m : MethodCode) (ordered : IsOrdered (files_of m)) (before : Found) (l
       λ xs ys e r h.
       let both = done xs ys e r h in
       let long : length ys ≡ length leads =
-      moved_long m (typing_in m before) changed (parts_in (files_of m) frame) xs ys h ∙ (sym (length-map place xs) ∙ (ap length e ∙ length-map offset_of leads)) in
+      moved_long m (typing_in m before) changed (parts_in (files_of m) frame) xs ys h ∙ (sym (length-map xs place) ∙ (ap length e ∙ length-map leads offset_of)) in
       let whole : take i ys ≡ ys = take_all i ys (omega (arith, long, l)) in
       (subst (λ ls. MergesInto m before ls now) whole both.0, both.1)
 

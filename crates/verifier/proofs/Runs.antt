@@ -100,7 +100,7 @@ put_between a b c d n k t of l f g h =
     ∙ (append_assoc (a ++ replicate k t) (replicate 1 of) (replicate j t)
     ∙ (append_assoc a (replicate k t) (of ∷ replicate j t) ∙ ap (λ x. a ++ x) (sym (set_among n k j t of e)))))
 
-module _ (of : VerificationType) (runs : List Run) (i : ℕ) (d : Run) (l : i < length runs) (made after whole : List VerificationType) where
+module _ (of : VerificationType) (runs : List Run) (i : ℕ) (d : Run) (within : i < length runs) (made after whole : List VerificationType) where
   abbrev run : Run
   run = get_or runs i d
 
@@ -108,7 +108,7 @@ module _ (of : VerificationType) (runs : List Run) (i : ℕ) (d : Run) (l : i < 
   rest = unpacked (drop (i + 1) runs)
 
   next : unpacked (drop i runs) ≡ replicate run.count run.of ++ rest
-  next = ap (λ (rs : List Run). unpacked rs) (drop_more runs i d l)
+  next = ap (λ (rs : List Run). unpacked rs) (drop_more runs i d within)
 
   -- the place is behind
   pub pass_set : made ++ unpacked (drop i runs) ≡ whole → after ≡ made ++ replicate run.count run.of → after ++ rest ≡ whole
@@ -129,6 +129,25 @@ module _ (of : VerificationType) (runs : List Run) (i : ℕ) (d : Run) (l : i < 
       ap (λ x. x ++ slice_set rest j of) f
       ∙ (append_assoc made (replicate run.count run.of) (slice_set rest j of)
       ∙ (ap (λ x. made ++ x) (sym (ap (λ x. slice_set x k of) next ∙ set_back run.count k j run.of of rest m)) ∙ e))
+
+  -- ---- the same, by what is left to go
+
+  pub passed_none : (left more : Option ℕ) → left ≡ None → more ≡ left → made ++ set_left of left (unpacked (drop i runs)) ≡ whole
+      → after ≡ made ++ replicate run.count run.of → after ++ set_left of more rest ≡ whole
+  passed_none left more e f g h =
+      ap (λ o. after ++ set_left of o rest) (f ∙ e) ∙ pass_set (ap (λ o. made ++ set_left of o (unpacked (drop i runs))) (sym e) ∙ g) h
+
+  pub passed_here : (left more : Option ℕ) (k : ℕ) → left ≡ Some k → more ≡ None → k < run.count
+      → made ++ set_left of left (unpacked (drop i runs)) ≡ whole → after ≡ made ++ slice_set (replicate run.count run.of) k of
+      → after ++ set_left of more rest ≡ whole
+  passed_here left more k e f l g h =
+      ap (λ o. after ++ set_left of o rest) f ∙ pass_here k l (ap (λ o. made ++ set_left of o (unpacked (drop i runs))) (sym e) ∙ g) h
+
+  pub passed_before : (left more : Option ℕ) (k : ℕ) → left ≡ Some k → more ≡ Some (k - run.count) → run.count ≤ k
+      → made ++ set_left of left (unpacked (drop i runs)) ≡ whole → after ≡ made ++ replicate run.count run.of → after ++ set_left of more rest ≡ whole
+  passed_before left more k e f l g h =
+      let m : run.count + (k - run.count) ≡ k = omega (arith, l) in
+      ap (λ o. after ++ set_left of o rest) f ∙ pass_before k (k - run.count) m (ap (λ o. made ++ set_left of o (unpacked (drop i runs))) (sym e) ∙ g) h
 
 pub pass_end : (of : VerificationType) (left : Option ℕ) (runs : List Run) (i : ℕ) (made whole : List VerificationType) → length runs ≤ i
     → made ++ set_left of left (unpacked (drop i runs)) ≡ whole → made ≡ whole

@@ -138,6 +138,18 @@ impl Found {
     }
 
     /// Puts a frame type at an offset, which waits from now on.
+    fn put_type(&mut self, offset: usize, frame: PackedFrame)
+        requires typed { offset < length self.old.types.items }
+        requires waiting { offset < length self.old.waiting }
+        ensures types { self.new.types.items ≡ slice_set self.old.types.items offset (Some frame) }
+        ensures waiting { self.new.waiting ≡ waiting_at self.old.waiting offset }
+        ensures looks { self.new.looks.items ≡ self.old.looks.items }
+    {
+        self.types[offset] = Some(frame);
+        self.waiting.add(offset);
+    }
+
+    /// The same, and what is known of the instruction there is so no more.
     fn put(&mut self, offset: usize, frame: PackedFrame)
         requires typed { offset < length self.old.types.items }
         requires waiting { offset < length self.old.waiting }
@@ -146,11 +158,10 @@ impl Found {
         ensures looks { self.new.looks.items ≡ slice_set self.old.looks.items offset None }
     {
         self.set_look(offset, None);
-        self.types[offset] = Some(frame);
-        self.waiting.add(offset);
+        self.put_type(offset, frame);
     }
 
-    /// The same, where it differs from that there in these local variables alone.
+    /// Puts a frame type that differs from that there in these local variables alone.
     fn put_changed(
         &mut self,
         offset: usize,
@@ -164,8 +175,7 @@ impl Found {
         ensures looks { OnOk result (NotesAt offset changed.now self.old.looks.items self.new.looks.items) }
     {
         self.note(offset, changed)?;
-        self.types[offset] = Some(frame);
-        self.waiting.add(offset);
+        self.put_type(offset, frame);
         Ok(())
     }
 
