@@ -193,13 +193,13 @@ module _ (m : MethodCode) (hs : List Handler) (before after : Found) (offset : �
       let l = may.looked in
       let moves = flow_moves look.changed.items (files_of m) l.before may.t l.since (member_of m) (body_of m) offset may.left l.leads l.flows in
       let to : map place l.leads ≡ map offset_of leads = l.to ∙ ap (map offset_of) (sym e) in
-      let merged = raises l.leads moves.0 to l.reached (moved_as look.changed.items (parts_in (files_of m) frame) may.t may.holds l.leads moves.0 moves.1.1) in
+      let merged = raises l.leads moves.0 to l.reached (moved_as look.changed.items (parts_in (files_of m) frame) may.t may.holds l.leads moves.0 moves.2) in
       record {
         t = may.t;
         leads = moves.0;
         typed = may.typed;
-        flows = moves.1.0;
-        to = moved_places m (typing_in m before) look.changed.items may.t l.leads moves.0 moves.1.1 ∙ l.to;
+        flows = moves.1;
+        to = moved_places m (typing_in m before) look.changed.items may.t l.leads moves.0 moves.2 ∙ l.to;
         merged = merged.0;
         looks = merged.1;
       }

@@ -1,5 +1,5 @@
 -- Local variables that changed, merged into a frame type.
-use Rattle.std.specs.Prelude.{◌≡◌, ℕ, List, Option, Some, Bool, true, false, length, slice_get, slice_index_or, option_map}
+use Rattle.std.specs.Prelude.{◌≡◌, ℕ, List, Option, Some, Bool, true, false, length, slice_get, slice_set, slice_index_or, option_map}
 use Rattle.model.specs.Classes.{Program}
 use Rattle.model.specs.TypeOrder.{is_local_below}
 use Rattle.model.specs.TypeJoin.{local_join}
@@ -25,3 +25,12 @@ pub record IsJoined (files : Program) (ks : List ℕ) (there frame join : Parts)
   pub differ : PartsDiffer ks there join
   pub joins : (k : ℕ) → is_among ks k ≡ true → (x y : VerificationType) → slice_get there.locals k ≡ Some x → slice_get frame.locals k ≡ Some y
       → option_map (type_in files) (slice_get join.locals k) ≡ Some (local_join files (type_in files x) (type_in files y))
+
+-- so it is of a frame type in a table
+pub record HasJoined (files : Program) (to : ℕ) (frame : Parts) (ks : List ℕ) (there : Parts) (before after : List (Option Parts)) : Type 0 where
+  pub join : Parts
+  pub joined : IsJoined files ks there frame join
+  pub set : after ≡ slice_set before to (Some join)
+
+abbrev pub JoinsAt : Program → ℕ → Parts → List ℕ → List (Option Parts) → List (Option Parts) → Type 0
+JoinsAt files to frame ks before after = (there : Parts) → slice_get before to ≡ Some (Some there) → HasJoined files to frame ks there before after

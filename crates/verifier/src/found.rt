@@ -8,6 +8,7 @@ ghost use Rattle.types.specs.method_code.Linked.{IsLinked};
 ghost use Rattle.types.specs.method_code.View.{files_of, body_of};
 ghost use Rattle.verifier.specs.Packed.{parts_in};
 ghost use Rattle.verifier.specs.Found.{tables_in, leads_in, AreOver, IsEmpty, MergesInto, ClashesWith};
+ghost use Rattle.verifier.specs.Changes.{JoinsAt};
 ghost use Rattle.verifier.specs.Looks.{offset_of, KeepsLooks, NotesAt, NotesChange, SettlesAt, RaisesTo, RaisesAll};
 ghost use Rattle.verifier.specs.Near.{AreKnown, IsSameOrigin};
 ghost use Rattle.verifier.specs.Verified.{OnUnverified};
@@ -194,7 +195,8 @@ impl Found {
     {
         if let Some(there) = &self.types[offset] {
             if let Some(changed) = changes_between(alloc, there, &join)? {
-                return self.put_changed(offset, join, &changed);
+                self.put_changed(offset, join, &changed)?;
+                return Ok(());
             }
         }
         self.put(offset, join);
@@ -240,6 +242,27 @@ impl Found {
         }
     }
 
+    /// Joins what local variables hold in a frame type into these of the one at an offset.
+    fn join_at(
+        &mut self,
+        alloc: Global,
+        method: &MethodCode<'_>,
+        to: usize,
+        frame: &PackedFrame,
+        changed: &[usize],
+    ) -> Result<(), AllocError>
+        requires linked { IsLinked (files_of method.now) }
+        requires typed { to < length self.old.types.items }
+        ensures types { OnOk result (JoinsAt (files_of method.now) to frame.now changed.now self.old.types.items self.new.types.items) }
+        ensures waiting { self.new.waiting ≡ self.old.waiting }
+        ensures looks { self.new.looks.items ≡ self.old.looks.items }
+    {
+        if let Some(there) = &mut self.types[to] {
+            join_locals(alloc, method, there, frame, changed)?;
+        }
+        Ok(())
+    }
+
     /// Merges what changed of a frame type whose other local variables are merged.
     pub fn raise(
         &mut self,
@@ -257,13 +280,13 @@ impl Found {
         if to >= self.types.len() {
             return Ok(());
         }
-        let Some(there) = &mut self.types[to] else {
+        let Some(there) = &self.types[to] else {
             return Ok(());
         };
         if all_fit(method.set(), there, frame, changed) {
             return Ok(());
         }
-        join_locals(alloc, method, there, frame, changed)?;
+        self.join_at(alloc, method, to, frame, changed)?;
         self.note(to, changed)?;
         self.waiting.add(to);
         Ok(())
