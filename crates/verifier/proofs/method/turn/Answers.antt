@@ -59,3 +59,27 @@ pub look_at-requires-clause-search : goal.look_at-requires-clause-search
 look_at-requires-clause-search c =
     let m = c.args.method.now in
     search_taken m (ordered_from (files_of m) c.requires.linked.1.no_refusal) c.args.handlers.now c.args.found.now c.take_look.new.self c.args.offset c.take_look.ensures.types c.take_look.ensures.waiting c.requires.search
+
+pub returns-then-leaves_at-clause-turned : goal.returns-then-leaves_at-clause-turned
+returns-then-leaves_at-clause-turned c =
+    let m = c.args.method.now in
+    turned m (ordered_from (files_of m) c.requires.linked.1.no_refusal) c.args.handlers.now c.args.found.now c.take_look.new.self c.args.offset c.take_look.ensures.types c.take_look.ensures.waiting c.requires.search c.requires.looks c.take_look.ensures.looks
+    c.pass_on.new.found c.settle.new.self c.in-Some-taken.look.targets.items c.settle.ensures.types c.settle.ensures.waiting c.in_ok-pass_on.ensures
+
+pub returns-then-leaves_at-clause-looks : goal.returns-then-leaves_at-clause-looks
+returns-then-leaves_at-clause-looks c =
+    let m = c.args.method.now in
+    looked m (ordered_from (files_of m) c.requires.linked.1.no_refusal) c.args.handlers.now c.args.found.now c.take_look.new.self c.args.offset c.take_look.ensures.types c.take_look.ensures.waiting c.requires.search c.requires.looks c.take_look.ensures.looks
+    c.pass_on.new.found c.settle.new.self c.in-Some-taken.look.targets.items c.settle.ensures.types c.settle.ensures.waiting c.in_ok-pass_on.ensures c.settle.ensures.looks
+
+pub returns-in-Ok-clause-turned : goal.returns-in-Ok-clause-turned
+returns-in-Ok-clause-turned c =
+    let m = c.args.method.now in
+    turned m (ordered_from (files_of m) c.requires.linked.1.no_refusal) c.args.handlers.now c.args.found.now c.take_look.new.self c.args.offset c.take_look.ensures.types c.take_look.ensures.waiting c.requires.search c.requires.looks c.take_look.ensures.looks
+    c.look_at.new.found c.settle-in-Ok.new.self c.in-Ok.targets.items c.settle-in-Ok.ensures.types c.settle-in-Ok.ensures.waiting c.in-Ok.ensures.led
+
+pub returns-in-Ok-clause-looks : goal.returns-in-Ok-clause-looks
+returns-in-Ok-clause-looks c =
+    let m = c.args.method.now in
+    looked m (ordered_from (files_of m) c.requires.linked.1.no_refusal) c.args.handlers.now c.args.found.now c.take_look.new.self c.args.offset c.take_look.ensures.types c.take_look.ensures.waiting c.requires.search c.requires.looks c.take_look.ensures.looks
+    c.look_at.new.found c.settle-in-Ok.new.self c.in-Ok.targets.items c.settle-in-Ok.ensures.types c.settle-in-Ok.ensures.waiting c.in-Ok.ensures.led c.settle-in-Ok.ensures.looks
