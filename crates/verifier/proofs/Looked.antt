@@ -1,6 +1,7 @@
 -- What is known of instructions stays so while frame types are merged.
 use Rattle.std.proofs.Common.{◌≡◌, ℕ, zero, suc, List, [], ◌∷◌, length, map, Bool, true, false, Option, Some, None, refl, sym, ap, ◌∙◌, subst, ⊎_elim}
-use Rattle.std.specs.Prelude.{replicate, slice_get, slice_set, option_map, IfSome}
+use Rattle.std.specs.Prelude.{replicate, slice_get, slice_set, option_map, Result, Ok, Err, IfOk, IfSome}
+use Rattle.std.specs.Global.{Vec}
 use Rattle.std.proofs.lemmas.Bool.{cases_eq, false≢true}
 use Rattle.std.proofs.lemmas.Option.{same_Some}
 use Rattle.model.specs.TypeOrder.{FrameType}
@@ -17,7 +18,7 @@ use Rattle.verifier.specs.declared.found.Found.{Found}
 use Rattle.verifier.specs.declared.look.Look.{Look}
 use Rattle.verifier.specs.flow.Leads.{all_leads}
 use Rattle.verifier.specs.Agreeing.{is_among, AgreeBut, DifferIn}
-use Rattle.verifier.specs.Changes.{PartsDiffer}
+use Rattle.verifier.specs.Changes.{PartsDiffer, DiffersAt}
 use Rattle.verifier.specs.Looks.{offset_of, typing_in, IsLook, AreLooks, KeepsLooks, NotesAt, NotesChange, SettlesAt, HasLed}
 use Rattle.verifier.specs.Packed.{Parts, parts_in}
 use Rattle.verifier.specs.Found.{tables_in}
@@ -240,14 +241,18 @@ changes_nothing offset join before after e =
       notes = notes_nothing offset [] before.looks.items after.looks.items e;
     }
 
-pub changes_some : (offset : ℕ) (join there : Parts) (changed : List ℕ) (before after : Found) → slice_get before.types.items offset ≡ Some (Some there)
-    → PartsDiffer changed there join → NotesAt offset changed before.looks.items after.looks.items → NotesChange offset join before after
-changes_some offset join there changed before after at differ notes =
-    record {
-      changed = changed;
-      differ = λ other f look g. subst (λ p. PartsDiffer changed p join) (same_Some there other (same_Some (Some there) (Some other) (sym at ∙ f))) differ;
-      notes = notes;
-    }
+pub changes_some : (offset : ℕ) (join : Parts) (changed : List ℕ) (before after : Found) → DiffersAt changed offset join before.types.items
+    → NotesAt offset changed before.looks.items after.looks.items → NotesChange offset join before after
+changes_some offset join changed before after differ notes =
+    record { changed = changed; differ = λ there f look g. differ there f; notes = notes }
+
+pub differs_there : {E : Type 0} (offset : ℕ) (there join : Parts) (types : List (Option Parts)) → slice_get types offset ≡ Some (Some there)
+    → (r : Result (Option (Vec ℕ)) E) → IfOk r (λ o. IfSome o (λ v. PartsDiffer v.items there join))
+    → IfOk r (λ o. IfSome o (λ v. DiffersAt v.items offset join types))
+differs_there offset there join types at (Ok None) d = tt
+differs_there offset there join types at (Ok (Some v)) d =
+    λ other f. subst (λ p. PartsDiffer v.items p join) (same_Some there other (same_Some (Some there) (Some other) (sym at ∙ f))) d
+differs_there offset there join types at (Err e) d = tt
 
 -- ---- what is settled
 

@@ -76,7 +76,7 @@ get_mapped f [] k x e = absurd cc
 get_mapped f (y ∷ ys) zero x e = ap (λ o. option_map f o) e
 get_mapped f (y ∷ ys) (suc k) x e = get_mapped f ys k x e
 
-typed_in : (files : Program) (found : Found) (k : ℕ) (p : Parts) → slice_get found.types.items k ≡ Some (Some p)
+pub typed_in : (files : Program) (found : Found) (k : ℕ) (p : Parts) → slice_get found.types.items k ≡ Some (Some p)
     → slice_get (tables_in files found).types k ≡ Some (Some (parts_in files p))
 typed_in files found k p e = get_mapped (option_map (parts_in files)) found.types.items k (Some p) e
 

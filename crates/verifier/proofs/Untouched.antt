@@ -39,7 +39,7 @@ use Rattle.verifier.proofs.Agreeing.{index_alike, but_set}
 -- ---- which local variables a local instruction reads and writes
 
 module _ (ks : List ℕ) where
-  abbrev IsApart : ℕ → Type 0
+  abbrev pub IsApart : ℕ → Type 0
   IsApart local = is_among ks local ≡ false
 
   record IsRowApart (row : Row) : Type 0 where
@@ -89,7 +89,7 @@ module _ (ks : List ℕ) where
   -- ---- what an instruction finds
 
   module _ (a b : Slots VerificationType) (locals : AgreeBut ks a.locals b.locals) (stack : a.stack ≡ b.stack) where
-    abbrev AreApart : List (ℕ × Want) → Type 0
+    abbrev pub AreApart : List (ℕ × Want) → Type 0
     AreApart reads = AllByRecursion (λ (r : ℕ × Want). IsApart r.0) reads
 
     abbrev read_in : Slots VerificationType → ℕ × Want → VerificationType
@@ -124,24 +124,24 @@ module _ (ks : List ℕ) where
 
     -- ---- where it leads
 
-    record IsAlike (x y : ℕ × Slots VerificationType) : Type 0 where
-      to : x.0 ≡ y.0
-      locals : AgreeBut ks x.1.locals y.1.locals
-      taken : AgreeAt ks y.1.locals b.locals
-      stack : x.1.stack ≡ y.1.stack
+    pub record IsAlike (x y : ℕ × Slots VerificationType) : Type 0 where
+      pub to : x.0 ≡ y.0
+      pub differ : AgreeBut ks x.1.locals y.1.locals
+      pub taken : AgreeAt ks y.1.locals b.locals
+      pub left : x.1.stack ≡ y.1.stack
 
-    abbrev AreAlike : List (ℕ × Slots VerificationType) → List (ℕ × Slots VerificationType) → Type 0
+    abbrev pub AreAlike : List (ℕ × Slots VerificationType) → List (ℕ × Slots VerificationType) → Type 0
     AreAlike [] [] = Unit {0}
     AreAlike [] (y ∷ ys) = ⊥
     AreAlike (x ∷ xs) [] = ⊥
     AreAlike (x ∷ xs) (y ∷ ys) = IsAlike x y × AreAlike xs ys
 
-    abbrev LeadsAlike : MeaningOf Value → Type 0
+    abbrev pub LeadsAlike : MeaningOf Value → Type 0
     LeadsAlike m = AreApart m.wants.reads × ((ops rest : List VerificationType) → AreAlike (m.leads a ops rest) (m.leads b ops rest))
 
     -- the local variables are left as they are
     kept : (to : ℕ) (left : List VerificationType) → IsAlike (to, record { locals = a.locals; stack = left }) (to, record { locals = b.locals; stack = left })
-    kept to left = record { to = refl; locals = locals; taken = λ k e. refl; stack = refl }
+    kept to left = record { to = refl; differ = locals; taken = λ k e. refl; left = refl }
 
     next : (to : ℕ) (pushed ops rest : List VerificationType) → AreAlike (to_next to pushed a ops rest) (to_next to pushed b ops rest)
     next to pushed ops rest = (kept to (pushed ++ rest), tt)
@@ -164,9 +164,9 @@ module _ (ks : List ℕ) where
         let same = same_operands w n.reads in
         record {
           to = refl;
-          locals = subst (λ ops. AgreeBut ks (written over_types (operands over_types w a) row.writes a.locals) (written over_types ops row.writes b.locals)) same (written_but (operands over_types w a) row.writes a.locals b.locals locals);
+          differ = subst (λ ops. AgreeBut ks (written over_types (operands over_types w a) row.writes a.locals) (written over_types ops row.writes b.locals)) same (written_but (operands over_types w a) row.writes a.locals b.locals locals);
           taken = written_at (operands over_types w b) row.writes b.locals n.writes;
-          stack = ap (λ ops. map (out over_types ops) row.pushes ++ under w a) same ∙ ap (λ l. map (out over_types (operands over_types w b)) row.pushes ++ l) (same_under w);
+          left = ap (λ ops. map (out over_types ops) row.pushes ++ under w a) same ∙ ap (λ l. map (out over_types (operands over_types w b)) row.pushes ++ l) (same_under w);
         }
 
     rows_alike : (row : Row) → IsRowApart row → (tos : List ℕ)
@@ -251,7 +251,7 @@ module _ (ks : List ℕ) where
     marked_moved m n e [] (y ∷ ys) g = absurd g
     marked_moved m n e (x ∷ xs) [] g = absurd g
     marked_moved m n e (x ∷ xs) (y ∷ ys) g =
-        (g.0.to, record { locals = g.0.locals; stack = g.0.stack; constructed = e }, g.0.taken, marked_moved m n e xs ys g.1)
+        (g.0.to, record { locals = g.0.differ; stack = g.0.left; constructed = e }, g.0.taken, marked_moved m n e xs ys g.1)
 
     handlers_moved : (pool : List Entry) (offset : ℕ) (es : List ExceptionEntry)
         → HaveMoved ks b (handlers_from files pool offset a es) (handlers_from files pool offset b es)

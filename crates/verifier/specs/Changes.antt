@@ -20,6 +20,10 @@ pub record PartsDiffer (ks : List ℕ) (a b : Parts) : Type 0 where
   pub stack : a.stack ≡ b.stack
   pub constructed : a.constructed ≡ b.constructed
 
+-- so it is of a frame type in a table
+abbrev pub DiffersAt : List ℕ → ℕ → Parts → List (Option Parts) → Type 0
+DiffersAt ks offset b types = (a : Parts) → slice_get types offset ≡ Some (Some a) → PartsDiffer ks a b
+
 -- these local variables of the frame type that is there have become the joins of both
 pub record IsJoined (files : Program) (ks : List ℕ) (there frame join : Parts) : Type 0 where
   pub differ : PartsDiffer ks there join

@@ -8,7 +8,7 @@ ghost use Rattle.types.specs.method_code.Linked.{IsLinked};
 ghost use Rattle.types.specs.method_code.View.{files_of, body_of};
 ghost use Rattle.verifier.specs.Packed.{parts_in};
 ghost use Rattle.verifier.specs.Found.{tables_in, leads_in, AreOver, IsEmpty, MergesInto, ClashesWith};
-ghost use Rattle.verifier.specs.Changes.{JoinsAt};
+ghost use Rattle.verifier.specs.Changes.{DiffersAt, JoinsAt};
 ghost use Rattle.verifier.specs.Looks.{offset_of, KeepsLooks, NotesAt, NotesChange, SettlesAt, RaisesTo, RaisesAll};
 ghost use Rattle.verifier.specs.Near.{AreKnown, IsSameOrigin};
 ghost use Rattle.verifier.specs.Verified.{OnUnverified};
@@ -180,6 +180,22 @@ impl Found {
         Ok(())
     }
 
+    /// In which local variables the frame type at an offset differs from another with the same stack, if in few.
+    fn changes_at(
+        &self,
+        alloc: Global,
+        offset: usize,
+        join: &PackedFrame,
+    ) -> Result<Option<Vec<usize>>, AllocError>
+        requires { offset < length self.now.types.items }
+        ensures { IfOk result (λ o. IfSome o (λ v. DiffersAt v.items offset join.now self.now.types.items)) }
+    {
+        match &self.types[offset] {
+            Some(there) => changes_between(alloc, there, join),
+            None => Ok(None),
+        }
+    }
+
     /// Puts the join of what is there and another frame type.
     fn put_join(
         &mut self,
@@ -193,13 +209,11 @@ impl Found {
         ensures waiting { OnOk result (self.new.waiting ≡ waiting_at self.old.waiting offset) }
         ensures looks { OnOk result (NotesChange offset join self.old self.new) }
     {
-        if let Some(there) = &self.types[offset] {
-            if let Some(changed) = changes_between(alloc, there, &join)? {
-                self.put_changed(offset, join, &changed)?;
-                return Ok(());
-            }
-        }
-        self.put(offset, join);
+        let Some(changed) = self.changes_at(alloc, offset, &join)? else {
+            self.put(offset, join);
+            return Ok(());
+        };
+        self.put_changed(offset, join, &changed)?;
         Ok(())
     }
 

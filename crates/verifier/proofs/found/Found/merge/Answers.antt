@@ -75,20 +75,20 @@ returns-in-Ok-Clash-clause-clash c =
     let at = read_at files c.args.self.now.types.items c.args.edge.to _ _ within.0 c.index.ensures c.in-Some.is in
     clash_apart files body (ordered_from files c.requires.linked.1.no_refusal).rooted (member_of c.args.method.now) _ c.args.edge.to (parts_in files c.args.frame.now) (parts_in files c.in-Some.there) (ap entry_of at) (subst (Raises files c.in-Some.there c.args.frame.now) c.in-Ok-Clash.field-0-is c.in-Ok-Clash.ensures)
 
-pub returns-in-Ok-To-clause-merged : goal.returns-in-Ok-To-clause-merged
-returns-in-Ok-To-clause-merged c =
+pub returns-in_ok-put_join-in-Ok-To-clause-merged : goal.returns-in_ok-put_join-in-Ok-To-clause-merged
+returns-in_ok-put_join-in-Ok-To-clause-merged c =
     let m = c.args.method.now in
     let files = files_of m in
     let within = start_within files (body_of m) c.args.self.now c.args.starts.now c.args.edge.to _ c.requires.starts c.requires.over c.is_start.ensures c.if-not-is_start.false in
     let at = there_at c.args.self.now.types.items c.args.edge.to _ _ within.0 c.index.ensures c.in-Some.is in
     let raised = subst (Raises files c.in-Some.there c.args.frame.now) c.in-Ok-To.field-0-is c.in-Ok-To.ensures in
-    (joined_put m (ordered_from files c.requires.linked.1.no_refusal) c.args.self.now c.put_join.new.self c.requires.over c.args.edge.to c.args.frame.now c.in_ok-put_join.ensures.waiting c.in-Some.there c.in-Ok-To.join at raised.0 raised.1 c.in_ok-put_join.ensures.types c.in_ok-put_join.ensures.looks).0
+    (joined_put m (ordered_from files c.requires.linked.1.no_refusal) c.args.self.now c.put_join.new.self c.requires.over c.args.edge.to c.args.frame.now c.in_ok-put_join-in-Ok-To.ensures.waiting c.in-Some.there c.in-Ok-To.join at raised.0 raised.1 c.in_ok-put_join-in-Ok-To.ensures.types c.in_ok-put_join-in-Ok-To.ensures.looks).0
 
-pub returns-in-Ok-To-clause-looks : goal.returns-in-Ok-To-clause-looks
-returns-in-Ok-To-clause-looks c =
+pub returns-in_ok-put_join-in-Ok-To-clause-looks : goal.returns-in_ok-put_join-in-Ok-To-clause-looks
+returns-in_ok-put_join-in-Ok-To-clause-looks c =
     let m = c.args.method.now in
     let files = files_of m in
     let within = start_within files (body_of m) c.args.self.now c.args.starts.now c.args.edge.to _ c.requires.starts c.requires.over c.is_start.ensures c.if-not-is_start.false in
     let at = there_at c.args.self.now.types.items c.args.edge.to _ _ within.0 c.index.ensures c.in-Some.is in
     let raised = subst (Raises files c.in-Some.there c.args.frame.now) c.in-Ok-To.field-0-is c.in-Ok-To.ensures in
-    (joined_put m (ordered_from files c.requires.linked.1.no_refusal) c.args.self.now c.put_join.new.self c.requires.over c.args.edge.to c.args.frame.now c.in_ok-put_join.ensures.waiting c.in-Some.there c.in-Ok-To.join at raised.0 raised.1 c.in_ok-put_join.ensures.types c.in_ok-put_join.ensures.looks).1
+    (joined_put m (ordered_from files c.requires.linked.1.no_refusal) c.args.self.now c.put_join.new.self c.requires.over c.args.edge.to c.args.frame.now c.in_ok-put_join-in-Ok-To.ensures.waiting c.in-Some.there c.in-Ok-To.join at raised.0 raised.1 c.in_ok-put_join-in-Ok-To.ensures.types c.in_ok-put_join-in-Ok-To.ensures.looks).1
