@@ -19,7 +19,7 @@ use Rattle.model.specs.Names.{Member}
 use Rattle.model.specs.Tree.{Entry}
 use Rattle.model.specs.Pool.{integers_of}
 use Rattle.model.specs.Classes.{Program, Body}
-use Rattle.model.specs.Types.{VerificationType, Unusable, Want, type_meets}
+use Rattle.model.specs.Types.{VerificationType, Unusable, IntType, Want, type_meets}
 use Rattle.model.specs.InitialisedTypes.{is_made_at}
 use Rattle.model.specs.Operands.{Slots, values, over_types, Wants, reads_meet, pops_meet, is_ready, operands, under}
 use Rattle.model.specs.Rows.{Out, Row, out, written, row_wants, after_row, move_row, constant_row, local_row}
@@ -181,11 +181,11 @@ module _ (ks : List ℕ) where
       return_alike returned.Reference = (tt, λ ops rest. tt)
 
       load_alike : (kind : ArrayKind) → LeadsAlike (load_of values files site kind)
-      load_alike array_kind.Int = (tt, next site.next _)
+      load_alike array_kind.Int = (tt, next site.next (IntType ∷ []))
       load_alike array_kind.Reference = (tt, λ ops rest. (kept site.next _, tt))
-      load_alike array_kind.ByteOrBoolean = (tt, next site.next _)
-      load_alike array_kind.Char = (tt, next site.next _)
-      load_alike array_kind.Short = (tt, next site.next _)
+      load_alike array_kind.ByteOrBoolean = (tt, next site.next (IntType ∷ []))
+      load_alike array_kind.Char = (tt, next site.next (IntType ∷ []))
+      load_alike array_kind.Short = (tt, next site.next (IntType ∷ []))
 
       store_alike : (kind : ArrayKind) → LeadsAlike (store_of values files site kind)
       store_alike array_kind.Int = (tt, next site.next [])
