@@ -19,7 +19,7 @@ pub(crate) struct Look {
 }
 
 /// Whether a local variable is among some.
-fn is_among(locals: &[usize], local: usize) -> bool
+pub(crate) fn is_among(locals: &[usize], local: usize) -> bool
     ensures { result ≡ is_among locals.now local }
 {
     locals.iter().any(|other| *other == local)

@@ -89,7 +89,8 @@ fn pass_on(
     ensures { OnOk result (HasLed method.now handlers.now found.old offset look.now.targets.items found.new) }
 {
     let leads = all_leads(alloc, handlers, offset, &look.targets)?;
-    found.raise_all(alloc, method, &leads, frame, &look.changed)
+    found.raise_all(alloc, method, &leads, frame, &look.changed)?;
+    Ok(())
 }
 
 /// Merges what the instruction at an offset leads to, as if it was not looked at before. Answers the offsets to which it leads,

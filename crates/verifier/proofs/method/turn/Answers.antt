@@ -11,75 +11,75 @@ use Rattle.verifier.proofs.method.turn.Goals as goal
 pub returns-in_default-clause-turned : goal.returns-in_default-clause-turned
 returns-in_default-clause-turned c =
     let m = c.args.method.now in
-    let taken = c.take_look.new.self in
-    let within = subst (λ types. c.args.offset < length types) (sym c.take_look.ensures.types) c.requires.offset in
+    let taken = c.take_look-taken.new.self in
+    let within = subst (λ types. c.args.offset < length types) (sym c.take_look-taken.ensures.types) c.requires.offset in
     let at = read_at (files_of m) taken.types.items c.args.offset _ _ within c.index.ensures c.in_default.is in
-    passes_taken m (ordered_from (files_of m) c.requires.linked.1.no_refusal) c.args.handlers.now c.args.found.now taken c.args.offset c.take_look.ensures.types c.take_look.ensures.waiting c.requires.search (ap entry_of at)
+    passes_taken m (ordered_from (files_of m) c.requires.linked.1.no_refusal) c.args.handlers.now c.args.found.now taken c.args.offset c.take_look-taken.ensures.types c.take_look-taken.ensures.waiting c.requires.search (ap entry_of at)
 
 pub returns-in_default-clause-looks : goal.returns-in_default-clause-looks
 returns-in_default-clause-looks c =
     let m = c.args.method.now in
-    looks_taken m (ordered_from (files_of m) c.requires.linked.1.no_refusal) c.args.handlers.now c.args.found.now c.take_look.new.self c.args.offset c.take_look.ensures.types c.take_look.ensures.waiting c.requires.search c.requires.looks c.take_look.ensures.looks
+    looks_taken m (ordered_from (files_of m) c.requires.linked.1.no_refusal) c.args.handlers.now c.args.found.now c.take_look-taken.new.self c.args.offset c.take_look-taken.ensures.types c.take_look-taken.ensures.waiting c.requires.search c.requires.looks c.take_look-taken.ensures.looks
 
 pub leaves_at-requires : goal.leaves_at-requires
 leaves_at-requires c =
     let m = c.args.method.now in
     let files = files_of m in
-    let taken = c.take_look.new.self in
-    let within = subst (λ types. c.args.offset < length types) (sym c.take_look.ensures.types) c.requires.offset in
+    let taken = c.take_look-taken.new.self in
+    let within = subst (λ types. c.args.offset < length types) (sym c.take_look-taken.ensures.types) c.requires.offset in
     let at = read_at files taken.types.items c.args.offset _ _ within c.index.ensures c.in-Some.is in
-    let search = search_taken m (ordered_from files c.requires.linked.1.no_refusal) c.args.handlers.now c.args.found.now taken c.args.offset c.take_look.ensures.types c.take_look.ensures.waiting c.requires.search in
+    let search = search_taken m (ordered_from files c.requires.linked.1.no_refusal) c.args.handlers.now c.args.found.now taken c.args.offset c.take_look-taken.ensures.types c.take_look-taken.ensures.waiting c.requires.search in
     search.searches.starts c.args.offset (parts_in files c.in-Some.packed) (ap entry_of at)
 
 pub pass_on-requires-clause-over : goal.pass_on-requires-clause-over
 pass_on-requires-clause-over c =
     let m = c.args.method.now in
-    over_taken m (ordered_from (files_of m) c.requires.linked.1.no_refusal) c.args.handlers.now c.args.found.now c.take_look.new.self c.args.offset c.take_look.ensures.types c.take_look.ensures.waiting c.requires.search
+    over_taken m (ordered_from (files_of m) c.requires.linked.1.no_refusal) c.args.handlers.now c.args.found.now c.take_look-taken.new.self c.args.offset c.take_look-taken.ensures.types c.take_look-taken.ensures.waiting c.requires.search
 
 pub pass_on-requires-clause-passes : goal.pass_on-requires-clause-passes
 pass_on-requires-clause-passes c =
     let m = c.args.method.now in
     let files = files_of m in
-    let taken = c.take_look.new.self in
-    let within = subst (λ types. c.args.offset < length types) (sym c.take_look.ensures.types) c.requires.offset in
+    let taken = c.take_look-taken.new.self in
+    let within = subst (λ types. c.args.offset < length types) (sym c.take_look-taken.ensures.types) c.requires.offset in
     let at = read_at files taken.types.items c.args.offset _ _ within c.index.ensures c.in-Some.is in
-    may_pass m (ordered_from files c.requires.linked.1.no_refusal) c.args.handlers.now c.args.found.now taken c.args.offset c.take_look.ensures.types c.take_look.ensures.waiting c.requires.search c.requires.looks c.take_look.ensures.looks
+    may_pass m (ordered_from files c.requires.linked.1.no_refusal) c.args.handlers.now c.args.found.now taken c.args.offset c.take_look-taken.ensures.types c.take_look-taken.ensures.waiting c.requires.search c.requires.looks c.take_look-taken.ensures.looks
     c.in-Some-taken.look c.in-Some.packed c.in_ok-frame.frame ? (ap entry_of at) ? ?
 
 pub look_at-requires-clause-typed : goal.look_at-requires-clause-typed
 look_at-requires-clause-typed c =
     let m = c.args.method.now in
     let files = files_of m in
-    let taken = c.take_look.new.self in
-    let within = subst (λ types. c.args.offset < length types) (sym c.take_look.ensures.types) c.requires.offset in
+    let taken = c.take_look-taken.new.self in
+    let within = subst (λ types. c.args.offset < length types) (sym c.take_look-taken.ensures.types) c.requires.offset in
     let at = read_at files taken.types.items c.args.offset _ _ within c.index.ensures c.in-Some.is in
     ap entry_of at ∙ ?
 
 pub look_at-requires-clause-search : goal.look_at-requires-clause-search
 look_at-requires-clause-search c =
     let m = c.args.method.now in
-    search_taken m (ordered_from (files_of m) c.requires.linked.1.no_refusal) c.args.handlers.now c.args.found.now c.take_look.new.self c.args.offset c.take_look.ensures.types c.take_look.ensures.waiting c.requires.search
+    search_taken m (ordered_from (files_of m) c.requires.linked.1.no_refusal) c.args.handlers.now c.args.found.now c.take_look-taken.new.self c.args.offset c.take_look-taken.ensures.types c.take_look-taken.ensures.waiting c.requires.search
 
 pub returns-then-leaves_at-clause-turned : goal.returns-then-leaves_at-clause-turned
 returns-then-leaves_at-clause-turned c =
     let m = c.args.method.now in
-    turned m (ordered_from (files_of m) c.requires.linked.1.no_refusal) c.args.handlers.now c.args.found.now c.take_look.new.self c.args.offset c.take_look.ensures.types c.take_look.ensures.waiting c.requires.search c.requires.looks c.take_look.ensures.looks
+    turned m (ordered_from (files_of m) c.requires.linked.1.no_refusal) c.args.handlers.now c.args.found.now c.take_look-taken.new.self c.args.offset c.take_look-taken.ensures.types c.take_look-taken.ensures.waiting c.requires.search c.requires.looks c.take_look-taken.ensures.looks
     c.pass_on.new.found c.settle.new.self c.in-Some-taken.look.targets.items c.settle.ensures.types c.settle.ensures.waiting c.in_ok-pass_on.ensures
 
 pub returns-then-leaves_at-clause-looks : goal.returns-then-leaves_at-clause-looks
 returns-then-leaves_at-clause-looks c =
     let m = c.args.method.now in
-    looked m (ordered_from (files_of m) c.requires.linked.1.no_refusal) c.args.handlers.now c.args.found.now c.take_look.new.self c.args.offset c.take_look.ensures.types c.take_look.ensures.waiting c.requires.search c.requires.looks c.take_look.ensures.looks
+    looked m (ordered_from (files_of m) c.requires.linked.1.no_refusal) c.args.handlers.now c.args.found.now c.take_look-taken.new.self c.args.offset c.take_look-taken.ensures.types c.take_look-taken.ensures.waiting c.requires.search c.requires.looks c.take_look-taken.ensures.looks
     c.pass_on.new.found c.settle.new.self c.in-Some-taken.look.targets.items c.settle.ensures.types c.settle.ensures.waiting c.in_ok-pass_on.ensures c.settle.ensures.looks
 
 pub returns-in-Ok-clause-turned : goal.returns-in-Ok-clause-turned
 returns-in-Ok-clause-turned c =
     let m = c.args.method.now in
-    turned m (ordered_from (files_of m) c.requires.linked.1.no_refusal) c.args.handlers.now c.args.found.now c.take_look.new.self c.args.offset c.take_look.ensures.types c.take_look.ensures.waiting c.requires.search c.requires.looks c.take_look.ensures.looks
+    turned m (ordered_from (files_of m) c.requires.linked.1.no_refusal) c.args.handlers.now c.args.found.now c.take_look-taken.new.self c.args.offset c.take_look-taken.ensures.types c.take_look-taken.ensures.waiting c.requires.search c.requires.looks c.take_look-taken.ensures.looks
     c.look_at.new.found c.settle-in-Ok.new.self c.in-Ok.targets.items c.settle-in-Ok.ensures.types c.settle-in-Ok.ensures.waiting c.in-Ok.ensures.led
 
 pub returns-in-Ok-clause-looks : goal.returns-in-Ok-clause-looks
 returns-in-Ok-clause-looks c =
     let m = c.args.method.now in
-    looked m (ordered_from (files_of m) c.requires.linked.1.no_refusal) c.args.handlers.now c.args.found.now c.take_look.new.self c.args.offset c.take_look.ensures.types c.take_look.ensures.waiting c.requires.search c.requires.looks c.take_look.ensures.looks
+    looked m (ordered_from (files_of m) c.requires.linked.1.no_refusal) c.args.handlers.now c.args.found.now c.take_look-taken.new.self c.args.offset c.take_look-taken.ensures.types c.take_look-taken.ensures.waiting c.requires.search c.requires.looks c.take_look-taken.ensures.looks
     c.look_at.new.found c.settle-in-Ok.new.self c.in-Ok.targets.items c.settle-in-Ok.ensures.types c.settle-in-Ok.ensures.waiting c.in-Ok.ensures.led c.settle-in-Ok.ensures.looks
