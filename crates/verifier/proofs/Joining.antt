@@ -1,6 +1,6 @@
 -- Places that are noted, one after another.
 use Rattle.std.proofs.Common.{◌≡◌, ℕ, zero, suc, ◌<◌, ◌≤◌, ◌+◌, List, [], ◌∷◌, ◌++◌, length, map, take, get_or, Bool, true, false, ◌||◌, ◌==◌, Option, Some, None, refl, sym, ap, ◌∙◌, subst, arith, ⊎_elim}
-use Rattle.std.specs.Prelude.{slice_get, slice_set, slice_index_or, option_map, is_none}
+use Rattle.std.specs.Prelude.{slice_get, slice_set, slice_index_or, option_map, is_some, not}
 use Rattle.std.specs.List.{filter}
 use Rattle.std.proofs.lemmas.Bool.{false≢true, or_parts, or_cases, eqb-true, eq-eqb, cases_eq}
 use Rattle.std.proofs.lemmas.List.{length-set, take_more}
@@ -226,13 +226,13 @@ its_targets offset hs (to ∷ targets) = ap (λ l. to ∷ l) (its_targets offset
 
 -- ---- one lead more
 
-pub targets_none : (to : ℕ) (o : Option Handler) → is_none o ≡ true → targets_by to o [] ≡ to ∷ []
-targets_none to None e = refl
-targets_none to (Some h) e = absurd cc
+pub targets_none : (to : ℕ) (o : Option Handler) (r : Bool) → is_some o ≡ not r → r ≡ true → targets_by to o [] ≡ to ∷ []
+targets_none to None r e f = refl
+targets_none to (Some h) r e f = absurd (false≢true (sym (e ∙ ap not f)))
 
-pub targets_some : (to : ℕ) (o : Option Handler) → is_none o ≡ false → targets_by to o [] ≡ []
-targets_some to None e = absurd cc
-targets_some to (Some h) e = refl
+pub targets_some : (to : ℕ) (o : Option Handler) (r : Bool) → is_some o ≡ not r → r ≡ false → targets_by to o [] ≡ []
+targets_some to None r e f = absurd (false≢true (e ∙ ap not f))
+targets_some to (Some h) r e f = refl
 
 pub targets_next : (leads : List Lead) (i : ℕ) (d : Lead) → i < length leads → (now after : List ℕ) → now ≡ targets_in (take i leads)
     → after ≡ now ++ targets_by (get_or leads i d).offset (get_or leads i d).handler [] → after ≡ targets_in (take (i + 1) leads)

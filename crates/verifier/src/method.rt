@@ -54,6 +54,11 @@ fn has_handlers(leads: &[Lead]) -> bool {
     }
 }
 
+/// The last instruction with handlers, after one that leads so was looked at.
+fn last_after(last: usize, offset: usize, leads: &[Lead]) -> usize {
+    if has_handlers(leads) { offset } else { last }
+}
+
 /// The instruction with handlers that was looked at last, if it is near to the one at an offset, which leads to handlers.
 fn last_if_near(
     alloc: Global,
@@ -122,9 +127,7 @@ fn look_at(
             let targets = targets_of(alloc, &leads)?;
             let after = PackedFrame::pack(alloc, &frame)?;
             let near = last_if_near(alloc, found, &before, offset, &leads)?;
-            if has_handlers(&leads) {
-                found.last = offset;
-            }
+            found.last = last_after(found.last, offset, &leads);
             let origin = Origin {
                 offset,
                 before,

@@ -1,4 +1,7 @@
 use Rattle.std.proofs.Common.{◌≡◌, ◌<◌, ◌∙◌, length, ap, sym, subst}
+use Rattle.std.specs.Prelude.{Some}
+use Rattle.verifier.specs.Agreeing.{AgreeAt}
+use Rattle.verifier.specs.Looks.{LeavesAt}
 use Rattle.run_laws.specs.typing_search.Tables.{entry_of}
 use Rattle.run_laws.proofs.typing_search.Linking.{ordered_from}
 use Rattle.types.specs.method_code.View.{files_of, member_of, body_of}
@@ -29,7 +32,7 @@ leaves_at-requires c =
     let within = subst (λ types. c.args.offset < length types) (sym c.take_look-taken.ensures.types) c.requires.offset in
     let at = read_at files taken.types.items c.args.offset _ _ within c.index.ensures c.in-Some.is in
     let search = search_taken m (ordered_from files c.requires.linked.1.no_refusal) c.args.handlers.now c.args.found.now taken c.args.offset c.take_look-taken.ensures.types c.take_look-taken.ensures.waiting c.requires.search in
-    search.searches.starts c.args.offset (parts_in files c.in-Some.packed) (ap entry_of at)
+    record { start = search.searches.starts c.args.offset (parts_in files c.in-Some.packed) (ap entry_of at) }
 
 pub pass_on-requires-clause-over : goal.pass_on-requires-clause-over
 pass_on-requires-clause-over c =
@@ -44,7 +47,9 @@ pass_on-requires-clause-passes c =
     let within = subst (λ types. c.args.offset < length types) (sym c.take_look-taken.ensures.types) c.requires.offset in
     let at = read_at files taken.types.items c.args.offset _ _ within c.index.ensures c.in-Some.is in
     may_pass m (ordered_from files c.requires.linked.1.no_refusal) c.args.handlers.now c.args.found.now taken c.args.offset c.take_look-taken.ensures.types c.take_look-taken.ensures.waiting c.requires.search c.requires.looks c.take_look-taken.ensures.looks
-    c.in-Some-taken.look c.in-Some.packed c.in_ok-frame.frame ? (ap entry_of at) ? ?
+    c.in-Some-taken.look c.in-Some.packed c.in_ok-frame.frame c.in-Some-taken.ensures.look (ap entry_of at)
+    (subst (LeavesAt m c.args.offset) c.deref.ensures.value (c.leaves_at.ensures c.if-leaves_at.true))
+    (subst (λ locals. AgreeAt locals c.in_ok-frame.frame.locals c.in-Some.packed.locals) c.deref-then-leaves_at.ensures.value c.in_ok-frame.ensures)
 
 pub look_at-requires-clause-typed : goal.look_at-requires-clause-typed
 look_at-requires-clause-typed c =
@@ -53,7 +58,7 @@ look_at-requires-clause-typed c =
     let taken = c.take_look-taken.new.self in
     let within = subst (λ types. c.args.offset < length types) (sym c.take_look-taken.ensures.types) c.requires.offset in
     let at = read_at files taken.types.items c.args.offset _ _ within c.index.ensures c.in-Some.is in
-    ap entry_of at ∙ ?
+    ap entry_of at ∙ ap (λ p. Some (parts_in files p)) (sym c.in_ok-before.ensures)
 
 pub look_at-requires-clause-search : goal.look_at-requires-clause-search
 look_at-requires-clause-search c =

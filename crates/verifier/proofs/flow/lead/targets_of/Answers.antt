@@ -11,6 +11,6 @@ leads-preserved c =
     let now = c.leads.targets.items in
     let after = c.if-is_none.targets.items in
     elim c.if-is_none.branch [
-      | then-is_none+in_ok-push w ↦ targets_next c.args.leads.now c.leads.lead-index _ c.leads-test.true now after c.leads.invariant (ap items w.targets-is ∙ (w.in_ok-push.ensures.items ∙ ap (λ l. now ++ l) (sym (targets_none _ _ (sym c.is_none.ensures ∙ w.if-is_none.true)))))
-      | else-is_none w ↦ targets_next c.args.leads.now c.leads.lead-index _ c.leads-test.true now after c.leads.invariant (ap items w.targets-is ∙ (sym (append-nil now) ∙ ap (λ l. now ++ l) (sym (targets_some _ _ (sym c.is_none.ensures ∙ w.if-is_none.false)))))
+      | then-is_none+in_ok-push w ↦ targets_next c.args.leads.now c.leads.lead-index _ c.leads-test.true now after c.leads.invariant (ap items w.targets-is ∙ (w.in_ok-push.ensures.items ∙ ap (λ l. now ++ l) (sym (targets_none _ _ c.is_none.result c.is_none.ensures w.if-is_none.true))))
+      | else-is_none w ↦ targets_next c.args.leads.now c.leads.lead-index _ c.leads-test.true now after c.leads.invariant (ap items w.targets-is ∙ (sym (append-nil now) ∙ ap (λ l. now ++ l) (sym (targets_some _ _ c.is_none.result c.is_none.ensures w.if-is_none.false))))
     ]
