@@ -32,13 +32,13 @@ returns-in-Ok-clause-led c =
     let origin : Origin = record { offset = c.args.offset; before = c.args.before; after = c.in_ok-after-in-Ok-Some.after; near = c.in_ok-near-in-Ok-Some.near } in
     let on : LeadOn c.args.offset hs c.in-Ok-Some.leads.items = subst (λ o. IfSome o (λ (v : Vec Lead). LeadOn c.args.offset hs v.items)) c.in-Ok-Some.field-0-is c.in-Ok-Some.ensures.handlers in
     let flows = sym (ap (option_map (λ (v : Vec Lead). map (lead_in files c.in_ok-frame.frame c.flow_at.new.frame) v.items)) c.in-Ok-Some.field-0-is) ∙ c.in-Ok-Some.ensures.flow in
-    let leads = flows_to files (member_of m) (body_of m) c.args.offset c.args.before c.in_ok-frame.frame c.flow_at.new.frame origin c.in-Ok-Some.leads.items c.deref-in-Ok-Some-4.result.now c.in_ok-frame.ensures refl c.in_ok-after-in-Ok-Some.ensures flows c.deref-in-Ok-Some-4.ensures.value in
+    let leads = flows_to files (member_of m) (body_of m) c.args.offset c.args.before c.in_ok-frame.frame c.flow_at.new.frame origin c.in-Ok-Some.leads.items c.deref-in-Ok-Some-3.result.now c.in_ok-frame.ensures refl c.in_ok-after-in-Ok-Some.ensures flows c.deref-in-Ok-Some-3.ensures.value in
     record {
       t = parts_in files c.args.before;
-      leads = leads_in files origin c.deref-in-Ok-Some-4.result.now;
+      leads = leads_in files origin c.deref-in-Ok-Some-3.result.now;
       typed = c.requires.typed;
       flows = leads;
-      to = leads_to files origin c.args.offset hs c.in-Ok-Some.leads.items c.deref-in-Ok-Some-4.result.now c.in_ok-targets-in-Ok-Some.targets.items on c.deref-in-Ok-Some-4.ensures.value (c.in_ok-targets-in-Ok-Some.ensures ∙ ap targets_in c.deref-in-Ok-Some.ensures.value);
+      to = leads_to files origin c.args.offset hs c.in-Ok-Some.leads.items c.deref-in-Ok-Some-3.result.now c.in_ok-targets-in-Ok-Some.targets.items on c.deref-in-Ok-Some-3.ensures.value (c.in_ok-targets-in-Ok-Some.ensures ∙ ap targets_in c.deref-in-Ok-Some.ensures.value);
       merged = c.in-Ok.ensures.merged;
       looks = c.in-Ok.ensures.looks;
     }
@@ -49,13 +49,13 @@ returns-clause-exact c =
     let files = files_of m in
     let origin : Origin = record { offset = c.args.offset; before = c.args.before; after = c.in_ok-after-in-Ok-Some.after; near = c.in_ok-near-in-Ok-Some.near } in
     let flows = sym (ap (option_map (λ (v : Vec Lead). map (lead_in files c.in_ok-frame.frame c.flow_at.new.frame) v.items)) c.in-Ok-Some.field-0-is) ∙ c.in-Ok-Some.ensures.flow in
-    let leads = flows_to files (member_of m) (body_of m) c.args.offset c.args.before c.in_ok-frame.frame c.flow_at.new.frame origin c.in-Ok-Some.leads.items c.deref-in-Ok-Some-4.result.now c.in_ok-frame.ensures refl c.in_ok-after-in-Ok-Some.ensures flows c.deref-in-Ok-Some-4.ensures.value in
+    let leads = flows_to files (member_of m) (body_of m) c.args.offset c.args.before c.in_ok-frame.frame c.flow_at.new.frame origin c.in-Ok-Some.leads.items c.deref-in-Ok-Some-3.result.now c.in_ok-frame.ensures refl c.in_ok-after-in-Ok-Some.ensures flows c.deref-in-Ok-Some-3.ensures.value in
     on_unverified c.in-Err-merge_all.fault _ _
-    (λ clash. clashes files (ordered_from files c.requires.linked.1.no_refusal) (member_of m) (body_of m) (tables_in files c.args.found.now) c.args.offset c.requires.search (parts_in files c.args.before) (leads_in files origin c.deref-in-Ok-Some-4.result.now) c.requires.typed leads clash) c.in-Err-merge_all.ensures.clash
+    (λ clash. clashes files (ordered_from files c.requires.linked.1.no_refusal) (member_of m) (body_of m) (tables_in files c.args.found.now) c.args.offset c.requires.search (parts_in files c.args.before) (leads_in files origin c.deref-in-Ok-Some-3.result.now) c.requires.typed leads clash) c.in-Err-merge_all.ensures.clash
 
 pub merge_all-requires-clause-known : goal.merge_all-requires-clause-known
 merge_all-requires-clause-known c =
     let m = c.args.method.now in
     let hs = c.args.handlers.now in
     let on : LeadOn c.args.offset hs c.in-Ok-Some.leads.items = subst (λ o. IfSome o (λ (v : Vec Lead). LeadOn c.args.offset hs v.items)) c.in-Ok-Some.field-0-is c.in-Ok-Some.ensures.handlers in
-    nears_known m c.args.found.now c.args.offset c.requires.search hs c.requires.handlers c.deref-in-Ok-Some-4.result.now (subst (LeadOn c.args.offset hs) (sym c.deref-in-Ok-Some-4.ensures.value) on) c.args.before c.in_ok-near-in-Ok-Some.near c.in_ok-near-in-Ok-Some.ensures.near c.in_ok-near-in-Ok-Some.ensures.other
+    nears_known m c.args.found.now c.args.offset c.requires.search hs c.requires.handlers c.deref-in-Ok-Some-3.result.now (subst (LeadOn c.args.offset hs) (sym c.deref-in-Ok-Some-3.ensures.value) on) c.args.before c.in_ok-near-in-Ok-Some.near c.in_ok-near-in-Ok-Some.ensures.near c.in_ok-near-in-Ok-Some.ensures.other
