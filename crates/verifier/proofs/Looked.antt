@@ -224,11 +224,16 @@ notes_more offset changed before taken after old entry at e f targets changes =
     record {
       entry = entry;
       set = f ∙ (ap (λ l. slice_set l offset entry) e ∙ set_twice before offset None entry);
-      noted = λ look q.
-          (old, (at, record {
+      noted = λ look q. (
+        old,
+        (
+          at,
+          record {
             targets = subst (λ o. IfSome o (λ l. l.targets.items ≡ old.targets.items)) q targets;
             changed = subst (λ o. IfSome o (λ l. (k : ℕ) → is_among l.changed.items k ≡ false → (is_among old.changed.items k ≡ false) × (is_among changed k ≡ false))) q changes;
-          }));
+          },
+        ),
+      );
     }
 
 -- nothing is known where a frame type was put that was not there

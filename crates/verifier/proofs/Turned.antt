@@ -74,7 +74,7 @@ module _ (m : MethodCode) where
       may_pass look packed frame at typed left holds =
           let t = parts_in (files_of m) packed in
           let known : (tables : Tables) → tables_in (files_of m) start ≡ tables → typing_of tables.types offset ≡ Some t
-              → IsLook m hs (typing_of tables.types) offset t look =
+          → IsLook m hs (typing_of tables.types) offset t look =
           λ tables e. subst (λ (ts : Tables). typing_of ts.types offset ≡ Some t → IsLook m hs (typing_of ts.types) offset t look) e (are offset look at t) in
           record {
             t = t;

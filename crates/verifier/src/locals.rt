@@ -31,10 +31,7 @@ fn of_runs(alloc: Global, runs: Vec<Run>, count: usize) -> Result<Locals, AllocE
 }
 
 /// These types.
-pub(crate) fn locals_of(
-    alloc: Global,
-    types: &[VerificationType],
-) -> Result<Locals, AllocError>
+pub(crate) fn locals_of(alloc: Global, types: &[VerificationType]) -> Result<Locals, AllocError>
     ensures { IfOk result (λ locals. locals_in locals ≡ types.now) }
 {
     let runs = runs_of(alloc, types)?;

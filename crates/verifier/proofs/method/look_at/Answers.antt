@@ -38,7 +38,7 @@ returns-in-Ok-clause-led c =
       leads = leads_in files origin c.deref-in-Ok-Some-3.result.now;
       typed = c.requires.typed;
       flows = leads;
-      to = leads_to files origin c.args.offset hs c.in-Ok-Some.leads.items c.deref-in-Ok-Some-3.result.now c.in_ok-targets-in-Ok-Some.targets.items on c.deref-in-Ok-Some-3.ensures.value (c.in_ok-targets-in-Ok-Some.ensures ∙ ap targets_in c.deref-in-Ok-Some.ensures.value);
+      to = leads_to files origin c.args.offset hs c.in-Ok-Some.leads.items c.deref-in-Ok-Some-3.result.now c.in_ok-targets-in-Ok-Some.targets.items on c.deref-in-Ok-Some-3.ensures.value (c.in_ok-targets-in-Ok-Some.ensures ∙ ap targets_in c.deref.ensures.value);
       merged = c.in-Ok.ensures.merged;
       looks = c.in-Ok.ensures.looks;
     }
