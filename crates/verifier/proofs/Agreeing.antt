@@ -1,13 +1,12 @@
 -- Lists that agree but at some places.
-use Rattle.std.proofs.Common.{◌≡◌, ℕ, zero, suc, ◌<◌, ◌≤◌, List, [], ◌∷◌, ◌++◌, length, map, Bool, true, false, ◌||◌, ◌==◌, Option, Some, None, refl, sym, ap, ◌∙◌, subst, arith, ⊎_elim}
+use Rattle.std.proofs.Common.{◌≡◌, ℕ, zero, suc, List, [], ◌∷◌, length, map, Bool, true, ◌||◌, ◌==◌, Some, refl, sym, ap, ◌∙◌, subst, arith, ⊎_elim}
 use Rattle.std.specs.Prelude.{slice_get, slice_set, slice_index_or, unwrap_or, option_map}
-use Rattle.std.specs.List.{list_any, list_all}
+use Rattle.std.specs.List.{list_all}
 use Rattle.std.proofs.lemmas.Bool.{false≢true, eqb-true, eq-eqb, or_cases, or_right, and_parts, and_from}
 use Rattle.std.proofs.lemmas.List.{length-set, length-map}
-use Rattle.std.proofs.lemmas.Option.{unwrap_or-slice_get, slice_get-map, slice_get_past, slice_get_within}
+use Rattle.std.proofs.lemmas.Option.{unwrap_or-slice_get, slice_get-map}
 use Rattle.run_laws.proofs.laws.Lists.{Pairwise}
-use Rattle.run_laws.proofs.typing_search.Merging.{get_set_other}
-use Rattle.verifier.specs.Agreeing.{is_among, AgreeBut, AgreeAt}
+use Rattle.verifier.specs.Agreeing.{is_among, AgreeBut}
 
 module _ {A : Type 0} where
   -- ---- items

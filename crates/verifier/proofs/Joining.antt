@@ -5,7 +5,7 @@ use Rattle.std.specs.List.{filter}
 use Rattle.std.proofs.lemmas.Bool.{false≢true, or_parts, or_cases, eqb-true, eq-eqb, cases_eq}
 use Rattle.std.proofs.lemmas.List.{length-set, take_more}
 use Rattle.std.proofs.lemmas.List.Folds.{list_any_more}
-use Rattle.std.proofs.lemmas.Option.{same_Some, slice_get-map, slice_get_past, slice_get_within, slice_get-get_or, get_or_from_slice_get}
+use Rattle.std.proofs.lemmas.Option.{slice_get-map, slice_get_past, slice_get_within, slice_get-get_or, get_or_from_slice_get}
 use Rattle.model.specs.Classes.{Program}
 use Rattle.model.specs.Step.{covers}
 use Rattle.model.specs.TypeJoin.{local_join}
@@ -17,9 +17,9 @@ use Rattle.run_laws.proofs.typing_search.Joins.{local_is}
 use Rattle.run_laws.proofs.typing_search.Merging.{get_set_here, get_set_other}
 use Rattle.verifier.specs.declared.flow.handler.Handler.{Handler}
 use Rattle.verifier.specs.declared.flow.lead.Lead.{Lead}
-use Rattle.verifier.specs.flow.Leads.{lead_on, lead_to, handler_leads, all_leads, targets_by, targets_in}
+use Rattle.verifier.specs.flow.Leads.{lead_to, all_leads, targets_by, targets_in}
 use Rattle.verifier.specs.Agreeing.{is_among, AgreeBut, AgreeAt}
-use Rattle.verifier.specs.Changes.{PartsDiffer, IsJoined}
+use Rattle.verifier.specs.Changes.{IsJoined}
 use Rattle.verifier.specs.Packed.{Parts}
 use Rattle.verifier.proofs.Agreeing.{map_index}
 use Rattle.verifier.proofs.Kept.{kept_local}

@@ -1,16 +1,15 @@
 -- The join of a type with one that is below it is the type.
-use Rattle.std.proofs.Common.{◌≡◌, List, [], ◌∷◌, length, Bool, true, false, eqb, cond, Option, Some, None, refl, sym, ap, ◌∙◌, subst}
+use Rattle.std.proofs.Common.{◌≡◌, List, [], ◌∷◌, length, true, eqb, cond, Some, None, refl, sym, ap, ◌∙◌, subst}
 use Rattle.std.specs.Prelude.{unwrap_or}
 use Rattle.std.specs.Option.{option_map, option_map_or, option_and_then}
-use Rattle.std.proofs.lemmas.Bool.{false≢true, eqb-true, eq-eqb, cond-true}
+use Rattle.std.proofs.lemmas.Bool.{false≢true, eqb-true, eq-eqb}
 use Rattle.model.specs.Names.{Name, name_eq, java_lang_object}
 use Rattle.model.specs.Classes.{Program, classes_of, superclass_of, is_subclass}
 use Rattle.model.specs.ReferenceTypes.{Primitive, primitive_number, ReferenceType, ClassType, PrimitiveArray, ReferenceArray, is_assignable}
 use Rattle.model.specs.Types.{VerificationType, Unusable, IntType, NullType, OfType, Uninitialised, UninitialisedThis, is_of}
-use Rattle.model.specs.InitialisedTypes.{is_uninitialised, is_uninitialised_this}
 use Rattle.model.specs.TypeOrder.{is_stack_below, is_local_below}
 use Rattle.model.specs.TypeJoin.{common_within, class_join, object_above, reference_join, stack_join, local_join, in_front, join_pairwise}
-use Rattle.run_laws.proofs.laws.Classes.{names_same, name_self, subclass_self}
+use Rattle.run_laws.proofs.laws.Classes.{names_same, subclass_self}
 use Rattle.run_laws.proofs.laws.Lists.{Pairwise}
 use Rattle.run_laws.proofs.typing_search.Orders.{unusable_same, int_same, null_same, new_same, this_same}
 

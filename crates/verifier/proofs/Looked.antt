@@ -1,17 +1,17 @@
 -- What is known of instructions stays so while frame types are merged.
-use Rattle.std.proofs.Common.{◌≡◌, ℕ, zero, suc, List, [], ◌∷◌, length, map, Bool, true, false, Option, Some, None, refl, sym, ap, ◌∙◌, subst, ⊎_elim}
+use Rattle.std.proofs.Common.{◌≡◌, ℕ, zero, suc, List, [], ◌∷◌, map, Bool, true, false, Option, Some, None, refl, sym, ap, ◌∙◌, subst, ⊎_elim}
 use Rattle.std.specs.Prelude.{replicate, slice_get, slice_set, option_map, Result, Ok, Err, IfOk, IfSome}
 use Rattle.std.specs.Global.{Vec}
-use Rattle.std.proofs.lemmas.Bool.{cases_eq, false≢true}
+use Rattle.std.proofs.lemmas.Bool.{cases_eq}
 use Rattle.std.proofs.lemmas.Option.{same_Some}
 use Rattle.model.specs.TypeOrder.{FrameType}
 use Rattle.model.specs.Typing.{Typing, flow}
 use Rattle.types.specs.declared.method_code.declaration.MethodCode.{MethodCode}
 use Rattle.types.specs.method_code.View.{files_of, member_of, body_of}
 use Rattle.run_laws.specs.laws.Steps.{Rooted}
-use Rattle.run_laws.specs.typing_search.Search.{Raised, AreReached}
+use Rattle.run_laws.specs.typing_search.Search.{Raised}
 use Rattle.run_laws.specs.typing_search.Tables.{entry_of, typing_of, waits}
-use Rattle.run_laws.proofs.typing_search.Merging.{get_set_here, get_set_other}
+use Rattle.run_laws.proofs.typing_search.Merging.{get_set_other}
 use Rattle.run_laws.proofs.typing_search.Searching.{all_up}
 use Rattle.verifier.specs.declared.flow.handler.Handler.{Handler}
 use Rattle.verifier.specs.declared.found.Found.{Found}
@@ -19,7 +19,7 @@ use Rattle.verifier.specs.declared.look.Look.{Look}
 use Rattle.verifier.specs.flow.Leads.{all_leads}
 use Rattle.verifier.specs.Agreeing.{is_among, AgreeBut, DifferIn}
 use Rattle.verifier.specs.Changes.{PartsDiffer, DiffersAt}
-use Rattle.verifier.specs.Looks.{offset_of, typing_in, IsLook, AreLooks, KeepsLooks, NotesAt, NotesChange, SettlesAt, HasLed}
+use Rattle.verifier.specs.Looks.{offset_of, typing_in, IsLook, AreLooks, NotesAt, NotesChange, SettlesAt, HasLed}
 use Rattle.verifier.specs.Packed.{Parts, parts_in}
 use Rattle.verifier.specs.Found.{tables_in}
 use Rattle.verifier.proofs.Agreeing.{but_self}

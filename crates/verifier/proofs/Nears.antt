@@ -1,10 +1,9 @@
 -- What an instruction near by has merged is not merged again.
-use Rattle.std.proofs.Common.{◌≡◌, ℕ, zero, suc, ◌<◌, ◌+◌, List, [], ◌∷◌, ◌++◌, length, map, take, drop, get_or, cond, Bool, true, false, Option, Some, None, refl, sym, ap, ◌∙◌, subst, arith}
-use Rattle.std.specs.Prelude.{Result, Ok, Err, slice_get, slice_set, slice_index_or, replicate, option_map, IfOk, IfSome, IsSomeAnd}
-use Rattle.std.specs.List.{AllByRecursion, filter, list_all}
-use Rattle.std.proofs.lemmas.Bool.{and_parts}
+use Rattle.std.proofs.Common.{◌≡◌, ℕ, zero, suc, ◌<◌, ◌+◌, List, [], ◌∷◌, ◌++◌, length, map, get_or, cond, Bool, true, false, Option, Some, None, refl, sym, ap, ◌∙◌, subst, arith}
+use Rattle.std.specs.Prelude.{Result, Ok, Err, slice_get, slice_index_or, replicate, option_map, IfOk, IfSome, IsSomeAnd}
+use Rattle.std.specs.List.{AllByRecursion, filter}
 use Rattle.std.proofs.lemmas.Option.{same_Some}
-use Rattle.run_laws.proofs.laws.Lists.{Pairwise, every_append, every_map}
+use Rattle.run_laws.proofs.laws.Lists.{every_append, every_map}
 use Rattle.model.specs.declared.class_file.ExceptionEntry.{ExceptionEntry}
 use Rattle.model.specs.declared.value.Value.{Value}
 use Rattle.model.specs.Names.{Member}
@@ -15,16 +14,13 @@ use Rattle.model.specs.Operands.{values}
 use Rattle.model.specs.Sites.{MeaningOf, Site, site_with}
 use Rattle.model.specs.Meanings.{meaning_of}
 use Rattle.model.specs.Step.{covers}
-use Rattle.model.specs.TypeOrder.{FrameType, is_frame_below, is_local_below, is_mark_below}
+use Rattle.model.specs.TypeOrder.{FrameType}
 use Rattle.model.specs.Typing.{Typing, Reaches, successors, caught_type, handler_type, handlers_from, flow_by, flow_at, flow}
 use Rattle.types.specs.View.{type_in}
 use Rattle.types.specs.declared.verification_type.VerificationType.{VerificationType}
-use Rattle.types.specs.declared.verification_type.VerificationType.TheVariants as type
-use Rattle.run_laws.specs.typing_search.Orders.{IsOrdered}
 use Rattle.run_laws.specs.typing_search.Search.{AreReached, Raised}
 use Rattle.run_laws.specs.typing_search.Tables.{entry_of, typing_of, waits}
 use Rattle.run_laws.proofs.typing_search.Merging.{waits_other}
-use Rattle.run_laws.proofs.typing_search.Orders.{below_parts, from_parts}
 use Rattle.run_laws.proofs.typing_search.Searching.{reached_parts, reaches_up}
 use Rattle.run_laws.specs.laws.Steps.{Rooted}
 use Rattle.types.specs.declared.method_code.declaration.MethodCode.{MethodCode}

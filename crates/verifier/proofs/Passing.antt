@@ -1,11 +1,11 @@
 -- Changes of a frame type that are merged where its instruction leads.
-use Rattle.std.proofs.Common.{◌≡◌, ℕ, zero, suc, ◌+◌, ◌<◌, ◌≤◌, List, [], ◌∷◌, ◌++◌, length, map, take, get_or, Bool, true, false, Option, Some, None, refl, sym, ap, ◌∙◌, subst, arith}
+use Rattle.std.proofs.Common.{◌≡◌, ℕ, zero, suc, ◌+◌, ◌<◌, ◌≤◌, List, [], ◌∷◌, ◌++◌, length, map, take, get_or, true, false, Option, Some, None, refl, sym, ap, ◌∙◌, subst, arith}
 use Rattle.std.specs.Prelude.{slice_get, slice_set, option_map}
 use Rattle.std.specs.List.{list_all}
 use Rattle.std.proofs.lemmas.Option.{same_Some, slice_get-map, slice_get-get_or, slice_get_past}
 use Rattle.std.proofs.lemmas.List.{length-map, length-set, take_all}
 use Rattle.model.specs.TypeOrder.{FrameType, is_frame_below}
-use Rattle.model.specs.Typing.{Typing, Reaches, flow}
+use Rattle.model.specs.Typing.{Typing, Reaches}
 use Rattle.types.specs.declared.method_code.declaration.MethodCode.{MethodCode}
 use Rattle.types.specs.method_code.View.{files_of, member_of, body_of}
 use Rattle.run_laws.specs.typing_search.Orders.{IsOrdered}
@@ -19,7 +19,7 @@ use Rattle.verifier.specs.declared.look.Look.{Look}
 use Rattle.verifier.specs.flow.Leads.{all_leads}
 use Rattle.verifier.specs.Agreeing.{AgreeAt, DifferIn, HaveMoved}
 use Rattle.verifier.specs.Changes.{fits, IsJoined}
-use Rattle.verifier.specs.Looks.{offset_of, typing_in, MayPass, AreLooks, KeepsLooks, NotesAt, RaisesTo, RaisesAll, HasLed}
+use Rattle.verifier.specs.Looks.{offset_of, typing_in, MayPass, KeepsLooks, NotesAt, RaisesTo, RaisesAll, HasLed}
 use Rattle.verifier.specs.Packed.{Parts, parts_in}
 use Rattle.verifier.specs.Found.{tables_in, AreOver, MergesInto}
 use Rattle.verifier.proofs.Entries.{entry_written}

@@ -1,21 +1,19 @@
 -- A frame type that differs from one that is below what is there, in some local variables: their joins are its join.
-use Rattle.std.proofs.Common.{◌≡◌, ℕ, zero, suc, List, [], ◌∷◌, length, map, Bool, true, false, ◌&&◌, Option, Some, None, refl, sym, ap, ◌∙◌, subst, arith}
-use Rattle.std.specs.Prelude.{slice_get, slice_index_or, option_map}
+use Rattle.std.proofs.Common.{◌≡◌, ℕ, zero, suc, List, [], ◌∷◌, length, map, Bool, true, false, ◌&&◌, Some, refl, sym, ap, ◌∙◌, subst, arith}
+use Rattle.std.specs.Prelude.{slice_get, slice_index_or}
 use Rattle.std.specs.List.{list_all}
 use Rattle.std.proofs.lemmas.Bool.{false≢true}
-use Rattle.std.proofs.lemmas.List.{length-map}
 use Rattle.std.proofs.lemmas.Option.{slice_get-map}
 use Rattle.model.specs.Classes.{Program}
 use Rattle.model.specs.Types as model
 use Rattle.model.specs.TypeOrder.{FrameType, is_stack_below, is_local_below, is_mark_below, is_frame_below}
 use Rattle.model.specs.TypeJoin.{local_join, stack_join, in_front, join_pairwise, frame_of_slots, frame_join}
 use Rattle.types.specs.View.{type_in}
-use Rattle.types.specs.declared.verification_type.VerificationType.{VerificationType}
 use Rattle.types.specs.declared.verification_type.VerificationType.TheVariants as type
 use Rattle.run_laws.proofs.laws.Lists.{Pairwise, pair_length, pair_get}
 use Rattle.run_laws.proofs.typing_search.Orders.{Below, below_parts, from_parts}
 use Rattle.verifier.specs.Packed.{Parts, parts_in}
-use Rattle.verifier.specs.Agreeing.{is_among, AgreeBut, AgreeAt, DifferIn}
+use Rattle.verifier.specs.Agreeing.{is_among, AgreeAt, DifferIn}
 use Rattle.verifier.specs.Changes.{fits, PartsDiffer, IsJoined}
 use Rattle.verifier.proofs.Agreeing.{but_map, map_index, index_map, item_of, index_alike, pair_at, pairs_from, all_at, all_among}
 use Rattle.verifier.proofs.Kept.{kept_local, kept_stacks}

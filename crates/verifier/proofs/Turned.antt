@@ -1,5 +1,5 @@
 -- A turn of a search, by what the instruction led to.
-use Rattle.std.proofs.Common.{◌≡◌, ℕ, List, [], ◌∷◌, length, map, true, Some, None, refl, sym, ap, ◌∙◌, subst}
+use Rattle.std.proofs.Common.{◌≡◌, ℕ, List, [], ◌∷◌, map, true, Some, None, refl, sym, ap, ◌∙◌, subst}
 use Rattle.std.specs.Prelude.{slice_get, slice_set, option_map}
 use Rattle.std.proofs.lemmas.List.{length-set}
 use Rattle.std.proofs.lemmas.Option.{slice_get-map}
@@ -18,7 +18,7 @@ use Rattle.verifier.specs.declared.look.Look.{Look}
 use Rattle.verifier.specs.flow.Leads.{LeadOn, all_leads, targets_in}
 use Rattle.verifier.specs.Agreeing.{AgreeAt}
 use Rattle.verifier.specs.Packed.{Parts, parts_in}
-use Rattle.verifier.specs.Found.{Tables, tables_in, leads_in, AreOver, HasMerged, IsSearch, waiting_again, HasTurned}
+use Rattle.verifier.specs.Found.{Tables, tables_in, leads_in, AreOver, IsSearch, waiting_again, HasTurned}
 use Rattle.verifier.specs.Looks.{offset_of, typing_in, LeavesAt, IsLook, MayPass, AreLooks, SettlesAt, HasLed}
 use Rattle.verifier.proofs.Entries.{tables_same}
 use Rattle.verifier.proofs.Joining.{its_targets}

@@ -1,8 +1,8 @@
 -- Where an instruction leads from frame types that differ in local variables with which it has nothing to do.
-use Rattle.std.proofs.Common.{◌≡◌, ℕ, ◌+◌, List, [], ◌∷◌, ◌++◌, length, map, take, drop, Bool, true, false, ◌&&◌, ◌||◌, ◌==◌, not, cond, Option, Some, None, refl, sym, ap, ◌∙◌, subst, option_map}
-use Rattle.std.specs.Prelude.{slice_get, slice_set, slice_index_or, nat_le}
+use Rattle.std.proofs.Common.{◌≡◌, ℕ, ◌+◌, List, [], ◌∷◌, ◌++◌, length, map, take, drop, Bool, true, false, ◌&&◌, ◌||◌, not, cond, Option, Some, None, refl, sym, ap, ◌∙◌, subst, option_map}
+use Rattle.std.specs.Prelude.{slice_set, slice_index_or, nat_le}
 use Rattle.std.specs.List.{AllByRecursion, list_any}
-use Rattle.std.proofs.lemmas.Bool.{false≢true, eq-eqb, not-true}
+use Rattle.std.proofs.lemmas.Bool.{false≢true, not-true}
 use Rattle.std.proofs.lemmas.Option.{same_Some}
 use Rattle.model.specs.declared.class_file.ExceptionEntry.{ExceptionEntry}
 use Rattle.model.specs.declared.instr.ArrayKind.{ArrayKind}
@@ -24,7 +24,7 @@ use Rattle.model.specs.InitialisedTypes.{is_made_at}
 use Rattle.model.specs.Operands.{Slots, values, over_types, Wants, reads_meet, pops_meet, is_ready, operands, under}
 use Rattle.model.specs.Rows.{Out, Row, out, written, row_wants, after_row, move_row, constant_row, local_row}
 use Rattle.model.specs.Sites.{MeaningOf, Site, site_at, to_next}
-use Rattle.model.specs.Meanings.{local_meaning, meaning_of}
+use Rattle.model.specs.Meanings.{meaning_of}
 use Rattle.model.specs.Arrays.{load_of, store_of}
 use Rattle.model.specs.Calls.{return_of}
 use Rattle.model.specs.Step.{covers}

@@ -1,5 +1,5 @@
 -- Local variables that changed, merged into a frame type.
-use Rattle.std.specs.Prelude.{◌≡◌, ℕ, List, Option, Some, Bool, true, false, length, slice_get, slice_set, slice_index_or, option_map}
+use Rattle.std.specs.Prelude.{◌≡◌, ℕ, List, Option, Some, Bool, true, slice_get, slice_set, slice_index_or, option_map}
 use Rattle.model.specs.Classes.{Program}
 use Rattle.model.specs.TypeOrder.{is_local_below}
 use Rattle.model.specs.TypeJoin.{local_join}

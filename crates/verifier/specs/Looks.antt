@@ -1,6 +1,6 @@
 -- What is known of an instruction that was looked at: where it led from a frame type, and in which local variables that before it
 -- differs by now.
-use Rattle.std.specs.Prelude.{◌≡◌, ◌⊎◌, ℕ, List, [], ◌∷◌, ◌++◌, Option, Some, None, true, false, map, slice_get, slice_set}
+use Rattle.std.specs.Prelude.{◌≡◌, ℕ, List, [], ◌∷◌, Option, Some, true, false, map, slice_get, slice_set}
 use Rattle.model.specs.Sites.{Site, site_at}
 use Rattle.model.specs.Typing.{Typing, Reaches, flow}
 use Rattle.model.specs.TypeOrder as frames

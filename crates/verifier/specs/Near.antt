@@ -1,13 +1,9 @@
 -- An instruction near by: its leads are merged, and the local variables before it differ in some that are known.
-use Rattle.std.specs.Prelude.{◌≡◌, ℕ, List, [], ◌∷◌, Option, Some, None, Bool, true, false, slice_get, slice_set, slice_index_or}
-use Rattle.std.specs.List.{AllByRecursion, list_all}
+use Rattle.std.specs.Prelude.{◌≡◌, ℕ, List, Option, Some, None, true, false, slice_get}
+use Rattle.std.specs.List.{AllByRecursion}
 use Rattle.model.specs.Classes.{Program}
 use Rattle.model.specs.Step.{covers}
-use Rattle.model.specs.TypeOrder.{is_local_below}
 use Rattle.model.specs.Typing.{Typing, Reaches}
-use Rattle.types.specs.View.{type_in}
-use Rattle.types.specs.declared.verification_type.VerificationType.{VerificationType}
-use Rattle.types.specs.declared.verification_type.VerificationType.TheVariants as type
 use Rattle.run_laws.specs.typing_search.Tables.{typing_of, waits}
 use Rattle.verifier.specs.declared.flow.handler.Handler.{Handler}
 use Rattle.verifier.specs.declared.flow.lead.Lead.{Lead}

@@ -1,4 +1,4 @@
-use Rattle.std.proofs.Common.{◌≡◌, ◌∙◌, refl, ap, sym, subst}
+use Rattle.std.proofs.Common.{◌∙◌, refl, ap, sym, subst}
 use Rattle.std.specs.Prelude.{map, option_map, IfSome}
 use Rattle.std.specs.Global.{Vec}
 use Rattle.run_laws.proofs.typing_search.Linking.{ordered_from}

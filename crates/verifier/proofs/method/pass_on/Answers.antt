@@ -1,4 +1,4 @@
-use Rattle.std.proofs.Common.{◌≡◌, ◌∙◌, ap, map, subst}
+use Rattle.std.proofs.Common.{◌∙◌, ap, map, subst}
 use Rattle.verifier.specs.flow.Leads.{all_leads}
 use Rattle.verifier.specs.Looks.{offset_of, RaisesAll}
 use Rattle.verifier.proofs.Passing.{passed_on}

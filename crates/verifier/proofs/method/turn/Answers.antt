@@ -1,12 +1,11 @@
-use Rattle.std.proofs.Common.{◌≡◌, ◌<◌, ◌∙◌, length, ap, sym, subst}
+use Rattle.std.proofs.Common.{◌<◌, ◌∙◌, length, ap, sym, subst}
 use Rattle.std.specs.Prelude.{Some}
 use Rattle.verifier.specs.Agreeing.{AgreeAt}
 use Rattle.verifier.specs.Looks.{LeavesAt}
 use Rattle.run_laws.specs.typing_search.Tables.{entry_of}
 use Rattle.run_laws.proofs.typing_search.Linking.{ordered_from}
-use Rattle.types.specs.method_code.View.{files_of, member_of, body_of}
+use Rattle.types.specs.method_code.View.{files_of}
 use Rattle.verifier.specs.Packed.{parts_in}
-use Rattle.verifier.specs.Found.{tables_in}
 use Rattle.verifier.proofs.Entries.{read_at}
 use Rattle.verifier.proofs.Turned.{search_taken, over_taken, passes_taken, looks_taken, may_pass, turned, looked}
 use Rattle.verifier.proofs.method.turn.Goals as goal

@@ -1,7 +1,3 @@
-use Rattle.std.proofs.Common.{◌≡◌, sym, ◌∙◌, subst}
-use Rattle.std.specs.Prelude.{IfOk, IfSome}
-use Rattle.std.specs.Global.{Vec}
-use Rattle.verifier.specs.Changes.{DiffersAt}
 use Rattle.verifier.proofs.Looked.{differs_there}
 use Rattle.verifier.proofs.Puts.{there_at}
 use Rattle.verifier.proofs.found.Found.changes_at.Goals as goal

@@ -1,9 +1,9 @@
 use Rattle.std.proofs.Common.{◌∷◌, [], subst, sym}
-use Rattle.types.specs.method_code.View.{files_of, body_of}
+use Rattle.types.specs.method_code.View.{files_of}
 use Rattle.verifier.specs.Found.{led_to, ClashesWith}
 use Rattle.verifier.specs.Verified.{OnUnverified}
 use Rattle.verifier.proofs.Entries.{lead_caught}
-use Rattle.verifier.proofs.Nears.{raised_near, same_origin}
+use Rattle.verifier.proofs.Nears.{raised_near}
 use Rattle.verifier.proofs.found.Found.merge_lead.Goals as goal
 
 pub returns-in-Err-clause-clash : goal.returns-in-Err-clause-clash

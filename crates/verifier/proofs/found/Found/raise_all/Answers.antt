@@ -1,8 +1,5 @@
-use Rattle.std.proofs.Common.{map}
 use Rattle.run_laws.proofs.typing_search.Linking.{ordered_from}
 use Rattle.types.specs.method_code.View.{files_of}
-use Rattle.verifier.specs.declared.flow.lead.Lead.{Lead}
-use Rattle.verifier.specs.Looks.{offset_of}
 use Rattle.verifier.proofs.Passing.{raises_none, raises_more, raises_all}
 use Rattle.verifier.proofs.found.Found.raise_all.Goals as goal
 
