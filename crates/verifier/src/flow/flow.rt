@@ -41,7 +41,7 @@ fn site_at<'a>(method: &MethodCode<'a>, offset: u16) -> Option<Site<'a>>
 /// Whether the instruction at an offset neither reads nor writes any of these local variables.
 ///
 /// The offset, in bytes from the code's start, is an instruction boundary.
-pub fn leaves_at(method: &MethodCode<'_>, offset: usize, locals: &[usize]) -> bool
+pub(crate) fn leaves_at(method: &MethodCode<'_>, offset: usize, locals: &[usize]) -> bool
     requires start { IsTrue (is_start (body_of method.now).code.code offset) }
     ensures { IsTrue result → (site : ModelSite) → site_at (member_of method.now) (body_of method.now) offset ≡ Some site
         → leaves site.instr locals.now ≡ true }

@@ -49,7 +49,7 @@ pub(crate) fn add_handlers(
 }
 
 /// To these offsets, and then to the handlers whose range an offset lies in, in their order.
-pub fn all_leads(
+pub(crate) fn all_leads(
     alloc: Global,
     handlers: &[Handler],
     offset: usize,
@@ -63,7 +63,7 @@ pub fn all_leads(
 }
 
 /// The offsets of those leads that are to no handler.
-pub fn targets_of(alloc: Global, leads: &[Lead]) -> Result<Vec<usize>, AllocError>
+pub(crate) fn targets_of(alloc: Global, leads: &[Lead]) -> Result<Vec<usize>, AllocError>
     ensures { IfOk result (λ v. v.items ≡ targets_in leads.now) }
 {
     let mut targets = Vec::new(alloc);
