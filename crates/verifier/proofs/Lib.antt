@@ -1,7 +1,16 @@
 pub mod Linked
 pub mod Runs
+pub mod Agreeing
+pub mod Joining
+pub mod Kept
+pub mod Raising
+pub mod Untouched
 pub mod Nears
 pub mod Entries
 pub mod Merges
+pub mod Looked
+pub mod Puts
+pub mod Passing
 pub mod Turns
+pub mod Turned
 pub mod Members

@@ -1,10 +1,9 @@
 -- What an instruction near by has merged is not merged again.
-use Rattle.std.proofs.Common.{◌≡◌, ℕ, zero, suc, ◌<◌, ◌+◌, List, [], ◌∷◌, ◌++◌, length, map, take, drop, get_or, cond, Bool, true, false, Option, Some, None, refl, sym, ap, ◌∙◌, subst, arith}
-use Rattle.std.specs.Prelude.{Result, Ok, Err, slice_get, slice_set, slice_index_or, replicate, option_map, IfOk, IfSome, IsSomeAnd}
-use Rattle.std.specs.List.{AllByRecursion, filter, list_all}
-use Rattle.std.proofs.lemmas.Bool.{and_parts}
+use Rattle.std.proofs.Common.{◌≡◌, ℕ, zero, suc, ◌<◌, ◌+◌, List, [], ◌∷◌, ◌++◌, length, map, get_or, cond, Bool, true, false, Option, Some, None, refl, sym, ap, ◌∙◌, subst, arith}
+use Rattle.std.specs.Prelude.{Result, Ok, Err, slice_get, slice_index_or, replicate, option_map, IfOk, IfSome, IsSomeAnd}
+use Rattle.std.specs.List.{AllByRecursion, filter}
 use Rattle.std.proofs.lemmas.Option.{same_Some}
-use Rattle.run_laws.proofs.laws.Lists.{Pairwise, every_append, every_map}
+use Rattle.run_laws.proofs.laws.Lists.{every_append, every_map}
 use Rattle.model.specs.declared.class_file.ExceptionEntry.{ExceptionEntry}
 use Rattle.model.specs.declared.value.Value.{Value}
 use Rattle.model.specs.Names.{Member}
@@ -15,16 +14,13 @@ use Rattle.model.specs.Operands.{values}
 use Rattle.model.specs.Sites.{MeaningOf, Site, site_with}
 use Rattle.model.specs.Meanings.{meaning_of}
 use Rattle.model.specs.Step.{covers}
-use Rattle.model.specs.TypeOrder.{FrameType, is_frame_below, is_local_below, is_mark_below}
+use Rattle.model.specs.TypeOrder.{FrameType}
 use Rattle.model.specs.Typing.{Typing, Reaches, successors, caught_type, handler_type, handlers_from, flow_by, flow_at, flow}
 use Rattle.types.specs.View.{type_in}
 use Rattle.types.specs.declared.verification_type.VerificationType.{VerificationType}
-use Rattle.types.specs.declared.verification_type.VerificationType.TheVariants as type
-use Rattle.run_laws.specs.typing_search.Orders.{IsOrdered}
 use Rattle.run_laws.specs.typing_search.Search.{AreReached, Raised}
 use Rattle.run_laws.specs.typing_search.Tables.{entry_of, typing_of, waits}
 use Rattle.run_laws.proofs.typing_search.Merging.{waits_other}
-use Rattle.run_laws.proofs.typing_search.Orders.{below_parts, from_parts}
 use Rattle.run_laws.proofs.typing_search.Searching.{reached_parts, reaches_up}
 use Rattle.run_laws.specs.laws.Steps.{Rooted}
 use Rattle.types.specs.declared.method_code.declaration.MethodCode.{MethodCode}
@@ -34,62 +30,15 @@ use Rattle.verifier.specs.declared.flow.lead.Lead.{Lead}
 use Rattle.verifier.specs.flow.Handlers.{AreHandlers}
 use Rattle.verifier.specs.flow.Leads.{lead_on, lead_to, handler_leads, LeadOn}
 use Rattle.verifier.specs.Packed.{Parts, parts_in, unpacked}
-use Rattle.verifier.specs.Found.{Tables, tables_in, led_to, leads_in, AreOver, HasMerged, IsSearch, waiting_again}
-use Rattle.verifier.specs.Near.{changed, fits, IsNear, IsReachedBy, IsReachedFrom, AreKnown, IsAbove, IsSameOrigin}
+use Rattle.verifier.specs.Found.{Tables, tables_in, led_to, leads_in, MergesInto, IsSearch, waiting_again}
+use Rattle.verifier.specs.Agreeing.{AgreeBut}
+use Rattle.verifier.specs.Looks.{KeepsLooks, RaisesTo}
+use Rattle.verifier.specs.Near.{IsNear, IsReachedBy, IsReachedFrom, AreKnown, IsSameOrigin}
 use Rattle.verifier.specs.declared.found.Found.{Found}
 use Rattle.verifier.specs.declared.found.Origin.{Origin}
-use Rattle.verifier.specs.declared.near.Change.{Change}
 use Rattle.verifier.specs.declared.near.Near.{Near}
 use Rattle.verifier.specs.declared.run.Run.{Run}
-use Rattle.verifier.proofs.Merges.{fits as merged_fits}
-
--- ---- changes of types
-
-changed_more : (types : List VerificationType) (cs : List Change) (c : Change)
-    → changed types (cs ++ c ∷ []) ≡ slice_set (changed types cs) c.local c.of
-changed_more types [] c = refl
-changed_more types (d ∷ cs) c = changed_more (slice_set types d.local d.of) cs c
-
--- the first of one list, and behind them the others of a second one
-abbrev upto : List VerificationType → List VerificationType → ℕ → List VerificationType
-upto to from i = take i to ++ drop i from
-
-next_same : (to from : List VerificationType) (i : ℕ) (d : VerificationType) → length from ≡ length to → i < length to
-    → get_or to i d ≡ get_or from i d → upto to from i ≡ upto to from (suc i)
-next_same [] from i d l within e = absurd (omega (arith, within))
-next_same (x ∷ to) [] i d l within e = absurd cc
-next_same (x ∷ to) (y ∷ from) zero d l within e = ap (λ z. z ∷ from) (sym e)
-next_same (x ∷ to) (y ∷ from) (suc i) d l within e =
-    let m : length from ≡ length to = omega (arith, l) in
-    let w : i < length to = omega (arith, within) in
-    ap (λ z. x ∷ z) (next_same to from i d m w e)
-
-next_set : (to from : List VerificationType) (i : ℕ) (d : VerificationType) → length from ≡ length to → i < length to
-    → slice_set (upto to from i) i (get_or to i d) ≡ upto to from (suc i)
-next_set [] from i d l within = absurd (omega (arith, within))
-next_set (x ∷ to) [] i d l within = absurd cc
-next_set (x ∷ to) (y ∷ from) zero d l within = refl
-next_set (x ∷ to) (y ∷ from) (suc i) d l within =
-    let m : length from ≡ length to = omega (arith, l) in
-    let w : i < length to = omega (arith, within) in
-    ap (λ z. x ∷ z) (next_set to from i d m w)
-
-module _ (from to : List VerificationType) (changes : List Change) (i : ℕ) (d : VerificationType) (long : length from ≡ length to)
-    (within : i < length to) (done : changed from changes ≡ upto to from i) where
-  pub kept : (after : List Change) → after ≡ changes → get_or to i d ≡ get_or from i d → changed from after ≡ upto to from (i + 1)
-  kept after e same =
-      let n : suc i ≡ i + 1 = omega arith in
-      ap (changed from) e ∙ (done ∙ (next_same to from i d long within same ∙ ap (upto to from) n))
-
-  pub one_more : (after : List Change) (c : Change) → after ≡ changes ++ c ∷ [] → c.local ≡ i → c.of ≡ get_or to i d
-      → changed from after ≡ upto to from (i + 1)
-  one_more after c e f g =
-      let n : suc i ≡ i + 1 = omega arith in
-      ap (changed from) e
-      ∙ (changed_more from changes c
-      ∙ (ap (λ l. slice_set l c.local c.of) done
-      ∙ (ap (λ k. slice_set (upto to from i) k c.of) f
-      ∙ (ap (λ t. slice_set (upto to from i) i t) g ∙ (next_set to from i d long within ∙ ap (upto to from) n)))))
+use Rattle.verifier.proofs.Agreeing.{but_map}
 
 -- ---- the type at a place of runs
 
@@ -116,39 +65,6 @@ beyond runs rest run left after d e f =
     ap (λ rs. slice_index_or (unpacked rs) left d) e
     ∙ (ap (λ k. slice_index_or (unpacked (run ∷ rest)) k d) (sym f) ∙ past_run run.count after run.of d (unpacked rest))
 
--- ---- what changed, below a frame type
-
-module _ (files : Program) where
-  set_below : (xs zs : List VerificationType) (k : ℕ) (t : VerificationType)
-      → Pairwise (is_local_below files) (map (type_in files) xs) (map (type_in files) zs)
-      → is_local_below files (type_in files t) (type_in files (slice_index_or zs k type.Unusable)) ≡ true
-      → Pairwise (is_local_below files) (map (type_in files) (slice_set xs k t)) (map (type_in files) zs)
-  set_below [] zs k t p e = p
-  set_below (x ∷ xs) [] k t p e = absurd p
-  set_below (x ∷ xs) (z ∷ zs) zero t p e = (e, p.1)
-  set_below (x ∷ xs) (z ∷ zs) (suc k) t p e = (p.0, set_below xs zs k t p.1 e)
-
-  changed_below : (there : Parts) (xs : List VerificationType) (cs : List Change)
-      → Pairwise (is_local_below files) (map (type_in files) xs) (map (type_in files) there.locals)
-      → list_all (fits files there) cs ≡ true
-      → Pairwise (is_local_below files) (map (type_in files) (changed xs cs)) (map (type_in files) there.locals)
-  changed_below there xs [] p e = p
-  changed_below there xs (c ∷ cs) p e =
-      let q = and_parts _ _ e in
-      changed_below there (slice_set xs c.local c.of) cs (set_below xs there.locals c.local c.of p q.0) q.1
-
-  above_still : (other before there : Parts) (h : Handler) (cs : List Change) → changed other.locals cs ≡ before.locals
-      → other.constructed ≡ before.constructed
-      → is_frame_below files (led_to files other other (Some h)) (parts_in files there) ≡ true → list_all (fits files there) cs ≡ true
-      → is_frame_below files (led_to files before before (Some h)) (parts_in files there) ≡ true
-  above_still other before there h cs e f b g =
-      let p = below_parts files (led_to files other other (Some h)) (parts_in files there) b in
-      from_parts files (led_to files before before (Some h)) (parts_in files there) (record {
-        locals = subst (λ ls. Pairwise (is_local_below files) (map (type_in files) ls) (map (type_in files) there.locals)) e (changed_below there other.locals cs p.locals g);
-        stack = p.stack;
-        mark = subst (λ c. is_mark_below c there.constructed ≡ true) f p.mark;
-      })
-
 -- ---- entries
 
 pub get_mapped : {A B : Type 0} (f : A → B) (xs : List A) (k : ℕ) (x : A) → slice_get xs k ≡ Some x → slice_get (map f xs) k ≡ Some (f x)
@@ -156,34 +72,31 @@ get_mapped f [] k x e = absurd cc
 get_mapped f (y ∷ ys) zero x e = ap (λ o. option_map f o) e
 get_mapped f (y ∷ ys) (suc k) x e = get_mapped f ys k x e
 
-typed_in : (files : Program) (found : Found) (k : ℕ) (p : Parts) → slice_get found.types.items k ≡ Some (Some p)
+pub typed_in : (files : Program) (found : Found) (k : ℕ) (p : Parts) → slice_get found.types.items k ≡ Some (Some p)
     → slice_get (tables_in files found).types k ≡ Some (Some (parts_in files p))
 typed_in files found k p e = get_mapped (option_map (parts_in files)) found.types.items k (Some p) e
 
--- ---- a lead that needs no merge
+-- ---- a lead of which only what changed is merged
 
-module _ (files : Program) (ordered : IsOrdered files) (body : Body) (found : Found) (over : AreOver body (tables_in files found))
-    (before after : Parts) where
-  skip_near : (near : Near) (lead : Lead) (h : Handler) → lead.handler ≡ Some h → IsAbove files found near h lead.offset
-      → AreKnown files (tables_in files found) before near (lead ∷ [])
-      → HasMerged files body (tables_in files found) ((lead.offset, led_to files before after (Some h)) ∷ []) (tables_in files found)
-  skip_near near lead h e above known =
-      let at = typed_in files found lead.offset above.there above.typed in
-      let by_handler : IsReachedBy files (typing_of (tables_in files found).types) near.offset known.other lead.offset (Some h) =
-      subst (IsReachedBy files (typing_of (tables_in files found).types) near.offset known.other lead.offset) e known.reached.0 in
-      let r = by_handler above.covers in
-      let same : r.there ≡ parts_in files above.there = same_Some r.there (parts_in files above.there) (sym r.typed ∙ ap entry_of at) in
-      let below = subst (λ t. is_frame_below files (led_to files known.other known.other (Some h)) t ≡ true) same r.above in
-      merged_fits files ordered body (tables_in files found) over lead.offset (led_to files before after (Some h)) (parts_in files above.there) at
-      (above_still files known.other before above.there h near.changes.items known.locals known.constructed below above.fits)
+module _ (m : MethodCode) (before after : Found) (old leaving : Parts) where
+  near_raises : (near : Near) (lead : Lead) (h : Handler) → lead.handler ≡ Some h → covers near.offset h.entry ≡ true
+      → RaisesTo m before lead.offset old near.changed.items after → AreKnown (files_of m) (tables_in (files_of m) before) old near (lead ∷ [])
+      → MergesInto m before ((lead.offset, led_to (files_of m) old leaving (Some h)) ∷ []) after × KeepsLooks m before after
+  near_raises near lead h e c raises known =
+      let files = files_of m in
+      let by_handler : IsReachedBy files (typing_of (tables_in files before).types) near.offset known.other lead.offset (Some h) =
+      subst (IsReachedBy files (typing_of (tables_in files before).types) near.offset known.other lead.offset) e known.reached.0 in
+      raises (led_to files known.other known.other (Some h)) (led_to files old leaving (Some h)) (by_handler c)
+      (record { locals = but_map (type_in files) near.changed.items known.other.locals old.locals known.locals; stack = refl; constructed = known.constructed })
+      (λ k n. refl)
 
-  pub skips : (near : Option Near) (lead : Lead) (h : Handler) → lead.handler ≡ Some h
-      → IsSomeAnd near (λ n. IsAbove files found n h lead.offset)
-      → IfSome near (λ n. AreKnown files (tables_in files found) before n (lead ∷ []))
-      → HasMerged files body (tables_in files found) ((lead.offset, led_to files before after lead.handler) ∷ []) (tables_in files found)
-  skips None lead h e above known = absurd above
-  skips (Some n) lead h e above known =
-      subst (λ o. HasMerged files body (tables_in files found) ((lead.offset, led_to files before after o) ∷ []) (tables_in files found)) (sym e) (skip_near n lead h e above known)
+  pub raised_near : (near : Option Near) (lead : Lead) (h : Handler) → lead.handler ≡ Some h
+      → IsSomeAnd near (λ n. (covers n.offset h.entry ≡ true) × RaisesTo m before lead.offset old n.changed.items after)
+      → IfSome near (λ n. AreKnown (files_of m) (tables_in (files_of m) before) old n (lead ∷ []))
+      → MergesInto m before ((lead.offset, led_to (files_of m) old leaving lead.handler) ∷ []) after × KeepsLooks m before after
+  raised_near None lead h e raised known = absurd raised
+  raised_near (Some n) lead h e raised known =
+      subst (λ o. MergesInto m before ((lead.offset, led_to (files_of m) old leaving o) ∷ []) after × KeepsLooks m before after) (sym e) (near_raises n lead h e raised.0 raised.1 known)
 
 -- ---- one lead after another
 
@@ -225,7 +138,7 @@ module _ (files : Program) (rooted : Rooted files) (before now : Tables)
       let lead = get_or leads i d in
       record {
         other = k.other;
-        locals = k.locals ∙ sym s.locals;
+        locals = subst (AgreeBut n.changed.items k.other.locals) (sym s.locals) k.locals;
         constructed = k.constructed ∙ sym s.constructed;
         reached = (reached_up files rooted (typing_of before.types) (typing_of now.types) up n.offset k.other lead.offset lead.handler (every_or _ leads i d l k.reached), tt);
       }
@@ -337,7 +250,7 @@ module _ (m : MethodCode) (found : Found) (offset : ℕ)
 
 module _ (found : Found) (other before : Parts) (offset : ℕ) (typed : slice_get found.types.items offset ≡ Some (Some other))
     (still : waits found.waiting offset ≡ false) where
-  near_here : (n : Near) → n.offset ≡ offset → changed other.locals n.changes.items ≡ before.locals
+  near_here : (n : Near) → n.offset ≡ offset → AgreeBut n.changed.items other.locals before.locals
       → other.constructed ≡ before.constructed → IsNear found before n
   near_here n e f g =
       record {
@@ -349,7 +262,7 @@ module _ (found : Found) (other before : Parts) (offset : ℕ) (typed : slice_ge
       }
 
   pub is_near : {E : Type 0} (r : Result (Option Near) E) → IfOk r (λ o. IfSome o (λ n. n.offset ≡ offset))
-      → IfOk r (λ o. IfSome o (λ n. changed other.locals n.changes.items ≡ before.locals))
+      → IfOk r (λ o. IfSome o (λ n. AgreeBut n.changed.items other.locals before.locals))
       → IfOk r (λ o. IfSome o (λ n. other.constructed ≡ before.constructed))
       → IfOk r (λ o. IfSome o (IsNear found before))
   is_near (Ok None) e f g = tt

@@ -2,6 +2,9 @@ pub mod Waiting
 pub mod Packed
 pub mod Raised
 pub mod Found
+pub mod Agreeing
+pub mod Changes
+pub mod Looks
 pub mod Near
 pub mod Verified
 pub mod Places

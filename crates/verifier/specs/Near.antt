@@ -1,38 +1,25 @@
 -- An instruction near by: its leads are merged, and the local variables before it differ in some that are known.
-use Rattle.std.specs.Prelude.{◌≡◌, ℕ, List, [], ◌∷◌, Option, Some, None, Bool, true, false, slice_get, slice_set, slice_index_or}
-use Rattle.std.specs.List.{AllByRecursion, list_all}
+use Rattle.std.specs.Prelude.{◌≡◌, ℕ, List, Option, Some, None, true, false, slice_get}
+use Rattle.std.specs.List.{AllByRecursion}
 use Rattle.model.specs.Classes.{Program}
 use Rattle.model.specs.Step.{covers}
-use Rattle.model.specs.TypeOrder.{is_local_below}
 use Rattle.model.specs.Typing.{Typing, Reaches}
-use Rattle.types.specs.View.{type_in}
-use Rattle.types.specs.declared.verification_type.VerificationType.{VerificationType}
-use Rattle.types.specs.declared.verification_type.VerificationType.TheVariants as type
 use Rattle.run_laws.specs.typing_search.Tables.{typing_of, waits}
 use Rattle.verifier.specs.declared.flow.handler.Handler.{Handler}
 use Rattle.verifier.specs.declared.flow.lead.Lead.{Lead}
 use Rattle.verifier.specs.declared.found.Found.{Found}
 use Rattle.verifier.specs.declared.found.Origin.{Origin}
-use Rattle.verifier.specs.declared.near.Change.{Change}
 use Rattle.verifier.specs.declared.near.Near.{Near}
+use Rattle.verifier.specs.Agreeing.{AgreeBut}
 use Rattle.verifier.specs.Found.{Tables, led_to}
 use Rattle.verifier.specs.Packed.{Parts}
-
--- types after changes, one after another
-abbrev pub changed : List VerificationType → List Change → List VerificationType
-changed types [] = types
-changed types (c ∷ cs) = changed (slice_set types c.local c.of) cs
-
--- what a local variable holds after a change is below what it holds in a frame type; past its end, below what is not usable
-abbrev pub fits : Program → Parts → Change → Bool
-fits files there c = is_local_below files (type_in files c.of) (type_in files (slice_index_or there.locals c.local type.Unusable))
 
 -- a frame type was found at the offset, which does not wait, and that before the instruction differs from it so
 pub record IsNear (found : Found) (before : Parts) (near : Near) : Type 0 where
   pub other : Parts
   pub typed : slice_get found.types.items near.offset ≡ Some (Some other)
   pub waits : waits found.waiting near.offset ≡ false
-  pub locals : changed other.locals near.changes.items ≡ before.locals
+  pub locals : AgreeBut near.changed.items other.locals before.locals
   pub constructed : other.constructed ≡ before.constructed
 
 -- what an instruction at an offset leads to is reached, if it leads to this handler, too
@@ -46,16 +33,9 @@ IsReachedFrom files F offset other lead = IsReachedBy files F offset other lead.
 -- the handlers that the instruction near by leads to, too, are reached from it
 pub record AreKnown (files : Program) (tables : Tables) (before : Parts) (near : Near) (leads : List Lead) : Type 0 where
   pub other : Parts
-  pub locals : changed other.locals near.changes.items ≡ before.locals
+  pub locals : AgreeBut near.changed.items other.locals before.locals
   pub constructed : other.constructed ≡ before.constructed
   pub reached : AllByRecursion (IsReachedFrom files (typing_of tables.types) near.offset other) leads
-
--- the instruction near by leads to the handler, too, and there stands a frame type that the changes fit
-pub record IsAbove (files : Program) (found : Found) (near : Near) (h : Handler) (to : ℕ) : Type 0 where
-  pub covers : covers near.offset h.entry ≡ true
-  pub there : Parts
-  pub typed : slice_get found.types.items to ≡ Some (Some there)
-  pub fits : list_all (fits files there) near.changes.items ≡ true
 
 -- as it was, but for the stack before the instruction
 pub record IsSameOrigin (old new : Origin) : Type 0 where

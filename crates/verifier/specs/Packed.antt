@@ -8,10 +8,17 @@ use Rattle.types.specs.View.{type_in}
 use Rattle.types.specs.declared.verification_type.VerificationType.{VerificationType}
 use Rattle.types.specs.declared.frame_type.FrameType.{FrameType}
 use Rattle.verifier.specs.declared.run.Run.{Run}
+use Rattle.verifier.specs.declared.locals.Locals.{Locals}
+use Rattle.verifier.specs.declared.locals.Locals.TheVariants as locals
 
 -- the types of runs
 abbrev pub unpacked : List Run → List VerificationType
 unpacked runs = flat_map (λ (run : Run). replicate run.count run.of) runs
+
+-- the types of local variables, in runs or one by one
+abbrev pub locals_in : Locals → List VerificationType
+locals_in (locals.Runs runs) = unpacked runs.items
+locals_in (locals.Each types) = types.items
 
 -- a frame type by its parts; the top of the stack comes last
 pub record Parts : Type 0 where

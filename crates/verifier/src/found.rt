@@ -1,19 +1,24 @@
 //! The frame types that a search has found, and how more are merged into them.
 
-ghost use Rattle.std.specs.Prelude.{◌≡◌, ◌<◌, [], ◌∷◌, length, false, slice_index_or, slice_set, Some, OnOk, IfOk, IfErr, IfSome, IsSomeAnd, IsTrue};
+ghost use Rattle.std.specs.Prelude.{◌≡◌, ◌<◌, [], ◌∷◌, length, map, false, true, slice_get, slice_index_or, slice_set, Some, None, OnOk, IfOk, IfErr, IfSome, IsSomeAnd};
 ghost use Rattle.model.specs.InstructionStarts.{starts as starts_of};
+ghost use Rattle.model.specs.Step.{covers};
 ghost use Rattle.run_laws.specs.typing_search.Tables.{waiting_at};
 ghost use Rattle.types.specs.method_code.Linked.{IsLinked};
 ghost use Rattle.types.specs.method_code.View.{files_of, body_of};
 ghost use Rattle.verifier.specs.Packed.{parts_in};
 ghost use Rattle.verifier.specs.Found.{tables_in, leads_in, AreOver, IsEmpty, MergesInto, ClashesWith};
-ghost use Rattle.verifier.specs.Near.{IsAbove, AreKnown, IsSameOrigin};
+ghost use Rattle.verifier.specs.Changes.{DiffersAt, JoinsAt};
+ghost use Rattle.verifier.specs.Looks.{offset_of, KeepsLooks, NotesAt, NotesChange, SettlesAt, RaisesTo, RaisesAll};
+ghost use Rattle.verifier.specs.Near.{AreKnown, IsSameOrigin};
 ghost use Rattle.verifier.specs.Verified.{OnUnverified};
 
+use crate::changes::{all_fit, join_locals};
 use crate::fault::MethodFault;
 use crate::flow::{Handler, Lead};
 use crate::frames::is_sized;
-use crate::near::{Near, are_below};
+use crate::look::{Look, look_after};
+use crate::near::{Near, changes_between};
 use crate::packed::PackedFrame;
 use crate::raised::{Raised, merge_frames};
 use crate::waiting::Waiting;
@@ -25,6 +30,10 @@ use types::method_code::MethodCode;
 pub(crate) struct Found {
     pub types: Vec<Option<PackedFrame>>,
     pub waiting: Waiting,
+    /// The instructions that were looked at, of which something is known.
+    pub looks: Vec<Option<Look>>,
+    /// The last instruction with handlers that was looked at.
+    pub last: usize,
 }
 
 /// The instruction at an offset leads to another offset.
@@ -63,18 +72,149 @@ impl Found {
             types.push(None)?;
         }
         let waiting = Waiting::new(alloc, length)?;
-        Ok(Found { types, waiting })
+        let mut looks = Vec::with_capacity(alloc, length)?;
+        'looks: for _offset in 0..length {
+            looks.push(None)?;
+        }
+        Ok(Found {
+            types,
+            waiting,
+            looks,
+            last: 0,
+        })
+    }
+
+    /// Says what is known of the instruction at an offset.
+    fn set_look(&mut self, offset: usize, look: Option<Look>)
+        ensures types { self.new.types.items ≡ self.old.types.items }
+        ensures waiting { self.new.waiting ≡ self.old.waiting }
+        ensures looks { self.new.looks.items ≡ slice_set self.old.looks.items offset look }
+    {
+        if let Some(place) = self.looks.get_mut(offset) {
+            *place = look;
+        }
+    }
+
+    /// Takes what is known of the instruction at an offset.
+    pub fn take_look(&mut self, offset: usize) -> Option<Look>
+        ensures types { self.new.types.items ≡ self.old.types.items }
+        ensures waiting { self.new.waiting ≡ self.old.waiting }
+        ensures looks { self.new.looks.items ≡ slice_set self.old.looks.items offset None }
+        ensures look { IfSome result (λ look. slice_get self.old.looks.items offset ≡ Some (Some look)) }
+    {
+        match self.looks.get_mut(offset) {
+            Some(place) => place.take(),
+            None => None,
+        }
+    }
+
+    /// Local variables before the instruction at an offset changed.
+    fn note(&mut self, offset: usize, changed: &[usize]) -> Result<(), AllocError>
+        ensures types { OnOk result (self.new.types.items ≡ self.old.types.items) }
+        ensures waiting { OnOk result (self.new.waiting ≡ self.old.waiting) }
+        ensures looks { OnOk result (NotesAt offset changed.now self.old.looks.items self.new.looks.items) }
+    {
+        let Some(look) = self.take_look(offset) else {
+            return Ok(());
+        };
+        let after = look_after(look, changed)?;
+        self.set_look(offset, after);
+        Ok(())
+    }
+
+    /// What the instruction at an offset led to is merged: to these offsets, its handlers aside. It is known, unless it waits again.
+    pub fn settle(&mut self, alloc: Global, offset: usize, targets: Vec<usize>)
+        ensures types { self.new.types.items ≡ self.old.types.items }
+        ensures waiting { self.new.waiting ≡ self.old.waiting }
+        ensures looks { SettlesAt offset targets.items self.old self.new }
+    {
+        if self.waiting.has(offset) {
+            return;
+        }
+        let look = Look {
+            targets,
+            changed: Vec::new(alloc),
+        };
+        self.set_look(offset, Some(look));
     }
 
     /// Puts a frame type at an offset, which waits from now on.
+    fn put_type(&mut self, offset: usize, frame: PackedFrame)
+        requires typed { offset < length self.old.types.items }
+        requires waiting { offset < length self.old.waiting }
+        ensures types { self.new.types.items ≡ slice_set self.old.types.items offset (Some frame) }
+        ensures waiting { self.new.waiting ≡ waiting_at self.old.waiting offset }
+        ensures looks { self.new.looks.items ≡ self.old.looks.items }
+    {
+        self.types[offset] = Some(frame);
+        self.waiting.add(offset);
+    }
+
+    /// The same, and what is known of the instruction there is so no more.
     fn put(&mut self, offset: usize, frame: PackedFrame)
         requires typed { offset < length self.old.types.items }
         requires waiting { offset < length self.old.waiting }
         ensures types { self.new.types.items ≡ slice_set self.old.types.items offset (Some frame) }
         ensures waiting { self.new.waiting ≡ waiting_at self.old.waiting offset }
+        ensures looks { self.new.looks.items ≡ slice_set self.old.looks.items offset None }
     {
-        self.types[offset] = Some(frame);
-        self.waiting.add(offset);
+        self.set_look(offset, None);
+        self.put_type(offset, frame);
+    }
+
+    /// Puts a frame type that differs from that there in these local variables alone.
+    fn put_changed(
+        &mut self,
+        offset: usize,
+        frame: PackedFrame,
+        changed: &[usize],
+    ) -> Result<(), AllocError>
+        requires typed { offset < length self.old.types.items }
+        requires waiting { offset < length self.old.waiting }
+        ensures types { OnOk result (self.new.types.items ≡ slice_set self.old.types.items offset (Some frame)) }
+        ensures waiting { OnOk result (self.new.waiting ≡ waiting_at self.old.waiting offset) }
+        ensures looks { OnOk result (NotesAt offset changed.now self.old.looks.items self.new.looks.items) }
+    {
+        self.note(offset, changed)?;
+        self.put_type(offset, frame);
+        Ok(())
+    }
+
+    /// In which local variables the frame type at an offset differs from another with the same stack, if in few.
+    fn changes_at(
+        &self,
+        alloc: Global,
+        offset: usize,
+        join: &PackedFrame,
+    ) -> Result<Option<Vec<usize>>, AllocError>
+        requires { offset < length self.now.types.items }
+        ensures { IfOk result (λ o. IfSome o (λ v. DiffersAt v.items offset join.now self.now.types.items)) }
+    {
+        match &self.types[offset] {
+            Some(there) => changes_between(alloc, there, join),
+            None => Ok(None),
+        }
+    }
+
+    /// Puts the join of what is there and another frame type.
+    fn put_join(
+        &mut self,
+        alloc: Global,
+        offset: usize,
+        join: PackedFrame,
+    ) -> Result<(), AllocError>
+        requires typed { offset < length self.old.types.items }
+        requires waiting { offset < length self.old.waiting }
+        ensures types { OnOk result (self.new.types.items ≡ slice_set self.old.types.items offset (Some join)) }
+        ensures waiting { OnOk result (self.new.waiting ≡ waiting_at self.old.waiting offset) }
+        ensures looks { OnOk result (NotesChange offset join self.old self.new) }
+    {
+        let Some(changed) = self.changes_at(alloc, offset, &join)? else {
+            self.put(offset, join);
+            return Ok(());
+        };
+        self.put_changed(offset, join, &changed)?;
+        Ok(())
     }
 
     /// Merges a frame type to which an instruction leads.
@@ -91,6 +231,7 @@ impl Found {
         requires over { AreOver (body_of method.now) (tables_in (files_of method.now) self.old) }
         ensures merged { OnOk result (MergesInto method.now self.old ((edge.to, parts_in (files_of method.now) frame.now) ∷ []) self.new) }
         ensures clash { IfErr result (λ fault. OnUnverified fault (ClashesWith method.now self.old ((edge.to, parts_in (files_of method.now) frame.now) ∷ []))) }
+        ensures looks { OnOk result (KeepsLooks method.now self.old self.new) }
     {
         let Edge { from, to } = edge;
         if !is_start(starts, to) {
@@ -109,40 +250,104 @@ impl Found {
             Ok(Raised::Clash) => Err(MethodFault::Unverified { offset: to }),
             Ok(Raised::Not) => Ok(()),
             Ok(Raised::To(join)) => {
-                self.put(to, join);
+                self.put_join(alloc, to, join)?;
                 Ok(())
             }
         }
     }
 
-    /// Whether a frame type is at or above what a handler begins with, since it was merged at an instruction near by, and what
-    /// changed since then is below it.
-    fn is_above(&self, method: &MethodCode<'_>, near: &Near, handler: Handler, to: usize) -> bool
-        ensures { IsTrue result → IsAbove (files_of method.now) self.now near.now handler to }
+    /// Joins what local variables hold in a frame type into these of the one at an offset.
+    fn join_at(
+        &mut self,
+        alloc: Global,
+        method: &MethodCode<'_>,
+        to: usize,
+        frame: &PackedFrame,
+        changed: &[usize],
+    ) -> Result<(), AllocError>
+        requires linked { IsLinked (files_of method.now) }
+        requires typed { to < length self.old.types.items }
+        ensures types { OnOk result (JoinsAt (files_of method.now) to frame.now changed.now self.old.types.items self.new.types.items) }
+        ensures waiting { self.new.waiting ≡ self.old.waiting }
+        ensures looks { self.new.looks.items ≡ self.old.looks.items }
     {
-        if !handler.covers(near.offset) || to >= self.types.len() {
-            return false;
+        if let Some(there) = &mut self.types[to] {
+            join_locals(alloc, method, there, frame, changed)?;
         }
-        match &self.types[to] {
-            Some(there) => are_below(method.set(), &near.changes, there),
-            None => false,
-        }
+        Ok(())
     }
 
-    /// Whether a lead to a handler needs no merge.
-    fn has_merged(
-        &self,
+    /// Merges what changed of a frame type whose other local variables are merged.
+    pub fn raise(
+        &mut self,
+        alloc: Global,
+        method: &MethodCode<'_>,
+        to: usize,
+        frame: &PackedFrame,
+        changed: &[usize],
+    ) -> Result<(), AllocError>
+        requires linked { IsLinked (files_of method.now) }
+        requires over { AreOver (body_of method.now) (tables_in (files_of method.now) self.old) }
+        ensures over { OnOk result (AreOver (body_of method.now) (tables_in (files_of method.now) self.new)) }
+        ensures raised { OnOk result (RaisesTo method.now self.old to frame.now changed.now self.new) }
+    {
+        if to >= self.types.len() {
+            return Ok(());
+        }
+        let Some(there) = &self.types[to] else {
+            return Ok(());
+        };
+        if all_fit(method.set(), there, frame, changed) {
+            return Ok(());
+        }
+        self.join_at(alloc, method, to, frame, changed)?;
+        self.note(to, changed)?;
+        self.waiting.add(to);
+        Ok(())
+    }
+
+    /// The same at each offset to which leads are, in their order.
+    pub fn raise_all(
+        &mut self,
+        alloc: Global,
+        method: &MethodCode<'_>,
+        leads: &[Lead],
+        frame: &PackedFrame,
+        changed: &[usize],
+    ) -> Result<(), AllocError>
+        requires linked { IsLinked (files_of method.now) }
+        requires over { AreOver (body_of method.now) (tables_in (files_of method.now) self.old) }
+        ensures { OnOk result (RaisesAll method.now self.old (map offset_of leads.now) frame.now changed.now self.new) }
+    {
+        for lead in leads {
+            self.raise(alloc, method, lead.offset, frame, changed)?;
+        }
+        Ok(())
+    }
+
+    /// Merges what changed since an instruction near by, if that leads to a handler, too. Whether it does.
+    fn raise_near(
+        &mut self,
+        alloc: Global,
         method: &MethodCode<'_>,
         origin: &Origin,
         handler: Handler,
         to: usize,
-    ) -> bool
-        ensures { IsTrue result → IsSomeAnd origin.now.near (λ near. IsAbove (files_of method.now) self.now near handler to) }
+    ) -> Result<bool, AllocError>
+        requires linked { IsLinked (files_of method.now) }
+        requires over { AreOver (body_of method.now) (tables_in (files_of method.now) self.old) }
+        ensures raised { IfOk result (λ near. near ≡ true → IsSomeAnd origin.now.near (λ n. (covers n.offset handler.entry ≡ true)
+            × RaisesTo method.now self.old to origin.now.before n.changed.items self.new)) }
+        ensures same { IfOk result (λ near. near ≡ false → self.new ≡ self.old) }
     {
-        match &origin.near {
-            Some(near) => self.is_above(method, near, handler, to),
-            None => false,
+        let Some(near) = &origin.near else {
+            return Ok(false);
+        };
+        if !handler.covers(near.offset) {
+            return Ok(false);
         }
+        self.raise(alloc, method, to, &origin.before, &near.changed)?;
+        Ok(true)
     }
 
     /// Merges one of all to which an instruction leads.
@@ -160,6 +365,7 @@ impl Found {
         requires known { IfSome origin.old.near (λ near. AreKnown (files_of method.now) (tables_in (files_of method.now) self.old) origin.old.before near (lead ∷ [])) }
         ensures merged { OnOk result (MergesInto method.now self.old (leads_in (files_of method.now) origin.old (lead ∷ [])) self.new) }
         ensures clash { IfErr result (λ fault. OnUnverified fault (ClashesWith method.now self.old (leads_in (files_of method.now) origin.old (lead ∷ [])))) }
+        ensures looks { OnOk result (KeepsLooks method.now self.old self.new) }
         ensures origin { IsSameOrigin origin.old origin.new }
     {
         let edge = Edge {
@@ -172,7 +378,7 @@ impl Found {
                 Err(fault) => Err(fault),
             },
             Some(handler) => {
-                if self.has_merged(method, origin, handler, lead.offset) {
+                if self.raise_near(alloc, method, origin, handler, lead.offset)? {
                     return Ok(());
                 }
                 origin.before.leave_on_stack(handler.caught)?;
@@ -199,6 +405,7 @@ impl Found {
         requires known { IfSome origin.near (λ near. AreKnown (files_of method.now) (tables_in (files_of method.now) self.old) origin.before near leads.now) }
         ensures merged { OnOk result (MergesInto method.now self.old (leads_in (files_of method.now) origin leads.now) self.new) }
         ensures clash { IfErr result (λ fault. OnUnverified fault (ClashesWith method.now self.old (leads_in (files_of method.now) origin leads.now))) }
+        ensures looks { OnOk result (KeepsLooks method.now self.old self.new) }
     {
         let mut origin = origin;
         for lead in leads {

@@ -2,11 +2,14 @@
 //! or shows that there are none.
 #![tactic(auto)]
 
+mod changes;
 mod fault;
 pub mod flow;
 pub mod flow_effects;
 mod found;
 mod frames;
+mod locals;
+mod look;
 mod method;
 mod near;
 mod packed;

@@ -1,19 +1,26 @@
 //! The worklist (JVMS 4.10.2.2): it takes the lowest offset that waits, and merges what its instruction leads to.
 
-ghost use Rattle.std.specs.Prelude.{◌≡◌, ◌<◌, length, OnOk, IfOk, IfErr, IfSome};
+ghost use Rattle.std.specs.Prelude.{◌≡◌, ◌<◌, List, length, Some, OnOk, IfOk, IfErr, IfSome};
 ghost use Rattle.model.specs.InstructionStarts.{starts as starts_of};
 ghost use Rattle.model.specs.Typing.{HasTyping};
 ghost use Rattle.run_laws.specs.typing_search.Search.{HasNoTyping};
 ghost use Rattle.types.specs.method_code.Linked.{IsLinked};
 ghost use Rattle.types.specs.method_code.View.{files_of, member_of, body_of};
+ghost use Rattle.verifier.specs.declared.flow.handler.Handler.{Handler as SpecHandler};
 ghost use Rattle.verifier.specs.flow.Handlers.{AreHandlers};
-ghost use Rattle.verifier.specs.Found.{tables_in, waiting_again, IsSearch, HasTurned};
+ghost use Rattle.run_laws.specs.typing_search.Tables.{typing_of};
+ghost use Rattle.verifier.specs.Packed.{parts_in};
+ghost use Rattle.verifier.specs.Found.{tables_in, waiting_again, AreOver, IsSearch, HasTurned};
+ghost use Rattle.verifier.specs.Looks.{MayPass, AreLooks, HasLed};
 ghost use Rattle.verifier.specs.Near.{IsNear};
 ghost use Rattle.verifier.specs.Verified.{OnUnverified};
 
 use crate::fault::MethodFault;
-use crate::flow::{Handler, Lead, entry_frame, flow_at, handlers};
+use crate::flow::{
+    Handler, Lead, all_leads, entry_frame, flow_at, handlers, leaves_at, targets_of,
+};
 use crate::found::{Edge, Found, Origin};
+use crate::look::Look;
 use crate::near::{Near, near_found};
 use crate::packed::PackedFrame;
 use opcodes::starts;
@@ -26,6 +33,7 @@ fn begin(alloc: Global, method: &MethodCode<'_>, starts: &[bool]) -> Result<Foun
     requires starts { starts.now ≡ starts_of (body_of method.now).code.code }
     ensures search { IfOk result (λ found. IsSearch (files_of method.now) (member_of method.now) (body_of method.now)
         (tables_in (files_of method.now) found)) }
+    ensures looks { IfOk result (λ found. (hs : List SpecHandler) → AreLooks method.now hs found) }
     ensures exact { IfErr result (λ fault. OnUnverified
         fault (HasNoTyping (files_of method.now) (member_of method.now) (body_of method.now))) }
 {
@@ -38,59 +46,88 @@ fn begin(alloc: Global, method: &MethodCode<'_>, starts: &[bool]) -> Result<Foun
     }
 }
 
-/// The instruction that was looked at last, if it is near to the one at an offset, which leads to handlers.
+/// Whether an instruction that leads so leads to handlers, which come last.
+fn has_handlers(leads: &[Lead]) -> bool {
+    match leads.last() {
+        Some(lead) => lead.handler.is_some(),
+        None => false,
+    }
+}
+
+/// The last instruction with handlers, after one that leads so was looked at.
+fn last_after(last: usize, offset: usize, leads: &[Lead]) -> usize {
+    if has_handlers(leads) { offset } else { last }
+}
+
+/// The instruction with handlers that was looked at last, if it is near to the one at an offset, which leads to handlers.
 fn last_if_near(
     alloc: Global,
     found: &Found,
     before: &PackedFrame,
     offset: usize,
-    last: usize,
     leads: &[Lead],
 ) -> Result<Option<Near>, AllocError>
     ensures near { IfOk result (λ o. IfSome o (IsNear found.now before.now)) }
     ensures other { IfOk result (λ o. IfSome o (λ near. near.offset ≡ offset → ⊥)) }
 {
-    let Some(lead) = leads.last() else {
-        return Ok(None);
-    };
-    if lead.handler.is_none() || last == offset {
+    let last = found.last;
+    if !has_handlers(leads) || last == offset {
         return Ok(None);
     }
     near_found(alloc, found, before, last)
 }
 
-/// Merges what the instruction at an offset leads to, which has been taken off. The last one that was taken off is told.
-fn turn(
+/// Merges what changed before the instruction at an offset since it was looked at, which has nothing to do with it: what a
+/// frame type holds in these local variables.
+fn pass_on(
+    alloc: Global,
+    method: &MethodCode<'_>,
+    handlers: &[Handler],
+    found: &mut Found,
+    offset: usize,
+    frame: &PackedFrame,
+    look: &Look,
+) -> Result<(), AllocError>
+    requires linked { IsLinked (files_of method.now) }
+    requires over { AreOver (body_of method.now) (tables_in (files_of method.now) found.old) }
+    requires passes { MayPass method.now handlers.now found.old offset frame.now look.now }
+    ensures { OnOk result (HasLed method.now handlers.now found.old offset look.now.targets.items found.new) }
+{
+    let leads = all_leads(alloc, handlers, offset, &look.targets)?;
+    found.raise_all(alloc, method, &leads, frame, &look.changed)?;
+    Ok(())
+}
+
+/// Merges what the instruction at an offset leads to, as if it was not looked at before. Answers the offsets to which it leads,
+/// its handlers aside.
+fn look_at(
     alloc: Global,
     method: &MethodCode<'_>,
     starts: &[bool],
     handlers: &[Handler],
     found: &mut Found,
     offset: usize,
-    last: usize,
-) -> Result<(), MethodFault>
+    before: PackedFrame,
+) -> Result<Vec<usize>, MethodFault>
     requires linked { IsLinked (files_of method.now) }
     requires starts { starts.now ≡ starts_of (body_of method.now).code.code }
     requires handlers { AreHandlers method.now handlers.now }
-    requires offset { offset < length found.old.types.items }
+    requires typed { typing_of (tables_in (files_of method.now) found.old).types offset ≡ Some (parts_in (files_of method.now) before) }
     requires search { IsSearch (files_of method.now) (member_of method.now) (body_of method.now)
         (waiting_again (tables_in (files_of method.now) found.old) offset) }
-    ensures turned { OnOk result (HasTurned (files_of method.now) (member_of method.now) (body_of method.now)
-        (tables_in (files_of method.now) found.old) (tables_in (files_of method.now) found.new)) }
+    ensures led { IfOk result (λ targets. HasLed method.now handlers.now found.old offset targets.items found.new) }
     ensures exact { IfErr result (λ fault. OnUnverified
         fault (HasNoTyping (files_of method.now) (member_of method.now) (body_of method.now))) }
 {
-    let Some(packed) = &found.types[offset] else {
-        return Ok(());
-    };
-    let before = packed.copy(alloc)?;
-    let mut frame = packed.unpack(alloc)?;
+    let mut frame = before.unpack(alloc)?;
     match flow_at(alloc, method, handlers, offset, &mut frame) {
         Err(_) => Err(MethodFault::OutOfMemory),
         Ok(None) => Err(MethodFault::Unverified { offset }),
         Ok(Some(leads)) => {
+            let targets = targets_of(alloc, &leads)?;
             let after = PackedFrame::pack(alloc, &frame)?;
-            let near = last_if_near(alloc, found, &before, offset, last, &leads)?;
+            let near = last_if_near(alloc, found, &before, offset, &leads)?;
+            found.last = last_after(found.last, offset, &leads);
             let origin = Origin {
                 offset,
                 before,
@@ -98,10 +135,54 @@ fn turn(
                 near,
             };
             match found.merge_all(alloc, method, starts, origin, &leads) {
-                Ok(()) => Ok(()),
+                Ok(()) => Ok(targets),
                 Err(fault) => Err(fault),
             }
         }
+    }
+}
+
+/// Merges what the instruction at an offset leads to, which has been taken off.
+fn turn(
+    alloc: Global,
+    method: &MethodCode<'_>,
+    starts: &[bool],
+    handlers: &[Handler],
+    found: &mut Found,
+    offset: usize,
+) -> Result<(), MethodFault>
+    requires linked { IsLinked (files_of method.now) }
+    requires starts { starts.now ≡ starts_of (body_of method.now).code.code }
+    requires handlers { AreHandlers method.now handlers.now }
+    requires offset { offset < length found.old.types.items }
+    requires search { IsSearch (files_of method.now) (member_of method.now) (body_of method.now)
+        (waiting_again (tables_in (files_of method.now) found.old) offset) }
+    requires looks { AreLooks method.now handlers.now found.old }
+    ensures turned { OnOk result (HasTurned (files_of method.now) (member_of method.now) (body_of method.now)
+        (tables_in (files_of method.now) found.old) (tables_in (files_of method.now) found.new)) }
+    ensures looks { OnOk result (AreLooks method.now handlers.now found.new) }
+    ensures exact { IfErr result (λ fault. OnUnverified
+        fault (HasNoTyping (files_of method.now) (member_of method.now) (body_of method.now))) }
+{
+    let taken = found.take_look(offset);
+    let Some(packed) = &found.types[offset] else {
+        return Ok(());
+    };
+    if let Some(look) = taken {
+        if leaves_at(method, offset, &look.changed) {
+            let frame = packed.only(alloc, &look.changed)?;
+            pass_on(alloc, method, handlers, found, offset, &frame, &look)?;
+            found.settle(alloc, offset, look.targets);
+            return Ok(());
+        }
+    }
+    let before = packed.copy(alloc)?;
+    match look_at(alloc, method, starts, handlers, found, offset, before) {
+        Ok(targets) => {
+            found.settle(alloc, offset, targets);
+            Ok(())
+        }
+        Err(fault) => Err(fault),
     }
 }
 
@@ -118,12 +199,10 @@ pub fn verify_method(alloc: Global, method: &MethodCode<'_>) -> Result<(), Metho
         Ok(found) => found,
         Err(fault) => return Err(fault),
     };
-    let mut last: usize = 0;
     while let Some(offset) = found.waiting.take_lowest() {
-        if let Err(fault) = turn(alloc, method, &starts, &handlers, &mut found, offset, last) {
+        if let Err(fault) = turn(alloc, method, &starts, &handlers, &mut found, offset) {
             return Err(fault);
         }
-        last = offset;
     }
     Ok(())
 }

@@ -1,18 +1,20 @@
 //! Frame types as a search keeps them.
 
-ghost use Rattle.std.specs.Prelude.{◌≡◌, [], ◌∷◌, length, slice_index_or, IfOk, OnOk, IsTrue};
+ghost use Rattle.std.specs.Prelude.{◌≡◌, [], ◌∷◌, length, replicate, slice_index_or, slice_set, IfOk, OnOk, IsTrue};
 ghost use Rattle.types.specs.declared.verification_type.VerificationType.TheVariants as type;
+ghost use Rattle.verifier.specs.Agreeing.{AgreeAt};
 ghost use Rattle.verifier.specs.Packed.{parts_of};
 
-use crate::run::{Run, are_same_runs, are_same_types, runs_of, type_at, types_of};
+use crate::locals::{Locals, locals_of, unusable_locals};
+use crate::run::are_same_types;
 use std::alloc::{AllocError, Global};
 use std::marker::Model;
 use types::{FrameType, VerificationType};
 
-/// A frame type in which types of local variables that are the same and follow one another stand once.
+/// A frame type.
 #[derive(Drop)]
 pub(crate) struct PackedFrame {
-    locals: Vec<Run>,
+    locals: Locals,
     /// How many local variables there are.
     local_count: usize,
     /// The top comes last.
@@ -22,20 +24,20 @@ pub(crate) struct PackedFrame {
 
 impl Model for PackedFrame {
     ghost use Rattle.std.specs.Prelude.{◌≡◌, length};
-    ghost use Rattle.verifier.specs.Packed.{Parts, unpacked};
+    ghost use Rattle.verifier.specs.Packed.{Parts, locals_in};
 
     ghost Value = { Parts };
 
-    ghost view = { λ f. record { locals = unpacked f.locals.items; stack = f.stack.items; constructed = f.constructed } };
+    ghost view = { λ f. record { locals = locals_in f.locals; stack = f.stack.items; constructed = f.constructed } };
 
-    ghost invariant = { λ f. f.local_count ≡ length (unpacked f.locals.items) };
+    ghost invariant = { λ f. f.local_count ≡ length (locals_in f.locals) };
 }
 
 impl PackedFrame {
     pub fn pack(alloc: Global, frame: &FrameType) -> Result<PackedFrame, AllocError>
         ensures { IfOk result (λ packed. packed ≡ parts_of frame.now) }
     {
-        let locals = runs_of(alloc, &frame.locals)?;
+        let locals = locals_of(alloc, &frame.locals)?;
         let stack = Vec::from_slice(alloc, &frame.stack)?;
         Ok(PackedFrame {
             locals,
@@ -48,7 +50,7 @@ impl PackedFrame {
     pub fn unpack(&self, alloc: Global) -> Result<FrameType, AllocError>
         ensures { IfOk result (λ frame. parts_of frame ≡ self.now) }
     {
-        let locals = types_of(alloc, &self.locals, self.local_count)?;
+        let locals = self.locals.types(alloc, self.local_count)?;
         let stack = Vec::from_slice(alloc, &self.stack)?;
         Ok(FrameType {
             locals,
@@ -60,7 +62,7 @@ impl PackedFrame {
     pub fn copy(&self, alloc: Global) -> Result<PackedFrame, AllocError>
         ensures { IfOk result (λ copy. copy ≡ self.now) }
     {
-        let locals = Vec::from_slice(alloc, &self.locals)?;
+        let locals = self.locals.copy(alloc)?;
         let stack = Vec::from_slice(alloc, &self.stack)?;
         Ok(PackedFrame {
             locals,
@@ -68,6 +70,30 @@ impl PackedFrame {
             stack,
             constructed: self.constructed,
         })
+    }
+
+    /// So many local variables that are not usable, and an empty stack.
+    fn unusable(alloc: Global, local_count: usize) -> Result<PackedFrame, AllocError>
+        ensures { IfOk result (λ frame. frame.locals ≡ replicate local_count type.Unusable) }
+    {
+        let locals = unusable_locals(alloc, local_count)?;
+        Ok(PackedFrame {
+            locals,
+            local_count,
+            stack: Vec::new(alloc),
+            constructed: false,
+        })
+    }
+
+    /// A frame type with as many local variables, and what these hold.
+    pub fn only(&self, alloc: Global, locals: &[usize]) -> Result<PackedFrame, AllocError>
+        ensures { IfOk result (λ only. AgreeAt locals.now only.locals self.now.locals) }
+    {
+        let mut only = PackedFrame::unusable(alloc, self.local_count)?;
+        'locals: for local in locals {
+            only.set_local(alloc, *local, self.local_at(*local))?;
+        }
+        Ok(only)
     }
 
     /// Leaves one type alone on the stack.
@@ -81,27 +107,48 @@ impl PackedFrame {
         Ok(())
     }
 
+    /// Gives a local variable another type.
+    pub fn set_local(
+        &mut self,
+        alloc: Global,
+        local: usize,
+        t: VerificationType,
+    ) -> Result<(), AllocError>
+        ensures locals { OnOk result (self.new.locals ≡ slice_set self.old.locals local t) }
+        ensures stack { self.new.stack ≡ self.old.stack }
+        ensures constructed { self.new.constructed ≡ self.old.constructed }
+    {
+        self.locals.set(alloc, self.local_count, local, t)
+    }
+
+    /// Whether two have the same stack.
+    pub fn has_same_stack(&self, other: &PackedFrame) -> bool
+        ensures { IsTrue result → self.now.stack ≡ other.now.stack }
+    {
+        are_same_types(&self.stack, &other.stack)
+    }
+
     /// Whether two are the same frame type.
     pub fn is_same(&self, other: &PackedFrame) -> bool
         ensures { IsTrue result → self.now ≡ other.now }
     {
         self.constructed == other.constructed
             && are_same_types(&self.stack, &other.stack)
-            && are_same_runs(&self.locals, &other.locals)
+            && self.locals.is_same(&other.locals)
     }
 
     /// The types of the local variables.
     pub fn locals(&self, alloc: Global) -> Result<Vec<VerificationType>, AllocError>
         ensures { IfOk result (λ types. types.items ≡ self.now.locals) }
     {
-        types_of(alloc, &self.locals, self.local_count)
+        self.locals.types(alloc, self.local_count)
     }
 
     /// The type of a local variable; where there is none, what is not usable.
     pub fn local_at(&self, local: usize) -> VerificationType
         ensures { result ≡ slice_index_or self.now.locals local type.Unusable }
     {
-        type_at(&self.locals, local)
+        self.locals.at(local)
     }
 
     /// Whether both are constructed, or none is.

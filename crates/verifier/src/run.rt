@@ -1,6 +1,6 @@
 //! Runs of types: so many of one type, one after another.
 
-ghost use Rattle.std.specs.Prelude.{◌≡◌, ◌++◌, replicate, slice_index_or, OnOk, IfOk, IsTrue};
+ghost use Rattle.std.specs.Prelude.{◌≡◌, ◌<◌, ◌++◌, ◌∷◌, [], ◌-◌, replicate, slice_index_or, slice_set, true, false, OnOk, IfOk, IsTrue};
 ghost use Rattle.types.specs.declared.verification_type.VerificationType.TheVariants as type;
 ghost use Rattle.verifier.specs.Packed.{unpacked};
 
@@ -116,4 +116,89 @@ fn add_run(types: &mut Vec<VerificationType>, run: Run) -> Result<(), AllocError
 {
     let room = types.len().saturating_add(run.count);
     types.resize(room, run.of)
+}
+
+/// Adds the types of a run to the last run, where they are of its type.
+fn extend_last(runs: &mut [Run], run: Run) -> bool
+    ensures added { result ≡ true → unpacked runs.new ≡ unpacked runs.old ++ replicate run.count run.of }
+    ensures same { result ≡ false → runs.new ≡ runs.old }
+{
+    let Some(last) = runs.last_mut() else {
+        return false;
+    };
+    if !is_same_type(last.of, run.of) {
+        return false;
+    }
+    let Some(count) = last.count.checked_add(run.count) else {
+        return false;
+    };
+    last.count = count;
+    true
+}
+
+/// Adds a run, but none of no types.
+fn push_run(runs: &mut Vec<Run>, run: Run) -> Result<(), AllocError>
+    ensures { OnOk result (unpacked runs.new.items ≡ unpacked runs.old.items ++ replicate run.count run.of) }
+{
+    if run.count == 0 || extend_last(runs, run) {
+        return Ok(());
+    }
+    runs.push(run)?;
+    Ok(())
+}
+
+/// Adds a run in which one type is another one.
+fn push_with(
+    runs: &mut Vec<Run>,
+    run: Run,
+    place: usize,
+    of: VerificationType,
+) -> Result<(), AllocError>
+    requires { place < run.count }
+    ensures { OnOk result (unpacked runs.new.items ≡ unpacked runs.old.items ++ slice_set (replicate run.count run.of) place of) }
+{
+    push_run(
+        runs,
+        Run {
+            of: run.of,
+            count: place,
+        },
+    )?;
+    push_run(runs, Run { of, count: 1 })?;
+    push_run(
+        runs,
+        Run {
+            of: run.of,
+            count: run.count - place - 1,
+        },
+    )?;
+    Ok(())
+}
+
+/// The runs with another type at a place; past their end they are the same.
+pub(crate) fn runs_with(
+    alloc: Global,
+    runs: &[Run],
+    place: usize,
+    of: VerificationType,
+) -> Result<Vec<Run>, AllocError>
+    ensures { IfOk result (λ made. unpacked made.items ≡ slice_set (unpacked runs.now) place of) }
+{
+    let mut made = Vec::with_capacity(alloc, runs.len())?;
+    let mut left = Some(place);
+    'runs: for run in runs {
+        match left {
+            None => push_run(&mut made, *run)?,
+            Some(place) => {
+                if place < run.count {
+                    push_with(&mut made, *run, place, of)?;
+                    left = None;
+                } else {
+                    push_run(&mut made, *run)?;
+                    left = Some(place - run.count);
+                }
+            }
+        }
+    }
+    Ok(made)
 }

@@ -35,3 +35,16 @@ handler_leads offset hs = map lead_to (filter (λ (h : Handler). covers offset h
 pub record LeadOn (offset : ℕ) (hs : List Handler) (leads : List Lead) : Type 0 where
   pub targets : List ℕ
   pub are : leads ≡ map lead_on targets ++ handler_leads offset hs
+
+-- to some targets, and then to the handlers whose range an offset lies in
+abbrev pub all_leads : ℕ → List Handler → List ℕ → List Lead
+all_leads offset hs targets = map lead_on targets ++ handler_leads offset hs
+
+abbrev pub targets_by : ℕ → Option Handler → List ℕ → List ℕ
+targets_by to None tos = to ∷ tos
+targets_by to (Some h) tos = tos
+
+-- the offsets of those that are to no handler
+abbrev pub targets_in : List Lead → List ℕ
+targets_in [] = []
+targets_in (lead ∷ leads) = targets_by lead.offset lead.handler (targets_in leads)

@@ -1,8 +1,8 @@
 //! Where the instruction at an offset leads.
 
-ghost use Rattle.std.specs.Prelude.{◌≡◌, ◌<◌, ◌^◌, map, option_map, IfSome, IfOk, IsTrue};
+ghost use Rattle.std.specs.Prelude.{◌≡◌, ◌<◌, ◌^◌, map, option_map, Some, true, IfSome, IfOk, IsTrue};
 ghost use Rattle.model.specs.InstructionStarts.{is_start};
-ghost use Rattle.model.specs.Sites.{site_at};
+ghost use Rattle.model.specs.Sites.{Site as ModelSite, site_at};
 ghost use Rattle.model.specs.Typing.{flow};
 ghost use Rattle.types.specs.View.{frame_in};
 ghost use Rattle.types.specs.method_code.Linked.{IsLinked};
@@ -10,11 +10,13 @@ ghost use Rattle.types.specs.method_code.View.{files_of, member_of, body_of};
 ghost use Rattle.types.specs.method_code.Site.{site_of};
 ghost use Rattle.verifier.specs.flow.Handlers.{AreHandlers};
 ghost use Rattle.verifier.specs.flow.Leads.{lead_in, LeadOn};
+ghost use Rattle.verifier.specs.flow.Untouched.{leaves};
 
 use crate::flow::handler::Handler;
 use crate::flow::lead::{Lead, add_handlers, leads_on};
 use crate::flow::stand::may_stand;
 use crate::flow::successors::successors;
+use crate::flow::untouched::leaves;
 use opcodes::sized_at;
 use std::alloc::{AllocError, Global};
 use types::FrameType;
@@ -34,6 +36,20 @@ fn site_at<'a>(method: &MethodCode<'a>, offset: u16) -> Option<Site<'a>>
         instr,
         next: offset as usize + length,
     })
+}
+
+/// Whether the instruction at an offset neither reads nor writes any of these local variables.
+///
+/// The offset, in bytes from the code's start, is an instruction boundary.
+pub(crate) fn leaves_at(method: &MethodCode<'_>, offset: usize, locals: &[usize]) -> bool
+    requires start { IsTrue (is_start (body_of method.now).code.code offset) }
+    ensures { IsTrue result → (site : ModelSite) → site_at (member_of method.now) (body_of method.now) offset ≡ Some site
+        → leaves site.instr locals.now ≡ true }
+{
+    match site_at(method, offset as u16) {
+        Some(site) => leaves(site.instr, locals),
+        None => false,
+    }
 }
 
 /// Where the instruction at an offset leads from a frame type, its handlers included; `None` where no instruction begins

@@ -1,7 +1,7 @@
 //! Where an instruction leads.
 
 ghost use Rattle.std.specs.Prelude.{◌≡◌, ◌++◌, map, OnOk, IfOk};
-ghost use Rattle.verifier.specs.flow.Leads.{lead_on, handler_leads};
+ghost use Rattle.verifier.specs.flow.Leads.{lead_on, handler_leads, all_leads, targets_in};
 
 use crate::flow::handler::Handler;
 use std::alloc::{AllocError, Global};
@@ -46,4 +46,31 @@ pub(crate) fn add_handlers(
         }
     }
     Ok(())
+}
+
+/// To these offsets, and then to the handlers whose range an offset lies in, in their order.
+pub(crate) fn all_leads(
+    alloc: Global,
+    handlers: &[Handler],
+    offset: usize,
+    targets: &[usize],
+) -> Result<Vec<Lead>, AllocError>
+    ensures { IfOk result (λ v. v.items ≡ all_leads offset handlers.now targets.now) }
+{
+    let mut leads = leads_on(alloc, targets)?;
+    add_handlers(&mut leads, handlers, offset)?;
+    Ok(leads)
+}
+
+/// The offsets of those leads that are to no handler.
+pub(crate) fn targets_of(alloc: Global, leads: &[Lead]) -> Result<Vec<usize>, AllocError>
+    ensures { IfOk result (λ v. v.items ≡ targets_in leads.now) }
+{
+    let mut targets = Vec::new(alloc);
+    'leads: for lead in leads {
+        if lead.handler.is_none() {
+            targets.push(lead.offset)?;
+        }
+    }
+    Ok(targets)
 }

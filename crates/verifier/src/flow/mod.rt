@@ -7,8 +7,11 @@ mod lead;
 mod local;
 mod stand;
 mod successors;
+mod untouched;
 
 pub use entry::entry_frame;
 pub use flow::flow_at;
+pub(crate) use flow::leaves_at;
 pub use handler::{Handler, handlers};
 pub use lead::Lead;
+pub(crate) use lead::{all_leads, targets_of};

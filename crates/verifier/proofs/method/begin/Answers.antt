@@ -7,6 +7,7 @@ use Rattle.types.specs.method_code.View.{files_of, member_of, body_of}
 use Rattle.verifier.specs.Packed.{parts_in}
 use Rattle.verifier.specs.Found.{tables_in, HasMerged}
 use Rattle.verifier.proofs.Entries.{none_found, on_unverified}
+use Rattle.verifier.proofs.Looked.{unknown}
 use Rattle.verifier.proofs.Turns.{begins, refused}
 use Rattle.verifier.proofs.method.begin.Goals as goal
 
@@ -28,3 +29,7 @@ returns-in-Err-clause-exact c =
     let long = n ∙ ap (λ (code : CodeTree). length code.code) c.code.ensures in
     on_unverified c.in-Err.fault _ _
     (λ clash. refused files (ordered_from files c.requires.linked.1.no_refusal) (member_of m) (body_of m) before (none_found files c.in_ok-found.found _ _ c.in_ok-found.ensures long) (subst (λ t. Clashes files (member_of m) (body_of m) (typing_of before.types) ((0, t) ∷ [])) (ap (parts_in files) c.in_ok-frame-2.ensures ∙ c.in_ok-frame.ensures) clash)) c.in-Err.ensures.clash
+
+pub returns-in-Ok-clause-looks : goal.returns-in-Ok-clause-looks
+returns-in-Ok-clause-looks c =
+    λ hs. c.in-Ok.ensures.looks hs (unknown c.args.method.now _ c.in_ok-found.found c.in_ok-found.ensures.looks hs)

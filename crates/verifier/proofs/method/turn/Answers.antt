@@ -1,61 +1,89 @@
-use Rattle.std.proofs.Common.{◌∙◌, ap, sym, subst}
-use Rattle.std.specs.Prelude.{map, option_map, IfSome}
-use Rattle.std.specs.Global.{Vec}
+use Rattle.std.proofs.Common.{◌<◌, ◌∙◌, length, ap, sym, subst}
+use Rattle.std.specs.Prelude.{Some}
+use Rattle.verifier.specs.Agreeing.{AgreeAt}
+use Rattle.verifier.specs.Looks.{LeavesAt}
 use Rattle.run_laws.specs.typing_search.Tables.{entry_of}
 use Rattle.run_laws.proofs.typing_search.Linking.{ordered_from}
-use Rattle.types.specs.method_code.View.{files_of, member_of, body_of}
-use Rattle.verifier.specs.flow.Leads.{lead_in, LeadOn}
+use Rattle.types.specs.method_code.View.{files_of}
 use Rattle.verifier.specs.Packed.{parts_in}
-use Rattle.verifier.specs.Found.{tables_in, leads_in}
-use Rattle.verifier.specs.declared.flow.lead.Lead.{Lead}
-use Rattle.verifier.specs.declared.found.Origin.{Origin}
-use Rattle.verifier.proofs.Entries.{read_at, flows_to, flows_not, on_unverified}
-use Rattle.verifier.proofs.Turns.{turns, passes, breaks, clashes}
-use Rattle.verifier.proofs.Nears.{nears_known}
+use Rattle.verifier.proofs.Entries.{read_at}
+use Rattle.verifier.proofs.Turned.{search_taken, over_taken, passes_taken, looks_taken, may_pass, turned, looked}
 use Rattle.verifier.proofs.method.turn.Goals as goal
 
 pub returns-in_default-clause-turned : goal.returns-in_default-clause-turned
 returns-in_default-clause-turned c =
     let m = c.args.method.now in
-    let files = files_of m in
-    let at = read_at files c.args.found.now.types.items c.args.offset _ _ c.requires.offset c.index.ensures c.in_default.is in
-    passes files (ordered_from files c.requires.linked.1.no_refusal) (member_of m) (body_of m) (tables_in files c.args.found.now) c.args.offset c.requires.search (ap entry_of at)
+    let taken = c.take_look-taken.new.self in
+    let within = subst (λ types. c.args.offset < length types) (sym c.take_look-taken.ensures.types) c.requires.offset in
+    let at = read_at (files_of m) taken.types.items c.args.offset _ _ within c.index.ensures c.in_default.is in
+    passes_taken m (ordered_from (files_of m) c.requires.linked.1.no_refusal) c.args.handlers.now c.args.found.now taken c.args.offset c.take_look-taken.ensures.types c.take_look-taken.ensures.waiting c.requires.search (ap entry_of at)
 
-pub flow_at-requires-clause-start : goal.flow_at-requires-clause-start
-flow_at-requires-clause-start c =
-    let files = files_of c.args.method.now in
-    let at = read_at files c.args.found.now.types.items c.args.offset _ _ c.requires.offset c.index.ensures c.in-Some.is in
-    c.requires.search.searches.starts c.args.offset (parts_in files c.in-Some.packed) (ap entry_of at)
+pub returns-in_default-clause-looks : goal.returns-in_default-clause-looks
+returns-in_default-clause-looks c =
+    let m = c.args.method.now in
+    looks_taken m (ordered_from (files_of m) c.requires.linked.1.no_refusal) c.args.handlers.now c.args.found.now c.take_look-taken.new.self c.args.offset c.take_look-taken.ensures.types c.take_look-taken.ensures.waiting c.requires.search c.requires.looks c.take_look-taken.ensures.looks
 
-pub returns-in-Ok-None-clause-exact : goal.returns-in-Ok-None-clause-exact
-returns-in-Ok-None-clause-exact c =
+pub leaves_at-requires : goal.leaves_at-requires
+leaves_at-requires c =
     let m = c.args.method.now in
     let files = files_of m in
-    let at = read_at files c.args.found.now.types.items c.args.offset _ _ c.requires.offset c.index.ensures c.in-Some.is in
-    breaks files (ordered_from files c.requires.linked.1.no_refusal) (member_of m) (body_of m) (tables_in files c.args.found.now) c.args.offset c.requires.search (parts_in files c.in-Some.packed) (ap entry_of at) (flows_not files (member_of m) (body_of m) c.args.offset c.in-Some.packed c.in_ok-frame.frame c.flow_at.new.frame _ c.in_ok-frame.ensures c.in-Ok-None.field-0-is c.in-Ok-None.ensures.flow)
+    let taken = c.take_look-taken.new.self in
+    let within = subst (λ types. c.args.offset < length types) (sym c.take_look-taken.ensures.types) c.requires.offset in
+    let at = read_at files taken.types.items c.args.offset _ _ within c.index.ensures c.in-Some.is in
+    let search = search_taken m (ordered_from files c.requires.linked.1.no_refusal) c.args.handlers.now c.args.found.now taken c.args.offset c.take_look-taken.ensures.types c.take_look-taken.ensures.waiting c.requires.search in
+    record { start = search.searches.starts c.args.offset (parts_in files c.in-Some.packed) (ap entry_of at) }
+
+pub pass_on-requires-clause-over : goal.pass_on-requires-clause-over
+pass_on-requires-clause-over c =
+    let m = c.args.method.now in
+    over_taken m (ordered_from (files_of m) c.requires.linked.1.no_refusal) c.args.handlers.now c.args.found.now c.take_look-taken.new.self c.args.offset c.take_look-taken.ensures.types c.take_look-taken.ensures.waiting c.requires.search
+
+pub pass_on-requires-clause-passes : goal.pass_on-requires-clause-passes
+pass_on-requires-clause-passes c =
+    let m = c.args.method.now in
+    let files = files_of m in
+    let taken = c.take_look-taken.new.self in
+    let within = subst (λ types. c.args.offset < length types) (sym c.take_look-taken.ensures.types) c.requires.offset in
+    let at = read_at files taken.types.items c.args.offset _ _ within c.index.ensures c.in-Some.is in
+    may_pass m (ordered_from files c.requires.linked.1.no_refusal) c.args.handlers.now c.args.found.now taken c.args.offset c.take_look-taken.ensures.types c.take_look-taken.ensures.waiting c.requires.search c.requires.looks c.take_look-taken.ensures.looks
+    c.in-Some-taken.look c.in-Some.packed c.in_ok-frame.frame c.in-Some-taken.ensures.look (ap entry_of at)
+    (subst (LeavesAt m c.args.offset) c.deref.ensures.value (c.leaves_at.ensures c.if-leaves_at.true))
+    (subst (λ locals. AgreeAt locals c.in_ok-frame.frame.locals c.in-Some.packed.locals) c.deref-then-leaves_at.ensures.value c.in_ok-frame.ensures)
+
+pub look_at-requires-clause-typed : goal.look_at-requires-clause-typed
+look_at-requires-clause-typed c =
+    let m = c.args.method.now in
+    let files = files_of m in
+    let taken = c.take_look-taken.new.self in
+    let within = subst (λ types. c.args.offset < length types) (sym c.take_look-taken.ensures.types) c.requires.offset in
+    let at = read_at files taken.types.items c.args.offset _ _ within c.index.ensures c.in-Some.is in
+    ap entry_of at ∙ ap (λ p. Some (parts_in files p)) (sym c.in_ok-before.ensures)
+
+pub look_at-requires-clause-search : goal.look_at-requires-clause-search
+look_at-requires-clause-search c =
+    let m = c.args.method.now in
+    search_taken m (ordered_from (files_of m) c.requires.linked.1.no_refusal) c.args.handlers.now c.args.found.now c.take_look-taken.new.self c.args.offset c.take_look-taken.ensures.types c.take_look-taken.ensures.waiting c.requires.search
+
+pub returns-then-leaves_at-clause-turned : goal.returns-then-leaves_at-clause-turned
+returns-then-leaves_at-clause-turned c =
+    let m = c.args.method.now in
+    turned m (ordered_from (files_of m) c.requires.linked.1.no_refusal) c.args.handlers.now c.args.found.now c.take_look-taken.new.self c.args.offset c.take_look-taken.ensures.types c.take_look-taken.ensures.waiting c.requires.search c.requires.looks c.take_look-taken.ensures.looks
+    c.pass_on.new.found c.settle.new.self c.in-Some-taken.look.targets.items c.settle.ensures.types c.settle.ensures.waiting c.in_ok-pass_on.ensures
+
+pub returns-then-leaves_at-clause-looks : goal.returns-then-leaves_at-clause-looks
+returns-then-leaves_at-clause-looks c =
+    let m = c.args.method.now in
+    looked m (ordered_from (files_of m) c.requires.linked.1.no_refusal) c.args.handlers.now c.args.found.now c.take_look-taken.new.self c.args.offset c.take_look-taken.ensures.types c.take_look-taken.ensures.waiting c.requires.search c.requires.looks c.take_look-taken.ensures.looks
+    c.pass_on.new.found c.settle.new.self c.in-Some-taken.look.targets.items c.settle.ensures.types c.settle.ensures.waiting c.in_ok-pass_on.ensures c.settle.ensures.looks
 
 pub returns-in-Ok-clause-turned : goal.returns-in-Ok-clause-turned
 returns-in-Ok-clause-turned c =
     let m = c.args.method.now in
-    let files = files_of m in
-    let origin : Origin = record { offset = c.args.offset; before = c.in_ok-before.before; after = c.in_ok-after-in-Ok-Some.after; near = c.in_ok-near-in-Ok-Some.near } in
-    let at = read_at files c.args.found.now.types.items c.args.offset _ _ c.requires.offset c.index.ensures c.in-Some.is in
-    let leads = flows_to files (member_of m) (body_of m) c.args.offset c.in-Some.packed c.in_ok-frame.frame c.flow_at.new.frame origin c.in-Ok-Some.leads.items c.deref-in-Ok-Some.result.now c.in_ok-frame.ensures c.in_ok-before.ensures c.in_ok-after-in-Ok-Some.ensures (sym (ap (option_map (λ (v : Vec Lead). map (lead_in files c.in_ok-frame.frame c.flow_at.new.frame) v.items)) c.in-Ok-Some.field-0-is) ∙ c.in-Ok-Some.ensures.flow) c.deref-in-Ok-Some.ensures.value in
-    turns files (ordered_from files c.requires.linked.1.no_refusal) (member_of m) (body_of m) (tables_in files c.args.found.now) c.args.offset c.requires.search (parts_in files c.in-Some.packed) (leads_in files origin c.deref-in-Ok-Some.result.now) (tables_in files c.merge_all.new.self) (ap entry_of at) leads c.in-Ok.ensures.merged
+    turned m (ordered_from (files_of m) c.requires.linked.1.no_refusal) c.args.handlers.now c.args.found.now c.take_look-taken.new.self c.args.offset c.take_look-taken.ensures.types c.take_look-taken.ensures.waiting c.requires.search c.requires.looks c.take_look-taken.ensures.looks
+    c.look_at.new.found c.settle-in-Ok.new.self c.in-Ok.targets.items c.settle-in-Ok.ensures.types c.settle-in-Ok.ensures.waiting c.in-Ok.ensures.led
 
-pub returns-clause-exact : goal.returns-clause-exact
-returns-clause-exact c =
+pub returns-in-Ok-clause-looks : goal.returns-in-Ok-clause-looks
+returns-in-Ok-clause-looks c =
     let m = c.args.method.now in
-    let files = files_of m in
-    let origin : Origin = record { offset = c.args.offset; before = c.in_ok-before.before; after = c.in_ok-after-in-Ok-Some.after; near = c.in_ok-near-in-Ok-Some.near } in
-    let at = read_at files c.args.found.now.types.items c.args.offset _ _ c.requires.offset c.index.ensures c.in-Some.is in
-    let leads = flows_to files (member_of m) (body_of m) c.args.offset c.in-Some.packed c.in_ok-frame.frame c.flow_at.new.frame origin c.in-Ok-Some.leads.items c.deref-in-Ok-Some.result.now c.in_ok-frame.ensures c.in_ok-before.ensures c.in_ok-after-in-Ok-Some.ensures (sym (ap (option_map (λ (v : Vec Lead). map (lead_in files c.in_ok-frame.frame c.flow_at.new.frame) v.items)) c.in-Ok-Some.field-0-is) ∙ c.in-Ok-Some.ensures.flow) c.deref-in-Ok-Some.ensures.value in
-    on_unverified c.in-Err-merge_all.fault _ _
-    (λ clash. clashes files (ordered_from files c.requires.linked.1.no_refusal) (member_of m) (body_of m) (tables_in files c.args.found.now) c.args.offset c.requires.search (parts_in files c.in-Some.packed) (leads_in files origin c.deref-in-Ok-Some.result.now) (ap entry_of at) leads clash) c.in-Err-merge_all.ensures.clash
-
-pub merge_all-requires-clause-known : goal.merge_all-requires-clause-known
-merge_all-requires-clause-known c =
-    let m = c.args.method.now in
-    let hs = c.args.handlers.now in
-    let on : LeadOn c.args.offset hs c.in-Ok-Some.leads.items = subst (λ o. IfSome o (λ (v : Vec Lead). LeadOn c.args.offset hs v.items)) c.in-Ok-Some.field-0-is c.in-Ok-Some.ensures.handlers in
-    nears_known m c.args.found.now c.args.offset c.requires.search hs c.requires.handlers c.deref-in-Ok-Some.result.now (subst (LeadOn c.args.offset hs) (sym c.deref-in-Ok-Some.ensures.value) on) c.in_ok-before.before c.in_ok-near-in-Ok-Some.near c.in_ok-near-in-Ok-Some.ensures.near c.in_ok-near-in-Ok-Some.ensures.other
+    looked m (ordered_from (files_of m) c.requires.linked.1.no_refusal) c.args.handlers.now c.args.found.now c.take_look-taken.new.self c.args.offset c.take_look-taken.ensures.types c.take_look-taken.ensures.waiting c.requires.search c.requires.looks c.take_look-taken.ensures.looks
+    c.look_at.new.found c.settle-in-Ok.new.self c.in-Ok.targets.items c.settle-in-Ok.ensures.types c.settle-in-Ok.ensures.waiting c.in-Ok.ensures.led c.settle-in-Ok.ensures.looks

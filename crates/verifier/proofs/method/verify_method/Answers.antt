@@ -9,13 +9,13 @@ use Rattle.verifier.proofs.method.verify_method.Goals as goal
 pub turn-requires-clause-offset : goal.turn-requires-clause-offset
 turn-requires-clause-offset c =
     let m = c.args.method.now in
-    waiting_within (files_of m) (body_of m) c.loop-offset.found c.in-Some.offset c.loop-offset.invariant.over c.in-Some.ensures.waits
+    waiting_within (files_of m) (body_of m) c.loop-offset.found c.in-Some.offset c.loop-offset.invariant.search.over c.in-Some.ensures.waits
 
 pub turn-requires-clause-search : goal.turn-requires-clause-search
 turn-requires-clause-search c =
     let m = c.args.method.now in
     let files = files_of m in
-    again files (ordered_from files c.requires.1.no_refusal) (member_of m) (body_of m) (tables_in files c.loop-offset.found) c.take_lowest.new.self c.in-Some.offset c.in-Some.ensures.waits c.in-Some.ensures.taken_off c.loop-offset.invariant
+    again files (ordered_from files c.requires.1.no_refusal) (member_of m) (body_of m) (tables_in files c.loop-offset.found) c.take_lowest.new.self c.in-Some.offset c.in-Some.ensures.waits c.in-Some.ensures.taken_off c.loop-offset.invariant.search
 
 pub loop-offset-smaller : goal.loop-offset-smaller
 loop-offset-smaller c =
@@ -28,4 +28,4 @@ pub returns-clause-typed : goal.returns-clause-typed
 returns-clause-typed c =
     let m = c.args.method.now in
     let files = files_of m in
-    ends files (ordered_from files c.requires.1.no_refusal) (member_of m) (body_of m) (tables_in files c.loop-offset.found) c.loop-offset.invariant c.in_default.ensures.none
+    ends files (ordered_from files c.requires.1.no_refusal) (member_of m) (body_of m) (tables_in files c.loop-offset.found) c.loop-offset.invariant.search c.in_default.ensures.none

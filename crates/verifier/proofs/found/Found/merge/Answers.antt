@@ -7,8 +7,9 @@ use Rattle.types.specs.method_code.View.{files_of, member_of, body_of}
 use Rattle.verifier.specs.Packed.{parts_in}
 use Rattle.verifier.specs.Raised.{Raises}
 use Rattle.verifier.specs.Found.{tables_in}
-use Rattle.verifier.proofs.Entries.{start_within, read_at, entry_written}
-use Rattle.verifier.proofs.Merges.{first, joined, fits}
+use Rattle.verifier.proofs.Entries.{start_within, read_at}
+use Rattle.verifier.proofs.Merges.{fits}
+use Rattle.verifier.proofs.Puts.{there_at, first_put, joined_put}
 use Rattle.verifier.proofs.found.Found.merge.Goals as goal
 
 pub returns-then-not-is_sized-clause-clash : goal.returns-then-not-is_sized-clause-clash
@@ -30,24 +31,33 @@ pub put-requires-clause-waiting : goal.put-requires-clause-waiting
 put-requires-clause-waiting c =
     (start_within (files_of c.args.method.now) (body_of c.args.method.now) c.args.self.now c.args.starts.now c.args.edge.to _ c.requires.starts c.requires.over c.is_start.ensures c.if-not-is_start.false).1
 
-pub put-requires-in-Ok-To-clause-typed : goal.put-requires-in-Ok-To-clause-typed
-put-requires-in-Ok-To-clause-typed c =
+pub put_join-requires-clause-typed : goal.put_join-requires-clause-typed
+put_join-requires-clause-typed c =
     (start_within (files_of c.args.method.now) (body_of c.args.method.now) c.args.self.now c.args.starts.now c.args.edge.to _ c.requires.starts c.requires.over c.is_start.ensures c.if-not-is_start.false).0
 
-pub put-requires-in-Ok-To-clause-waiting : goal.put-requires-in-Ok-To-clause-waiting
-put-requires-in-Ok-To-clause-waiting c =
+pub put_join-requires-clause-waiting : goal.put_join-requires-clause-waiting
+put_join-requires-clause-waiting c =
     (start_within (files_of c.args.method.now) (body_of c.args.method.now) c.args.self.now c.args.starts.now c.args.edge.to _ c.requires.starts c.requires.over c.is_start.ensures c.if-not-is_start.false).1
 
 pub returns-in_default-clause-merged : goal.returns-in_default-clause-merged
 returns-in_default-clause-merged c =
-    let files = files_of c.args.method.now in
-    let body = body_of c.args.method.now in
-    let frame = c.args.frame.now in
+    let m = c.args.method.now in
+    let files = files_of m in
     let start = sym c.is_start.ensures ∙ c.if-not-is_start.false in
-    let within = start_within files body c.args.self.now c.args.starts.now c.args.edge.to _ c.requires.starts c.requires.over c.is_start.ensures c.if-not-is_start.false in
+    let within = start_within files (body_of m) c.args.self.now c.args.starts.now c.args.edge.to _ c.requires.starts c.requires.over c.is_start.ensures c.if-not-is_start.false in
     let at = read_at files c.args.self.now.types.items c.args.edge.to _ _ within.0 c.index.ensures c.in_default.is in
     let written = c.put.ensures.types ∙ ap (λ copy. slice_set c.args.self.now.types.items c.args.edge.to (Some copy)) c.in_ok-copy.ensures in
-    first files (ordered_from files c.requires.linked.1.no_refusal) body (tables_in files c.args.self.now) c.requires.over c.args.edge.to (parts_in files frame) (tables_in files c.put.new.self) at (subst (λ l. get_or l c.args.edge.to false ≡ true) c.requires.starts start) (c.if-not-is_sized.ensures.sized refl) (entry_written files c.args.self.now.types.items c.put.new.self.types.items c.args.edge.to frame written) c.put.ensures.waiting
+    (first_put m (ordered_from files c.requires.linked.1.no_refusal) c.args.self.now c.put.new.self c.requires.over c.args.edge.to c.args.frame.now c.put.ensures.waiting at (subst (λ l. get_or l c.args.edge.to false ≡ true) c.requires.starts start) (c.if-not-is_sized.ensures.sized refl) written c.put.ensures.looks).0
+
+pub returns-in_default-clause-looks : goal.returns-in_default-clause-looks
+returns-in_default-clause-looks c =
+    let m = c.args.method.now in
+    let files = files_of m in
+    let start = sym c.is_start.ensures ∙ c.if-not-is_start.false in
+    let within = start_within files (body_of m) c.args.self.now c.args.starts.now c.args.edge.to _ c.requires.starts c.requires.over c.is_start.ensures c.if-not-is_start.false in
+    let at = read_at files c.args.self.now.types.items c.args.edge.to _ _ within.0 c.index.ensures c.in_default.is in
+    let written = c.put.ensures.types ∙ ap (λ copy. slice_set c.args.self.now.types.items c.args.edge.to (Some copy)) c.in_ok-copy.ensures in
+    (first_put m (ordered_from files c.requires.linked.1.no_refusal) c.args.self.now c.put.new.self c.requires.over c.args.edge.to c.args.frame.now c.put.ensures.waiting at (subst (λ l. get_or l c.args.edge.to false ≡ true) c.requires.starts start) (c.if-not-is_sized.ensures.sized refl) written c.put.ensures.looks).1
 
 pub returns-in-Ok-Not-clause-merged : goal.returns-in-Ok-Not-clause-merged
 returns-in-Ok-Not-clause-merged c =
@@ -65,11 +75,20 @@ returns-in-Ok-Clash-clause-clash c =
     let at = read_at files c.args.self.now.types.items c.args.edge.to _ _ within.0 c.index.ensures c.in-Some.is in
     clash_apart files body (ordered_from files c.requires.linked.1.no_refusal).rooted (member_of c.args.method.now) _ c.args.edge.to (parts_in files c.args.frame.now) (parts_in files c.in-Some.there) (ap entry_of at) (subst (Raises files c.in-Some.there c.args.frame.now) c.in-Ok-Clash.field-0-is c.in-Ok-Clash.ensures)
 
-pub returns-in-Ok-To-clause-merged : goal.returns-in-Ok-To-clause-merged
-returns-in-Ok-To-clause-merged c =
-    let files = files_of c.args.method.now in
-    let body = body_of c.args.method.now in
-    let within = start_within files body c.args.self.now c.args.starts.now c.args.edge.to _ c.requires.starts c.requires.over c.is_start.ensures c.if-not-is_start.false in
-    let at = read_at files c.args.self.now.types.items c.args.edge.to _ _ within.0 c.index.ensures c.in-Some.is in
+pub returns-in_ok-put_join-in-Ok-To-clause-merged : goal.returns-in_ok-put_join-in-Ok-To-clause-merged
+returns-in_ok-put_join-in-Ok-To-clause-merged c =
+    let m = c.args.method.now in
+    let files = files_of m in
+    let within = start_within files (body_of m) c.args.self.now c.args.starts.now c.args.edge.to _ c.requires.starts c.requires.over c.is_start.ensures c.if-not-is_start.false in
+    let at = there_at c.args.self.now.types.items c.args.edge.to _ _ within.0 c.index.ensures c.in-Some.is in
     let raised = subst (Raises files c.in-Some.there c.args.frame.now) c.in-Ok-To.field-0-is c.in-Ok-To.ensures in
-    joined files (ordered_from files c.requires.linked.1.no_refusal) body (tables_in files c.args.self.now) c.requires.over c.args.edge.to (parts_in files c.args.frame.now) (tables_in files c.put-in-Ok-To.new.self) (parts_in files c.in-Some.there) (parts_in files c.in-Ok-To.join) at raised.0 raised.1 (entry_written files c.args.self.now.types.items c.put-in-Ok-To.new.self.types.items c.args.edge.to c.in-Ok-To.join c.put-in-Ok-To.ensures.types) c.put-in-Ok-To.ensures.waiting
+    (joined_put m (ordered_from files c.requires.linked.1.no_refusal) c.args.self.now c.put_join.new.self c.requires.over c.args.edge.to c.args.frame.now c.in_ok-put_join-in-Ok-To.ensures.waiting c.in-Some.there c.in-Ok-To.join at raised.0 raised.1 c.in_ok-put_join-in-Ok-To.ensures.types c.in_ok-put_join-in-Ok-To.ensures.looks).0
+
+pub returns-in_ok-put_join-in-Ok-To-clause-looks : goal.returns-in_ok-put_join-in-Ok-To-clause-looks
+returns-in_ok-put_join-in-Ok-To-clause-looks c =
+    let m = c.args.method.now in
+    let files = files_of m in
+    let within = start_within files (body_of m) c.args.self.now c.args.starts.now c.args.edge.to _ c.requires.starts c.requires.over c.is_start.ensures c.if-not-is_start.false in
+    let at = there_at c.args.self.now.types.items c.args.edge.to _ _ within.0 c.index.ensures c.in-Some.is in
+    let raised = subst (Raises files c.in-Some.there c.args.frame.now) c.in-Ok-To.field-0-is c.in-Ok-To.ensures in
+    (joined_put m (ordered_from files c.requires.linked.1.no_refusal) c.args.self.now c.put_join.new.self c.requires.over c.args.edge.to c.args.frame.now c.in_ok-put_join-in-Ok-To.ensures.waiting c.in-Some.there c.in-Ok-To.join at raised.0 raised.1 c.in_ok-put_join-in-Ok-To.ensures.types c.in_ok-put_join-in-Ok-To.ensures.looks).1

@@ -15,6 +15,7 @@ loop-lead-init c =
     let m = c.args.method.now in
     record {
       merged = nothing (files_of m) (ordered_from (files_of m) c.requires.linked.1.no_refusal) (body_of m) (tables_in (files_of m) c.args.self.now) c.requires.over;
+      looks = λ hs are. are;
       origin = same_origin c.args.origin;
     }
 
@@ -31,6 +32,7 @@ loop-lead-preserved c =
     let one = subst (λ leads. HasMerged files (body_of m) now leads after) (leads_kept files c.args.origin c.loop-lead.origin c.loop-lead.invariant.origin (_ ∷ [])) c.in_default.ensures.merged in
     record {
       merged = subst (λ leads. HasMerged files (body_of m) before leads after) (leads_more files c.args.origin c.args.leads.now c.loop-lead.lead-index _ c.loop-lead-test.true) (follows files (ordered_from files c.requires.linked.1.no_refusal) (body_of m) before now after _ _ c.loop-lead.invariant.merged one);
+      looks = λ hs are. c.in_default.ensures.looks hs (c.loop-lead.invariant.looks hs are);
       origin = origin_then c.args.origin c.loop-lead.origin c.merge_lead.new.origin c.loop-lead.invariant.origin c.in_default.ensures.origin;
     }
 
@@ -60,3 +62,6 @@ merge_lead-requires-clause-known c =
     let files = files_of m in
     let d : Lead = record { offset = 0; handler = None } in
     known_on files (ordered_from files c.requires.linked.1.no_refusal).rooted (tables_in files c.args.self.now) (tables_in files c.loop-lead.self) c.loop-lead.invariant.merged.merged.raised c.args.origin c.loop-lead.origin c.loop-lead.invariant.origin c.args.leads.now c.loop-lead.lead-index d c.loop-lead-test.true c.requires.known
+
+pub returns-clause-looks : goal.returns-clause-looks
+returns-clause-looks c = c.loop-lead.invariant.looks
