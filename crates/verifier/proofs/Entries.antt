@@ -23,9 +23,9 @@ use Rattle.types.specs.declared.verification_type.VerificationType.{Verification
 use Rattle.run_laws.specs.typing_search.Tables.{waits, found_at, waiting_at, taken_off}
 use Rattle.verifier.specs.flow.Leads.{frame_at, lead_in}
 use Rattle.verifier.specs.Found.{Tables, tables_in, led_to, leads_in, AreOver, IsEmpty}
-use Rattle.verifier.specs.Verified.{OnUnverified}
+use Rattle.verifier.specs.Verified.{OnUnverified, OnFault}
 use Rattle.verifier.specs.declared.fault.MethodFault.{MethodFault}
-use Rattle.verifier.specs.declared.fault.MethodFault.TheVariants.{Unverified, OutOfMemory}
+use Rattle.verifier.specs.declared.fault.MethodFault.TheVariants.{Unverified, TooLong, OutOfMemory}
 use Rattle.verifier.specs.declared.flow.handler.Handler.{Handler}
 use Rattle.verifier.specs.declared.flow.lead.Lead.{Lead}
 use Rattle.verifier.specs.declared.found.Origin.{Origin}
@@ -167,4 +167,11 @@ flows_not files method body offset found before after o p n e =
 
 pub on_unverified : (fault : MethodFault) (P Q : Type 0) → (P → Q) → OnUnverified fault P → OnUnverified fault Q
 on_unverified (Unverified offset) P Q f p = f p
+on_unverified TooLong P Q f p = p
 on_unverified OutOfMemory P Q f p = tt
+
+-- a fault of a part of a search
+pub on_fault : (fault : MethodFault) (P Q : Type 0) → OnUnverified fault P → OnFault fault P Q
+on_fault (Unverified offset) P Q p = p
+on_fault TooLong P Q p = absurd p
+on_fault OutOfMemory P Q p = tt

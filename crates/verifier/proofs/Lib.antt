@@ -11,6 +11,7 @@ pub mod Merges
 pub mod Looked
 pub mod Puts
 pub mod Passing
+pub mod Steps
 pub mod Turns
 pub mod Turned
 pub mod Members

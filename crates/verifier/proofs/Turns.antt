@@ -10,10 +10,13 @@ use Rattle.model.specs.Typing.{HasTyping, entry_type, flow}
 use Rattle.run_laws.specs.typing_search.Orders.{IsOrdered}
 use Rattle.run_laws.specs.typing_search.Search.{Clashes, HasNoTyping, IsTakenOff}
 use Rattle.run_laws.specs.typing_search.Tables.{typing_of, waits, waiting_at, taken_off}
+use Rattle.run_laws.specs.typing_search.Decided.{IsBounded}
 use Rattle.run_laws.proofs.typing_search.Searching.{search_begins, beginning_refused, search_ends, search_turn, refused_rule, refused_merge}
 use Rattle.run_laws.proofs.typing_search.Merging.{waits_other, blank}
 use Rattle.run_laws.proofs.typing_search.Weights.{work_taken_off}
 use Rattle.verifier.proofs.Entries.{tables_same, marked_again}
+use Rattle.verifier.proofs.Steps.{work_at_first}
+use Rattle.verifier.specs.Steps.{most_turns}
 use Rattle.verifier.specs.Found.{Tables, AreOver, work_left, HasMerged, IsSearch, waiting_again, HasTurned}
 
 none_some : {A : Type 0} (x : A) → None ≡ Some x → ⊥
@@ -34,6 +37,14 @@ module _ (files : Program) (ordered : IsOrdered files) (method : Member) (body :
           searches = search_begins files ordered.rooted body method (typing_of before.types) (waits before.waiting) (typing_of after.types) (waits after.waiting) untyped w.merged;
           low = λ limit bounded. (w.no_heavier limit (λ k t e. absurd (none_some t (sym (untyped k) ∙ e))) (bounded.begins, tt)).low;
         }
+
+    -- the work that is left is no more than that of tables with nothing in them
+    pub begins_light : before.waiting ≡ replicate (length body.code.code) false → (after : Tables)
+        → HasMerged files body before ((0, entry_type files method body) ∷ []) after → (limit : ℕ) → IsBounded files method body limit
+        → work_left files body limit after ≤ most_turns body limit
+    begins_light waiting after w limit bounded =
+        let l = (w.no_heavier limit (λ k t e. absurd (none_some t (sym (untyped k) ∙ e))) (bounded.begins, tt)).lighter in
+        omega (arith, l, work_at_first files body limit before empty waiting)
 
     pub refused : Clashes files method body (typing_of before.types) ((0, entry_type files method body) ∷ [])
         → HasNoTyping files method body

@@ -6,6 +6,7 @@ pub mod Agreeing
 pub mod Changes
 pub mod Looks
 pub mod Near
+pub mod Steps
 pub mod Verified
 pub mod Places
 pub mod flow

@@ -8,7 +8,9 @@ use Rattle.model.specs.Typing.{HasTyping}
 use Rattle.types.specs.method_code.View.{shown_at}
 use Rattle.link_conditions.specs.declared.refusal.why.Refusal.{Refusal}
 use Rattle.link_conditions.specs.declared.refusal.why.RefusalKind.TheVariants as kinds
+use Rattle.link_conditions.specs.declared.refusal.why.RefusalKind.{RefusalKind}
 use Rattle.run_laws.specs.typing_search.Search.{HasNoTyping}
+use Rattle.verifier.specs.Steps.{Limits, all_steps, MayTakeMore}
 
 -- ---- methods that pass verification
 
@@ -26,9 +28,9 @@ AreTypedIn files class = (method : ℕ) → IsTypedAt files class method
 abbrev pub file_number : ℕ → Option ℕ
 file_number class = if nat_lt class (length built_in_classes) then None else Some (class - length built_in_classes)
 
--- a refusal says that a method of the class at a place is not verified: by its file, and by its name and its descriptor
-pub record IsRefusalOf (class : ℕ) (member : Member) (refusal : Refusal) : Type 0 where
-  pub kind : refusal.kind ≡ kinds.Unverified
+-- a refusal says why a method of the class at a place is not verified: by its file, and by its name and its descriptor
+pub record IsRefusalOf (why : RefusalKind) (class : ℕ) (member : Member) (refusal : Refusal) : Type 0 where
+  pub kind : refusal.kind ≡ why
   pub file : refusal.file ≡ file_number class
   pub method : option_map vec_items refusal.method ≡ Some (member.name ++ member.descriptor)
 
@@ -40,8 +42,23 @@ pub record IsUnverified (files : Program) (refusal : Refusal) : Type 0 where
   pub body : Body
   pub stands : shown_at files class method ≡ Some (member, body)
   pub none : HasNoTyping files member body
-  pub named : IsRefusalOf class member refusal
+  pub named : IsRefusalOf kinds.Unverified class member refusal
 
--- when linked classes may be refused so
-abbrev pub Refuses : Program → Refusal → Type 0
-Refuses files refusal = (refusal.kind ≡ kinds.OutOfMemory) ⊎ IsUnverified files refusal
+-- Fewer steps are left than some part of the verification may take, and the refusal is of a method with code, at no offset of it.
+pub record IsTooLong (files : Program) (most : Limits → ℕ) (left : ℕ) (refusal : Refusal) : Type 0 where
+  pub class : ℕ
+  pub method : ℕ
+  pub member : Member
+  pub body : Body
+  pub stands : shown_at files class method ≡ Some (member, body)
+  pub long : MayTakeMore files most left
+  pub named : IsRefusalOf kinds.TooLarge class member refusal
+  pub nowhere : refusal.offset ≡ None
+
+-- when that part may be refused
+abbrev pub RefusesPart : Program → (Limits → ℕ) → ℕ → Refusal → Type 0
+RefusesPart files most left refusal = (refusal.kind ≡ kinds.OutOfMemory) ⊎ (IsUnverified files refusal ⊎ IsTooLong files most left refusal)
+
+-- when linked classes may be refused that are verified in so many steps
+abbrev pub Refuses : Program → ℕ → Refusal → Type 0
+Refuses files steps refusal = RefusesPart files (all_steps files) steps refusal

@@ -34,6 +34,8 @@ pub(crate) struct Found {
     pub looks: Vec<Option<Look>>,
     /// The last instruction with handlers that was looked at.
     pub last: usize,
+    /// What the last turn merged, in types.
+    pub merged: u64,
 }
 
 /// The instruction at an offset leads to another offset.
@@ -81,6 +83,7 @@ impl Found {
             waiting,
             looks,
             last: 0,
+            merged: 0,
         })
     }
 

@@ -15,9 +15,9 @@ mod near;
 mod packed;
 mod raised;
 mod run;
+mod steps;
 mod verified;
 mod waiting;
 
-pub use fault::MethodFault;
-pub use method::verify_method;
-pub use verified::{Verified, verify};
+pub use steps::MOST_STEPS;
+pub use verified::{Verified, verify, verify_within};

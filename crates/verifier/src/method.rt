@@ -1,19 +1,21 @@
 //! The worklist (JVMS 4.10.2.2): it takes the lowest offset that waits, and merges what its instruction leads to.
 
-ghost use Rattle.std.specs.Prelude.{◌≡◌, ◌<◌, List, length, Some, OnOk, IfOk, IfErr, IfSome};
+ghost use Rattle.std.specs.Prelude.{◌≡◌, ℕ, ◌<◌, ◌≤◌, List, length, Some, OnOk, IfOk, IfErr, IfSome};
 ghost use Rattle.model.specs.InstructionStarts.{starts as starts_of};
 ghost use Rattle.model.specs.Typing.{HasTyping};
 ghost use Rattle.run_laws.specs.typing_search.Search.{HasNoTyping};
+ghost use Rattle.run_laws.specs.typing_search.Decided.{IsBounded};
 ghost use Rattle.types.specs.method_code.Linked.{IsLinked};
 ghost use Rattle.types.specs.method_code.View.{files_of, member_of, body_of};
 ghost use Rattle.verifier.specs.declared.flow.handler.Handler.{Handler as SpecHandler};
 ghost use Rattle.verifier.specs.flow.Handlers.{AreHandlers};
 ghost use Rattle.run_laws.specs.typing_search.Tables.{typing_of};
 ghost use Rattle.verifier.specs.Packed.{parts_in};
-ghost use Rattle.verifier.specs.Found.{tables_in, waiting_again, AreOver, IsSearch, HasTurned};
+ghost use Rattle.verifier.specs.Found.{tables_in, waiting_again, work_left, AreOver, IsSearch, HasTurned};
 ghost use Rattle.verifier.specs.Looks.{MayPass, AreLooks, HasLed};
 ghost use Rattle.verifier.specs.Near.{IsNear};
-ghost use Rattle.verifier.specs.Verified.{OnUnverified};
+ghost use Rattle.verifier.specs.Steps.{most_turns, method_steps, TakesAtMost, MayTakeMore};
+ghost use Rattle.verifier.specs.Verified.{OnUnverified, OnFault};
 
 use crate::fault::MethodFault;
 use crate::flow::{
@@ -23,6 +25,7 @@ use crate::found::{Edge, Found, Origin};
 use crate::look::Look;
 use crate::near::{Near, near_found};
 use crate::packed::PackedFrame;
+use crate::steps::{Steps, merged, places, steps_of_turn};
 use opcodes::starts;
 use std::alloc::{AllocError, Global};
 use types::method_code::MethodCode;
@@ -33,6 +36,9 @@ fn begin(alloc: Global, method: &MethodCode<'_>, starts: &[bool]) -> Result<Foun
     requires starts { starts.now ≡ starts_of (body_of method.now).code.code }
     ensures search { IfOk result (λ found. IsSearch (files_of method.now) (member_of method.now) (body_of method.now)
         (tables_in (files_of method.now) found)) }
+    ensures work { IfOk result (λ found. (limit : ℕ) → IsBounded (files_of method.now) (member_of method.now) (body_of method.now) limit
+        → work_left (files_of method.now) (body_of method.now) limit (tables_in (files_of method.now) found)
+        ≤ most_turns (body_of method.now) limit) }
     ensures looks { IfOk result (λ found. (hs : List SpecHandler) → AreLooks method.now hs found) }
     ensures exact { IfErr result (λ fault. OnUnverified
         fault (HasNoTyping (files_of method.now) (member_of method.now) (body_of method.now))) }
@@ -94,6 +100,7 @@ fn pass_on(
     ensures { OnOk result (HasLed method.now handlers.now found.old offset look.now.targets.items found.new) }
 {
     let leads = all_leads(alloc, handlers, offset, &look.targets)?;
+    found.merged = merged(leads.len(), look.changed.len());
     found.raise_all(alloc, method, &leads, frame, &look.changed)?;
     Ok(())
 }
@@ -128,6 +135,7 @@ fn look_at(
             let after = PackedFrame::pack(alloc, &frame)?;
             let near = last_if_near(alloc, found, &before, offset, &leads)?;
             found.last = last_after(found.last, offset, &leads);
+            found.merged = merged(leads.len(), places(method));
             let origin = Origin {
                 offset,
                 before,
@@ -186,12 +194,19 @@ fn turn(
     }
 }
 
-/// Whether there are frame types at the offsets of a method's code that agree with its instructions.
-pub fn verify_method(alloc: Global, method: &MethodCode<'_>) -> Result<(), MethodFault>
+/// Whether there are frame types at the offsets of a method's code that agree with its instructions. The search takes steps.
+pub(crate) fn verify_method(
+    alloc: Global,
+    method: &MethodCode<'_>,
+    steps: &mut Steps,
+) -> Result<(), MethodFault>
     requires { IsLinked (files_of method.now) }
     ensures typed { OnOk result (HasTyping (files_of method.now) (member_of method.now) (body_of method.now)) }
-    ensures exact { IfErr result (λ fault. OnUnverified
-        fault (HasNoTyping (files_of method.now) (member_of method.now) (body_of method.now))) }
+    ensures taken { OnOk result (TakesAtMost (files_of method.now) (method_steps (member_of method.now) (body_of method.now))
+        steps.old.left steps.new.left) }
+    ensures exact { IfErr result (λ fault. OnFault
+        fault (HasNoTyping (files_of method.now) (member_of method.now) (body_of method.now))
+        (MayTakeMore (files_of method.now) (method_steps (member_of method.now) (body_of method.now)) steps.old.left)) }
 {
     let starts = starts(alloc, &method.code().code)?;
     let handlers = handlers(alloc, method)?;
@@ -201,6 +216,9 @@ pub fn verify_method(alloc: Global, method: &MethodCode<'_>) -> Result<(), Metho
     };
     while let Some(offset) = found.waiting.take_lowest() {
         if let Err(fault) = turn(alloc, method, &starts, &handlers, &mut found, offset) {
+            return Err(fault);
+        }
+        if let Err(fault) = steps.take(steps_of_turn(method, found.merged)) {
             return Err(fault);
         }
     }

@@ -1,10 +1,33 @@
+use Rattle.std.proofs.Common.{◌+◌, ◌*◌, ◌≤◌, sym, subst, arith}
+use Rattle.std.proofs.lemmas.Nat.{mul-le}
+use Rattle.run_laws.specs.typing_search.Search.{HasNoTyping}
 use Rattle.run_laws.proofs.typing_search.Bounds.{bounded}
 use Rattle.run_laws.proofs.typing_search.Linking.{ordered_from}
 use Rattle.types.specs.method_code.View.{files_of, member_of, body_of}
-use Rattle.verifier.specs.Found.{tables_in}
-use Rattle.verifier.proofs.Entries.{waiting_within}
+use Rattle.verifier.specs.Found.{tables_in, work_left}
+use Rattle.verifier.specs.Steps.{most_a_turn, most_turns, method_steps, MayTakeMore}
+use Rattle.verifier.specs.Verified.{OnFault}
+use Rattle.verifier.proofs.Entries.{waiting_within, on_fault}
+use Rattle.verifier.proofs.Steps.{turn_taken, turn_missing}
 use Rattle.verifier.proofs.Turns.{again, less, ends}
 use Rattle.verifier.proofs.method.verify_method.Goals as goal
+
+pub returns-in-Err-clause-exact : goal.returns-in-Err-clause-exact
+returns-in-Err-clause-exact c = on_fault c.in-Err.fault _ _ c.in-Err.ensures.exact
+
+pub loop-offset-init : goal.loop-offset-init
+loop-offset-init c =
+    let m = c.args.method.now in
+    let files = files_of m in
+    let body = body_of m in
+    record {
+      search = c.in-Ok.ensures.search;
+      looks = c.in-Ok.ensures.looks c.in_ok-handlers.handlers.items;
+      taken = λ limits are.
+          let limit = limits (member_of m) body in
+          let work = mul-le (work_left files body limit (tables_in files c.in-Ok.found)) (most_a_turn body) (most_turns body limit) (most_a_turn body) (c.in-Ok.ensures.work limit (are (member_of m) body)) (omega arith) in
+          omega (arith, work);
+    }
 
 pub turn-requires-clause-offset : goal.turn-requires-clause-offset
 turn-requires-clause-offset c =
@@ -24,8 +47,42 @@ loop-offset-smaller c =
     let limit = bounded files (member_of m) (body_of m) in
     less files (ordered_from files c.requires.1.no_refusal) (member_of m) (body_of m) (tables_in files c.loop-offset.found) c.take_lowest.new.self c.in-Some.offset c.in-Some.ensures.waits c.in-Some.ensures.taken_off limit.0 (tables_in files c.turn.new.found) (c.in_default-turn.ensures.turned.lighter limit.0 limit.1)
 
+pub loop-offset-preserved : goal.loop-offset-preserved
+loop-offset-preserved c =
+    let m = c.args.method.now in
+    let files = files_of m in
+    let body = body_of m in
+    record {
+      search = c.in_default-turn.ensures.turned.search;
+      looks = c.in_default-turn.ensures.looks;
+      taken = λ limits are.
+          let limit = limits (member_of m) body in
+          let lighter = less files (ordered_from files c.requires.1.no_refusal) (member_of m) body (tables_in files c.loop-offset.found) c.take_lowest.new.self c.in-Some.offset c.in-Some.ensures.waits c.in-Some.ensures.taken_off limit (tables_in files c.turn.new.found) (c.in_default-turn.ensures.turned.lighter limit (are (member_of m) body)) in
+          turn_taken c.args.steps.now.left (work_left files body limit (tables_in files c.loop-offset.found)) (work_left files body limit (tables_in files c.turn.new.found)) c.loop-offset.steps.left c.take.new.self.left c.steps_of_turn.result (most_a_turn body) (method_steps (member_of m) body limits)
+          (c.loop-offset.invariant.taken limits are) c.in_default-take.ensures.taken c.steps_of_turn.ensures lighter;
+    }
+
+pub returns-in-Err-turn-clause-exact : goal.returns-in-Err-turn-clause-exact
+returns-in-Err-turn-clause-exact c = on_fault c.in-Err-turn.fault _ _ c.in-Err-turn.ensures.exact
+
+pub returns-in-Err-take-clause-exact : goal.returns-in-Err-take-clause-exact
+returns-in-Err-take-clause-exact c =
+    let m = c.args.method.now in
+    let files = files_of m in
+    let body = body_of m in
+    let few = c.in-Err-take.ensures.fewer in
+    subst (λ fault. OnFault fault (HasNoTyping files (member_of m) body) (MayTakeMore files (method_steps (member_of m) body) c.args.steps.now.left)) (sym few.0)
+    (λ limits are.
+    let limit = limits (member_of m) body in
+    let lighter = less files (ordered_from files c.requires.1.no_refusal) (member_of m) body (tables_in files c.loop-offset.found) c.take_lowest.new.self c.in-Some.offset c.in-Some.ensures.waits c.in-Some.ensures.taken_off limit (tables_in files c.turn.new.found) (c.in_default-turn.ensures.turned.lighter limit (are (member_of m) body)) in
+    turn_missing c.args.steps.now.left (work_left files body limit (tables_in files c.loop-offset.found)) (work_left files body limit (tables_in files c.turn.new.found)) c.loop-offset.steps.left c.steps_of_turn.result (most_a_turn body) (method_steps (member_of m) body limits)
+    (c.loop-offset.invariant.taken limits are) few.1 c.steps_of_turn.ensures lighter)
+
 pub returns-clause-typed : goal.returns-clause-typed
 returns-clause-typed c =
     let m = c.args.method.now in
     let files = files_of m in
     ends files (ordered_from files c.requires.1.no_refusal) (member_of m) (body_of m) (tables_in files c.loop-offset.found) c.loop-offset.invariant.search c.in_default.ensures.none
+
+pub returns-clause-taken : goal.returns-clause-taken
+returns-clause-taken c limits are = omega (arith, c.loop-offset.invariant.taken limits are)

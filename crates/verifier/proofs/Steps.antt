@@ -1,0 +1,119 @@
+-- Steps that are taken: by turns, by methods and by classes.
+use Rattle.std.proofs.Common.{◌≡◌, ℕ, zero, suc, ◌+◌, ◌*◌, ◌<◌, ◌≤◌, List, [], ◌∷◌, length, take, false, Option, Some, None, inl, inr, refl, sym, ap, ◌∙◌, arith}
+use Rattle.std.specs.Prelude.{replicate, slice_get}
+use Rattle.std.specs.Option.{option_and_then, option_map_or}
+use Rattle.std.specs.List.{sum_by}
+use Rattle.std.proofs.Math.Nat.{suc-mul}
+use Rattle.std.proofs.lemmas.Nat.{mul-le}
+use Rattle.std.proofs.lemmas.List.Sums.{sum_by-cons, sum_by-take-le}
+use Rattle.model.specs.Names.{Member}
+use Rattle.model.specs.Tree.{FileTree, MethodTree}
+use Rattle.model.specs.Classes.{Program, Body, classes_of}
+use Rattle.hierarchy.specs.Places.{class_at}
+use Rattle.types.specs.method_code.View.{shown_in, shown_at}
+use Rattle.run_laws.specs.typing_search.Weights.{table_weight, marks_weight, places}
+use Rattle.link_conditions.specs.declared.refusal.why.Refusal.{Refusal}
+use Rattle.verifier.specs.Found.{Tables, work_left}
+use Rattle.verifier.specs.Steps.{Limits, AreLimits, most_turns, method_steps, shown_steps, class_steps, all_steps, steps_at, steps_of_class}
+use Rattle.verifier.specs.Places.{RefusesPart}
+
+-- ---- turns
+
+-- a turn lessens the work that is left, and takes no more than the most
+pub turn_taken : (start work less left after cost most all : ℕ) → start + work * most ≤ left + all → after + cost ≡ left → cost ≤ most
+    → less < work → start + less * most ≤ after + all
+turn_taken start work less left after cost most all h e c l =
+    let m = mul-le (suc less) most work most (omega (arith, l)) (omega arith) in
+    let s = suc-mul less most in
+    omega (arith, h, e, c, m, s)
+
+pub turn_missing : (start work less left cost most all : ℕ) → start + work * most ≤ left + all → left < cost → cost ≤ most → less < work
+    → start < all
+turn_missing start work less left cost most all h f c l =
+    let m = mul-le 1 most work most (omega (arith, l)) (omega arith) in
+    omega (arith, h, f, c, m)
+
+module _ (files : Program) (body : Body) (limit : ℕ) where
+  none_weight : (n : ℕ) → table_weight files limit (places body) (replicate n None) ≡ n * (places body * suc limit + 2)
+  none_weight zero = omega arith
+  none_weight (suc n) =
+      let r = none_weight n in
+      let s = suc-mul n (places body * suc limit + 2) in
+      omega (arith, r, s)
+
+  none_waits_weight : (n : ℕ) → marks_weight (replicate n false) ≡ 0
+  none_waits_weight zero = refl
+  none_waits_weight (suc n) = none_waits_weight n
+
+  pub work_at_first : (tables : Tables) → tables.types ≡ replicate (length body.code.code) None
+      → tables.waiting ≡ replicate (length body.code.code) false → work_left files body limit tables ≡ most_turns body limit
+  work_at_first tables e f =
+      let t = ap (table_weight files limit (places body)) e ∙ none_weight (length body.code.code) in
+      let w = ap marks_weight f ∙ none_waits_weight (length body.code.code) in
+      omega (arith, t, w)
+
+-- ---- sums
+
+sum_more : {A : Type 0} (f : A → ℕ) (xs : List A) (i : ℕ) → sum_by f (take (suc i) xs) ≡ sum_by f (take i xs) + option_map_or f (slice_get xs i) 0
+sum_more f [] zero = omega arith
+sum_more f [] (suc i) = omega arith
+sum_more f (x ∷ xs) zero = omega (arith, sum_by-cons f x [])
+sum_more f (x ∷ xs) (suc i) =
+    omega (arith, sum_by-cons f x (take (suc i) xs), sum_by-cons f x (take i xs), sum_more f xs i)
+
+-- the same as a counter goes on
+sum_next : {A : Type 0} (f : A → ℕ) (xs : List A) (i : ℕ) → sum_by f (take (i + 1) xs) ≡ sum_by f (take i xs) + option_map_or f (slice_get xs i) 0
+sum_next f xs i = let n : suc i ≡ i + 1 = omega arith in sym (ap (λ k. sum_by f (take k xs)) n) ∙ sum_more f xs i
+
+-- ---- methods of a class
+
+-- of the first methods
+abbrev pub methods_steps : FileTree → ℕ → Limits → ℕ
+methods_steps file n limits = sum_by (λ (m : MethodTree). shown_steps (shown_in file m) limits) (take n file.methods)
+
+module _ (files : Program) (file : FileTree) (class : ℕ) (at : class_at files class ≡ Some file) (limits : Limits) where
+  shown_or_none : (o : Option MethodTree) → option_map_or (λ (m : MethodTree). shown_steps (shown_in file m) limits) o 0
+      ≡ shown_steps (option_and_then (shown_in file) o) limits
+  shown_or_none None = refl
+  shown_or_none (Some m) = refl
+
+  pub method_more : (k : ℕ) → methods_steps file (k + 1) limits ≡ methods_steps file k limits + steps_at files class k limits
+  method_more k =
+      let shown = shown_or_none (slice_get file.methods k) ∙ ap (λ o. shown_steps (option_and_then (λ (file : FileTree). option_and_then (shown_in file) (slice_get file.methods k)) o) limits) (sym at) in
+      sum_next (λ (m : MethodTree). shown_steps (shown_in file m) limits) file.methods k ∙ ap (λ n. methods_steps file k limits + n) shown
+
+  pub methods_within : (k : ℕ) → methods_steps file k limits ≤ steps_of_class files class limits
+  methods_within k =
+      let all : steps_of_class files class limits ≡ class_steps file limits = ap (λ o. option_map_or (λ (file : FileTree). class_steps file limits) o 0) at in
+      omega (arith, all, sum_by-take-le (λ (m : MethodTree). shown_steps (shown_in file m) limits) file.methods k)
+
+-- ---- classes
+
+abbrev pub classes_steps : Program → ℕ → Limits → ℕ
+classes_steps files n limits = sum_by (λ (file : FileTree). class_steps file limits) (take n (classes_of files))
+
+module _ (files : Program) (limits : Limits) where
+  pub class_more : (k : ℕ) → classes_steps files (k + 1) limits ≡ classes_steps files k limits + steps_of_class files k limits
+  class_more k = sum_next (λ (file : FileTree). class_steps file limits) (classes_of files) k
+
+  pub classes_within : (k : ℕ) → classes_steps files k limits ≤ all_steps files limits
+  classes_within k = sum_by-take-le (λ (file : FileTree). class_steps file limits) (classes_of files) k
+
+-- ---- refusals of a part, and of the whole
+
+pub refuses_more : (files : Program) (part whole : Limits → ℕ) (left first : ℕ) (refusal : Refusal)
+    → ((limits : Limits) → AreLimits files limits → left < part limits → first < whole limits) → RefusesPart files part left refusal
+    → RefusesPart files whole first refusal
+refuses_more files part whole left first refusal more (inl kind) = inl kind
+refuses_more files part whole left first refusal more (inr (inl unverified)) = inr (inl unverified)
+refuses_more files part whole left first refusal more (inr (inr long)) =
+    inr (inr (record {
+      class = long.class;
+      method = long.method;
+      member = long.member;
+      body = long.body;
+      stands = long.stands;
+      long = λ limits are. more limits are (long.long limits are);
+      named = long.named;
+      nowhere = long.nowhere;
+    }))

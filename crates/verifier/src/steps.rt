@@ -1,0 +1,80 @@
+//! How many steps verification takes. A search ends in any case, but the longest of all take a time that grows faster than
+//! their code: so steps are counted, each of which is about what it takes to merge one type, and are limited.
+
+ghost use Rattle.std.specs.Prelude.{◌≡◌, suc, ◌+◌, ◌*◌, ◌<◌, ◌≤◌, OnOk, IfErr};
+ghost use Rattle.run_laws.specs.typing_search.Weights.{places};
+ghost use Rattle.types.specs.method_code.View.{body_of};
+ghost use Rattle.verifier.specs.Steps.{most_a_turn};
+
+use crate::fault::MethodFault;
+use types::method_code::MethodCode;
+
+/// How many steps the verification of a set of classes may take.
+pub const MOST_STEPS: u64 = 2_000_000_000;
+
+/// What each turn of a search takes, whatever it merges.
+const TURN: u64 = 32;
+
+/// How many steps a verification may still take.
+#[derive(Drop)]
+pub(crate) struct Steps {
+    pub left: u64,
+}
+
+impl Steps {
+    pub fn new(left: u64) -> Steps
+        ensures { result.left ≡ left }
+    {
+        Steps { left }
+    }
+
+    /// Takes steps, if so many are left.
+    pub fn take(&mut self, steps: u64) -> Result<(), MethodFault>
+        ensures taken { OnOk result (self.new.left + steps ≡ self.old.left) }
+        ensures fewer { IfErr result (λ fault. (fault ≡ MethodFault.TooLong) × (self.old.left < steps)) }
+    {
+        if self.left < steps {
+            return Err(MethodFault::TooLong);
+        }
+        self.left -= steps;
+        Ok(())
+    }
+}
+
+/// How many places the frame types of a method have.
+pub(crate) fn places(method: &MethodCode<'_>) -> usize
+    ensures { result ≡ places (body_of method.now) }
+{
+    usize::from(method.code.max_locals) + usize::from(method.code.max_stack)
+}
+
+/// What it takes to read a frame type and to merge one at each offset of so many, where each has so many types.
+pub(crate) fn merged(leads: usize, types: usize) -> u64
+    ensures { result ≤ suc leads * suc types }
+{
+    let frames = (leads as u64).saturating_add(1);
+    frames.saturating_mul((types as u64).saturating_add(1))
+}
+
+/// How many steps a turn takes at most.
+fn most_a_turn(method: &MethodCode<'_>) -> u64
+    ensures { result ≤ most_a_turn (body_of method.now) }
+{
+    let leads = method
+        .code
+        .code
+        .len()
+        .saturating_add(method.code.exceptions.len());
+    merged(leads, places(method)).saturating_add(TURN)
+}
+
+/// How many steps a turn takes that merged so much. It also asks each handler whether its range has the offset.
+pub(crate) fn steps_of_turn(method: &MethodCode<'_>, merged: u64) -> u64
+    ensures { result ≤ most_a_turn (body_of method.now) }
+{
+    let asked = method.code.exceptions.len() as u64;
+    merged
+        .saturating_add(asked)
+        .saturating_add(TURN)
+        .min(most_a_turn(method))
+}
