@@ -1,5 +1,5 @@
 -- Why class files are not accepted.
-use Rattle.std.proofs.Common.{◌≡◌, ℕ, suc, ◌<◌, List, [], ◌∷◌, length, Option, None, Some, inl, inr, refl, sym, ap, subst, ◌∙◌, ⊎_elim}
+use Rattle.std.proofs.Common.{◌≡◌, ◌⊎◌, ℕ, suc, ◌<◌, List, [], ◌∷◌, length, Option, None, Some, inl, inr, refl, sym, ap, subst, ◌∙◌}
 use Rattle.std.specs.Prelude.{slice_get}
 use Rattle.std.specs.Option.{option_and_then, option_map, option_map_or}
 use Rattle.std.proofs.lemmas.List.{append-nil}
@@ -17,7 +17,9 @@ use Rattle.types.specs.method_code.Linked.{IsLinked}
 use Rattle.types.specs.method_code.View.{member_named, shown_in, shown_at}
 use Rattle.types.proofs.method_code.Declared.{declared_at}
 use Rattle.linker.specs.Linking.{MayRefuse}
-use Rattle.verifier.specs.Places.{IsUnverified, Refuses}
+use Rattle.verifier.specs.declared.steps.TheConstants.{MOST_STEPS}
+use Rattle.verifier.specs.Steps.{all_steps}
+use Rattle.verifier.specs.Places.{IsUnverified, IsTooLong, Refuses}
 use Rattle.link_conditions.specs.declared.refusal.why.Refusal.{Refusal}
 use Rattle.link_conditions.specs.declared.refusal.why.RefusalKind.TheVariants as kinds
 use Rattle.engines.specs.Devices.{fault_of}
@@ -86,16 +88,24 @@ pub linking_refuses : (files : List (List ℕ)) (refusal : Refusal)
     → ((trees : Program) → IsLinkable files trees → refusal.kind ≡ kinds.OutOfMemory)
     → MayRefuse files refusal.kind refusal.file refusal.offset refusal.cause → IsRefused files refusal
 linking_refuses files refusal only may = record {
-  memory = λ trees accepted. only trees accepted.linkable;
+  accepted = λ trees accepted. inl (only trees accepted.linkable);
   stands = inl may;
 }
 
+-- of linked classes: memory is wanted, or a method has no typing, or their verification may take too many steps
+refused_of_typed : (linked : Program) (refusal : Refusal) → IsLinked linked → AreTyped linked → Refuses linked MOST_STEPS refusal
+    → (refusal.kind ≡ kinds.OutOfMemory) ⊎ IsTooLong linked (all_steps linked) MOST_STEPS refusal
+refused_of_typed linked refusal is_linked typed (inl kind) = inl kind
+refused_of_typed linked refusal is_linked typed (inr (inl of_method)) = absurd (untyped linked refusal is_linked of_method typed)
+refused_of_typed linked refusal is_linked typed (inr (inr long)) = inr long
+
 pub verification_refuses : (files : List (List ℕ)) (linked : Program) (refusal : Refusal) → IsLinkable files linked
-    → ((trees : Program) → IsLinkable files trees → linked ≡ trees) → Refuses linked refusal → IsRefused files refusal
+    → ((trees : Program) → IsLinkable files trees → linked ≡ trees) → Refuses linked MOST_STEPS refusal → IsRefused files refusal
 verification_refuses files linked refusal linkable sole refused = record {
-  memory = λ trees accepted. ⊎_elim (λ kind. kind)
-      (λ (of_method : IsUnverified linked refusal). absurd (untyped linked refusal (files, linkable) of_method (subst AreTyped (sym (sole trees accepted.linkable)) accepted.typed)))
-      refused;
+  accepted = λ trees accepted.
+      let same = sole trees accepted.linkable in
+      subst (λ trees. (refusal.kind ≡ kinds.OutOfMemory) ⊎ IsTooLong trees (all_steps trees) MOST_STEPS refusal) same
+      (refused_of_typed linked refusal (files, linkable) (subst AreTyped (sym same) accepted.typed) refused);
   stands = inr (linked, linkable, refused);
 }
 

@@ -101,6 +101,16 @@ fn say_unverified(
     }
 }
 
+/// Adds what of a class, or of the method that is named, is too large.
+fn say_too_large(line: &mut Line, method: Option<&[u8]>) -> Result<(), AllocError> {
+    let Some(method) = method else {
+        return line.say("the class has too many fields, or is one too many");
+    };
+    line.say("the method ")?;
+    line.name(method)?;
+    line.say(" takes too many steps to verify, or all methods together do")
+}
+
 /// Adds why the class of a file is refused.
 fn say_of_class(
     line: &mut Line,
@@ -122,7 +132,7 @@ fn say_of_class(
         },
         RefusalKind::BadHierarchy => say_hierarchy(line, class, method),
         RefusalKind::Unverified => say_unverified(line, class, method, refusal.offset),
-        RefusalKind::TooLarge => line.say("the class has too many fields, or is one too many"),
+        RefusalKind::TooLarge => say_too_large(line, method),
         _ => line.say("there is no memory for it"),
     }
 }
