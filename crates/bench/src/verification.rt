@@ -1,17 +1,19 @@
-//! `verify FILE..` links class files, verifies them, and says how many bytes of code they have and whether they pass; how
-//! long the verification alone took it says on standard error. `bench/verifier.py` times it.
+//! `verify [within N] FILE..` links class files, verifies them, and says how many bytes of code they have and whether they
+//! pass; how long the verification alone took it says on standard error. With `within N` it may take so many steps, and not
+//! those that the program gives. `bench/verifier.py` times it.
 
 use crate::arguments::files;
 use crate::telling::{tell_refusal, tell_time};
-use anyhow::Result;
+use anyhow::{Context, Error, Result};
 use classfile::{Method, MethodAttribute};
 use hierarchy::ClassSet;
 use link_conditions::refusal::Refusal;
 use linker::{Linked, link};
 use std::alloc::Global;
 use std::env::Args;
+use std::fs;
 use std::time::Instant;
-use verifier::verify;
+use verifier::{MOST_STEPS, verify_within};
 
 /// How many bytes of code a method has.
 fn code_length(method: &Method) -> u64 {
@@ -37,25 +39,25 @@ fn code_of_all(set: &ClassSet) -> u64 {
 }
 
 /// Why classes do not pass, where they do not.
-fn refusal_of(alloc: Global, linked: Linked) -> Option<Refusal> {
-    match verify(alloc, linked) {
+fn refusal_of(alloc: Global, linked: Linked, steps: u64) -> Option<Refusal> {
+    match verify_within(alloc, linked, steps) {
         Ok(_) => None,
         Err(refusal) => Some(refusal),
     }
 }
 
 /// Verifies linked classes, tells how long it took, and answers why they do not pass, where they do not.
-fn timed(rt: &HostRuntime, linked: Linked) -> Result<Option<Refusal>> {
+fn timed(rt: &HostRuntime, linked: Linked, steps: u64) -> Result<Option<Refusal>> {
     let start = Instant::now(rt)?;
-    let refusal = refusal_of(rt.alloc(), linked);
+    let refusal = refusal_of(rt.alloc(), linked, steps);
     tell_time(rt, start)?;
     Ok(refusal)
 }
 
-/// Tells whether linked classes pass.
-fn tell(rt: &HostRuntime, linked: Linked) -> Result<()> {
+/// Tells whether linked classes pass within so many steps.
+fn tell(rt: &HostRuntime, linked: Linked, steps: u64) -> Result<()> {
     let bytes = code_of_all(linked.set());
-    match timed(rt, linked)? {
+    match timed(rt, linked, steps)? {
         None => println!(rt; "{bytes} bytes of code verified")?,
         Some(refusal) => {
             print!(rt; "{bytes} bytes of code ")?;
@@ -65,10 +67,23 @@ fn tell(rt: &HostRuntime, linked: Linked) -> Result<()> {
     Ok(())
 }
 
+/// The steps that are given, and the bytes of the files that are named.
+fn given(rt: &HostRuntime, mut args: Args) -> Result<(u64, Vec<Vec<u8>>)> {
+    let first = args.next().context("which file")?;
+    if first.as_str() == "within" {
+        let steps = args.next().context("how many steps")?;
+        let steps = steps.as_str().parse::<u64>().map_err(Error::from)?;
+        return Ok((steps, files(rt, args)?));
+    }
+    let mut all = files(rt, args)?;
+    all.insert(0, fs::read(rt, first.as_str())?)?;
+    Ok((MOST_STEPS, all))
+}
+
 pub fn run(rt: &HostRuntime, args: Args) -> Result<()> {
-    let files = files(rt, args)?;
+    let (steps, files) = given(rt, args)?;
     match link(rt.alloc(), files.as_slice()) {
-        Ok(linked) => tell(rt, linked),
+        Ok(linked) => tell(rt, linked, steps),
         Err(refusal) => tell_refusal(rt, &refusal),
     }
 }
