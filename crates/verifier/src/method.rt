@@ -39,7 +39,7 @@ fn begin(alloc: Global, method: &MethodCode<'_>, starts: &[bool]) -> Result<Foun
 {
     let mut found = Found::new(alloc, method.code().code.len())?;
     let frame = entry_frame(alloc, method)?;
-    let frame = PackedFrame::pack(alloc, &frame)?;
+    let frame = PackedFrame::pack(alloc, frame)?;
     match found.merge(alloc, method, starts, Edge { from: 0, to: 0 }, &frame) {
         Ok(()) => Ok(found),
         Err(fault) => Err(fault),
@@ -125,7 +125,7 @@ fn look_at(
         Ok(None) => Err(MethodFault::Unverified { offset }),
         Ok(Some(leads)) => {
             let targets = targets_of(alloc, &leads)?;
-            let after = PackedFrame::pack(alloc, &frame)?;
+            let after = PackedFrame::pack(alloc, frame)?;
             let near = last_if_near(alloc, found, &before, offset, &leads)?;
             found.last = last_after(found.last, offset, &leads);
             let origin = Origin {

@@ -34,15 +34,15 @@ impl Model for PackedFrame {
 }
 
 impl PackedFrame {
-    pub fn pack(alloc: Global, frame: &FrameType) -> Result<PackedFrame, AllocError>
-        ensures { IfOk result (λ packed. packed ≡ parts_of frame.now) }
+    pub fn pack(alloc: Global, frame: FrameType) -> Result<PackedFrame, AllocError>
+        ensures { IfOk result (λ packed. packed ≡ parts_of frame) }
     {
-        let locals = locals_of(alloc, &frame.locals)?;
-        let stack = Vec::from_slice(alloc, &frame.stack)?;
+        let local_count = frame.locals.len();
+        let locals = locals_of(alloc, frame.locals)?;
         Ok(PackedFrame {
             locals,
-            local_count: frame.locals.len(),
-            stack,
+            local_count,
+            stack: frame.stack,
             constructed: frame.constructed,
         })
     }
