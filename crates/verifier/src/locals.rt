@@ -1,6 +1,6 @@
 //! The types of local variables as a search keeps them.
 
-ghost use Rattle.std.specs.Prelude.{◌≡◌, slice_index_or, slice_set, replicate, OnOk, OnErr, IfOk, IsTrue};
+ghost use Rattle.std.specs.Prelude.{◌≡◌, slice_index_or, slice_set, replicate, OnOk, OnErr, IfOk, IfSome, IsTrue};
 ghost use Rattle.types.specs.declared.verification_type.VerificationType.TheVariants as type;
 ghost use Rattle.verifier.specs.Packed.{unpacked, locals_in};
 
@@ -61,6 +61,16 @@ impl Locals {
         match self {
             Locals::Runs(runs) => types_of(alloc, runs, count),
             Locals::Each(types) => Vec::from_slice(alloc, types),
+        }
+    }
+
+    /// The types, if they are kept one by one.
+    pub fn each(&self) -> Option<&[VerificationType]>
+        ensures { IfSome result (λ types. types.now ≡ locals_in self.now) }
+    {
+        match self {
+            Locals::Runs(_) => None,
+            Locals::Each(types) => Some(types.as_slice()),
         }
     }
 

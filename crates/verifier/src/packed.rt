@@ -1,6 +1,6 @@
 //! Frame types as a search keeps them.
 
-ghost use Rattle.std.specs.Prelude.{◌≡◌, [], ◌∷◌, length, replicate, slice_index_or, slice_set, IfOk, OnOk, IsTrue};
+ghost use Rattle.std.specs.Prelude.{◌≡◌, [], ◌∷◌, length, replicate, slice_index_or, slice_set, IfOk, IfSome, OnOk, IsTrue};
 ghost use Rattle.types.specs.declared.verification_type.VerificationType.TheVariants as type;
 ghost use Rattle.verifier.specs.Agreeing.{AgreeAt};
 ghost use Rattle.verifier.specs.Packed.{parts_of};
@@ -135,6 +135,13 @@ impl PackedFrame {
         self.constructed == other.constructed
             && are_same_types(&self.stack, &other.stack)
             && self.locals.is_same(&other.locals)
+    }
+
+    /// The types of the local variables, if they are kept one by one.
+    pub fn each_local(&self) -> Option<&[VerificationType]>
+        ensures { IfSome result (λ types. types.now ≡ self.now.locals) }
+    {
+        self.locals.each()
     }
 
     /// The types of the local variables.
