@@ -32,11 +32,11 @@ led_to files before after (Some h) = parts_in files (record before { stack = h.c
 abbrev pub leads_in : Program → Origin → List Lead → List (ℕ × frames.FrameType)
 leads_in files origin leads = map (λ (lead : Lead). (lead.offset, led_to files origin.before origin.after lead.handler)) leads
 
--- nothing is found at so many offsets, none waits, and none was looked at
+-- nothing is found at so many offsets, none waits, and no looks are kept
 pub record IsEmpty (offsets : ℕ) (found : Found) : Type 0 where
   pub types : found.types.items ≡ replicate offsets None
   pub waiting : found.waiting ≡ replicate offsets false
-  pub looks : found.looks.items ≡ replicate offsets None
+  pub looks : found.looks.items ≡ []
 
 -- each table is as long as the code
 pub record AreOver (body : Body) (tables : Tables) : Type 0 where

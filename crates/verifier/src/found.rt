@@ -1,6 +1,6 @@
 //! The frame types that a search has found, and how more are merged into them.
 
-ghost use Rattle.std.specs.Prelude.{◌≡◌, ◌<◌, [], ◌∷◌, length, map, false, true, slice_get, slice_index_or, slice_set, Some, None, OnOk, IfOk, IfErr, IfSome, IsSomeAnd};
+ghost use Rattle.std.specs.Prelude.{◌≡◌, ◌<◌, [], ◌∷◌, length, map, replicate, false, true, slice_get, slice_index_or, slice_set, Some, None, OnOk, IfOk, IfErr, IfSome, IsSomeAnd};
 ghost use Rattle.model.specs.InstructionStarts.{starts as starts_of};
 ghost use Rattle.model.specs.Step.{covers};
 ghost use Rattle.run_laws.specs.typing_search.Tables.{waiting_at};
@@ -9,7 +9,7 @@ ghost use Rattle.types.specs.method_code.View.{files_of, body_of};
 ghost use Rattle.verifier.specs.Packed.{parts_in};
 ghost use Rattle.verifier.specs.Found.{tables_in, leads_in, AreOver, IsEmpty, MergesInto, ClashesWith};
 ghost use Rattle.verifier.specs.Changes.{DiffersAt, JoinsAt};
-ghost use Rattle.verifier.specs.Looks.{offset_of, KeepsLooks, NotesAt, NotesChange, SettlesAt, RaisesTo, RaisesAll};
+ghost use Rattle.verifier.specs.Looks.{offset_of, AddsNoLook, KeepsLooks, NotesAt, NotesChange, SettlesAt, RaisesTo, RaisesAll};
 ghost use Rattle.verifier.specs.Near.{AreKnown, IsSameOrigin};
 ghost use Rattle.verifier.specs.Verified.{OnUnverified};
 
@@ -30,8 +30,10 @@ use types::method_code::MethodCode;
 pub(crate) struct Found {
     pub types: Vec<Option<PackedFrame>>,
     pub waiting: Waiting,
-    /// The instructions that were looked at, of which something is known.
+    /// The instructions that were looked at, of which something is known; empty while looks are not kept.
     pub looks: Vec<Option<Look>>,
+    /// How many turns there were while looks are not kept.
+    turns: usize,
     /// The last instruction with handlers that was looked at.
     pub last: usize,
 }
@@ -62,6 +64,17 @@ fn is_start(starts: &[bool], offset: usize) -> bool
     offset < starts.len() && starts[offset]
 }
 
+/// So many offsets, at each of which nothing is known.
+fn no_looks(alloc: Global, length: usize) -> Result<Vec<Option<Look>>, AllocError>
+    ensures { IfOk result (λ looks. looks.items ≡ replicate length None) }
+{
+    let mut looks = Vec::with_capacity(alloc, length)?;
+    'offsets: for _offset in 0..length {
+        looks.push(None)?;
+    }
+    Ok(looks)
+}
+
 impl Found {
     /// Nothing found yet at any of so many offsets.
     pub fn new(alloc: Global, length: usize) -> Result<Found, AllocError>
@@ -72,16 +85,35 @@ impl Found {
             types.push(None)?;
         }
         let waiting = Waiting::new(alloc, length)?;
-        let mut looks = Vec::with_capacity(alloc, length)?;
-        'looks: for _offset in 0..length {
-            looks.push(None)?;
-        }
         Ok(Found {
             types,
             waiting,
-            looks,
+            looks: Vec::new(alloc),
+            turns: 0,
             last: 0,
         })
+    }
+
+    /// Whether it is kept what is known of instructions that were looked at.
+    pub fn keeps_looks(&self) -> bool {
+        !self.looks.is_empty()
+    }
+
+    /// Counts a turn. Looks are kept once there were more turns than there are offsets, which few methods take.
+    fn count_turn(&mut self, alloc: Global) -> Result<(), AllocError>
+        ensures types { self.new.types.items ≡ self.old.types.items }
+        ensures waiting { self.new.waiting ≡ self.old.waiting }
+        ensures looks { AddsNoLook self.old.looks.items self.new.looks.items }
+    {
+        if self.keeps_looks() {
+            return Ok(());
+        }
+        if self.turns < self.types.len() {
+            self.turns += 1;
+            return Ok(());
+        }
+        self.looks = no_looks(alloc, self.types.len())?;
+        Ok(())
     }
 
     /// Says what is known of the instruction at an offset.
@@ -96,7 +128,7 @@ impl Found {
     }
 
     /// Takes what is known of the instruction at an offset.
-    pub fn take_look(&mut self, offset: usize) -> Option<Look>
+    fn take_look(&mut self, offset: usize) -> Option<Look>
         ensures types { self.new.types.items ≡ self.old.types.items }
         ensures waiting { self.new.waiting ≡ self.old.waiting }
         ensures looks { self.new.looks.items ≡ slice_set self.old.looks.items offset None }
@@ -106,6 +138,18 @@ impl Found {
             Some(place) => place.take(),
             None => None,
         }
+    }
+
+    /// Begins a turn at an offset: takes what is known of the instruction there.
+    pub fn begin_turn(&mut self, alloc: Global, offset: usize) -> Result<Option<Look>, AllocError>
+        ensures types { self.new.types.items ≡ self.old.types.items }
+        ensures waiting { self.new.waiting ≡ self.old.waiting }
+        ensures looks { AddsNoLook self.old.looks.items self.new.looks.items }
+        ensures look { IfOk result (λ o. IfSome o (λ look. slice_get self.old.looks.items offset ≡ Some (Some look))) }
+    {
+        self.count_turn(alloc)?;
+        let look = self.take_look(offset);
+        Ok(look)
     }
 
     /// Local variables before the instruction at an offset changed.
@@ -180,7 +224,16 @@ impl Found {
         Ok(())
     }
 
-    /// In which local variables the frame type at an offset differs from another with the same stack, if in few.
+    /// Whether something is known of the instruction at an offset.
+    fn has_look(&self, offset: usize) -> bool {
+        match self.looks.get(offset) {
+            Some(look) => look.is_some(),
+            None => false,
+        }
+    }
+
+    /// In which local variables the frame type at an offset differs from another with the same stack, if in few. It is not asked where
+    /// nothing is known of the instruction there.
     fn changes_at(
         &self,
         alloc: Global,
@@ -190,6 +243,9 @@ impl Found {
         requires { offset < length self.now.types.items }
         ensures { IfOk result (λ o. IfSome o (λ v. DiffersAt v.items offset join.now self.now.types.items)) }
     {
+        if !self.has_look(offset) {
+            return Ok(None);
+        }
         match &self.types[offset] {
             Some(there) => changes_between(alloc, there, join),
             None => Ok(None),

@@ -8,10 +8,11 @@ ghost use Rattle.types.specs.method_code.Linked.{IsLinked};
 ghost use Rattle.types.specs.method_code.View.{files_of, member_of, body_of};
 ghost use Rattle.verifier.specs.declared.flow.handler.Handler.{Handler as SpecHandler};
 ghost use Rattle.verifier.specs.flow.Handlers.{AreHandlers};
+ghost use Rattle.verifier.specs.flow.Leads.{targets_in};
 ghost use Rattle.run_laws.specs.typing_search.Tables.{typing_of};
 ghost use Rattle.verifier.specs.Packed.{parts_in};
 ghost use Rattle.verifier.specs.Found.{tables_in, waiting_again, AreOver, IsSearch, HasTurned};
-ghost use Rattle.verifier.specs.Looks.{MayPass, AreLooks, HasLed};
+ghost use Rattle.verifier.specs.Looks.{MayPass, AreLooks, HasLed, HasLedTo};
 ghost use Rattle.verifier.specs.Near.{IsNear};
 ghost use Rattle.verifier.specs.Verified.{OnUnverified};
 
@@ -98,8 +99,23 @@ fn pass_on(
     Ok(())
 }
 
+/// The offsets to which an instruction leads, its handlers aside, if looks are kept.
+fn kept_targets(
+    alloc: Global,
+    found: &Found,
+    leads: &[Lead],
+) -> Result<Option<Vec<usize>>, AllocError>
+    ensures { IfOk result (λ o. IfSome o (λ v. v.items ≡ targets_in leads.now)) }
+{
+    if !found.keeps_looks() {
+        return Ok(None);
+    }
+    let targets = targets_of(alloc, leads)?;
+    Ok(Some(targets))
+}
+
 /// Merges what the instruction at an offset leads to, as if it was not looked at before. Answers the offsets to which it leads,
-/// its handlers aside.
+/// its handlers aside, if looks are kept.
 fn look_at(
     alloc: Global,
     method: &MethodCode<'_>,
@@ -108,14 +124,14 @@ fn look_at(
     found: &mut Found,
     offset: usize,
     before: PackedFrame,
-) -> Result<Vec<usize>, MethodFault>
+) -> Result<Option<Vec<usize>>, MethodFault>
     requires linked { IsLinked (files_of method.now) }
     requires starts { starts.now ≡ starts_of (body_of method.now).code.code }
     requires handlers { AreHandlers method.now handlers.now }
     requires typed { typing_of (tables_in (files_of method.now) found.old).types offset ≡ Some (parts_in (files_of method.now) before) }
     requires search { IsSearch (files_of method.now) (member_of method.now) (body_of method.now)
         (waiting_again (tables_in (files_of method.now) found.old) offset) }
-    ensures led { IfOk result (λ targets. HasLed method.now handlers.now found.old offset targets.items found.new) }
+    ensures led { IfOk result (λ told. HasLedTo method.now handlers.now found.old offset told found.new) }
     ensures exact { IfErr result (λ fault. OnUnverified
         fault (HasNoTyping (files_of method.now) (member_of method.now) (body_of method.now))) }
 {
@@ -124,7 +140,7 @@ fn look_at(
         Err(_) => Err(MethodFault::OutOfMemory),
         Ok(None) => Err(MethodFault::Unverified { offset }),
         Ok(Some(leads)) => {
-            let targets = targets_of(alloc, &leads)?;
+            let targets = kept_targets(alloc, found, &leads)?;
             let after = PackedFrame::pack(alloc, frame)?;
             let near = last_if_near(alloc, found, &before, offset, &leads)?;
             found.last = last_after(found.last, offset, &leads);
@@ -164,7 +180,7 @@ fn turn(
     ensures exact { IfErr result (λ fault. OnUnverified
         fault (HasNoTyping (files_of method.now) (member_of method.now) (body_of method.now))) }
 {
-    let taken = found.take_look(offset);
+    let taken = found.begin_turn(alloc, offset)?;
     let Some(packed) = &found.types[offset] else {
         return Ok(());
     };
@@ -178,10 +194,11 @@ fn turn(
     }
     let before = packed.copy(alloc)?;
     match look_at(alloc, method, starts, handlers, found, offset, before) {
-        Ok(targets) => {
+        Ok(Some(targets)) => {
             found.settle(alloc, offset, targets);
             Ok(())
         }
+        Ok(None) => Ok(()),
         Err(fault) => Err(fault),
     }
 }

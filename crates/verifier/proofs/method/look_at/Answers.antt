@@ -34,13 +34,17 @@ returns-in-Ok-clause-led c =
     let flows = sym (ap (option_map (λ (v : Vec Lead). map (lead_in files c.in_ok-frame.frame c.flow_at.new.frame) v.items)) c.in-Ok-Some.field-0-is) ∙ c.in-Ok-Some.ensures.flow in
     let leads = flows_to files (member_of m) (body_of m) c.args.offset c.args.before c.in_ok-frame.frame c.flow_at.new.frame origin c.in-Ok-Some.leads.items c.deref-in-Ok-Some-3.result.now c.in_ok-frame.ensures refl c.in_ok-after-in-Ok-Some.ensures flows c.deref-in-Ok-Some-3.ensures.value in
     record {
-      t = parts_in files c.args.before;
-      leads = leads_in files origin c.deref-in-Ok-Some-3.result.now;
-      typed = c.requires.typed;
-      flows = leads;
-      to = leads_to files origin c.args.offset hs c.in-Ok-Some.leads.items c.deref-in-Ok-Some-3.result.now c.in_ok-targets-in-Ok-Some.targets.items on c.deref-in-Ok-Some-3.ensures.value (c.in_ok-targets-in-Ok-Some.ensures ∙ ap targets_in c.deref.ensures.value);
-      merged = c.in-Ok.ensures.merged;
-      looks = c.in-Ok.ensures.looks;
+      targets = targets_in c.deref.result.now;
+      led = record {
+        t = parts_in files c.args.before;
+        leads = leads_in files origin c.deref-in-Ok-Some-3.result.now;
+        typed = c.requires.typed;
+        flows = leads;
+        to = leads_to files origin c.args.offset hs c.in-Ok-Some.leads.items c.deref-in-Ok-Some-3.result.now (targets_in c.deref.result.now) on c.deref-in-Ok-Some-3.ensures.value (ap targets_in c.deref.ensures.value);
+        merged = c.in-Ok.ensures.merged;
+        looks = c.in-Ok.ensures.looks;
+      };
+      are = c.in_ok-targets-in-Ok-Some.ensures;
     }
 
 pub returns-clause-exact : goal.returns-clause-exact
