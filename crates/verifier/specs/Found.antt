@@ -15,6 +15,8 @@ use Rattle.verifier.specs.declared.flow.lead.Lead.{Lead}
 use Rattle.types.specs.declared.method_code.declaration.MethodCode.{MethodCode}
 use Rattle.types.specs.method_code.View.{files_of, member_of, body_of}
 use Rattle.verifier.specs.Packed.{Parts, parts_in}
+use Rattle.verifier.specs.Verified.{OnUnverified}
+use Rattle.verifier.specs.declared.fault.MethodFault.{MethodFault}
 
 pub record Tables : Type 0 where
   pub types : List (Option frames.FrameType)
@@ -79,9 +81,17 @@ pub record HasTurned (files : Program) (method : Member) (body : Body) (before a
 
 -- ---- of the tables of a method
 
+-- to one offset, with this frame type
+abbrev pub one_lead : MethodCode → ℕ → Parts → List (ℕ × frames.FrameType)
+one_lead method to frame = (to, parts_in (files_of method) frame) ∷ []
+
 abbrev pub MergesInto : MethodCode → Found → List (ℕ × frames.FrameType) → Found → Type 0
 MergesInto method before leads after = HasMerged (files_of method) (body_of method) (tables_in (files_of method) before) leads (tables_in (files_of method) after)
 
 -- no typing is above what was found and these frame types
 abbrev pub ClashesWith : MethodCode → Found → List (ℕ × frames.FrameType) → Type 0
 ClashesWith method found leads = Clashes (files_of method) (member_of method) (body_of method) (typing_of (tables_in (files_of method) found).types) leads
+
+-- so it is where that is not for want of memory
+abbrev pub IsClash : MethodCode → Found → List (ℕ × frames.FrameType) → MethodFault → Type 0
+IsClash method found leads fault = OnUnverified fault (ClashesWith method found leads)

@@ -6,12 +6,10 @@ ghost use Rattle.model.specs.Step.{covers};
 ghost use Rattle.run_laws.specs.typing_search.Tables.{waiting_at};
 ghost use Rattle.types.specs.method_code.Linked.{IsLinked};
 ghost use Rattle.types.specs.method_code.View.{files_of, body_of};
-ghost use Rattle.verifier.specs.Packed.{parts_in};
-ghost use Rattle.verifier.specs.Found.{tables_in, leads_in, AreOver, IsEmpty, MergesInto, ClashesWith};
+ghost use Rattle.verifier.specs.Found.{tables_in, leads_in, one_lead, AreOver, IsEmpty, MergesInto, IsClash};
 ghost use Rattle.verifier.specs.Changes.{DiffersAt, JoinsAt};
 ghost use Rattle.verifier.specs.Looks.{offset_of, AddsNoLook, KeepsLooks, NotesAt, NotesChange, SettlesAt, RaisesTo, RaisesAll};
-ghost use Rattle.verifier.specs.Near.{AreKnown, IsSameOrigin};
-ghost use Rattle.verifier.specs.Verified.{OnUnverified};
+ghost use Rattle.verifier.specs.Near.{KnowsNear, IsSameOrigin};
 
 use crate::changes::{all_fit, join_locals};
 use crate::fault::MethodFault;
@@ -285,8 +283,8 @@ impl Found {
         requires linked { IsLinked (files_of method.now) }
         requires starts { starts.now ≡ starts_of (body_of method.now).code.code }
         requires over { AreOver (body_of method.now) (tables_in (files_of method.now) self.old) }
-        ensures merged { OnOk result (MergesInto method.now self.old ((edge.to, parts_in (files_of method.now) frame.now) ∷ []) self.new) }
-        ensures clash { IfErr result (λ fault. OnUnverified fault (ClashesWith method.now self.old ((edge.to, parts_in (files_of method.now) frame.now) ∷ []))) }
+        ensures merged { OnOk result (MergesInto method.now self.old (one_lead method.now edge.to frame.now) self.new) }
+        ensures clash { IfErr result (IsClash method.now self.old (one_lead method.now edge.to frame.now)) }
         ensures looks { OnOk result (KeepsLooks method.now self.old self.new) }
     {
         let Edge { from, to } = edge;
@@ -418,9 +416,9 @@ impl Found {
         requires linked { IsLinked (files_of method.now) }
         requires starts { starts.now ≡ starts_of (body_of method.now).code.code }
         requires over { AreOver (body_of method.now) (tables_in (files_of method.now) self.old) }
-        requires known { IfSome origin.old.near (λ near. AreKnown (files_of method.now) (tables_in (files_of method.now) self.old) origin.old.before near (lead ∷ [])) }
+        requires known { KnowsNear method.now self.old origin.old (lead ∷ []) }
         ensures merged { OnOk result (MergesInto method.now self.old (leads_in (files_of method.now) origin.old (lead ∷ [])) self.new) }
-        ensures clash { IfErr result (λ fault. OnUnverified fault (ClashesWith method.now self.old (leads_in (files_of method.now) origin.old (lead ∷ [])))) }
+        ensures clash { IfErr result (IsClash method.now self.old (leads_in (files_of method.now) origin.old (lead ∷ []))) }
         ensures looks { OnOk result (KeepsLooks method.now self.old self.new) }
         ensures origin { IsSameOrigin origin.old origin.new }
     {
@@ -458,9 +456,9 @@ impl Found {
         requires linked { IsLinked (files_of method.now) }
         requires starts { starts.now ≡ starts_of (body_of method.now).code.code }
         requires over { AreOver (body_of method.now) (tables_in (files_of method.now) self.old) }
-        requires known { IfSome origin.near (λ near. AreKnown (files_of method.now) (tables_in (files_of method.now) self.old) origin.before near leads.now) }
+        requires known { KnowsNear method.now self.old origin leads.now }
         ensures merged { OnOk result (MergesInto method.now self.old (leads_in (files_of method.now) origin leads.now) self.new) }
-        ensures clash { IfErr result (λ fault. OnUnverified fault (ClashesWith method.now self.old (leads_in (files_of method.now) origin leads.now))) }
+        ensures clash { IfErr result (IsClash method.now self.old (leads_in (files_of method.now) origin leads.now)) }
         ensures looks { OnOk result (KeepsLooks method.now self.old self.new) }
     {
         let mut origin = origin;
