@@ -1,8 +1,10 @@
 -- The tables of a search: a frame type or none for each offset of a method's code, and whether the offset waits.
-use Rattle.std.specs.Prelude.{◌≡◌, ℕ, ◌≤◌, List, [], ◌∷◌, Option, Some, None, Bool, false, replicate, length, map, option_map}
+use Rattle.std.specs.Prelude.{◌≡◌, ℕ, ◌≤◌, List, [], ◌∷◌, Option, Some, None, Bool, true, false, replicate, slice_get, length, map, option_map}
 use Rattle.std.specs.List.{AllByRecursion}
 use Rattle.model.specs.Names.{Member}
 use Rattle.model.specs.Classes.{Program, Body}
+use Rattle.model.specs.InstructionStarts.{is_start}
+use Rattle.model.specs.Typing.{IsSized}
 use Rattle.model.specs.TypeOrder as frames
 use Rattle.run_laws.specs.typing_search.Search.{Search, Merged, Clashes}
 use Rattle.run_laws.specs.typing_search.Tables.{typing_of, waits, waiting_at}
@@ -84,6 +86,12 @@ pub record HasTurned (files : Program) (method : Member) (body : Body) (before a
 -- to one offset, with this frame type
 abbrev pub one_lead : MethodCode → ℕ → Parts → List (ℕ × frames.FrameType)
 one_lead method to frame = (to, parts_in (files_of method) frame) ∷ []
+
+-- an instruction begins at an offset, nothing is found there yet, and a frame type may stand there by its size
+pub record IsFirst (method : MethodCode) (found : Found) (to : ℕ) (frame : Parts) : Type 0 where
+  pub start : is_start (body_of method).code.code to ≡ true
+  pub none : slice_get (tables_in (files_of method) found).types to ≡ Some None
+  pub size : IsSized (body_of method) (parts_in (files_of method) frame)
 
 abbrev pub MergesInto : MethodCode → Found → List (ℕ × frames.FrameType) → Found → Type 0
 MergesInto method before leads after = HasMerged (files_of method) (body_of method) (tables_in (files_of method) before) leads (tables_in (files_of method) after)

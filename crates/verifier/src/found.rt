@@ -1,21 +1,21 @@
 //! The frame types that a search has found, and how more are merged into them.
 
-ghost use Rattle.std.specs.Prelude.{◌≡◌, ◌<◌, [], ◌∷◌, length, map, replicate, false, true, slice_get, slice_index_or, slice_set, Some, None, OnOk, IfOk, IfErr, IfSome, IsSomeAnd};
+ghost use Rattle.std.specs.Prelude.{◌≡◌, ◌<◌, [], ◌∷◌, length, map, false, true, slice_index_or, slice_set, Some, None, OnOk, IfOk, IfErr, IfSome, IsSomeAnd};
 ghost use Rattle.model.specs.InstructionStarts.{starts as starts_of};
 ghost use Rattle.model.specs.Step.{covers};
 ghost use Rattle.run_laws.specs.typing_search.Tables.{waiting_at};
 ghost use Rattle.types.specs.method_code.Linked.{IsLinked};
 ghost use Rattle.types.specs.method_code.View.{files_of, body_of};
-ghost use Rattle.verifier.specs.Found.{tables_in, leads_in, one_lead, AreOver, IsEmpty, MergesInto, IsClash};
+ghost use Rattle.verifier.specs.Found.{tables_in, leads_in, one_lead, AreOver, IsEmpty, IsFirst, MergesInto, IsClash};
 ghost use Rattle.verifier.specs.Changes.{DiffersAt, JoinsAt};
-ghost use Rattle.verifier.specs.Looks.{offset_of, AddsNoLook, KeepsLooks, NotesAt, NotesChange, SettlesAt, RaisesTo, RaisesAll};
+ghost use Rattle.verifier.specs.Looks.{offset_of, KeepsLooks, NotesAt, NotesChange, RaisesTo, RaisesAll};
 ghost use Rattle.verifier.specs.Near.{KnowsNear, IsSameOrigin};
 
 use crate::changes::{all_fit, join_locals};
 use crate::fault::MethodFault;
-use crate::flow::{Handler, Lead};
+use crate::flow::{Handler, Lead, only_target};
 use crate::frames::is_sized;
-use crate::look::{Look, look_after};
+use crate::look::Look;
 use crate::near::{Near, changes_between};
 use crate::packed::PackedFrame;
 use crate::raised::{Raised, merge_frames};
@@ -31,7 +31,7 @@ pub(crate) struct Found {
     /// The instructions that were looked at, of which something is known; empty while looks are not kept.
     pub looks: Vec<Option<Look>>,
     /// How many turns there were while looks are not kept.
-    turns: usize,
+    pub turns: usize,
     /// The last instruction with handlers that was looked at.
     pub last: usize,
 }
@@ -62,17 +62,6 @@ fn is_start(starts: &[bool], offset: usize) -> bool
     offset < starts.len() && starts[offset]
 }
 
-/// So many offsets, at each of which nothing is known.
-fn no_looks(alloc: Global, length: usize) -> Result<Vec<Option<Look>>, AllocError>
-    ensures { IfOk result (λ looks. looks.items ≡ replicate length None) }
-{
-    let mut looks = Vec::with_capacity(alloc, length)?;
-    'offsets: for _offset in 0..length {
-        looks.push(None)?;
-    }
-    Ok(looks)
-}
-
 impl Found {
     /// Nothing found yet at any of so many offsets.
     pub fn new(alloc: Global, length: usize) -> Result<Found, AllocError>
@@ -90,94 +79,6 @@ impl Found {
             turns: 0,
             last: 0,
         })
-    }
-
-    /// Whether it is kept what is known of instructions that were looked at.
-    pub fn keeps_looks(&self) -> bool {
-        !self.looks.is_empty()
-    }
-
-    /// Counts a turn. Looks are kept once there were more turns than there are offsets, which few methods take.
-    fn count_turn(&mut self, alloc: Global) -> Result<(), AllocError>
-        ensures types { self.new.types.items ≡ self.old.types.items }
-        ensures waiting { self.new.waiting ≡ self.old.waiting }
-        ensures looks { AddsNoLook self.old.looks.items self.new.looks.items }
-    {
-        if self.keeps_looks() {
-            return Ok(());
-        }
-        if self.turns < self.types.len() {
-            self.turns += 1;
-            return Ok(());
-        }
-        self.looks = no_looks(alloc, self.types.len())?;
-        Ok(())
-    }
-
-    /// Says what is known of the instruction at an offset.
-    fn set_look(&mut self, offset: usize, look: Option<Look>)
-        ensures types { self.new.types.items ≡ self.old.types.items }
-        ensures waiting { self.new.waiting ≡ self.old.waiting }
-        ensures looks { self.new.looks.items ≡ slice_set self.old.looks.items offset look }
-    {
-        if let Some(place) = self.looks.get_mut(offset) {
-            *place = look;
-        }
-    }
-
-    /// Takes what is known of the instruction at an offset.
-    fn take_look(&mut self, offset: usize) -> Option<Look>
-        ensures types { self.new.types.items ≡ self.old.types.items }
-        ensures waiting { self.new.waiting ≡ self.old.waiting }
-        ensures looks { self.new.looks.items ≡ slice_set self.old.looks.items offset None }
-        ensures look { IfSome result (λ look. slice_get self.old.looks.items offset ≡ Some (Some look)) }
-    {
-        match self.looks.get_mut(offset) {
-            Some(place) => place.take(),
-            None => None,
-        }
-    }
-
-    /// Begins a turn at an offset: takes what is known of the instruction there.
-    pub fn begin_turn(&mut self, alloc: Global, offset: usize) -> Result<Option<Look>, AllocError>
-        ensures types { self.new.types.items ≡ self.old.types.items }
-        ensures waiting { self.new.waiting ≡ self.old.waiting }
-        ensures looks { AddsNoLook self.old.looks.items self.new.looks.items }
-        ensures look { IfOk result (λ o. IfSome o (λ look. slice_get self.old.looks.items offset ≡ Some (Some look))) }
-    {
-        self.count_turn(alloc)?;
-        let look = self.take_look(offset);
-        Ok(look)
-    }
-
-    /// Local variables before the instruction at an offset changed.
-    fn note(&mut self, offset: usize, changed: &[usize]) -> Result<(), AllocError>
-        ensures types { OnOk result (self.new.types.items ≡ self.old.types.items) }
-        ensures waiting { OnOk result (self.new.waiting ≡ self.old.waiting) }
-        ensures looks { OnOk result (NotesAt offset changed.now self.old.looks.items self.new.looks.items) }
-    {
-        let Some(look) = self.take_look(offset) else {
-            return Ok(());
-        };
-        let after = look_after(look, changed)?;
-        self.set_look(offset, after);
-        Ok(())
-    }
-
-    /// What the instruction at an offset led to is merged: to these offsets, its handlers aside. It is known, unless it waits again.
-    pub fn settle(&mut self, alloc: Global, offset: usize, targets: Vec<usize>)
-        ensures types { self.new.types.items ≡ self.old.types.items }
-        ensures waiting { self.new.waiting ≡ self.old.waiting }
-        ensures looks { SettlesAt offset targets.items self.old self.new }
-    {
-        if self.waiting.has(offset) {
-            return;
-        }
-        let look = Look {
-            targets,
-            changed: Vec::new(alloc),
-        };
-        self.set_look(offset, Some(look));
     }
 
     /// Puts a frame type at an offset, which waits from now on.
@@ -220,14 +121,6 @@ impl Found {
         self.note(offset, changed)?;
         self.put_type(offset, frame);
         Ok(())
-    }
-
-    /// Whether something is known of the instruction at an offset.
-    fn has_look(&self, offset: usize) -> bool {
-        match self.looks.get(offset) {
-            Some(look) => look.is_some(),
-            None => false,
-        }
     }
 
     /// In which local variables the frame type at an offset differs from another with the same stack, if in few. It is not asked where
@@ -308,6 +201,50 @@ impl Found {
                 Ok(())
             }
         }
+    }
+
+    /// Whether an instruction begins at an offset, nothing is found there yet, and a frame type may stand there.
+    fn is_first(
+        &self,
+        method: &MethodCode<'_>,
+        starts: &[bool],
+        to: usize,
+        frame: &PackedFrame,
+    ) -> bool
+        requires starts { starts.now ≡ starts_of (body_of method.now).code.code }
+        requires over { AreOver (body_of method.now) (tables_in (files_of method.now) self.now) }
+        ensures { IsTrue result → IsFirst method.now self.now to frame.now }
+    {
+        if !is_start(starts, to) {
+            return false;
+        }
+        match &self.types[to] {
+            None => is_sized(method, frame),
+            Some(_) => false,
+        }
+    }
+
+    /// Merges the frame type after an instruction that leads to one offset alone.
+    fn merge_only(
+        &mut self,
+        alloc: Global,
+        method: &MethodCode<'_>,
+        starts: &[bool],
+        edge: Edge,
+        frame: PackedFrame,
+    ) -> Result<(), MethodFault>
+        requires linked { IsLinked (files_of method.now) }
+        requires starts { starts.now ≡ starts_of (body_of method.now).code.code }
+        requires over { AreOver (body_of method.now) (tables_in (files_of method.now) self.old) }
+        ensures merged { OnOk result (MergesInto method.now self.old (one_lead method.now edge.to frame) self.new) }
+        ensures clash { IfErr result (IsClash method.now self.old (one_lead method.now edge.to frame)) }
+        ensures looks { OnOk result (KeepsLooks method.now self.old self.new) }
+    {
+        if self.is_first(method, starts, edge.to, &frame) {
+            self.put(edge.to, frame);
+            return Ok(());
+        }
+        self.merge(alloc, method, starts, edge, &frame)
     }
 
     /// Joins what local variables hold in a frame type into these of the one at an offset.
@@ -461,6 +398,10 @@ impl Found {
         ensures clash { IfErr result (IsClash method.now self.old (leads_in (files_of method.now) origin leads.now)) }
         ensures looks { OnOk result (KeepsLooks method.now self.old self.new) }
     {
+        if let Some(to) = only_target(leads) {
+            let from = origin.offset;
+            return self.merge_only(alloc, method, starts, Edge { from, to }, origin.after);
+        }
         let mut origin = origin;
         for lead in leads {
             if let Err(fault) = self.merge_lead(alloc, method, starts, &mut origin, *lead) {

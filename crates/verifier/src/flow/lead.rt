@@ -1,6 +1,6 @@
 //! Where an instruction leads.
 
-ghost use Rattle.std.specs.Prelude.{◌≡◌, ◌++◌, map, OnOk, IfOk};
+ghost use Rattle.std.specs.Prelude.{◌≡◌, ◌++◌, ◌∷◌, [], map, OnOk, IfOk, IfSome};
 ghost use Rattle.verifier.specs.flow.Leads.{lead_on, handler_leads, all_leads, targets_in};
 
 use crate::flow::handler::Handler;
@@ -73,4 +73,18 @@ pub(crate) fn targets_of(alloc: Global, leads: &[Lead]) -> Result<Vec<usize>, Al
         }
     }
     Ok(targets)
+}
+
+/// The offset to which those lead, if they are but one, and that is to no handler.
+pub(crate) fn only_target(leads: &[Lead]) -> Option<usize>
+    ensures { IfSome result (λ to. leads.now ≡ lead_on to ∷ []) }
+{
+    if leads.len() != 1 {
+        return None;
+    }
+    let lead = leads[0];
+    match lead.handler {
+        None => Some(lead.offset),
+        Some(_) => None,
+    }
 }
