@@ -14,6 +14,7 @@ use Rattle.verifier.specs.declared.found.Found.{Found}
 use Rattle.verifier.specs.declared.found.Origin.{Origin}
 use Rattle.verifier.specs.declared.flow.handler.Handler.{Handler}
 use Rattle.verifier.specs.declared.flow.lead.Lead.{Lead}
+use Rattle.verifier.specs.flow.Leads.{has_handlers}
 use Rattle.types.specs.declared.method_code.declaration.MethodCode.{MethodCode}
 use Rattle.types.specs.method_code.View.{files_of, member_of, body_of}
 use Rattle.verifier.specs.Packed.{Parts, parts_in}
@@ -35,6 +36,11 @@ led_to files before after (Some h) = parts_in files (record before { stack = h.c
 
 abbrev pub leads_in : Program → Origin → List Lead → List (ℕ × frames.FrameType)
 leads_in files origin leads = map (λ (lead : Lead). (lead.offset, led_to files origin.before origin.after lead.handler)) leads
+
+-- Before an instruction that leads so stands the frame type at an offset, where it leads to handlers; else it is not asked for.
+abbrev pub StandsBefore : List (Option Parts) → ℕ → List Lead → Parts → Type 0
+StandsBefore types offset leads before =
+    (there : Parts) → slice_get types offset ≡ Some (Some there) → has_handlers leads ≡ true → before ≡ there
 
 -- nothing is found at so many offsets, none waits, and no looks are kept
 pub record IsEmpty (offsets : ℕ) (found : Found) : Type 0 where

@@ -6,14 +6,14 @@ ghost use Rattle.model.specs.Step.{covers};
 ghost use Rattle.run_laws.specs.typing_search.Tables.{waiting_at};
 ghost use Rattle.types.specs.method_code.Linked.{IsLinked};
 ghost use Rattle.types.specs.method_code.View.{files_of, body_of};
-ghost use Rattle.verifier.specs.Found.{tables_in, leads_in, one_lead, AreOver, IsEmpty, IsFirst, MergesInto, IsClash};
+ghost use Rattle.verifier.specs.Found.{tables_in, leads_in, one_lead, StandsBefore, AreOver, IsEmpty, IsFirst, MergesInto, IsClash};
 ghost use Rattle.verifier.specs.Changes.{DiffersAt, JoinsAt};
 ghost use Rattle.verifier.specs.Looks.{offset_of, KeepsLooks, NotesAt, NotesChange, RaisesTo, RaisesAll};
 ghost use Rattle.verifier.specs.Near.{KnowsNear, IsSameOrigin};
 
 use crate::changes::{all_fit, join_locals};
 use crate::fault::MethodFault;
-use crate::flow::{Handler, Lead, only_target};
+use crate::flow::{Handler, Lead, has_handlers, only_target};
 use crate::frames::is_sized;
 use crate::look::Look;
 use crate::near::{Near, changes_between};
@@ -47,7 +47,7 @@ pub(crate) struct Edge {
 #[derive(Drop)]
 pub(crate) struct Origin {
     pub offset: usize,
-    /// The frame type before the instruction. Its stack is not asked for.
+    /// The frame type before the instruction, if that leads to handlers. Its stack is not asked for.
     pub before: PackedFrame,
     /// The frame type after it.
     pub after: PackedFrame,
@@ -121,6 +121,25 @@ impl Found {
         self.note(offset, changed)?;
         self.put_type(offset, frame);
         Ok(())
+    }
+
+    /// The frame type before the instruction at an offset, if it leads to handlers as these leads are; else any.
+    pub fn before(
+        &self,
+        alloc: Global,
+        offset: usize,
+        leads: &[Lead],
+    ) -> Result<PackedFrame, AllocError>
+        requires { offset < length self.now.types.items }
+        ensures { IfOk result (StandsBefore self.now.types.items offset leads.now) }
+    {
+        if !has_handlers(leads) {
+            return Ok(PackedFrame::nothing(alloc));
+        }
+        match &self.types[offset] {
+            Some(there) => there.copy(alloc),
+            None => Ok(PackedFrame::nothing(alloc)),
+        }
     }
 
     /// In which local variables the frame type at an offset differs from another with the same stack, if in few. It is not asked where

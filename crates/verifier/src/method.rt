@@ -1,6 +1,6 @@
 //! The worklist (JVMS 4.10.2.2): it takes the lowest offset that waits, and merges what its instruction leads to.
 
-ghost use Rattle.std.specs.Prelude.{◌≡◌, ◌<◌, List, length, Some, OnOk, IfOk, IfErr, IfSome};
+ghost use Rattle.std.specs.Prelude.{◌≡◌, ◌<◌, List, length, Some, slice_get, OnOk, IfOk, IfErr, IfSome};
 ghost use Rattle.model.specs.InstructionStarts.{starts as starts_of};
 ghost use Rattle.model.specs.Typing.{HasTyping};
 ghost use Rattle.run_laws.specs.typing_search.Search.{HasNoTyping};
@@ -9,8 +9,7 @@ ghost use Rattle.types.specs.method_code.View.{files_of, member_of, body_of};
 ghost use Rattle.verifier.specs.declared.flow.handler.Handler.{Handler as SpecHandler};
 ghost use Rattle.verifier.specs.flow.Handlers.{AreHandlers};
 ghost use Rattle.verifier.specs.flow.Leads.{targets_in};
-ghost use Rattle.run_laws.specs.typing_search.Tables.{typing_of};
-ghost use Rattle.verifier.specs.Packed.{parts_in};
+ghost use Rattle.verifier.specs.Packed.{parts_of};
 ghost use Rattle.verifier.specs.Found.{tables_in, waiting_again, AreOver, IsSearch, HasTurned};
 ghost use Rattle.verifier.specs.Looks.{MayPass, AreLooks, HasLed, HasLedTo};
 ghost use Rattle.verifier.specs.Near.{IsNear};
@@ -18,7 +17,7 @@ ghost use Rattle.verifier.specs.Verified.{OnUnverified};
 
 use crate::fault::MethodFault;
 use crate::flow::{
-    Handler, Lead, all_leads, entry_frame, flow_at, handlers, leaves_at, targets_of,
+    Handler, Lead, all_leads, entry_frame, flow_at, handlers, has_handlers, leaves_at, targets_of,
 };
 use crate::found::{Edge, Found, Origin};
 use crate::look::Look;
@@ -26,6 +25,7 @@ use crate::near::{Near, near_found};
 use crate::packed::PackedFrame;
 use opcodes::starts;
 use std::alloc::{AllocError, Global};
+use types::FrameType;
 use types::method_code::MethodCode;
 
 /// A search that has found the frame type where the method begins.
@@ -44,14 +44,6 @@ fn begin(alloc: Global, method: &MethodCode<'_>, starts: &[bool]) -> Result<Foun
     match found.merge(alloc, method, starts, Edge { from: 0, to: 0 }, &frame) {
         Ok(()) => Ok(found),
         Err(fault) => Err(fault),
-    }
-}
-
-/// Whether an instruction that leads so leads to handlers, which come last.
-fn has_handlers(leads: &[Lead]) -> bool {
-    match leads.last() {
-        Some(lead) => lead.handler.is_some(),
-        None => false,
     }
 }
 
@@ -123,25 +115,27 @@ fn look_at(
     handlers: &[Handler],
     found: &mut Found,
     offset: usize,
-    before: PackedFrame,
+    frame: FrameType,
 ) -> Result<Option<Vec<usize>>, MethodFault>
     requires linked { IsLinked (files_of method.now) }
     requires starts { starts.now ≡ starts_of (body_of method.now).code.code }
     requires handlers { AreHandlers method.now handlers.now }
-    requires typed { typing_of (tables_in (files_of method.now) found.old).types offset ≡ Some (parts_in (files_of method.now) before) }
+    requires offset { offset < length found.old.types.items }
+    requires typed { slice_get found.old.types.items offset ≡ Some (Some (parts_of frame)) }
     requires search { IsSearch (files_of method.now) (member_of method.now) (body_of method.now)
         (waiting_again (tables_in (files_of method.now) found.old) offset) }
     ensures led { IfOk result (λ told. HasLedTo method.now handlers.now found.old offset told found.new) }
     ensures exact { IfErr result (λ fault. OnUnverified
         fault (HasNoTyping (files_of method.now) (member_of method.now) (body_of method.now))) }
 {
-    let mut frame = before.unpack(alloc)?;
+    let mut frame = frame;
     match flow_at(alloc, method, handlers, offset, &mut frame) {
         Err(_) => Err(MethodFault::OutOfMemory),
         Ok(None) => Err(MethodFault::Unverified { offset }),
         Ok(Some(leads)) => {
             let targets = kept_targets(alloc, found, &leads)?;
             let after = PackedFrame::pack(alloc, frame)?;
+            let before = found.before(alloc, offset, &leads)?;
             let near = last_if_near(alloc, found, &before, offset, &leads)?;
             found.last = last_after(found.last, offset, &leads);
             let origin = Origin {
@@ -192,7 +186,7 @@ fn turn(
             return Ok(());
         }
     }
-    let before = packed.copy(alloc)?;
+    let before = packed.unpack(alloc)?;
     match look_at(alloc, method, starts, handlers, found, offset, before) {
         Ok(Some(targets)) => {
             found.settle(alloc, offset, targets);

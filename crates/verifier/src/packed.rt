@@ -85,6 +85,18 @@ impl PackedFrame {
         })
     }
 
+    /// No local variables, and an empty stack.
+    pub fn nothing(alloc: Global) -> PackedFrame
+        ensures { result.locals ≡ [] }
+    {
+        PackedFrame {
+            locals: Locals::Each(Vec::new(alloc)),
+            local_count: 0,
+            stack: Vec::new(alloc),
+            constructed: false,
+        }
+    }
+
     /// A frame type with as many local variables, and what these hold.
     pub fn only(&self, alloc: Global, locals: &[usize]) -> Result<PackedFrame, AllocError>
         ensures { IfOk result (λ only. AgreeAt locals.now only.locals self.now.locals) }

@@ -7,6 +7,7 @@ use Rattle.run_laws.proofs.typing_search.Linking.{ordered_from}
 use Rattle.types.specs.method_code.View.{files_of}
 use Rattle.verifier.specs.Packed.{parts_in}
 use Rattle.verifier.proofs.Entries.{read_at}
+use Rattle.verifier.proofs.Puts.{there_at}
 use Rattle.verifier.proofs.Turned.{led_to_told, search_taken, over_taken, passes_taken, looks_taken, may_pass, turned, looked}
 use Rattle.verifier.proofs.method.turn.Goals as goal
 
@@ -50,14 +51,14 @@ pass_on-requires-clause-passes c =
     (subst (LeavesAt m c.args.offset) c.deref.ensures.value (c.leaves_at.ensures c.if-leaves_at.true))
     (subst (λ locals. AgreeAt locals c.in_ok-frame.frame.locals c.in-Some.packed.locals) c.deref-then-leaves_at.ensures.value c.in_ok-frame.ensures)
 
+pub look_at-requires-clause-offset : goal.look_at-requires-clause-offset
+look_at-requires-clause-offset c = subst (λ types. c.args.offset < length types) (sym c.begin_turn.ensures.types) c.requires.offset
+
 pub look_at-requires-clause-typed : goal.look_at-requires-clause-typed
 look_at-requires-clause-typed c =
-    let m = c.args.method.now in
-    let files = files_of m in
-    let taken = c.begin_turn.new.self in
     let within = subst (λ types. c.args.offset < length types) (sym c.begin_turn.ensures.types) c.requires.offset in
-    let at = read_at files taken.types.items c.args.offset _ _ within c.index.ensures c.in-Some.is in
-    ap entry_of at ∙ ap (λ p. Some (parts_in files p)) (sym c.in_ok-before.ensures)
+    let at = there_at c.begin_turn.new.self.types.items c.args.offset _ _ within c.index.ensures c.in-Some.is in
+    at ∙ ap (λ p. Some (Some p)) (sym c.in_ok-before.ensures)
 
 pub look_at-requires-clause-search : goal.look_at-requires-clause-search
 look_at-requires-clause-search c =
