@@ -1,8 +1,9 @@
 -- The tables of the code as lists of the definitions: an entry that was read, and one that was written; and frame types by
 -- their parts.
 use Rattle.std.proofs.Common.{◌≡◌, ℕ, zero, suc, ◌<◌, ◌≤◌, ◌+◌, List, [], ◌∷◌, ◌++◌, length, map, take, drop, get_or, Bool, true, false, Option, Some, None, refl, sym, ap, ◌∙◌, subst, arith}
-use Rattle.std.specs.Prelude.{replicate, slice_get, slice_set, option_map}
-use Rattle.std.proofs.lemmas.Option.{slice_get_read}
+use Rattle.std.specs.Prelude.{replicate, slice_get, slice_set, option_map, is_some, Result, Ok, Err, IfOk}
+use Rattle.std.proofs.lemmas.Bool.{false≢true, or_parts}
+use Rattle.std.proofs.lemmas.Option.{slice_get_read, same_Some}
 use Rattle.std.proofs.lemmas.List.{length-map, append_assoc, take-append-drop, take_all, map-append}
 use Rattle.std.specs.Global.{Vec}
 use Rattle.std.proofs.Math.Seq.{take-suc}
@@ -21,8 +22,8 @@ use Rattle.types.specs.declared.frame_type.FrameType.{FrameType}
 use Rattle.verifier.specs.Packed.{Parts, parts_of, parts_in}
 use Rattle.types.specs.declared.verification_type.VerificationType.{VerificationType}
 use Rattle.run_laws.specs.typing_search.Tables.{waits, found_at, waiting_at, taken_off}
-use Rattle.verifier.specs.flow.Leads.{frame_at, lead_in}
-use Rattle.verifier.specs.Found.{Tables, tables_in, led_to, leads_in, AreOver, IsEmpty}
+use Rattle.verifier.specs.flow.Leads.{frame_at, lead_in, has_handlers}
+use Rattle.verifier.specs.Found.{Tables, tables_in, led_to, leads_in, AreOver, IsEmpty, StandsBefore}
 use Rattle.verifier.specs.Verified.{OnUnverified, OnFault}
 use Rattle.verifier.specs.declared.fault.MethodFault.{MethodFault}
 use Rattle.verifier.specs.declared.fault.MethodFault.TheVariants.{Unverified, TooLong, OutOfMemory}
@@ -157,6 +158,39 @@ flows_to files method body offset found before after origin leads listed p q r e
     ∙ (ap (λ l. Some l) (leads_same files before after leads)
     ∙ (ap (λ x. Some (map (lead_of files x (parts_of after)) leads)) (p ∙ sym q)
     ∙ (ap (λ x. Some (map (lead_of files origin.before x) leads)) (sym r) ∙ ap (λ l. Some (leads_in files origin l)) (sym f)))))
+
+-- frame types before an instruction that leads to no handlers are not asked for
+leads_bare : (files : Program) (a b : Origin) → a.after ≡ b.after → (leads : List Lead) → has_handlers leads ≡ false
+    → leads_in files a leads ≡ leads_in files b leads
+leads_bare files a b e [] n = refl
+leads_bare files a b e (lead ∷ leads) n =
+    let parts = or_parts (is_some lead.handler) (has_handlers leads) n in
+    ap (λ t. (lead.offset, t) ∷ leads_in files a leads) (bare lead.handler parts.0) ∙ ap (λ l. (lead.offset, led_to files b.before b.after lead.handler) ∷ l) (leads_bare files a b e leads parts.1)
+  where
+    bare : (o : Option Handler) → is_some o ≡ false → led_to files a.before a.after o ≡ led_to files b.before b.after o
+    bare None m = ap (parts_in files) e
+    bare (Some h) m = absurd (false≢true (sym m))
+
+pub flows_from : (files : Program) (method : Member) (body : Body) (offset : ℕ) (before after : FrameType) (origin : Origin)
+    (leads listed : List Lead) → (has_handlers listed ≡ true → origin.before ≡ parts_of before) → origin.after ≡ parts_of after
+    → Some (map (lead_in files before after) leads) ≡ flow files method body offset (frame_in files before) → listed ≡ leads
+    → flow files method body offset (parts_in files (parts_of before)) ≡ Some (leads_in files origin listed)
+flows_from files method body offset before after origin leads listed q r e f = by (has_handlers listed) refl
+  where
+    by : (b : Bool) → has_handlers listed ≡ b → flow files method body offset (parts_in files (parts_of before)) ≡ Some (leads_in files origin listed)
+    by true h = flows_to files method body offset (parts_of before) before after origin leads listed refl (q h) r e f
+    by false h =
+        let other : Origin = record origin { before = parts_of before } in
+        flows_to files method body offset (parts_of before) before after other leads listed refl refl r e f ∙ ap (λ l. Some l) (leads_bare files other origin refl listed h)
+
+pub stands_there : {E : Type 0} (offset : ℕ) (there : Parts) (types : List (Option Parts)) (leads : List Lead)
+    → slice_get types offset ≡ Some (Some there) → (r : Result Parts E) → IfOk r (λ copy. copy ≡ there) → IfOk r (StandsBefore types offset leads)
+stands_there offset there types leads at (Ok copy) e = λ other f h. e ∙ same_Some there other (same_Some (Some there) (Some other) (sym at ∙ f))
+stands_there offset there types leads at (Err x) e = tt
+
+pub stands_nowhere : (offset : ℕ) (types : List (Option Parts)) (leads : List Lead) → slice_get types offset ≡ Some None → (before : Parts)
+    → StandsBefore types offset leads before
+stands_nowhere offset types leads at before there e h = let n : Some None ≡ Some (Some there) = sym at ∙ e in absurd cc
 
 pub flows_not : (files : Program) (method : Member) (body : Body) (offset : ℕ) (found : Parts) (before after : FrameType)
     (o : Option (Vec Lead)) → parts_of before ≡ found → o ≡ None

@@ -19,7 +19,7 @@ use Rattle.verifier.specs.declared.look.Look.{Look}
 use Rattle.verifier.specs.flow.Leads.{all_leads}
 use Rattle.verifier.specs.Agreeing.{is_among, AgreeBut, DifferIn}
 use Rattle.verifier.specs.Changes.{PartsDiffer, DiffersAt}
-use Rattle.verifier.specs.Looks.{offset_of, typing_in, IsLook, AreLooks, NotesAt, NotesChange, SettlesAt, HasLed}
+use Rattle.verifier.specs.Looks.{offset_of, typing_in, AddsNoLook, IsLook, AreLooks, NotesAt, NotesChange, SettlesAt, HasLed}
 use Rattle.verifier.specs.Packed.{Parts, parts_in}
 use Rattle.verifier.specs.Found.{tables_in}
 use Rattle.verifier.proofs.Agreeing.{but_self}
@@ -161,12 +161,8 @@ module _ (m : MethodCode) (rooted : Rooted (files_of m)) where
       same_look : (k : ℕ) (look : Look) → ((t : FrameType) → F k ≡ Some t → IsLook m hs F k t look) → (t : FrameType) → G k ≡ Some t → IsLook m hs G k t look
       same_look k look h = subst (λ types. (t : FrameType) → over types k ≡ Some t → IsLook m hs (over types) k t look) (sym same) h
 
-      pub kept_taking : (offset : ℕ) → after.looks.items ≡ slice_set before.looks.items offset None → AreLooks m hs before → AreLooks m hs after
-      kept_taking offset set are k look e =
-          ⊎_elim
-          (λ q. absurd (none_is look (value_set before.looks.items offset None (Some look) (subst (λ j. slice_get (slice_set before.looks.items offset None) j ≡ Some (Some look)) q (ap (λ l. slice_get l k) (sym set) ∙ e)))))
-          (λ n. same_look k look (are k look (sym (get_set_other before.looks.items offset k None n) ∙ (ap (λ l. slice_get l k) (sym set) ∙ e))))
-          (cases_eq k offset)
+      pub kept_fewer : AddsNoLook before.looks.items after.looks.items → AreLooks m hs before → AreLooks m hs after
+      kept_fewer fewer are k look e = same_look k look (are k look (fewer k look e))
 
       kept_all : after.looks.items ≡ before.looks.items → AreLooks m hs before → AreLooks m hs after
       kept_all set are k look e = same_look k look (are k look (ap (λ l. slice_get l k) (sym set) ∙ e))
@@ -204,6 +200,24 @@ module _ (m : MethodCode) (rooted : Rooted (files_of m)) where
 
         pub kept_settling : AreLooks m hs after
         kept_settling = by_waits (waits before.waiting offset) refl
+
+-- ---- what is taken
+
+pub taken_adds_none : (offset : ℕ) (before after : List (Option Look)) → after ≡ slice_set before offset None → AddsNoLook before after
+taken_adds_none offset before after set k look e =
+    let at : slice_get (slice_set before offset None) k ≡ Some (Some look) = ap (λ l. slice_get l k) (sym set) ∙ e in
+    ⊎_elim
+    (λ q. absurd (none_is look (value_set before offset None (Some look) (subst (λ j. slice_get (slice_set before offset None) j ≡ Some (Some look)) q at))))
+    (λ n. sym (get_set_other before offset k None n) ∙ at)
+    (cases_eq k offset)
+
+pub adds_none_twice : (before between after : List (Option Look)) → AddsNoLook before between → AddsNoLook between after → AddsNoLook before after
+adds_none_twice before between after f g k look e = f k look (g k look e)
+
+pub known_before : (offset : ℕ) (before after : List (Option Look)) (o : Option Look) → AddsNoLook before after
+    → IfSome o (λ look. slice_get after offset ≡ Some (Some look)) → IfSome o (λ look. slice_get before offset ≡ Some (Some look))
+known_before offset before after None f e = tt
+known_before offset before after (Some look) f e = f offset look e
 
 -- ---- what is noted
 
@@ -281,5 +295,8 @@ none_known zero k look e = cc
 none_known (suc n) zero look e = cc
 none_known (suc n) (suc k) look e = none_known n k look e
 
-pub unknown : (m : MethodCode) (n : ℕ) (found : Found) → found.looks.items ≡ replicate n None → (hs : List Handler) → AreLooks m hs found
-unknown m n found e hs k look f t g = absurd (none_known n k look (ap (λ l. slice_get l k) (sym e) ∙ f))
+pub none_added : (n : ℕ) (before after : List (Option Look)) → after ≡ replicate n None → AddsNoLook before after
+none_added n before after e k look f = absurd (none_known n k look (ap (λ l. slice_get l k) (sym e) ∙ f))
+
+pub unknown : (m : MethodCode) (found : Found) → found.looks.items ≡ [] → (hs : List Handler) → AreLooks m hs found
+unknown m found e hs k look f t g = absurd (none_known zero k look (ap (λ l. slice_get l k) (sym e) ∙ f))

@@ -1,6 +1,7 @@
 -- A turn of a search, by what the instruction led to.
-use Rattle.std.proofs.Common.{◌≡◌, ℕ, List, [], ◌∷◌, map, true, Some, None, refl, sym, ap, ◌∙◌, subst}
-use Rattle.std.specs.Prelude.{slice_get, slice_set, option_map}
+use Rattle.std.proofs.Common.{◌≡◌, ℕ, List, [], ◌∷◌, map, true, Option, Some, None, refl, sym, ap, ◌∙◌, subst}
+use Rattle.std.specs.Prelude.{slice_get, option_map, IfSome}
+use Rattle.std.specs.Global.{Vec}
 use Rattle.std.proofs.lemmas.List.{length-set}
 use Rattle.std.proofs.lemmas.Option.{slice_get-map}
 use Rattle.model.specs.TypeOrder.{FrameType}
@@ -19,10 +20,10 @@ use Rattle.verifier.specs.flow.Leads.{LeadOn, all_leads, targets_in}
 use Rattle.verifier.specs.Agreeing.{AgreeAt}
 use Rattle.verifier.specs.Packed.{Parts, parts_in}
 use Rattle.verifier.specs.Found.{Tables, tables_in, leads_in, AreOver, IsSearch, waiting_again, HasTurned}
-use Rattle.verifier.specs.Looks.{offset_of, typing_in, LeavesAt, IsLook, MayPass, AreLooks, SettlesAt, HasLed}
+use Rattle.verifier.specs.Looks.{offset_of, typing_in, AddsNoLook, LeavesAt, IsLook, MayPass, AreLooks, SettlesAt, HasLed, HasLedTo}
 use Rattle.verifier.proofs.Entries.{tables_same}
 use Rattle.verifier.proofs.Joining.{its_targets}
-use Rattle.verifier.proofs.Looked.{kept_taking, kept_settling}
+use Rattle.verifier.proofs.Looked.{kept_fewer, kept_settling}
 use Rattle.verifier.proofs.Turns.{turns, passes}
 
 -- ---- the leads of an instruction by their offsets
@@ -38,6 +39,14 @@ pub leads_to : (files : Program) (origin : Origin) (offset : ℕ) (hs : List Han
 leads_to files origin offset hs leads listed targets on e f =
     let are : targets ≡ on.targets = f ∙ (ap targets_in on.are ∙ its_targets offset hs on.targets) in
     places_of files origin listed ∙ ap (map offset_of) (e ∙ (on.are ∙ ap (all_leads offset hs) (sym are)))
+
+-- ---- the offsets that are told
+
+pub led_to_told : (m : MethodCode) (hs : List Handler) (before : Found) (offset : ℕ) (told : Option (Vec ℕ)) (after : Found) (v : Vec ℕ) → told ≡ Some v
+    → HasLedTo m hs before offset told after → HasLed m hs before offset v.items after
+led_to_told m hs before offset told after v e of =
+    let same : v.items ≡ of.targets = subst (λ o. IfSome o (λ (w : Vec ℕ). w.items ≡ of.targets)) e of.are in
+    subst (λ l. HasLed m hs before offset l after) (sym same) of.led
 
 -- ---- a turn
 
@@ -63,9 +72,9 @@ module _ (m : MethodCode) where
         subst (λ tables. HasTurned (files_of m) (member_of m) (body_of m) tables (tables_in (files_of m) taken)) (sym from)
         (passes (files_of m) ordered (member_of m) (body_of m) (tables_in (files_of m) taken) offset search_taken e)
 
-    module _ (are : AreLooks m hs start) (looks : taken.looks.items ≡ slice_set start.looks.items offset None) where
+    module _ (are : AreLooks m hs start) (looks : AddsNoLook start.looks.items taken.looks.items) where
       pub looks_taken : AreLooks m hs taken
-      looks_taken = kept_taking m ordered.rooted start taken types hs offset looks are
+      looks_taken = kept_fewer m ordered.rooted start taken types hs looks are
 
       -- what is known of the instruction that was taken off
       pub may_pass : (look : Look) (packed frame : Parts) → slice_get start.looks.items offset ≡ Some (Some look)

@@ -1,8 +1,10 @@
 -- The tables of a search: a frame type or none for each offset of a method's code, and whether the offset waits.
-use Rattle.std.specs.Prelude.{◌≡◌, ℕ, ◌≤◌, List, [], ◌∷◌, Option, Some, None, Bool, false, replicate, length, map, option_map}
+use Rattle.std.specs.Prelude.{◌≡◌, ℕ, ◌≤◌, List, [], ◌∷◌, Option, Some, None, Bool, true, false, replicate, slice_get, length, map, option_map}
 use Rattle.std.specs.List.{AllByRecursion}
 use Rattle.model.specs.Names.{Member}
 use Rattle.model.specs.Classes.{Program, Body}
+use Rattle.model.specs.InstructionStarts.{is_start}
+use Rattle.model.specs.Typing.{IsSized}
 use Rattle.model.specs.TypeOrder as frames
 use Rattle.run_laws.specs.typing_search.Search.{Search, Merged, Clashes}
 use Rattle.run_laws.specs.typing_search.Tables.{typing_of, waits, waiting_at}
@@ -12,9 +14,12 @@ use Rattle.verifier.specs.declared.found.Found.{Found}
 use Rattle.verifier.specs.declared.found.Origin.{Origin}
 use Rattle.verifier.specs.declared.flow.handler.Handler.{Handler}
 use Rattle.verifier.specs.declared.flow.lead.Lead.{Lead}
+use Rattle.verifier.specs.flow.Leads.{has_handlers}
 use Rattle.types.specs.declared.method_code.declaration.MethodCode.{MethodCode}
 use Rattle.types.specs.method_code.View.{files_of, member_of, body_of}
 use Rattle.verifier.specs.Packed.{Parts, parts_in}
+use Rattle.verifier.specs.Verified.{OnUnverified}
+use Rattle.verifier.specs.declared.fault.MethodFault.{MethodFault}
 
 pub record Tables : Type 0 where
   pub types : List (Option frames.FrameType)
@@ -32,11 +37,16 @@ led_to files before after (Some h) = parts_in files (record before { stack = h.c
 abbrev pub leads_in : Program → Origin → List Lead → List (ℕ × frames.FrameType)
 leads_in files origin leads = map (λ (lead : Lead). (lead.offset, led_to files origin.before origin.after lead.handler)) leads
 
--- nothing is found at so many offsets, none waits, and none was looked at
+-- Before an instruction that leads so stands the frame type at an offset, where it leads to handlers; else it is not asked for.
+abbrev pub StandsBefore : List (Option Parts) → ℕ → List Lead → Parts → Type 0
+StandsBefore types offset leads before =
+    (there : Parts) → slice_get types offset ≡ Some (Some there) → has_handlers leads ≡ true → before ≡ there
+
+-- nothing is found at so many offsets, none waits, and no looks are kept
 pub record IsEmpty (offsets : ℕ) (found : Found) : Type 0 where
   pub types : found.types.items ≡ replicate offsets None
   pub waiting : found.waiting ≡ replicate offsets false
-  pub looks : found.looks.items ≡ replicate offsets None
+  pub looks : found.looks.items ≡ []
 
 -- each table is as long as the code
 pub record AreOver (body : Body) (tables : Tables) : Type 0 where
@@ -79,9 +89,23 @@ pub record HasTurned (files : Program) (method : Member) (body : Body) (before a
 
 -- ---- of the tables of a method
 
+-- to one offset, with this frame type
+abbrev pub one_lead : MethodCode → ℕ → Parts → List (ℕ × frames.FrameType)
+one_lead method to frame = (to, parts_in (files_of method) frame) ∷ []
+
+-- an instruction begins at an offset, nothing is found there yet, and a frame type may stand there by its size
+pub record IsFirst (method : MethodCode) (found : Found) (to : ℕ) (frame : Parts) : Type 0 where
+  pub start : is_start (body_of method).code.code to ≡ true
+  pub none : slice_get (tables_in (files_of method) found).types to ≡ Some None
+  pub size : IsSized (body_of method) (parts_in (files_of method) frame)
+
 abbrev pub MergesInto : MethodCode → Found → List (ℕ × frames.FrameType) → Found → Type 0
 MergesInto method before leads after = HasMerged (files_of method) (body_of method) (tables_in (files_of method) before) leads (tables_in (files_of method) after)
 
 -- no typing is above what was found and these frame types
 abbrev pub ClashesWith : MethodCode → Found → List (ℕ × frames.FrameType) → Type 0
 ClashesWith method found leads = Clashes (files_of method) (member_of method) (body_of method) (typing_of (tables_in (files_of method) found).types) leads
+
+-- so it is where that is not for want of memory
+abbrev pub IsClash : MethodCode → Found → List (ℕ × frames.FrameType) → MethodFault → Type 0
+IsClash method found leads fault = OnUnverified fault (ClashesWith method found leads)

@@ -1,6 +1,7 @@
 -- What is known of an instruction that was looked at: where it led from a frame type, and in which local variables that before it
 -- differs by now.
-use Rattle.std.specs.Prelude.{◌≡◌, ℕ, List, [], ◌∷◌, Option, Some, true, false, map, slice_get, slice_set}
+use Rattle.std.specs.Prelude.{◌≡◌, ℕ, List, [], ◌∷◌, Option, Some, true, false, map, slice_get, slice_set, IfSome}
+use Rattle.std.specs.Global.{Vec}
 use Rattle.model.specs.Sites.{Site, site_at}
 use Rattle.model.specs.Typing.{Typing, Reaches, flow}
 use Rattle.model.specs.TypeOrder as frames
@@ -47,6 +48,10 @@ abbrev pub AreLooks : MethodCode → List Handler → Found → Type 0
 AreLooks m hs found =
     (k : ℕ) (look : Look) → slice_get found.looks.items k ≡ Some (Some look) → (t : frames.FrameType) → typing_in m found k ≡ Some t
     → IsLook m hs (typing_in m found) k t look
+
+-- each look that is kept was kept before
+abbrev pub AddsNoLook : List (Option Look) → List (Option Look) → Type 0
+AddsNoLook before after = (k : ℕ) (look : Look) → slice_get after k ≡ Some (Some look) → slice_get before k ≡ Some (Some look)
 
 abbrev pub KeepsLooks : MethodCode → Found → Found → Type 0
 KeepsLooks m before after = (hs : List Handler) → AreLooks m hs before → AreLooks m hs after
@@ -111,3 +116,9 @@ pub record HasLed (m : MethodCode) (hs : List Handler) (before : Found) (offset 
   pub to : map (λ (lead : ℕ × frames.FrameType). lead.0) leads ≡ map offset_of (all_leads offset hs targets)
   pub merged : MergesInto m before leads after
   pub looks : KeepsLooks m before after
+
+-- so it was to some offsets, which are told or not
+pub record HasLedTo (m : MethodCode) (hs : List Handler) (before : Found) (offset : ℕ) (told : Option (Vec ℕ)) (after : Found) : Type 0 where
+  pub targets : List ℕ
+  pub led : HasLed m hs before offset targets after
+  pub are : IfSome told (λ v. v.items ≡ targets)

@@ -1,5 +1,5 @@
 -- An instruction near by: its leads are merged, and the local variables before it differ in some that are known.
-use Rattle.std.specs.Prelude.{◌≡◌, ℕ, List, Option, Some, None, true, false, slice_get}
+use Rattle.std.specs.Prelude.{◌≡◌, ℕ, List, Option, Some, None, true, false, slice_get, IfSome}
 use Rattle.std.specs.List.{AllByRecursion}
 use Rattle.model.specs.Classes.{Program}
 use Rattle.model.specs.Step.{covers}
@@ -11,7 +11,9 @@ use Rattle.verifier.specs.declared.found.Found.{Found}
 use Rattle.verifier.specs.declared.found.Origin.{Origin}
 use Rattle.verifier.specs.declared.near.Near.{Near}
 use Rattle.verifier.specs.Agreeing.{AgreeBut}
-use Rattle.verifier.specs.Found.{Tables, led_to}
+use Rattle.verifier.specs.Found.{Tables, tables_in, led_to}
+use Rattle.types.specs.declared.method_code.declaration.MethodCode.{MethodCode}
+use Rattle.types.specs.method_code.View.{files_of}
 use Rattle.verifier.specs.Packed.{Parts}
 
 -- a frame type was found at the offset, which does not wait, and that before the instruction differs from it so
@@ -36,6 +38,10 @@ pub record AreKnown (files : Program) (tables : Tables) (before : Parts) (near :
   pub locals : AgreeBut near.changed.items other.locals before.locals
   pub constructed : other.constructed ≡ before.constructed
   pub reached : AllByRecursion (IsReachedFrom files (typing_of tables.types) near.offset other) leads
+
+-- so it is where an instruction near by is at hand
+abbrev pub KnowsNear : MethodCode → Found → Origin → List Lead → Type 0
+KnowsNear m found origin leads = IfSome origin.near (λ near. AreKnown (files_of m) (tables_in (files_of m) found) origin.before near leads)
 
 -- as it was, but for the stack before the instruction
 pub record IsSameOrigin (old new : Origin) : Type 0 where

@@ -1,23 +1,21 @@
 //! The frame types that a search has found, and how more are merged into them.
 
-ghost use Rattle.std.specs.Prelude.{◌≡◌, ◌<◌, [], ◌∷◌, length, map, false, true, slice_get, slice_index_or, slice_set, Some, None, OnOk, IfOk, IfErr, IfSome, IsSomeAnd};
+ghost use Rattle.std.specs.Prelude.{◌≡◌, ◌<◌, [], ◌∷◌, length, map, false, true, slice_index_or, slice_set, Some, None, OnOk, IfOk, IfErr, IfSome, IsSomeAnd};
 ghost use Rattle.model.specs.InstructionStarts.{starts as starts_of};
 ghost use Rattle.model.specs.Step.{covers};
 ghost use Rattle.run_laws.specs.typing_search.Tables.{waiting_at};
 ghost use Rattle.types.specs.method_code.Linked.{IsLinked};
 ghost use Rattle.types.specs.method_code.View.{files_of, body_of};
-ghost use Rattle.verifier.specs.Packed.{parts_in};
-ghost use Rattle.verifier.specs.Found.{tables_in, leads_in, AreOver, IsEmpty, MergesInto, ClashesWith};
+ghost use Rattle.verifier.specs.Found.{tables_in, leads_in, one_lead, StandsBefore, AreOver, IsEmpty, IsFirst, MergesInto, IsClash};
 ghost use Rattle.verifier.specs.Changes.{DiffersAt, JoinsAt};
-ghost use Rattle.verifier.specs.Looks.{offset_of, KeepsLooks, NotesAt, NotesChange, SettlesAt, RaisesTo, RaisesAll};
-ghost use Rattle.verifier.specs.Near.{AreKnown, IsSameOrigin};
-ghost use Rattle.verifier.specs.Verified.{OnUnverified};
+ghost use Rattle.verifier.specs.Looks.{offset_of, KeepsLooks, NotesAt, NotesChange, RaisesTo, RaisesAll};
+ghost use Rattle.verifier.specs.Near.{KnowsNear, IsSameOrigin};
 
 use crate::changes::{all_fit, join_locals};
 use crate::fault::MethodFault;
-use crate::flow::{Handler, Lead};
+use crate::flow::{Handler, Lead, has_handlers, only_target};
 use crate::frames::is_sized;
-use crate::look::{Look, look_after};
+use crate::look::Look;
 use crate::near::{Near, changes_between};
 use crate::packed::PackedFrame;
 use crate::raised::{Raised, merge_frames};
@@ -30,8 +28,10 @@ use types::method_code::MethodCode;
 pub(crate) struct Found {
     pub types: Vec<Option<PackedFrame>>,
     pub waiting: Waiting,
-    /// The instructions that were looked at, of which something is known.
+    /// The instructions that were looked at, of which something is known; empty while looks are not kept.
     pub looks: Vec<Option<Look>>,
+    /// How many turns there were while looks are not kept.
+    pub turns: usize,
     /// The last instruction with handlers that was looked at.
     pub last: usize,
     /// What the last turn merged, in types.
@@ -49,7 +49,7 @@ pub(crate) struct Edge {
 #[derive(Drop)]
 pub(crate) struct Origin {
     pub offset: usize,
-    /// The frame type before the instruction. Its stack is not asked for.
+    /// The frame type before the instruction, if that leads to handlers. Its stack is not asked for.
     pub before: PackedFrame,
     /// The frame type after it.
     pub after: PackedFrame,
@@ -74,71 +74,14 @@ impl Found {
             types.push(None)?;
         }
         let waiting = Waiting::new(alloc, length)?;
-        let mut looks = Vec::with_capacity(alloc, length)?;
-        'looks: for _offset in 0..length {
-            looks.push(None)?;
-        }
         Ok(Found {
             types,
             waiting,
-            looks,
+            looks: Vec::new(alloc),
+            turns: 0,
             last: 0,
             merged: 0,
         })
-    }
-
-    /// Says what is known of the instruction at an offset.
-    fn set_look(&mut self, offset: usize, look: Option<Look>)
-        ensures types { self.new.types.items ≡ self.old.types.items }
-        ensures waiting { self.new.waiting ≡ self.old.waiting }
-        ensures looks { self.new.looks.items ≡ slice_set self.old.looks.items offset look }
-    {
-        if let Some(place) = self.looks.get_mut(offset) {
-            *place = look;
-        }
-    }
-
-    /// Takes what is known of the instruction at an offset.
-    pub fn take_look(&mut self, offset: usize) -> Option<Look>
-        ensures types { self.new.types.items ≡ self.old.types.items }
-        ensures waiting { self.new.waiting ≡ self.old.waiting }
-        ensures looks { self.new.looks.items ≡ slice_set self.old.looks.items offset None }
-        ensures look { IfSome result (λ look. slice_get self.old.looks.items offset ≡ Some (Some look)) }
-    {
-        match self.looks.get_mut(offset) {
-            Some(place) => place.take(),
-            None => None,
-        }
-    }
-
-    /// Local variables before the instruction at an offset changed.
-    fn note(&mut self, offset: usize, changed: &[usize]) -> Result<(), AllocError>
-        ensures types { OnOk result (self.new.types.items ≡ self.old.types.items) }
-        ensures waiting { OnOk result (self.new.waiting ≡ self.old.waiting) }
-        ensures looks { OnOk result (NotesAt offset changed.now self.old.looks.items self.new.looks.items) }
-    {
-        let Some(look) = self.take_look(offset) else {
-            return Ok(());
-        };
-        let after = look_after(look, changed)?;
-        self.set_look(offset, after);
-        Ok(())
-    }
-
-    /// What the instruction at an offset led to is merged: to these offsets, its handlers aside. It is known, unless it waits again.
-    pub fn settle(&mut self, alloc: Global, offset: usize, targets: Vec<usize>)
-        ensures types { self.new.types.items ≡ self.old.types.items }
-        ensures waiting { self.new.waiting ≡ self.old.waiting }
-        ensures looks { SettlesAt offset targets.items self.old self.new }
-    {
-        if self.waiting.has(offset) {
-            return;
-        }
-        let look = Look {
-            targets,
-            changed: Vec::new(alloc),
-        };
-        self.set_look(offset, Some(look));
     }
 
     /// Puts a frame type at an offset, which waits from now on.
@@ -183,7 +126,27 @@ impl Found {
         Ok(())
     }
 
-    /// In which local variables the frame type at an offset differs from another with the same stack, if in few.
+    /// The frame type before the instruction at an offset, if it leads to handlers as these leads are; else any.
+    pub fn before(
+        &self,
+        alloc: Global,
+        offset: usize,
+        leads: &[Lead],
+    ) -> Result<PackedFrame, AllocError>
+        requires { offset < length self.now.types.items }
+        ensures { IfOk result (StandsBefore self.now.types.items offset leads.now) }
+    {
+        if !has_handlers(leads) {
+            return Ok(PackedFrame::nothing(alloc));
+        }
+        match &self.types[offset] {
+            Some(there) => there.copy(alloc),
+            None => Ok(PackedFrame::nothing(alloc)),
+        }
+    }
+
+    /// In which local variables the frame type at an offset differs from another with the same stack, if in few. It is not asked where
+    /// nothing is known of the instruction there.
     fn changes_at(
         &self,
         alloc: Global,
@@ -193,6 +156,9 @@ impl Found {
         requires { offset < length self.now.types.items }
         ensures { IfOk result (λ o. IfSome o (λ v. DiffersAt v.items offset join.now self.now.types.items)) }
     {
+        if !self.has_look(offset) {
+            return Ok(None);
+        }
         match &self.types[offset] {
             Some(there) => changes_between(alloc, there, join),
             None => Ok(None),
@@ -232,8 +198,8 @@ impl Found {
         requires linked { IsLinked (files_of method.now) }
         requires starts { starts.now ≡ starts_of (body_of method.now).code.code }
         requires over { AreOver (body_of method.now) (tables_in (files_of method.now) self.old) }
-        ensures merged { OnOk result (MergesInto method.now self.old ((edge.to, parts_in (files_of method.now) frame.now) ∷ []) self.new) }
-        ensures clash { IfErr result (λ fault. OnUnverified fault (ClashesWith method.now self.old ((edge.to, parts_in (files_of method.now) frame.now) ∷ []))) }
+        ensures merged { OnOk result (MergesInto method.now self.old (one_lead method.now edge.to frame.now) self.new) }
+        ensures clash { IfErr result (IsClash method.now self.old (one_lead method.now edge.to frame.now)) }
         ensures looks { OnOk result (KeepsLooks method.now self.old self.new) }
     {
         let Edge { from, to } = edge;
@@ -257,6 +223,50 @@ impl Found {
                 Ok(())
             }
         }
+    }
+
+    /// Whether an instruction begins at an offset, nothing is found there yet, and a frame type may stand there.
+    fn is_first(
+        &self,
+        method: &MethodCode<'_>,
+        starts: &[bool],
+        to: usize,
+        frame: &PackedFrame,
+    ) -> bool
+        requires starts { starts.now ≡ starts_of (body_of method.now).code.code }
+        requires over { AreOver (body_of method.now) (tables_in (files_of method.now) self.now) }
+        ensures { IsTrue result → IsFirst method.now self.now to frame.now }
+    {
+        if !is_start(starts, to) {
+            return false;
+        }
+        match &self.types[to] {
+            None => is_sized(method, frame),
+            Some(_) => false,
+        }
+    }
+
+    /// Merges the frame type after an instruction that leads to one offset alone.
+    fn merge_only(
+        &mut self,
+        alloc: Global,
+        method: &MethodCode<'_>,
+        starts: &[bool],
+        edge: Edge,
+        frame: PackedFrame,
+    ) -> Result<(), MethodFault>
+        requires linked { IsLinked (files_of method.now) }
+        requires starts { starts.now ≡ starts_of (body_of method.now).code.code }
+        requires over { AreOver (body_of method.now) (tables_in (files_of method.now) self.old) }
+        ensures merged { OnOk result (MergesInto method.now self.old (one_lead method.now edge.to frame) self.new) }
+        ensures clash { IfErr result (IsClash method.now self.old (one_lead method.now edge.to frame)) }
+        ensures looks { OnOk result (KeepsLooks method.now self.old self.new) }
+    {
+        if self.is_first(method, starts, edge.to, &frame) {
+            self.put(edge.to, frame);
+            return Ok(());
+        }
+        self.merge(alloc, method, starts, edge, &frame)
     }
 
     /// Joins what local variables hold in a frame type into these of the one at an offset.
@@ -365,9 +375,9 @@ impl Found {
         requires linked { IsLinked (files_of method.now) }
         requires starts { starts.now ≡ starts_of (body_of method.now).code.code }
         requires over { AreOver (body_of method.now) (tables_in (files_of method.now) self.old) }
-        requires known { IfSome origin.old.near (λ near. AreKnown (files_of method.now) (tables_in (files_of method.now) self.old) origin.old.before near (lead ∷ [])) }
+        requires known { KnowsNear method.now self.old origin.old (lead ∷ []) }
         ensures merged { OnOk result (MergesInto method.now self.old (leads_in (files_of method.now) origin.old (lead ∷ [])) self.new) }
-        ensures clash { IfErr result (λ fault. OnUnverified fault (ClashesWith method.now self.old (leads_in (files_of method.now) origin.old (lead ∷ [])))) }
+        ensures clash { IfErr result (IsClash method.now self.old (leads_in (files_of method.now) origin.old (lead ∷ []))) }
         ensures looks { OnOk result (KeepsLooks method.now self.old self.new) }
         ensures origin { IsSameOrigin origin.old origin.new }
     {
@@ -405,11 +415,15 @@ impl Found {
         requires linked { IsLinked (files_of method.now) }
         requires starts { starts.now ≡ starts_of (body_of method.now).code.code }
         requires over { AreOver (body_of method.now) (tables_in (files_of method.now) self.old) }
-        requires known { IfSome origin.near (λ near. AreKnown (files_of method.now) (tables_in (files_of method.now) self.old) origin.before near leads.now) }
+        requires known { KnowsNear method.now self.old origin leads.now }
         ensures merged { OnOk result (MergesInto method.now self.old (leads_in (files_of method.now) origin leads.now) self.new) }
-        ensures clash { IfErr result (λ fault. OnUnverified fault (ClashesWith method.now self.old (leads_in (files_of method.now) origin leads.now))) }
+        ensures clash { IfErr result (IsClash method.now self.old (leads_in (files_of method.now) origin leads.now)) }
         ensures looks { OnOk result (KeepsLooks method.now self.old self.new) }
     {
+        if let Some(to) = only_target(leads) {
+            let from = origin.offset;
+            return self.merge_only(alloc, method, starts, Edge { from, to }, origin.after);
+        }
         let mut origin = origin;
         for lead in leads {
             if let Err(fault) = self.merge_lead(alloc, method, starts, &mut origin, *lead) {

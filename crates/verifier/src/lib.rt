@@ -10,6 +10,7 @@ mod found;
 mod frames;
 mod locals;
 mod look;
+mod looks;
 mod method;
 mod near;
 mod packed;

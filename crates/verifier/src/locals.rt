@@ -1,10 +1,12 @@
 //! The types of local variables as a search keeps them.
 
-ghost use Rattle.std.specs.Prelude.{◌≡◌, slice_index_or, slice_set, replicate, OnOk, OnErr, IfOk, IsTrue};
+ghost use Rattle.std.specs.Prelude.{◌≡◌, slice_index_or, slice_set, replicate, OnOk, OnErr, IfOk, IfSome, IsTrue};
 ghost use Rattle.types.specs.declared.verification_type.VerificationType.TheVariants as type;
 ghost use Rattle.verifier.specs.Packed.{unpacked, locals_in};
 
-use crate::run::{Run, are_same_runs, are_same_types, runs_of, runs_with, type_at, types_of};
+use crate::run::{
+    Run, are_same_runs, are_same_types, run_count, runs_of, runs_with, type_at, types_of,
+};
 use std::alloc::{AllocError, Global};
 use types::VerificationType;
 
@@ -31,11 +33,13 @@ fn of_runs(alloc: Global, runs: Vec<Run>, count: usize) -> Result<Locals, AllocE
 }
 
 /// These types.
-pub(crate) fn locals_of(alloc: Global, types: &[VerificationType]) -> Result<Locals, AllocError>
-    ensures { IfOk result (λ locals. locals_in locals ≡ types.now) }
+pub(crate) fn locals_of(alloc: Global, types: Vec<VerificationType>) -> Result<Locals, AllocError>
+    ensures { IfOk result (λ locals. locals_in locals ≡ types.items) }
 {
-    let runs = runs_of(alloc, types)?;
-    of_runs(alloc, runs, types.len())
+    match run_count(&types, types.len() / TYPES_A_RUN) {
+        Some(count) => Ok(Locals::Runs(runs_of(alloc, &types, count)?)),
+        None => Ok(Locals::Each(types)),
+    }
 }
 
 /// So many types, each of which is not usable.
@@ -57,6 +61,16 @@ impl Locals {
         match self {
             Locals::Runs(runs) => types_of(alloc, runs, count),
             Locals::Each(types) => Vec::from_slice(alloc, types),
+        }
+    }
+
+    /// The types, if they are kept one by one.
+    pub fn each(&self) -> Option<&[VerificationType]>
+        ensures { IfSome result (λ types. types.now ≡ locals_in self.now) }
+    {
+        match self {
+            Locals::Runs(_) => None,
+            Locals::Each(types) => Some(types.as_slice()),
         }
     }
 

@@ -1,6 +1,6 @@
 //! The worklist (JVMS 4.10.2.2): it takes the lowest offset that waits, and merges what its instruction leads to.
 
-ghost use Rattle.std.specs.Prelude.{◌≡◌, ℕ, ◌<◌, ◌≤◌, List, length, Some, OnOk, IfOk, IfErr, IfSome};
+ghost use Rattle.std.specs.Prelude.{◌≡◌, ℕ, ◌<◌, ◌≤◌, List, length, Some, OnOk, IfOk, IfErr, IfSome, slice_get};
 ghost use Rattle.model.specs.InstructionStarts.{starts as starts_of};
 ghost use Rattle.model.specs.Typing.{HasTyping};
 ghost use Rattle.run_laws.specs.typing_search.Search.{HasNoTyping};
@@ -9,17 +9,17 @@ ghost use Rattle.types.specs.method_code.Linked.{IsLinked};
 ghost use Rattle.types.specs.method_code.View.{files_of, member_of, body_of};
 ghost use Rattle.verifier.specs.declared.flow.handler.Handler.{Handler as SpecHandler};
 ghost use Rattle.verifier.specs.flow.Handlers.{AreHandlers};
-ghost use Rattle.run_laws.specs.typing_search.Tables.{typing_of};
-ghost use Rattle.verifier.specs.Packed.{parts_in};
+ghost use Rattle.verifier.specs.Packed.{parts_of};
 ghost use Rattle.verifier.specs.Found.{tables_in, waiting_again, work_left, AreOver, IsSearch, HasTurned};
-ghost use Rattle.verifier.specs.Looks.{MayPass, AreLooks, HasLed};
+ghost use Rattle.verifier.specs.Looks.{MayPass, AreLooks, HasLed, HasLedTo};
+ghost use Rattle.verifier.specs.flow.Leads.{targets_in};
 ghost use Rattle.verifier.specs.Near.{IsNear};
 ghost use Rattle.verifier.specs.Steps.{most_turns, method_steps, TakesAtMost, MayTakeMore};
 ghost use Rattle.verifier.specs.Verified.{OnUnverified, OnFault};
 
 use crate::fault::MethodFault;
 use crate::flow::{
-    Handler, Lead, all_leads, entry_frame, flow_at, handlers, leaves_at, targets_of,
+    Handler, Lead, all_leads, entry_frame, flow_at, handlers, has_handlers, leaves_at, targets_of,
 };
 use crate::found::{Edge, Found, Origin};
 use crate::look::Look;
@@ -28,6 +28,7 @@ use crate::packed::PackedFrame;
 use crate::steps::{Steps, merged, places, steps_of_turn};
 use opcodes::starts;
 use std::alloc::{AllocError, Global};
+use types::FrameType;
 use types::method_code::MethodCode;
 
 /// A search that has found the frame type where the method begins.
@@ -45,18 +46,10 @@ fn begin(alloc: Global, method: &MethodCode<'_>, starts: &[bool]) -> Result<Foun
 {
     let mut found = Found::new(alloc, method.code().code.len())?;
     let frame = entry_frame(alloc, method)?;
-    let frame = PackedFrame::pack(alloc, &frame)?;
+    let frame = PackedFrame::pack(alloc, frame)?;
     match found.merge(alloc, method, starts, Edge { from: 0, to: 0 }, &frame) {
         Ok(()) => Ok(found),
         Err(fault) => Err(fault),
-    }
-}
-
-/// Whether an instruction that leads so leads to handlers, which come last.
-fn has_handlers(leads: &[Lead]) -> bool {
-    match leads.last() {
-        Some(lead) => lead.handler.is_some(),
-        None => false,
     }
 }
 
@@ -105,8 +98,23 @@ fn pass_on(
     Ok(())
 }
 
+/// The offsets to which an instruction leads, its handlers aside, if looks are kept.
+fn kept_targets(
+    alloc: Global,
+    found: &Found,
+    leads: &[Lead],
+) -> Result<Option<Vec<usize>>, AllocError>
+    ensures { IfOk result (λ o. IfSome o (λ v. v.items ≡ targets_in leads.now)) }
+{
+    if !found.keeps_looks() {
+        return Ok(None);
+    }
+    let targets = targets_of(alloc, leads)?;
+    Ok(Some(targets))
+}
+
 /// Merges what the instruction at an offset leads to, as if it was not looked at before. Answers the offsets to which it leads,
-/// its handlers aside.
+/// its handlers aside, if looks are kept.
 fn look_at(
     alloc: Global,
     method: &MethodCode<'_>,
@@ -114,25 +122,27 @@ fn look_at(
     handlers: &[Handler],
     found: &mut Found,
     offset: usize,
-    before: PackedFrame,
-) -> Result<Vec<usize>, MethodFault>
+    frame: FrameType,
+) -> Result<Option<Vec<usize>>, MethodFault>
     requires linked { IsLinked (files_of method.now) }
     requires starts { starts.now ≡ starts_of (body_of method.now).code.code }
     requires handlers { AreHandlers method.now handlers.now }
-    requires typed { typing_of (tables_in (files_of method.now) found.old).types offset ≡ Some (parts_in (files_of method.now) before) }
+    requires offset { offset < length found.old.types.items }
+    requires typed { slice_get found.old.types.items offset ≡ Some (Some (parts_of frame)) }
     requires search { IsSearch (files_of method.now) (member_of method.now) (body_of method.now)
         (waiting_again (tables_in (files_of method.now) found.old) offset) }
-    ensures led { IfOk result (λ targets. HasLed method.now handlers.now found.old offset targets.items found.new) }
+    ensures led { IfOk result (λ told. HasLedTo method.now handlers.now found.old offset told found.new) }
     ensures exact { IfErr result (λ fault. OnUnverified
         fault (HasNoTyping (files_of method.now) (member_of method.now) (body_of method.now))) }
 {
-    let mut frame = before.unpack(alloc)?;
+    let mut frame = frame;
     match flow_at(alloc, method, handlers, offset, &mut frame) {
         Err(_) => Err(MethodFault::OutOfMemory),
         Ok(None) => Err(MethodFault::Unverified { offset }),
         Ok(Some(leads)) => {
-            let targets = targets_of(alloc, &leads)?;
-            let after = PackedFrame::pack(alloc, &frame)?;
+            let targets = kept_targets(alloc, found, &leads)?;
+            let after = PackedFrame::pack(alloc, frame)?;
+            let before = found.before(alloc, offset, &leads)?;
             let near = last_if_near(alloc, found, &before, offset, &leads)?;
             found.last = last_after(found.last, offset, &leads);
             found.merged = merged(leads.len(), places(method));
@@ -172,7 +182,7 @@ fn turn(
     ensures exact { IfErr result (λ fault. OnUnverified
         fault (HasNoTyping (files_of method.now) (member_of method.now) (body_of method.now))) }
 {
-    let taken = found.take_look(offset);
+    let taken = found.begin_turn(alloc, offset)?;
     let Some(packed) = &found.types[offset] else {
         return Ok(());
     };
@@ -184,12 +194,13 @@ fn turn(
             return Ok(());
         }
     }
-    let before = packed.copy(alloc)?;
+    let before = packed.unpack(alloc)?;
     match look_at(alloc, method, starts, handlers, found, offset, before) {
-        Ok(targets) => {
+        Ok(Some(targets)) => {
             found.settle(alloc, offset, targets);
             Ok(())
         }
+        Ok(None) => Ok(()),
         Err(fault) => Err(fault),
     }
 }

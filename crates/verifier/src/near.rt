@@ -56,6 +56,11 @@ fn locals_between(
     if !from.is_as_constructed(to) {
         return Ok(None);
     }
+    if let Some(before) = from.each_local()
+        && let Some(after) = to.each_local()
+    {
+        return places_between(alloc, before, after);
+    }
     let before = from.locals(alloc)?;
     let after = to.locals(alloc)?;
     places_between(alloc, &before, &after)

@@ -1,6 +1,6 @@
 //! Frame types as a search keeps them.
 
-ghost use Rattle.std.specs.Prelude.{◌≡◌, [], ◌∷◌, length, replicate, slice_index_or, slice_set, IfOk, OnOk, IsTrue};
+ghost use Rattle.std.specs.Prelude.{◌≡◌, [], ◌∷◌, length, replicate, slice_index_or, slice_set, IfOk, IfSome, OnOk, IsTrue};
 ghost use Rattle.types.specs.declared.verification_type.VerificationType.TheVariants as type;
 ghost use Rattle.verifier.specs.Agreeing.{AgreeAt};
 ghost use Rattle.verifier.specs.Packed.{parts_of};
@@ -34,15 +34,15 @@ impl Model for PackedFrame {
 }
 
 impl PackedFrame {
-    pub fn pack(alloc: Global, frame: &FrameType) -> Result<PackedFrame, AllocError>
-        ensures { IfOk result (λ packed. packed ≡ parts_of frame.now) }
+    pub fn pack(alloc: Global, frame: FrameType) -> Result<PackedFrame, AllocError>
+        ensures { IfOk result (λ packed. packed ≡ parts_of frame) }
     {
-        let locals = locals_of(alloc, &frame.locals)?;
-        let stack = Vec::from_slice(alloc, &frame.stack)?;
+        let local_count = frame.locals.len();
+        let locals = locals_of(alloc, frame.locals)?;
         Ok(PackedFrame {
             locals,
-            local_count: frame.locals.len(),
-            stack,
+            local_count,
+            stack: frame.stack,
             constructed: frame.constructed,
         })
     }
@@ -83,6 +83,18 @@ impl PackedFrame {
             stack: Vec::new(alloc),
             constructed: false,
         })
+    }
+
+    /// No local variables, and an empty stack.
+    pub fn nothing(alloc: Global) -> PackedFrame
+        ensures { result.locals ≡ [] }
+    {
+        PackedFrame {
+            locals: Locals::Each(Vec::new(alloc)),
+            local_count: 0,
+            stack: Vec::new(alloc),
+            constructed: false,
+        }
     }
 
     /// A frame type with as many local variables, and what these hold.
@@ -135,6 +147,13 @@ impl PackedFrame {
         self.constructed == other.constructed
             && are_same_types(&self.stack, &other.stack)
             && self.locals.is_same(&other.locals)
+    }
+
+    /// The types of the local variables, if they are kept one by one.
+    pub fn each_local(&self) -> Option<&[VerificationType]>
+        ensures { IfSome result (λ types. types.now ≡ self.now.locals) }
+    {
+        self.locals.each()
     }
 
     /// The types of the local variables.

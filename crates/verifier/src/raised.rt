@@ -43,6 +43,6 @@ pub(crate) fn merge_frames(
     let Some(join) = found else {
         return Ok(Raised::Clash);
     };
-    let join = PackedFrame::pack(alloc, &join)?;
+    let join = PackedFrame::pack(alloc, join)?;
     Ok(Raised::To(join))
 }

@@ -57,11 +57,29 @@ pub(crate) fn are_same_runs(a: &[Run], b: &[Run]) -> bool
     true
 }
 
-/// The runs of types.
-pub(crate) fn runs_of(alloc: Global, types: &[VerificationType]) -> Result<Vec<Run>, AllocError>
+/// How many runs there are of types, if they are at most so many.
+pub(crate) fn run_count(types: &[VerificationType], most: usize) -> Option<usize> {
+    let mut count: usize = 0;
+    for i in 0..types.len() {
+        if i == 0 || !is_same_type(types[i], types[i - 1]) {
+            if count >= most {
+                return None;
+            }
+            count += 1;
+        }
+    }
+    Some(count)
+}
+
+/// The runs of types, of which there are so many.
+pub(crate) fn runs_of(
+    alloc: Global,
+    types: &[VerificationType],
+    count: usize,
+) -> Result<Vec<Run>, AllocError>
     ensures { IfOk result (λ runs. unpacked runs.items ≡ types.now) }
 {
-    let mut runs = Vec::new(alloc);
+    let mut runs = Vec::with_capacity(alloc, count)?;
     let mut begin: usize = 0;
     'types: for i in 0..types.len() {
         if !is_same_type(types[i], types[begin]) {

@@ -1,6 +1,6 @@
 -- Where an instruction leads, as the definitions have it.
-use Rattle.std.specs.Prelude.{◌≡◌, ◌++◌, ℕ, List, [], ◌∷◌, map, Option, Some, None}
-use Rattle.std.specs.List.{filter}
+use Rattle.std.specs.Prelude.{◌≡◌, ◌++◌, ℕ, List, [], ◌∷◌, map, Bool, Option, Some, None, is_some}
+use Rattle.std.specs.List.{filter, list_any}
 use Rattle.model.specs.Classes.{Program}
 use Rattle.model.specs.Step.{covers}
 use Rattle.model.specs.TypeOrder as frames
@@ -48,3 +48,7 @@ targets_by to (Some h) tos = tos
 abbrev pub targets_in : List Lead → List ℕ
 targets_in [] = []
 targets_in (lead ∷ leads) = targets_by lead.offset lead.handler (targets_in leads)
+
+-- some are to handlers
+abbrev pub has_handlers : List Lead → Bool
+has_handlers leads = list_any (λ (lead : Lead). is_some lead.handler) leads

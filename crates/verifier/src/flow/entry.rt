@@ -46,7 +46,8 @@ fn argument_types(
     method: &MethodCode<'_>,
 ) -> Result<Vec<VerificationType>, AllocError>
     requires { IsLinked (files_of method.now) }
-    ensures { IfOk result (λ v. map (type_in (files_of method.now)) v.items ≡ argument_types (files_of method.now) (member_of method.now)) }
+    ensures { IfOk result (λ v. map (type_in (files_of method.now)) v.items
+        ≡ argument_types (files_of method.now) (member_of method.now)) }
 {
     let mut parameters = parameter_types(alloc, method)?;
     if method.has_no_receiver() {

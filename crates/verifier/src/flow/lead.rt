@@ -1,7 +1,7 @@
 //! Where an instruction leads.
 
-ghost use Rattle.std.specs.Prelude.{◌≡◌, ◌++◌, map, OnOk, IfOk};
-ghost use Rattle.verifier.specs.flow.Leads.{lead_on, handler_leads, all_leads, targets_in};
+ghost use Rattle.std.specs.Prelude.{◌≡◌, ◌++◌, ◌∷◌, [], map, OnOk, IfOk, IfSome};
+ghost use Rattle.verifier.specs.flow.Leads.{lead_on, handler_leads, all_leads, targets_in, has_handlers};
 
 use crate::flow::handler::Handler;
 use std::alloc::{AllocError, Global};
@@ -73,4 +73,25 @@ pub(crate) fn targets_of(alloc: Global, leads: &[Lead]) -> Result<Vec<usize>, Al
         }
     }
     Ok(targets)
+}
+
+/// Whether some of those are to handlers.
+pub(crate) fn has_handlers(leads: &[Lead]) -> bool
+    ensures { result ≡ has_handlers leads.now }
+{
+    leads.iter().any(|lead| lead.handler.is_some())
+}
+
+/// The offset to which those lead, if they are but one, and that is to no handler.
+pub(crate) fn only_target(leads: &[Lead]) -> Option<usize>
+    ensures { IfSome result (λ to. leads.now ≡ lead_on to ∷ []) }
+{
+    if leads.len() != 1 {
+        return None;
+    }
+    let lead = leads[0];
+    match lead.handler {
+        None => Some(lead.offset),
+        Some(_) => None,
+    }
 }

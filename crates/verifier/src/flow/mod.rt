@@ -14,4 +14,4 @@ pub use flow::flow_at;
 pub(crate) use flow::leaves_at;
 pub use handler::{Handler, handlers};
 pub use lead::Lead;
-pub(crate) use lead::{all_leads, targets_of};
+pub(crate) use lead::{all_leads, has_handlers, only_target, targets_of};

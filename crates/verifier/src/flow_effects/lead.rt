@@ -44,7 +44,8 @@ fn forget_all(offset: u16, types: &mut Vec<VerificationType>)
 
 /// Initialises all copies of a receiver.
 fn initialise_all(set: &ClassSet, receiver: VerificationType, types: &mut Vec<VerificationType>)
-    ensures { map (type_in set.now) types.new.items ≡ map (initialised (type_in set.now receiver)) (map (type_in set.now) types.old.items) }
+    ensures { map (type_in set.now) types.new.items
+        ≡ map (initialised (type_in set.now receiver)) (map (type_in set.now) types.old.items) }
 {
     initialise(set, receiver, types);
 }
@@ -80,7 +81,8 @@ fn push_made(
     class: usize,
 ) -> Result<(), AllocError>
     ensures { OnOk result ((files : Program)
-        → frame_in files frame.new ≡ with_slots (frame_in files frame.old) (map (forgotten offset) (frame_in files frame.old).slots.locals)
+        → frame_in files frame.new
+        ≡ with_slots (frame_in files frame.old) (map (forgotten offset) (frame_in files frame.old).slots.locals)
         (model.Uninitialised offset (name_at files class) ∷ left_by files wants.now frame.old)) }
 {
     forget_all(offset, &mut frame.locals);

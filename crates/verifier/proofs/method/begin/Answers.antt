@@ -42,4 +42,4 @@ returns-in-Err-clause-exact c =
 
 pub returns-in-Ok-clause-looks : goal.returns-in-Ok-clause-looks
 returns-in-Ok-clause-looks c =
-    λ hs. c.in-Ok.ensures.looks hs (unknown c.args.method.now _ c.in_ok-found.found c.in_ok-found.ensures.looks hs)
+    λ hs. c.in-Ok.ensures.looks hs (unknown c.args.method.now c.in_ok-found.found c.in_ok-found.ensures.looks hs)

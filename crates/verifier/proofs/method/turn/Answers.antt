@@ -1,5 +1,5 @@
-use Rattle.std.proofs.Common.{◌<◌, ◌∙◌, length, ap, sym, subst}
-use Rattle.std.specs.Prelude.{Some}
+use Rattle.std.proofs.Common.{◌≡◌, ◌<◌, ◌∙◌, length, refl, ap, sym, subst}
+use Rattle.std.specs.Prelude.{Some, slice_get, IfSome}
 use Rattle.verifier.specs.Agreeing.{AgreeAt}
 use Rattle.verifier.specs.Looks.{LeavesAt}
 use Rattle.run_laws.specs.typing_search.Tables.{entry_of}
@@ -7,83 +7,100 @@ use Rattle.run_laws.proofs.typing_search.Linking.{ordered_from}
 use Rattle.types.specs.method_code.View.{files_of}
 use Rattle.verifier.specs.Packed.{parts_in}
 use Rattle.verifier.proofs.Entries.{read_at}
-use Rattle.verifier.proofs.Turned.{search_taken, over_taken, passes_taken, looks_taken, may_pass, turned, looked}
+use Rattle.verifier.proofs.Puts.{there_at}
+use Rattle.verifier.proofs.Turned.{led_to_told, search_taken, over_taken, passes_taken, looks_taken, may_pass, turned, looked}
 use Rattle.verifier.proofs.method.turn.Goals as goal
 
 pub returns-in_default-clause-turned : goal.returns-in_default-clause-turned
 returns-in_default-clause-turned c =
     let m = c.args.method.now in
-    let taken = c.take_look-taken.new.self in
-    let within = subst (λ types. c.args.offset < length types) (sym c.take_look-taken.ensures.types) c.requires.offset in
+    let taken = c.begin_turn.new.self in
+    let within = subst (λ types. c.args.offset < length types) (sym c.begin_turn.ensures.types) c.requires.offset in
     let at = read_at (files_of m) taken.types.items c.args.offset _ _ within c.index.ensures c.in_default.is in
-    passes_taken m (ordered_from (files_of m) c.requires.linked.1.no_refusal) c.args.handlers.now c.args.found.now taken c.args.offset c.take_look-taken.ensures.types c.take_look-taken.ensures.waiting c.requires.search (ap entry_of at)
+    passes_taken m (ordered_from (files_of m) c.requires.linked.1.no_refusal) c.args.handlers.now c.args.found.now taken c.args.offset c.begin_turn.ensures.types c.begin_turn.ensures.waiting c.requires.search (ap entry_of at)
 
 pub returns-in_default-clause-looks : goal.returns-in_default-clause-looks
 returns-in_default-clause-looks c =
     let m = c.args.method.now in
-    looks_taken m (ordered_from (files_of m) c.requires.linked.1.no_refusal) c.args.handlers.now c.args.found.now c.take_look-taken.new.self c.args.offset c.take_look-taken.ensures.types c.take_look-taken.ensures.waiting c.requires.search c.requires.looks c.take_look-taken.ensures.looks
+    looks_taken m (ordered_from (files_of m) c.requires.linked.1.no_refusal) c.args.handlers.now c.args.found.now c.begin_turn.new.self c.args.offset c.begin_turn.ensures.types c.begin_turn.ensures.waiting c.requires.search c.requires.looks c.begin_turn.ensures.looks
 
 pub leaves_at-requires : goal.leaves_at-requires
 leaves_at-requires c =
     let m = c.args.method.now in
     let files = files_of m in
-    let taken = c.take_look-taken.new.self in
-    let within = subst (λ types. c.args.offset < length types) (sym c.take_look-taken.ensures.types) c.requires.offset in
+    let taken = c.begin_turn.new.self in
+    let within = subst (λ types. c.args.offset < length types) (sym c.begin_turn.ensures.types) c.requires.offset in
     let at = read_at files taken.types.items c.args.offset _ _ within c.index.ensures c.in-Some.is in
-    let search = search_taken m (ordered_from files c.requires.linked.1.no_refusal) c.args.handlers.now c.args.found.now taken c.args.offset c.take_look-taken.ensures.types c.take_look-taken.ensures.waiting c.requires.search in
+    let search = search_taken m (ordered_from files c.requires.linked.1.no_refusal) c.args.handlers.now c.args.found.now taken c.args.offset c.begin_turn.ensures.types c.begin_turn.ensures.waiting c.requires.search in
     record { start = search.searches.starts c.args.offset (parts_in files c.in-Some.packed) (ap entry_of at) }
 
 pub pass_on-requires-clause-over : goal.pass_on-requires-clause-over
 pass_on-requires-clause-over c =
     let m = c.args.method.now in
-    over_taken m (ordered_from (files_of m) c.requires.linked.1.no_refusal) c.args.handlers.now c.args.found.now c.take_look-taken.new.self c.args.offset c.take_look-taken.ensures.types c.take_look-taken.ensures.waiting c.requires.search
+    over_taken m (ordered_from (files_of m) c.requires.linked.1.no_refusal) c.args.handlers.now c.args.found.now c.begin_turn.new.self c.args.offset c.begin_turn.ensures.types c.begin_turn.ensures.waiting c.requires.search
 
 pub pass_on-requires-clause-passes : goal.pass_on-requires-clause-passes
 pass_on-requires-clause-passes c =
     let m = c.args.method.now in
     let files = files_of m in
-    let taken = c.take_look-taken.new.self in
-    let within = subst (λ types. c.args.offset < length types) (sym c.take_look-taken.ensures.types) c.requires.offset in
+    let taken = c.begin_turn.new.self in
+    let within = subst (λ types. c.args.offset < length types) (sym c.begin_turn.ensures.types) c.requires.offset in
     let at = read_at files taken.types.items c.args.offset _ _ within c.index.ensures c.in-Some.is in
-    may_pass m (ordered_from files c.requires.linked.1.no_refusal) c.args.handlers.now c.args.found.now taken c.args.offset c.take_look-taken.ensures.types c.take_look-taken.ensures.waiting c.requires.search c.requires.looks c.take_look-taken.ensures.looks
-    c.in-Some-taken.look c.in-Some.packed c.in_ok-frame.frame c.in-Some-taken.ensures.look (ap entry_of at)
+    may_pass m (ordered_from files c.requires.linked.1.no_refusal) c.args.handlers.now c.args.found.now taken c.args.offset c.begin_turn.ensures.types c.begin_turn.ensures.waiting c.requires.search c.requires.looks c.begin_turn.ensures.looks
+    c.in-Some-taken.look c.in-Some.packed c.in_ok-frame.frame (subst (λ o. IfSome o (λ look. slice_get c.args.found.now.looks.items c.args.offset ≡ Some (Some look))) c.in-Some-taken.is c.in_ok-taken.ensures.look) (ap entry_of at)
     (subst (LeavesAt m c.args.offset) c.deref.ensures.value (c.leaves_at.ensures c.if-leaves_at.true))
     (subst (λ locals. AgreeAt locals c.in_ok-frame.frame.locals c.in-Some.packed.locals) c.deref-then-leaves_at.ensures.value c.in_ok-frame.ensures)
 
+pub look_at-requires-clause-offset : goal.look_at-requires-clause-offset
+look_at-requires-clause-offset c = subst (λ types. c.args.offset < length types) (sym c.begin_turn.ensures.types) c.requires.offset
+
 pub look_at-requires-clause-typed : goal.look_at-requires-clause-typed
 look_at-requires-clause-typed c =
-    let m = c.args.method.now in
-    let files = files_of m in
-    let taken = c.take_look-taken.new.self in
-    let within = subst (λ types. c.args.offset < length types) (sym c.take_look-taken.ensures.types) c.requires.offset in
-    let at = read_at files taken.types.items c.args.offset _ _ within c.index.ensures c.in-Some.is in
-    ap entry_of at ∙ ap (λ p. Some (parts_in files p)) (sym c.in_ok-before.ensures)
+    let within = subst (λ types. c.args.offset < length types) (sym c.begin_turn.ensures.types) c.requires.offset in
+    let at = there_at c.begin_turn.new.self.types.items c.args.offset _ _ within c.index.ensures c.in-Some.is in
+    at ∙ ap (λ p. Some (Some p)) (sym c.in_ok-before.ensures)
 
 pub look_at-requires-clause-search : goal.look_at-requires-clause-search
 look_at-requires-clause-search c =
     let m = c.args.method.now in
-    search_taken m (ordered_from (files_of m) c.requires.linked.1.no_refusal) c.args.handlers.now c.args.found.now c.take_look-taken.new.self c.args.offset c.take_look-taken.ensures.types c.take_look-taken.ensures.waiting c.requires.search
+    search_taken m (ordered_from (files_of m) c.requires.linked.1.no_refusal) c.args.handlers.now c.args.found.now c.begin_turn.new.self c.args.offset c.begin_turn.ensures.types c.begin_turn.ensures.waiting c.requires.search
 
 pub returns-then-leaves_at-clause-turned : goal.returns-then-leaves_at-clause-turned
 returns-then-leaves_at-clause-turned c =
     let m = c.args.method.now in
-    turned m (ordered_from (files_of m) c.requires.linked.1.no_refusal) c.args.handlers.now c.args.found.now c.take_look-taken.new.self c.args.offset c.take_look-taken.ensures.types c.take_look-taken.ensures.waiting c.requires.search c.requires.looks c.take_look-taken.ensures.looks
+    turned m (ordered_from (files_of m) c.requires.linked.1.no_refusal) c.args.handlers.now c.args.found.now c.begin_turn.new.self c.args.offset c.begin_turn.ensures.types c.begin_turn.ensures.waiting c.requires.search c.requires.looks c.begin_turn.ensures.looks
     c.pass_on.new.found c.settle.new.self c.in-Some-taken.look.targets.items c.settle.ensures.types c.settle.ensures.waiting c.in_ok-pass_on.ensures
 
 pub returns-then-leaves_at-clause-looks : goal.returns-then-leaves_at-clause-looks
 returns-then-leaves_at-clause-looks c =
     let m = c.args.method.now in
-    looked m (ordered_from (files_of m) c.requires.linked.1.no_refusal) c.args.handlers.now c.args.found.now c.take_look-taken.new.self c.args.offset c.take_look-taken.ensures.types c.take_look-taken.ensures.waiting c.requires.search c.requires.looks c.take_look-taken.ensures.looks
+    looked m (ordered_from (files_of m) c.requires.linked.1.no_refusal) c.args.handlers.now c.args.found.now c.begin_turn.new.self c.args.offset c.begin_turn.ensures.types c.begin_turn.ensures.waiting c.requires.search c.requires.looks c.begin_turn.ensures.looks
     c.pass_on.new.found c.settle.new.self c.in-Some-taken.look.targets.items c.settle.ensures.types c.settle.ensures.waiting c.in_ok-pass_on.ensures c.settle.ensures.looks
 
-pub returns-in-Ok-clause-turned : goal.returns-in-Ok-clause-turned
-returns-in-Ok-clause-turned c =
+pub returns-in-Ok-Some-clause-turned : goal.returns-in-Ok-Some-clause-turned
+returns-in-Ok-Some-clause-turned c =
     let m = c.args.method.now in
-    turned m (ordered_from (files_of m) c.requires.linked.1.no_refusal) c.args.handlers.now c.args.found.now c.take_look-taken.new.self c.args.offset c.take_look-taken.ensures.types c.take_look-taken.ensures.waiting c.requires.search c.requires.looks c.take_look-taken.ensures.looks
-    c.look_at.new.found c.settle-in-Ok.new.self c.in-Ok.targets.items c.settle-in-Ok.ensures.types c.settle-in-Ok.ensures.waiting c.in-Ok.ensures.led
+    let hs = c.args.handlers.now in
+    turned m (ordered_from (files_of m) c.requires.linked.1.no_refusal) hs c.args.found.now c.begin_turn.new.self c.args.offset c.begin_turn.ensures.types c.begin_turn.ensures.waiting c.requires.search c.requires.looks c.begin_turn.ensures.looks
+    c.look_at.new.found c.settle-in-Ok-Some.new.self c.in-Ok-Some.targets.items c.settle-in-Ok-Some.ensures.types c.settle-in-Ok-Some.ensures.waiting (led_to_told m hs c.begin_turn.new.self c.args.offset _ c.look_at.new.found c.in-Ok-Some.targets c.in-Ok-Some.field-0-is c.in-Ok-Some.ensures.led)
 
-pub returns-in-Ok-clause-looks : goal.returns-in-Ok-clause-looks
-returns-in-Ok-clause-looks c =
+pub returns-in-Ok-Some-clause-looks : goal.returns-in-Ok-Some-clause-looks
+returns-in-Ok-Some-clause-looks c =
     let m = c.args.method.now in
-    looked m (ordered_from (files_of m) c.requires.linked.1.no_refusal) c.args.handlers.now c.args.found.now c.take_look-taken.new.self c.args.offset c.take_look-taken.ensures.types c.take_look-taken.ensures.waiting c.requires.search c.requires.looks c.take_look-taken.ensures.looks
-    c.look_at.new.found c.settle-in-Ok.new.self c.in-Ok.targets.items c.settle-in-Ok.ensures.types c.settle-in-Ok.ensures.waiting c.in-Ok.ensures.led c.settle-in-Ok.ensures.looks
+    let hs = c.args.handlers.now in
+    looked m (ordered_from (files_of m) c.requires.linked.1.no_refusal) hs c.args.found.now c.begin_turn.new.self c.args.offset c.begin_turn.ensures.types c.begin_turn.ensures.waiting c.requires.search c.requires.looks c.begin_turn.ensures.looks
+    c.look_at.new.found c.settle-in-Ok-Some.new.self c.in-Ok-Some.targets.items c.settle-in-Ok-Some.ensures.types c.settle-in-Ok-Some.ensures.waiting (led_to_told m hs c.begin_turn.new.self c.args.offset _ c.look_at.new.found c.in-Ok-Some.targets c.in-Ok-Some.field-0-is c.in-Ok-Some.ensures.led) c.settle-in-Ok-Some.ensures.looks
+
+pub returns-in-Ok-None-clause-turned : goal.returns-in-Ok-None-clause-turned
+returns-in-Ok-None-clause-turned c =
+    let m = c.args.method.now in
+    let found = c.look_at.new.found in
+    let of = c.in-Ok-None.ensures.led in
+    turned m (ordered_from (files_of m) c.requires.linked.1.no_refusal) c.args.handlers.now c.args.found.now c.begin_turn.new.self c.args.offset c.begin_turn.ensures.types c.begin_turn.ensures.waiting c.requires.search c.requires.looks c.begin_turn.ensures.looks
+    found found of.targets refl refl of.led
+
+pub returns-in-Ok-None-clause-looks : goal.returns-in-Ok-None-clause-looks
+returns-in-Ok-None-clause-looks c =
+    let m = c.args.method.now in
+    c.in-Ok-None.ensures.led.led.looks c.args.handlers.now
+    (looks_taken m (ordered_from (files_of m) c.requires.linked.1.no_refusal) c.args.handlers.now c.args.found.now c.begin_turn.new.self c.args.offset c.begin_turn.ensures.types c.begin_turn.ensures.waiting c.requires.search c.requires.looks c.begin_turn.ensures.looks)

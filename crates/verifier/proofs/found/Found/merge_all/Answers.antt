@@ -1,10 +1,11 @@
-use Rattle.std.proofs.Common.{◌+◌, [], ◌∷◌, drop, get_or, None, subst}
+use Rattle.std.proofs.Common.{◌+◌, [], ◌∷◌, drop, get_or, None, sym, subst}
+use Rattle.std.specs.Prelude.{OnOk, IfErr}
 use Rattle.run_laws.specs.typing_search.Search.{Clashes}
 use Rattle.run_laws.specs.typing_search.Tables.{typing_of}
 use Rattle.run_laws.proofs.typing_search.Linking.{ordered_from}
 use Rattle.types.specs.method_code.View.{files_of, member_of, body_of}
 use Rattle.verifier.specs.declared.flow.lead.Lead.{Lead}
-use Rattle.verifier.specs.Found.{tables_in, leads_in, HasMerged}
+use Rattle.verifier.specs.Found.{tables_in, leads_in, HasMerged, MergesInto, IsClash}
 use Rattle.verifier.proofs.Entries.{leads_more, leads_split, all_leads, on_unverified}
 use Rattle.verifier.proofs.Merges.{nothing, follows, clashes}
 use Rattle.verifier.proofs.Nears.{leads_kept, same_origin, origin_then, known_on}
@@ -65,3 +66,13 @@ merge_lead-requires-clause-known c =
 
 pub returns-clause-looks : goal.returns-clause-looks
 returns-clause-looks c = c.loop-lead.invariant.looks
+
+pub returns-in-Some-clause-merged : goal.returns-in-Some-clause-merged
+returns-in-Some-clause-merged c =
+    let m = c.args.method.now in
+    subst (λ leads. OnOk c.merge_only.result (MergesInto m c.args.self.now (leads_in (files_of m) c.args.origin leads) c.merge_only.new.self)) (sym c.in-Some.ensures) c.merge_only.ensures.merged
+
+pub returns-in-Some-clause-clash : goal.returns-in-Some-clause-clash
+returns-in-Some-clause-clash c =
+    let m = c.args.method.now in
+    subst (λ leads. IfErr c.merge_only.result (IsClash m c.args.self.now (leads_in (files_of m) c.args.origin leads))) (sym c.in-Some.ensures) c.merge_only.ensures.clash

@@ -4,6 +4,3 @@ use Rattle.verifier.proofs.found.Found.new.Given as goal
 
 abbrev pub invariant-offsets : goal.invariant-offsets
 invariant-offsets l = l.types.items ≡ replicate l._offset None
-
-abbrev pub invariant-looks : goal.invariant-looks
-invariant-looks l = l.looks.items ≡ replicate l._offset None
