@@ -6,7 +6,7 @@ use Rattle.classfile.specs.View.{file_of}
 use Rattle.verifier.specs.Places.{IsTypedAt}
 use Rattle.verifier.specs.Steps.{steps_at, steps_of_class}
 use Rattle.verifier.proofs.Members.{none_past_methods}
-use Rattle.verifier.proofs.Steps.{method_more, methods_within, refuses_more}
+use Rattle.verifier.proofs.Counting.{method_more, methods_within, refuses_more}
 use Rattle.verifier.proofs.verified.verify_class.Goals as goal
 
 pub loop-member-init : goal.loop-member-init

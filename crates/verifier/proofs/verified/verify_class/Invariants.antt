@@ -2,7 +2,7 @@ use Rattle.std.proofs.Common.{ℕ, ◌<◌}
 use Rattle.classfile.specs.View.{file_of}
 use Rattle.verifier.specs.Steps.{TakesAtMost}
 use Rattle.verifier.specs.Places.{IsTypedAt}
-use Rattle.verifier.proofs.Steps.{methods_steps}
+use Rattle.verifier.proofs.Counting.{methods_steps}
 use Rattle.verifier.proofs.verified.verify_class.Given as goal
 
 abbrev pub invariant-loop-member : goal.invariant-loop-member

@@ -43,7 +43,7 @@ module _ (files : Program) (body : Body) (limit : ℕ) where
 
   none_waits_weight : (n : ℕ) → marks_weight (replicate n false) ≡ 0
   none_waits_weight zero = refl
-  none_waits_weight (suc n) = none_waits_weight n
+  none_waits_weight (suc n) = let r = none_waits_weight n in omega (arith, r)
 
   pub work_at_first : (tables : Tables) → tables.types ≡ replicate (length body.code.code) None
       → tables.waiting ≡ replicate (length body.code.code) false → work_left files body limit tables ≡ most_turns body limit
