@@ -11,7 +11,7 @@ pub mod Merges
 pub mod Looked
 pub mod Puts
 pub mod Passing
-pub mod Steps
+pub mod Counting
 pub mod Turns
 pub mod Turned
 pub mod Members

@@ -15,7 +15,7 @@ use Rattle.run_laws.proofs.typing_search.Searching.{search_begins, beginning_ref
 use Rattle.run_laws.proofs.typing_search.Merging.{waits_other, blank}
 use Rattle.run_laws.proofs.typing_search.Weights.{work_taken_off}
 use Rattle.verifier.proofs.Entries.{tables_same, marked_again}
-use Rattle.verifier.proofs.Steps.{work_at_first}
+use Rattle.verifier.proofs.Counting.{work_at_first}
 use Rattle.verifier.specs.Steps.{most_turns}
 use Rattle.verifier.specs.Found.{Tables, AreOver, work_left, HasMerged, IsSearch, waiting_again, HasTurned}
 

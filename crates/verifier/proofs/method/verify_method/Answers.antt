@@ -5,10 +5,11 @@ use Rattle.run_laws.proofs.typing_search.Bounds.{bounded}
 use Rattle.run_laws.proofs.typing_search.Linking.{ordered_from}
 use Rattle.types.specs.method_code.View.{files_of, member_of, body_of}
 use Rattle.verifier.specs.Found.{tables_in, work_left}
+use Rattle.verifier.specs.Looks.{AreLooks}
 use Rattle.verifier.specs.Steps.{most_a_turn, most_turns, method_steps, MayTakeMore}
 use Rattle.verifier.specs.Verified.{OnFault}
 use Rattle.verifier.proofs.Entries.{waiting_within, on_fault}
-use Rattle.verifier.proofs.Steps.{turn_taken, turn_missing}
+use Rattle.verifier.proofs.Counting.{turn_taken, turn_missing}
 use Rattle.verifier.proofs.Turns.{again, less, ends}
 use Rattle.verifier.proofs.method.verify_method.Goals as goal
 
@@ -54,7 +55,7 @@ loop-offset-preserved c =
     let body = body_of m in
     record {
       search = c.in_default-turn.ensures.turned.search;
-      looks = c.in_default-turn.ensures.looks;
+      looks = subst (λ hs. AreLooks m hs c.turn.new.found) c.deref-in-Some-2.ensures.value c.in_default-turn.ensures.looks;
       taken = λ limits are.
           let limit = limits (member_of m) body in
           let lighter = less files (ordered_from files c.requires.1.no_refusal) (member_of m) body (tables_in files c.loop-offset.found) c.take_lowest.new.self c.in-Some.offset c.in-Some.ensures.waits c.in-Some.ensures.taken_off limit (tables_in files c.turn.new.found) (c.in_default-turn.ensures.turned.lighter limit (are (member_of m) body)) in

@@ -6,7 +6,7 @@ use Rattle.classfile.specs.View.{file_of}
 use Rattle.verifier.specs.Places.{IsTypedAt}
 use Rattle.verifier.specs.Steps.{steps_at, steps_of_class}
 use Rattle.verifier.proofs.Members.{none_past_methods}
-use Rattle.verifier.proofs.Steps.{method_more, methods_within, refuses_more}
+use Rattle.verifier.proofs.Counting.{method_more, methods_within, refuses_more}
 use Rattle.verifier.proofs.verified.verify_class.Goals as goal
 
 pub loop-member-init : goal.loop-member-init
@@ -16,11 +16,9 @@ loop-member-init c =
 pub loop-member-preserved : goal.loop-member-preserved
 loop-member-preserved c =
     let files = c.args.hierarchy.now in
-    let file = file_of c.in-Some.file.now in
-    let at : class_at files c.args.class ≡ Some file = ap (λ s. class_at s c.args.class) (sym c.set.ensures) ∙ sym c.in-Some.ensures in
     record {
       typed = below_more (IsTypedAt files c.args.class) _ c.loop-member.invariant.typed c.in_default-verify_at.ensures.typed;
-      taken = λ limits are. omega (arith, c.loop-member.invariant.taken limits are, c.in_default-verify_at.ensures.taken limits are, method_more files file c.args.class at limits c.loop-member.member);
+      taken = λ limits are. omega (arith, c.loop-member.invariant.taken limits are, c.in_default-verify_at.ensures.taken limits are, method_more limits files c.args.class c.loop-member.member);
     }
 
 pub returns-in-Err-clause-refused : goal.returns-in-Err-clause-refused
@@ -28,10 +26,8 @@ returns-in-Err-clause-refused c =
     let files = c.args.hierarchy.now in
     let class = c.args.class in
     let member = c.loop-member.member in
-    let file = file_of c.in-Some.file.now in
-    let at : class_at files class ≡ Some file = ap (λ s. class_at s class) (sym c.set.ensures) ∙ sym c.in-Some.ensures in
     refuses_more files (steps_at files class member) (steps_of_class files class) c.loop-member.steps.left c.args.steps.now.left c.in-Err.refusal
-    (λ limits are fewer. omega (arith, fewer, c.loop-member.invariant.taken limits are, method_more files file class at limits member, methods_within files file class at limits (member + 1)))
+    (λ limits are fewer. omega (arith, fewer, c.loop-member.invariant.taken limits are, method_more limits files class member, methods_within limits files class (member + 1)))
     c.in-Err.ensures.refused
 
 pub returns-clause-typed : goal.returns-clause-typed
@@ -45,7 +41,4 @@ returns-clause-typed c method =
 
 pub returns-clause-taken : goal.returns-clause-taken
 returns-clause-taken c limits are =
-    let files = c.args.hierarchy.now in
-    let file = file_of c.in-Some.file.now in
-    let at : class_at files c.args.class ≡ Some file = ap (λ s. class_at s c.args.class) (sym c.set.ensures) ∙ sym c.in-Some.ensures in
-    omega (arith, c.loop-member.invariant.taken limits are, methods_within files file c.args.class at limits c.loop-member.member)
+    omega (arith, c.loop-member.invariant.taken limits are, methods_within limits c.args.hierarchy.now c.args.class c.loop-member.member)

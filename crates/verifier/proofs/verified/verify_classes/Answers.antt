@@ -4,7 +4,7 @@ use Rattle.model.specs.Classes.{classes_of}
 use Rattle.verifier.specs.Places.{AreTypedIn}
 use Rattle.verifier.specs.Steps.{steps_of_class, all_steps}
 use Rattle.verifier.proofs.Members.{are_typed, none_past_classes}
-use Rattle.verifier.proofs.Steps.{class_more, classes_within, refuses_more}
+use Rattle.verifier.proofs.Counting.{class_more, classes_within, refuses_more}
 use Rattle.verifier.proofs.verified.verify_classes.Goals as goal
 
 pub loop-class-init : goal.loop-class-init

@@ -1,7 +1,7 @@
 use Rattle.std.proofs.Common.{ℕ, ◌<◌}
 use Rattle.verifier.specs.Steps.{TakesAtMost}
 use Rattle.verifier.specs.Places.{AreTypedIn}
-use Rattle.verifier.proofs.Steps.{classes_steps}
+use Rattle.verifier.proofs.Counting.{classes_steps}
 use Rattle.verifier.proofs.verified.verify_classes.Given as goal
 
 abbrev pub invariant-loop-class : goal.invariant-loop-class

@@ -5,5 +5,5 @@ use Rattle.verifier.proofs.verified.verify_within.Goals as goal
 
 pub returns-in-Err-clause-refused : goal.returns-in-Err-clause-refused
 returns-in-Err-clause-refused c =
-    let refused = subst (λ files. RefusesPart files (all_steps files) c.new-steps.result.left c.in-Err.refusal) c.hierarchy.ensures c.in-Err.ensures.refused in
+    let refused = subst (λ files. RefusesPart files (all_steps files) c.new-steps.result.left c.in-Err.refusal) c.hierarchy.ensures.same c.in-Err.ensures.refused in
     subst (λ steps. RefusesPart c.args.linked (all_steps c.args.linked) steps c.in-Err.refusal) c.new-steps.ensures refused

@@ -43,7 +43,7 @@ module _ (files : Program) (body : Body) (limit : ℕ) where
 
   none_waits_weight : (n : ℕ) → marks_weight (replicate n false) ≡ 0
   none_waits_weight zero = refl
-  none_waits_weight (suc n) = none_waits_weight n
+  none_waits_weight (suc n) = let r = none_waits_weight n in omega (arith, r)
 
   pub work_at_first : (tables : Tables) → tables.types ≡ replicate (length body.code.code) None
       → tables.waiting ≡ replicate (length body.code.code) false → work_left files body limit tables ≡ most_turns body limit
@@ -67,25 +67,36 @@ sum_next f xs i = let n : suc i ≡ i + 1 = omega arith in sym (ap (λ k. sum_by
 
 -- ---- methods of a class
 
--- of the first methods
-abbrev pub methods_steps : FileTree → ℕ → Limits → ℕ
-methods_steps file n limits = sum_by (λ (m : MethodTree). shown_steps (shown_in file m) limits) (take n file.methods)
+abbrev front_steps : ℕ → Limits → FileTree → ℕ
+front_steps n limits file = sum_by (λ (m : MethodTree). shown_steps (shown_in file m) limits) (take n file.methods)
 
-module _ (files : Program) (file : FileTree) (class : ℕ) (at : class_at files class ≡ Some file) (limits : Limits) where
-  shown_or_none : (o : Option MethodTree) → option_map_or (λ (m : MethodTree). shown_steps (shown_in file m) limits) o 0
+-- of the first methods of the class at a place
+abbrev pub methods_steps : Program → ℕ → ℕ → Limits → ℕ
+methods_steps files class n limits = option_map_or (front_steps n limits) (class_at files class) 0
+
+module _ (limits : Limits) where
+  shown_or_none : (file : FileTree) (o : Option MethodTree) → option_map_or (λ (m : MethodTree). shown_steps (shown_in file m) limits) o 0
       ≡ shown_steps (option_and_then (shown_in file) o) limits
-  shown_or_none None = refl
-  shown_or_none (Some m) = refl
+  shown_or_none file None = refl
+  shown_or_none file (Some m) = refl
 
-  pub method_more : (k : ℕ) → methods_steps file (k + 1) limits ≡ methods_steps file k limits + steps_at files class k limits
-  method_more k =
-      let shown = shown_or_none (slice_get file.methods k) ∙ ap (λ o. shown_steps (option_and_then (λ (file : FileTree). option_and_then (shown_in file) (slice_get file.methods k)) o) limits) (sym at) in
-      sum_next (λ (m : MethodTree). shown_steps (shown_in file m) limits) file.methods k ∙ ap (λ n. methods_steps file k limits + n) shown
+  more_in : (k : ℕ) (o : Option FileTree) → option_map_or (front_steps (k + 1) limits) o 0
+      ≡ option_map_or (front_steps k limits) o 0 + shown_steps (option_and_then (λ (file : FileTree). option_and_then (shown_in file) (slice_get file.methods k)) o) limits
+  more_in k None = omega arith
+  more_in k (Some file) =
+      sum_next (λ (m : MethodTree). shown_steps (shown_in file m) limits) file.methods k ∙ ap (λ n. front_steps k limits file + n) (shown_or_none file (slice_get file.methods k))
 
-  pub methods_within : (k : ℕ) → methods_steps file k limits ≤ steps_of_class files class limits
-  methods_within k =
-      let all : steps_of_class files class limits ≡ class_steps file limits = ap (λ o. option_map_or (λ (file : FileTree). class_steps file limits) o 0) at in
-      omega (arith, all, sum_by-take-le (λ (m : MethodTree). shown_steps (shown_in file m) limits) file.methods k)
+  within : (k : ℕ) (o : Option FileTree)
+      → option_map_or (front_steps k limits) o 0 ≤ option_map_or (λ (file : FileTree). class_steps file limits) o 0
+  within k None = omega arith
+  within k (Some file) = sum_by-take-le (λ (m : MethodTree). shown_steps (shown_in file m) limits) file.methods k
+
+  pub method_more : (files : Program) (class k : ℕ)
+      → methods_steps files class (k + 1) limits ≡ methods_steps files class k limits + steps_at files class k limits
+  method_more files class k = more_in k (class_at files class)
+
+  pub methods_within : (files : Program) (class k : ℕ) → methods_steps files class k limits ≤ steps_of_class files class limits
+  methods_within files class k = within k (class_at files class)
 
 -- ---- classes
 
