@@ -1,6 +1,6 @@
 //! The frame types that a search has found, and how more are merged into them.
 
-ghost use Rattle.std.specs.Prelude.{◌≡◌, ◌<◌, [], ◌∷◌, length, map, false, true, slice_index_or, slice_set, Some, None, OnOk, IfOk, IfErr, IfSome, IsSomeAnd};
+ghost use Rattle.std.specs.Prelude.{◌≡◌, ◌<◌, [], ◌∷◌, length, map, false, true, slice_index_or, slice_set, Some, None, OnOk, IfOk, IfErr, IfSome, IsSomeAnd, IsTrue};
 ghost use Rattle.model.specs.InstructionStarts.{starts as starts_of};
 ghost use Rattle.model.specs.Step.{covers};
 ghost use Rattle.run_laws.specs.typing_search.Tables.{waiting_at};

@@ -30,11 +30,11 @@ loop-lead-preserved c =
     let before = tables_in files c.args.self.now in
     let now = tables_in files c.loop-lead.self in
     let after = tables_in files c.merge_lead.new.self in
-    let one = subst (λ leads. HasMerged files (body_of m) now leads after) (leads_kept files c.args.origin c.loop-lead.origin c.loop-lead.invariant.origin (_ ∷ [])) c.in_default.ensures.merged in
+    let one = subst (λ leads. HasMerged files (body_of m) now leads after) (leads_kept files c.args.origin c.loop-lead.origin c.loop-lead.invariant.origin (_ ∷ [])) c.in_default-merge_lead.ensures.merged in
     record {
       merged = subst (λ leads. HasMerged files (body_of m) before leads after) (leads_more files c.args.origin c.args.leads.now c.loop-lead.lead-index _ c.loop-lead-test.true) (follows files (ordered_from files c.requires.linked.1.no_refusal) (body_of m) before now after _ _ c.loop-lead.invariant.merged one);
-      looks = λ hs are. c.in_default.ensures.looks hs (c.loop-lead.invariant.looks hs are);
-      origin = origin_then c.args.origin c.loop-lead.origin c.merge_lead.new.origin c.loop-lead.invariant.origin c.in_default.ensures.origin;
+      looks = λ hs are. c.in_default-merge_lead.ensures.looks hs (c.loop-lead.invariant.looks hs are);
+      origin = origin_then c.args.origin c.loop-lead.origin c.merge_lead.new.origin c.loop-lead.invariant.origin c.in_default-merge_lead.ensures.origin;
     }
 
 pub returns-in-Err-clause-clash : goal.returns-in-Err-clause-clash
