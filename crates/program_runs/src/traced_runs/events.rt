@@ -15,12 +15,12 @@ use machine::{Machine, Stopped};
 use model::{DeviceFault, Event, ScheduleEntry, Sink};
 use std::alloc::AllocError;
 use traces::traced_events::Before;
-use traces::{Line, Teller, push_line};
+use traces::{Line, ProgramNames, push_line};
 
 /// Who tells which events.
 #[derive(Clone, Copy)]
 pub(crate) struct Telling<'a> {
-    pub(crate) teller: &'a Teller<'a>,
+    pub(crate) names: &'a ProgramNames<'a>,
     pub(crate) window: Window<'a>,
 }
 
@@ -35,15 +35,15 @@ pub(crate) fn once(machine: &mut Machine, event: Event) -> Stopped
 /// Does an event, and gathers its line. Returns why it was not done, or `Most`.
 pub(crate) fn told_event(
     machine: &mut Machine,
-    teller: &Teller<'_>,
+    names: &ProgramNames<'_>,
     before: &mut Before,
     line: Line,
     lines: &mut Lines,
 ) -> Result<Stopped, AllocError>
     ensures goes { IfOk result (λ why. GoesThrough (times why, why) (line.event ∷ []) machine.old machine.new) }
     ensures seen { IfOk result (λ why. IsSeenOf machine.old.program machine.old.shared line.event.thread before.new.frame before.new.class) }
-    ensures told { IfOk result (λ why. AfterRun teller.now.linked.now machine.old line.number (λ done.
-        AddsOne why line.form teller.now.linked.now machine.old.limits.frames lines.old.text.items lines.new.text.items done line.event)) }
+    ensures told { IfOk result (λ why. AfterRun names.now.linked.now machine.old line.number (λ done.
+        AddsOne why line.form names.now.linked.now machine.old.limits.frames lines.old.text.items lines.new.text.items done line.event)) }
 {
     before.look(machine.shared(), machine.program(), line.event.thread)?;
     match once(machine, line.event) {
@@ -51,7 +51,7 @@ pub(crate) fn told_event(
             push_line(
                 &mut lines.text,
                 &mut lines.spare,
-                teller,
+                names,
                 line,
                 before,
                 machine.shared(),
@@ -72,10 +72,10 @@ fn event<W: Sink>(
     output: &mut W,
 ) -> Result<Stopped, DeviceFault>
     requires { line.form ≡ telling.window.form }
-    ensures told { IfOk result (λ why. HasTold telling.entry.teller.now.linked.now telling.entry.window machine.old line.number (line.event
+    ensures told { IfOk result (λ why. HasTold telling.entry.names.now.linked.now telling.entry.window machine.old line.number (line.event
         ∷ []) (times why) why machine.new
         (W.contents output.old) (W.contents output.new) lines.old.text.items lines.new.text.items) }
-    ensures part { OnErr result (StopsShort telling.entry.teller.now.linked.now telling.entry.window machine.old line.number (line.event
+    ensures part { OnErr result (StopsShort telling.entry.names.now.linked.now telling.entry.window machine.old line.number (line.event
         ∷ [])
         (W.contents output.old) (W.contents output.new) lines.old.text.items) }
     ensures counted { Counts result (W.failures output.old) (W.failures output.new) }
@@ -83,7 +83,7 @@ fn event<W: Sink>(
     if !telling.window.has(line.number, line.event.thread) {
         return Ok(once(machine, line.event));
     }
-    let why = told_event(machine, telling.teller, before, line, lines)?;
+    let why = told_event(machine, telling.names, before, line, lines)?;
     lines.ease(output)?;
     Ok(why)
 }
@@ -105,9 +105,9 @@ fn some_events<W: Sink>(
     ensures some { IfOk result (λ r. r.1 ≡ Most → 1 ≤ r.0) }
     ensures bound { IfOk result (λ r. r.0 ≤ most) }
     ensures within { IfOk result (λ r. tried r.0 r.1 ≤ most) }
-    ensures told { IfOk result (λ r. HasTold telling.entry.teller.now.linked.now telling.entry.window machine.old line.number (replicate (tried r.0 r.1) line.event) r.0 r.1 machine.new
+    ensures told { IfOk result (λ r. HasTold telling.entry.names.now.linked.now telling.entry.window machine.old line.number (replicate (tried r.0 r.1) line.event) r.0 r.1 machine.new
         (W.contents output.old) (W.contents output.new) lines.old.text.items lines.new.text.items) }
-    ensures part { OnErr result (StopsShort telling.entry.teller.now.linked.now telling.entry.window machine.old line.number (replicate most line.event)
+    ensures part { OnErr result (StopsShort telling.entry.names.now.linked.now telling.entry.window machine.old line.number (replicate most line.event)
         (W.contents output.old) (W.contents output.new) lines.old.text.items) }
     ensures counted { Counts result (W.failures output.old) (W.failures output.new) }
 {
@@ -136,10 +136,10 @@ pub(crate) fn entry<W: Sink>(
     output: &mut W,
 ) -> Result<(u32, Stopped), DeviceFault>
     requires { first + entry.repeat < 2 ^ 64 }
-    ensures told { IfOk result (λ r. HasTold telling.entry.teller.now.linked.now telling.entry.window machine.old
+    ensures told { IfOk result (λ r. HasTold telling.entry.names.now.linked.now telling.entry.window machine.old
         first (replicate entry.repeat entry.event) r.0 r.1 machine.new
         (W.contents output.old) (W.contents output.new) lines.old.text.items lines.new.text.items) }
-    ensures part { OnErr result (StopsShort telling.entry.teller.now.linked.now telling.entry.window machine.old
+    ensures part { OnErr result (StopsShort telling.entry.names.now.linked.now telling.entry.window machine.old
         first (replicate entry.repeat entry.event)
         (W.contents output.old) (W.contents output.new) lines.old.text.items) }
     ensures counted { Counts result (W.failures output.old) (W.failures output.new) }

@@ -19,7 +19,7 @@ use run_laws::word_reports::reports_of_words;
 use schedule::Schedule;
 use std::alloc::Global;
 use std::sync::Arc;
-use traces::Teller;
+use traces::ProgramNames;
 use traces::traced_events::Before;
 use verifier::Verified;
 
@@ -33,10 +33,10 @@ fn gathered<W: Sink>(
     lines: &mut Lines,
     output: &mut W,
 ) -> Result<(u64, Stopped), DeviceFault>
-    ensures told { IfOk result (λ r. HasTold telling.entry.teller.now.linked.now telling.entry.window machine.old
+    ensures told { IfOk result (λ r. HasTold telling.entry.names.now.linked.now telling.entry.window machine.old
         0 (events_of schedule.now) r.0 r.1 machine.new
         (W.contents output.old) (W.contents output.new) lines.old.text.items lines.new.text.items) }
-    ensures part { OnErr result (StopsShort telling.entry.teller.now.linked.now telling.entry.window machine.old 0 (events_of schedule.now)
+    ensures part { OnErr result (StopsShort telling.entry.names.now.linked.now telling.entry.window machine.old 0 (events_of schedule.now)
         (W.contents output.old) (W.contents output.new) lines.old.text.items) }
     ensures counted { Counts result (W.failures output.old) (W.failures output.new) }
 {
@@ -60,10 +60,10 @@ fn events<W: Sink>(
     schedule: &Schedule,
     output: &mut W,
 ) -> Result<(u64, Stopped), DeviceFault>
-    ensures told { IfOk result (λ r. HasTold telling.entry.teller.now.linked.now telling.entry.window machine.old
+    ensures told { IfOk result (λ r. HasTold telling.entry.names.now.linked.now telling.entry.window machine.old
         0 (events_of schedule.now) r.0 r.1 machine.new
         (W.contents output.old) (W.contents output.new) [] []) }
-    ensures part { OnErr result (StopsShort telling.entry.teller.now.linked.now telling.entry.window machine.old 0 (events_of schedule.now)
+    ensures part { OnErr result (StopsShort telling.entry.names.now.linked.now telling.entry.window machine.old 0 (events_of schedule.now)
         (W.contents output.old) (W.contents output.new) []) }
     ensures counted { Counts result (W.failures output.old) (W.failures output.new) }
 {
@@ -96,9 +96,9 @@ pub fn trace<W: Sink>(
     no_event_is_wrong();
     let mut machine = open_machine(alloc, verified, limits)?;
     let program = Arc::try_clone(machine.program())?;
-    let teller = Teller::new(alloc, verified.linked(), &program)?;
+    let names = ProgramNames::new(alloc, verified.linked(), &program)?;
     let telling = Telling {
-        teller: &teller,
+        names: &names,
         window,
     };
     let (done, why) = events(alloc, &mut machine, telling, schedule, output)?;

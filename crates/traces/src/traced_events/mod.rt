@@ -13,5 +13,6 @@ mod told;
 pub use before::Before;
 pub use deed::{Deed, Entries};
 pub use frames::FrameBefore;
+pub(crate) use frames::offset_of;
 pub use rules::{Rule, rule_of};
 pub use told::{Told, told_of};

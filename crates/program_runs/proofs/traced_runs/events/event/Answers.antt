@@ -10,19 +10,19 @@ pub returns-then-not-has-clause-told : goal.returns-then-not-has-clause-told
 returns-then-not-has-clause-told g c =
     let line = c.args.line in
     let untold : is_told c.args.telling.window line.number line.event.thread ≡ false = cc in
-    none_of_event c.args.telling.teller.now.linked.now c.args.telling.window line.event line.number c.once.result c.args.machine.now c.once.new.machine untold c.once.ensures
+    none_of_event c.args.telling.names.now.linked.now c.args.telling.window line.event line.number c.once.result c.args.machine.now c.once.new.machine untold c.once.ensures
     (g.W.Sink.contents c.args.output.now) c.args.lines.now.text.items
 
 pub returns-in_err-why-clause-part : goal.returns-in_err-why-clause-part
 returns-in_err-why-clause-part g c =
     let p = err_from_is_err_and c.from_residual.result c.from_residual.ensures.1 in
     rw p.1
-    (none_done c.args.telling.teller.now.linked.now c.args.telling.window c.args.machine.now c.args.line.number (c.args.line.event ∷ []) (g.W.Sink.contents c.args.output.now) c.args.lines.now.text.items)
+    (none_done c.args.telling.names.now.linked.now c.args.telling.window c.args.machine.now c.args.line.number (c.args.line.event ∷ []) (g.W.Sink.contents c.args.output.now) c.args.lines.now.text.items)
 
 pub returns-in_err-ease-clause-part : goal.returns-in_err-ease-clause-part
 returns-in_err-ease-clause-part g c =
     let p = err_from_is_err_and c.from_residual-in_err-ease.result c.from_residual-in_err-ease.ensures.1 in
-    let trees = c.args.telling.teller.now.linked.now in
+    let trees = c.args.telling.names.now.linked.now in
     let window = c.args.telling.window in
     let line = c.args.line in
     let why = c.in_ok-why.why in
@@ -37,7 +37,7 @@ returns-in_err-ease-clause-part g c =
 
 pub returns-clause-told : goal.returns-clause-told
 returns-clause-told g c =
-    let trees = c.args.telling.teller.now.linked.now in
+    let trees = c.args.telling.names.now.linked.now in
     let window = c.args.telling.window in
     let line = c.args.line in
     let why = c.in_ok-why.why in

@@ -8,13 +8,13 @@ pub returns-in_err-done-clause-part : goal.returns-in_err-done-clause-part
 returns-in_err-done-clause-part g c =
     let p = err_from_is_err_and c.from_residual.result c.from_residual.ensures.1 in
     rw p.1
-    (none_done c.args.telling.teller.now.linked.now c.args.telling.window c.args.machine.now c.args.line.number (replicate c.args.most c.args.line.event) (g.W.Sink.contents c.args.output.now)
+    (none_done c.args.telling.names.now.linked.now c.args.telling.window c.args.machine.now c.args.line.number (replicate c.args.most c.args.line.event) (g.W.Sink.contents c.args.output.now)
     c.args.lines.now.text.items)
 
 pub returns-in_err-ease-clause-part : goal.returns-in_err-ease-clause-part
 returns-in_err-ease-clause-part g c =
     let p = err_from_is_err_and c.from_residual-in_err-ease.result c.from_residual-in_err-ease.ensures.1 in
-    let trees = c.args.telling.teller.now.linked.now in
+    let trees = c.args.telling.names.now.linked.now in
     let window = c.args.telling.window in
     let m = c.args.machine.now in
     let line = c.args.line in
@@ -29,7 +29,7 @@ returns-in_err-ease-clause-part g c =
 
 pub returns-then-is_next_local-clause-told : goal.returns-then-is_next_local-clause-told
 returns-then-is_next_local-clause-told g c =
-    let trees = c.args.telling.teller.now.linked.now in
+    let trees = c.args.telling.names.now.linked.now in
     let window = c.args.telling.window in
     let m = c.args.machine.now in
     let line = c.args.line in
@@ -43,10 +43,10 @@ pub returns-in_err-why-clause-part : goal.returns-in_err-why-clause-part
 returns-in_err-why-clause-part g c =
     let p = err_from_is_err_and c.from_residual-in_err-why.result c.from_residual-in_err-why.ensures.1 in
     rw p.1
-    (short_of_most c.args.telling.teller.now.linked.now c.args.telling.window c.args.machine.now c.args.line.number c.args.line.event 1 c.args.most c.requires.some (g.W.Sink.contents c.args.output.now)
+    (short_of_most c.args.telling.names.now.linked.now c.args.telling.window c.args.machine.now c.args.line.number c.args.line.event 1 c.args.most c.requires.some (g.W.Sink.contents c.args.output.now)
     (g.W.Sink.contents c.event.new.output) c.args.lines.now.text.items c.in_err-why.ensures.part)
 
 pub returns-in_default-clause-told : goal.returns-in_default-clause-told
 returns-in_default-clause-told g c =
-    never_done c.args.telling.teller.now.linked.now c.args.telling.window c.args.machine.now c.args.line.number c.args.line.event c.in_ok-why.why c.in_default.not-Most c.event.new.machine
+    never_done c.args.telling.names.now.linked.now c.args.telling.window c.args.machine.now c.args.line.number c.args.line.event c.in_ok-why.why c.in_default.not-Most c.event.new.machine
     (g.W.Sink.contents c.args.output.now) (g.W.Sink.contents c.event.new.output) c.args.lines.now.text.items c.event.new.lines.text.items c.in_ok-why.ensures.told

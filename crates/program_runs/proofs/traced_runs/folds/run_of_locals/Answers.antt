@@ -11,7 +11,7 @@ use Rattle.program_runs.proofs.traced_runs.folds.run_of_locals.Goals as goal
 
 pub returns-in_default-clause-told : goal.returns-in_default-clause-told
 returns-in_default-clause-told c = λ held.
-    let trees = c.args.telling.teller.now.linked.now in
+    let trees = c.args.telling.names.now.linked.now in
     let window = c.args.telling.window in
     let m = c.args.machine.now in
     let line = c.args.line in
@@ -24,7 +24,7 @@ returns-in_default-clause-told c = λ held.
 
 pub returns-in_default-frame-clause-told : goal.returns-in_default-frame-clause-told
 returns-in_default-frame-clause-told c = λ held.
-    let trees = c.args.telling.teller.now.linked.now in
+    let trees = c.args.telling.names.now.linked.now in
     let window = c.args.telling.window in
     let m = c.args.machine.now in
     let line = c.args.line in
@@ -38,7 +38,7 @@ returns-in_default-frame-clause-told c = λ held.
 
 pub returns-then-run-eq0-clause-told : goal.returns-then-run-eq0-clause-told
 returns-then-run-eq0-clause-told c = λ held.
-    let trees = c.args.telling.teller.now.linked.now in
+    let trees = c.args.telling.names.now.linked.now in
     let window = c.args.telling.window in
     let m = c.args.machine.now in
     let mid = c.told_event.new.machine in
@@ -58,7 +58,7 @@ returns-then-run-eq0-clause-told c = λ held.
 
 pub returns-clause-told : goal.returns-clause-told
 returns-clause-told c = λ held.
-    let trees = c.args.telling.teller.now.linked.now in
+    let trees = c.args.telling.names.now.linked.now in
     let window = c.args.telling.window in
     let m = c.args.machine.now in
     let mid = c.told_event.new.machine in

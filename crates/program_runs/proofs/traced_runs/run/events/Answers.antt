@@ -10,13 +10,13 @@ returns-in_err-done-clause-part g c =
     let p = err_from_is_err_and c.from_residual.result c.from_residual.ensures.1 in
     let contents = g.W.Sink.contents in
     rw p.1
-    (subst (StopsShort c.args.telling.teller.now.linked.now c.args.telling.window c.args.machine.now 0 (events_of c.args.schedule.now) (contents c.args.output.now) (contents c.gathered.new.output))
+    (subst (StopsShort c.args.telling.names.now.linked.now c.args.telling.window c.args.machine.now 0 (events_of c.args.schedule.now) (contents c.args.output.now) (contents c.gathered.new.output))
     c.new-lines.ensures c.in_err-done.ensures.part)
 
 pub returns-in_err-flush-clause-part : goal.returns-in_err-flush-clause-part
 returns-in_err-flush-clause-part g c =
     let p = err_from_is_err_and c.from_residual-in_err-flush.result c.from_residual-in_err-flush.ensures.1 in
-    let trees = c.args.telling.teller.now.linked.now in
+    let trees = c.args.telling.names.now.linked.now in
     let window = c.args.telling.window in
     let contents = g.W.Sink.contents in
     let r = c.in_ok-done.done in
@@ -27,7 +27,7 @@ returns-in_err-flush-clause-part g c =
 
 pub returns-clause-told : goal.returns-clause-told
 returns-clause-told g c =
-    let trees = c.args.telling.teller.now.linked.now in
+    let trees = c.args.telling.names.now.linked.now in
     let window = c.args.telling.window in
     let contents = g.W.Sink.contents in
     let r = c.in_ok-done.done in

@@ -15,14 +15,14 @@ no_entry = record { event = record { thread = 0; pick = 0 }; repeat = 0 }
 pub entries-init : goal.entries-init
 entries-init g c = record {
   below = omega arith;
-  so_far = none_yet c.args.telling.teller.now.linked.now c.args.telling.window c.args.machine.now 0 (g.W.Sink.contents c.args.output.now) c.args.lines.now.text.items;
+  so_far = none_yet c.args.telling.names.now.linked.now c.args.telling.window c.args.machine.now 0 (g.W.Sink.contents c.args.output.now) c.args.lines.now.text.items;
   failures = refl;
 }
 
 pub returns-in_err-count-clause-part : goal.returns-in_err-count-clause-part
 returns-in_err-count-clause-part g c =
     let p = err_from_is_err_and c.from_residual.result c.from_residual.ensures.1 in
-    let trees = c.args.telling.teller.now.linked.now in
+    let trees = c.args.telling.names.now.linked.now in
     let window = c.args.telling.window in
     let contents = g.W.Sink.contents in
     let items = c.entries-given-items.result.now in
@@ -36,7 +36,7 @@ returns-in_err-count-clause-part g c =
 
 pub returns-in_default-clause-told : goal.returns-in_default-clause-told
 returns-in_default-clause-told g c =
-    let trees = c.args.telling.teller.now.linked.now in
+    let trees = c.args.telling.names.now.linked.now in
     let window = c.args.telling.window in
     let contents = g.W.Sink.contents in
     let items = c.entries-given-items.result.now in
@@ -55,7 +55,7 @@ returns-in_default-clause-told g c =
 
 pub entries-preserved : goal.entries-preserved
 entries-preserved g c =
-    let trees = c.args.telling.teller.now.linked.now in
+    let trees = c.args.telling.names.now.linked.now in
     let window = c.args.telling.window in
     let contents = g.W.Sink.contents in
     let items = c.entries-given-items.result.now in
@@ -85,7 +85,7 @@ entries-preserved g c =
 
 pub returns-clause-told : goal.returns-clause-told
 returns-clause-told g c =
-    let trees = c.args.telling.teller.now.linked.now in
+    let trees = c.args.telling.names.now.linked.now in
     let window = c.args.telling.window in
     let contents = g.W.Sink.contents in
     let items = c.entries-given-items.result.now in

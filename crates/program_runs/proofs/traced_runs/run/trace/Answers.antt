@@ -19,9 +19,9 @@ returns-in_err-program-clause-part g c =
     let p = err_from_is_err_and c.from_residual-in_err-program.result c.from_residual-in_err-program.ensures.1 in
     rw p.1 (unwritten c.args.verified.now c.args.window c.args.limits (events_of c.args.schedule.now) (g.W.Sink.contents c.args.output.now))
 
-pub returns-in_err-teller-clause-part : goal.returns-in_err-teller-clause-part
-returns-in_err-teller-clause-part g c =
-    let p = err_from_is_err_and c.from_residual-in_err-teller.result c.from_residual-in_err-teller.ensures.1 in
+pub returns-in_err-names-clause-part : goal.returns-in_err-names-clause-part
+returns-in_err-names-clause-part g c =
+    let p = err_from_is_err_and c.from_residual-in_err-names.result c.from_residual-in_err-names.ensures.1 in
     rw p.1 (unwritten c.args.verified.now c.args.window c.args.limits (events_of c.args.schedule.now) (g.W.Sink.contents c.args.output.now))
 
 pub returns-in_err-done-clause-part : goal.returns-in_err-done-clause-part
@@ -33,7 +33,7 @@ returns-in_err-done-clause-part g c =
     let opened = c.in_ok-machine.machine in
     let old = g.W.Sink.contents c.args.output.now in
     let new = g.W.Sink.contents c.events.new.output in
-    let stops = subst (λ (t : Program). StopsShort t window opened 0 events old new []) (c.in_ok-teller.ensures ∙ c.linked.ensures.same) c.in_err-done.ensures.part in
+    let stops = subst (λ (t : Program). StopsShort t window opened 0 events old new []) (c.in_ok-names.ensures ∙ c.linked.ensures.same) c.in_err-done.ensures.part in
     rw p.1 (front_written trees window c.args.limits events opened c.in_ok-machine.ensures old new stops)
 
 pub returns-in_err-report_after-clause-part : goal.returns-in_err-report_after-clause-part
@@ -48,7 +48,7 @@ returns-in_err-report_after-clause-part g c =
     let why = c.in_ok-done.why in
     let old = g.W.Sink.contents c.args.output.now in
     let new = g.W.Sink.contents c.events.new.output in
-    let told = subst (λ (t : Program). HasTold t window opened 0 events done why after old new [] []) (c.in_ok-teller.ensures ∙ c.linked.ensures.same) c.in_ok-done.ensures.told in
+    let told = subst (λ (t : Program). HasTold t window opened 0 events done why after old new [] []) (c.in_ok-names.ensures ∙ c.linked.ensures.same) c.in_ok-done.ensures.told in
     rw p.1
     (front_written trees window c.args.limits events opened c.in_ok-machine.ensures old new (writing_stops trees window opened 0 events done why after old new new [] [] told (none_written new [])))
 
@@ -64,6 +64,6 @@ returns-clause-traced g c =
     let old = g.W.Sink.contents c.args.output.now in
     let new = g.W.Sink.contents c.events.new.output in
     let r = c.in_ok-report_after.field-0 in
-    let told = subst (λ (t : Program). HasTold t window opened 0 events done why after old new [] []) (c.in_ok-teller.ensures ∙ c.linked.ensures.same) c.in_ok-done.ensures.told in
+    let told = subst (λ (t : Program). HasTold t window opened 0 events done why after old new [] []) (c.in_ok-names.ensures ∙ c.linked.ensures.same) c.in_ok-done.ensures.told in
     let reported = subst (λ (t : Program). Tells t after done why r.0 r.1) (c.set.ensures.same ∙ c.linked-2.ensures.same) c.in_ok-report_after.ensures in
     is_trace trees window c.args.limits events opened c.in_ok-machine.ensures after done why old new told c.reports_of_words.ensures.holds c.no_event_is_wrong.ensures.holds r.0 r.1 reported
