@@ -49,48 +49,15 @@ fn field_of<'a>(method: &MethodCode<'a>, instr: Instr) -> Option<Reference<'a>> 
     }
 }
 
-/// The instruction at which a method stands.
-fn instr_of(method: &MethodCode<'_>, offset: u16) -> Option<Instr> {
-    decode_at(&method.code().code, usize::from(offset))
-}
-
-/// What an event did whose thread stood at no instruction.
-fn push_plain(
-    text: &mut Vec<u8>,
-    names: &ProgramNames<'_>,
-    shared: &Shared,
+/// The instruction at which a thread stood before its event, if it stood at one, and its method.
+fn instr_before<'a>(
+    names: &'a ProgramNames<'_>,
     before: &Before,
-    event: Event,
-) -> Result<(), AllocError> {
-    let words = Words {
-        names,
-        shared,
-        field: None,
-        sort: Sort::Int,
-    };
-    words.push(text, before, told_of(before, shared, names.program, event))
-}
-
-/// What an event did whose thread stood in a method.
-fn push_in_method(
-    text: &mut Vec<u8>,
-    names: &ProgramNames<'_>,
-    shared: &Shared,
-    before: &Before,
-    event: Event,
-    method: &MethodCode<'_>,
-    offset: u16,
-) -> Result<(), AllocError> {
-    let Some(instr) = instr_of(method, offset) else {
-        return push_plain(text, names, shared, before, event);
-    };
-    let words = Words {
-        names,
-        shared,
-        field: field_of(method, instr),
-        sort: sort_of(method.file(), instr),
-    };
-    words.push(text, before, told_of(before, shared, names.program, event))
+) -> Option<(MethodCode<'a>, Instr)> {
+    let frame = before.frame?;
+    let method = names.method(frame.method)?;
+    let instr = decode_at(&method.code().code, usize::from(frame.offset))?;
+    Some((method, instr))
 }
 
 /// What an event did.
@@ -101,15 +68,17 @@ fn push_deed(
     before: &Before,
     event: Event,
 ) -> Result<(), AllocError> {
-    let Some(frame) = before.frame else {
-        return push_plain(text, names, shared, before, event);
+    let (field, sort) = match instr_before(names, before) {
+        Some((method, instr)) => (field_of(&method, instr), sort_of(method.file(), instr)),
+        None => (None, Sort::Int),
     };
-    match names.method(frame.method) {
-        Some(method) => {
-            push_in_method(text, names, shared, before, event, &method, frame.offset)
-        }
-        None => push_plain(text, names, shared, before, event),
-    }
+    let words = Words {
+        names,
+        shared,
+        field,
+        sort,
+    };
+    words.push(text, before, told_of(before, shared, names.program, event))
 }
 
 /// Writes the line of an event behind a text, by what was seen before it and the state after it: the event's
