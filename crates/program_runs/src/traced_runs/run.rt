@@ -74,8 +74,8 @@ fn events<W: Sink>(
     Ok(done)
 }
 
-/// Does the events of a schedule over verified class files, as far as they go, under the limits of the run (JVMS 2.5, 2.6, 5.5, chapter 6; JLS 17),
-/// and writes a line for each that is to be told. Returns the report of those that were done, and why no more were.
+/// Does the events of a schedule over verified class files, as far as they go, under the limits of the run (JVMS 2.5, 2.6, 5.5, chapter
+/// 6; JLS 17), and writes a line for each that is to be told. Returns the report of those that were done, and why no more were.
 ///
 /// `Device` is answered where the writer failed, `Memory` for want of memory; a front of the lines is written then.
 pub fn trace<W: Sink>(
