@@ -4,7 +4,7 @@ ghost use Rattle.std.specs.Prelude.{◌≡◌, ◌+◌, ◌^◌, ◌<◌, ◌≤
 ghost use Rattle.machine.specs.declared.machine.Stopped.TheVariants.{Most};
 ghost use Rattle.machine.specs.schedule_runs.Done.{GoesThrough};
 ghost use Rattle.program_runs.specs.traced_runs.Locals.{IsNextIn, IsNextLocal};
-ghost use Rattle.program_runs.specs.traced_runs.Telling.{HasTold, RunsOn, tried};
+ghost use Rattle.program_runs.specs.traced_runs.Telling.{HasToldBy, RunsOn, tried};
 ghost use Rattle.program_runs.specs.traced_runs.Windows.{is_told};
 
 use crate::traced_runs::events::{Telling, once, told_event};
@@ -96,7 +96,7 @@ pub(crate) fn run_of_locals(
     ensures some { IfOk result (λ r. r.1 ≡ Most → 1 ≤ r.0) }
     ensures bound { IfOk result (λ r. r.0 ≤ most) }
     ensures within { IfOk result (λ r. tried r.0 r.1 ≤ most) }
-    ensures told { IfOk result (λ r. (held : _) → HasTold telling.entry.names.now.linked.now telling.entry.window machine.old line.number
+    ensures told { IfOk result (λ r. (held : _) → HasToldBy telling.entry machine.old line.number
         (replicate (tried r.0 r.1) line.event) r.0 r.1 machine.new held held lines.old.text.items lines.new.text.items) }
 {
     let start = lines.text.len();

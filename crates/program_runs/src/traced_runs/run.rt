@@ -4,7 +4,7 @@ ghost use Rattle.std.specs.Prelude.{◌≡◌, [], IfOk, OnErr};
 ghost use Rattle.std.specs.Io.KnownBytes.{Appends};
 ghost use Rattle.model.specs.Devices.{Counts};
 ghost use Rattle.model.specs.Schedule.{events_of};
-ghost use Rattle.program_runs.specs.traced_runs.Telling.{HasTold, StopsShort};
+ghost use Rattle.program_runs.specs.traced_runs.Telling.{HasToldBy, StopsShortBy};
 ghost use Rattle.program_runs.specs.traced_runs.Traces.{IsTrace, WritesFront};
 
 use crate::traced_runs::events::{Telling, entry};
@@ -33,10 +33,9 @@ fn gathered<W: Sink>(
     lines: &mut Lines,
     output: &mut W,
 ) -> Result<(u64, Stopped), DeviceFault>
-    ensures told { IfOk result (λ r. HasTold telling.entry.names.now.linked.now telling.entry.window machine.old
-        0 (events_of schedule.now) r.0 r.1 machine.new
+    ensures told { IfOk result (λ r. HasToldBy telling.entry machine.old 0 (events_of schedule.now) r.0 r.1 machine.new
         (W.contents output.old) (W.contents output.new) lines.old.text.items lines.new.text.items) }
-    ensures part { OnErr result (StopsShort telling.entry.names.now.linked.now telling.entry.window machine.old 0 (events_of schedule.now)
+    ensures part { OnErr result (StopsShortBy telling.entry machine.old 0 (events_of schedule.now)
         (W.contents output.old) (W.contents output.new) lines.old.text.items) }
     ensures counted { Counts result (W.failures output.old) (W.failures output.new) }
 {
@@ -60,10 +59,9 @@ fn events<W: Sink>(
     schedule: &Schedule,
     output: &mut W,
 ) -> Result<(u64, Stopped), DeviceFault>
-    ensures told { IfOk result (λ r. HasTold telling.entry.names.now.linked.now telling.entry.window machine.old
-        0 (events_of schedule.now) r.0 r.1 machine.new
+    ensures told { IfOk result (λ r. HasToldBy telling.entry machine.old 0 (events_of schedule.now) r.0 r.1 machine.new
         (W.contents output.old) (W.contents output.new) [] []) }
-    ensures part { OnErr result (StopsShort telling.entry.names.now.linked.now telling.entry.window machine.old 0 (events_of schedule.now)
+    ensures part { OnErr result (StopsShortBy telling.entry machine.old 0 (events_of schedule.now)
         (W.contents output.old) (W.contents output.new) []) }
     ensures counted { Counts result (W.failures output.old) (W.failures output.new) }
 {
