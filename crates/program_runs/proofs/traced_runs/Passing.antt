@@ -16,6 +16,7 @@ use Rattle.machine.specs.Machines.{MachineOf}
 use Rattle.machine.specs.schedule_runs.Done.{EndsBy, GoesThrough, HasDone, HasGone, OfNext}
 use Rattle.machine.proofs.schedule_runs.Joined.{IsPassed, begins, goes_on, stops, all_done}
 use Rattle.listings.proofs.disasm.Writing.{none_written}
+use Rattle.traces.specs.declared.form.Form.{Form}
 use Rattle.program_runs.specs.traced_runs.Telling.{AddsOne, AfterRun, AreCutShort, AreTold, Gathers, HasTold, StopsShort, times, tried}
 use Rattle.program_runs.specs.traced_runs.Traces.{Tells, TellsIf}
 use Rattle.program_runs.specs.traced_runs.Windows.{is_told}
@@ -66,10 +67,12 @@ module _ (trees : Program) (window : Window) (old : MachineOf) (count : ℕ) (ev
 
   pub line_told : (why : Stopped) (new : MachineOf) (held : Held) (before now : List ℕ) → is_told window count event.thread ≡ true
       → GoesThrough (times why, why) (event ∷ []) old new
-      → AfterRun trees old count (λ done. AddsOne why window.form trees old.limits.frames before now done event)
+      → (form : Form) → form ≡ window.form
+      → AfterRun trees old count (λ done. AddsOne why form trees old.limits.frames before now done event)
       → HasTold trees window old count (event ∷ []) (times why) why new held held before now
-  line_told why new held before now told goes adds =
-      record { goes = goes; told = λ files done has at. line_of old.limits.frames done at told why held before now (adds files done has at) }
+  line_told why new held before now told goes form same adds =
+      let here = subst (λ (f : Form). AfterRun trees old count (λ done. AddsOne why f trees old.limits.frames before now done event)) same adds in
+      record { goes = goes; told = λ files done has at. line_of old.limits.frames done at told why held before now (here files done has at) }
 
 -- ---- an event again and again that is not told
 
@@ -233,6 +236,11 @@ all_told trees window m count schedule n after old new before now so_far =
     }
 
 -- ---- before an error
+
+-- what is so in any case
+pub on_err : {T E P : Type 0} (r : Result T E) → P → OnErr r P
+on_err (Ok value) p = tt
+on_err (Err fault) p = p
 
 -- nothing was done, and nothing is written
 pub none_done : (trees : Program) (window : Window) (m : MachineOf) (count : ℕ) (schedule : List Event) (held : Held) (before : List ℕ)

@@ -1,9 +1,8 @@
 use Rattle.std.proofs.Common.{◌≡◌, ◌+◌, ◌-◌, ◌<◌, ◌≤◌, replicate, ap, arith, refl, subst, ◌∙◌}
-use Rattle.std.proofs.lemmas.Result.{err_from_is_err_and}
 use Rattle.machine.specs.declared.machine.Stopped.TheVariants as stopped
 use Rattle.machine.proofs.schedule_runs.Repeated.{entry_gone}
 use Rattle.program_runs.specs.traced_runs.Telling.{HasTold, tried}
-use Rattle.program_runs.proofs.traced_runs.Passing.{again_on, again_short, again_until, all_told, none_of_entry, none_yet}
+use Rattle.program_runs.proofs.traced_runs.Passing.{again_on, again_short, again_until, all_told, none_of_entry, none_yet, on_err}
 use Rattle.program_runs.proofs.traced_runs.events.entry.Goals as goal
 
 pub returns-then-leaves_out-clause-told : goal.returns-then-leaves_out-clause-told
@@ -23,12 +22,11 @@ events-init g c = record {
 
 pub returns-in_err-count-clause-part : goal.returns-in_err-count-clause-part
 returns-in_err-count-clause-part g c =
-    let p = err_from_is_err_and c.from_residual.result c.from_residual.ensures.1 in
     let entry = c.args.entry in
     let contents = g.W.Sink.contents in
     let k = c.events.done in
     let within : k + (entry.repeat - k) ≤ entry.repeat = omega (arith, c.events-test.true) in
-    rw p.1
+    on_err c.from_residual.result
     (again_short c.args.telling.names.now.linked.now c.args.telling.window c.args.machine.now c.args.first entry.event k c.events.machine (contents c.args.output.now) (contents c.events.output)
     c.args.lines.now.text.items c.events.lines.text.items c.events.invariant.so_far (c.args.first + c.from.result) (ap (λ j. c.args.first + j) c.from.ensures) entry.repeat (entry.repeat - k) within
     (contents c.some_events.new.output) c.in_err-count.ensures.part)

@@ -1,12 +1,11 @@
 use Rattle.std.proofs.Common.{◌≡◌, ◌≤◌, ◌+◌, ◌<◌, ◌++◌, ℕ, suc, List, length, take, drop, get_or, refl, sym, ap, subst, ◌∙◌, arith, zero-add}
 use Rattle.std.proofs.lemmas.List.{take_all}
-use Rattle.std.proofs.lemmas.Result.{err_from_is_err_and}
 use Rattle.model.specs.declared.event.ScheduleEntry.{ScheduleEntry}
 use Rattle.model.specs.Schedule.{events_of}
 use Rattle.machine.specs.declared.machine.Stopped.TheVariants as stopped
 use Rattle.machine.proofs.schedule_runs.Joined.{of_entry, around, one_more}
 use Rattle.program_runs.specs.traced_runs.Telling.{HasTold, StopsShort}
-use Rattle.program_runs.proofs.traced_runs.Passing.{HasPassed, all_told, none_yet, told_on, told_short, told_until}
+use Rattle.program_runs.proofs.traced_runs.Passing.{HasPassed, all_told, none_yet, on_err, told_on, told_short, told_until}
 use Rattle.program_runs.proofs.traced_runs.run.gathered.Goals as goal
 
 abbrev pub no_entry : ScheduleEntry
@@ -21,7 +20,6 @@ entries-init g c = record {
 
 pub returns-in_err-count-clause-part : goal.returns-in_err-count-clause-part
 returns-in_err-count-clause-part g c =
-    let p = err_from_is_err_and c.from_residual.result c.from_residual.ensures.1 in
     let trees = c.args.telling.names.now.linked.now in
     let window = c.args.telling.window in
     let contents = g.W.Sink.contents in
@@ -29,7 +27,7 @@ returns-in_err-count-clause-part g c =
     let i = c.entries.given-index in
     let entry = of_entry (get_or items i no_entry) in
     let next = subst (λ k. StopsShort trees window c.entries.machine k entry (contents c.entries.output) (contents c.entry.new.output) c.entries.lines.text.items) (sym (zero-add c.entries.done)) c.in_err-count.ensures.part in
-    rw p.1
+    on_err c.from_residual.result
     (told_short trees window c.args.machine.now 0 (events_of (take i items)) c.entries.done c.entries.machine (contents c.args.output.now) (contents c.entries.output) c.args.lines.now.text.items
     c.entries.lines.text.items c.entries.invariant.so_far entry (contents c.entry.new.output) next (events_of c.args.schedule.now) (events_of (drop (suc i) items))
     (ap events_of (sym c.entries-given-items.ensures.are) ∙ around items i no_entry c.entries-test.true))

@@ -1,32 +1,27 @@
 use Rattle.std.proofs.Common.{◌≡◌, [], subst, sym, ◌∙◌}
-use Rattle.std.proofs.lemmas.Result.{err_from_is_err_and}
 use Rattle.model.specs.Classes.{Program}
 use Rattle.model.specs.Schedule.{events_of}
 use Rattle.machine.specs.machine_replay.Shown.{Tells}
 use Rattle.listings.proofs.disasm.Writing.{none_written}
 use Rattle.program_runs.specs.traced_runs.Telling.{HasTold, StopsShort}
-use Rattle.program_runs.proofs.traced_runs.Passing.{writing_stops}
+use Rattle.program_runs.proofs.traced_runs.Passing.{on_err, writing_stops}
 use Rattle.program_runs.proofs.traced_runs.Traced.{front_written, is_trace, unwritten}
 use Rattle.program_runs.proofs.traced_runs.run.trace.Goals as goal
 
 pub returns-in_err-machine-clause-part : goal.returns-in_err-machine-clause-part
 returns-in_err-machine-clause-part g c =
-    let p = err_from_is_err_and c.from_residual.result c.from_residual.ensures.1 in
-    rw p.1 (unwritten c.args.verified.now c.args.window c.args.limits (events_of c.args.schedule.now) (g.W.Sink.contents c.args.output.now))
+    on_err c.from_residual.result (unwritten c.args.verified.now c.args.window c.args.limits (events_of c.args.schedule.now) (g.W.Sink.contents c.args.output.now))
 
 pub returns-in_err-program-clause-part : goal.returns-in_err-program-clause-part
 returns-in_err-program-clause-part g c =
-    let p = err_from_is_err_and c.from_residual-in_err-program.result c.from_residual-in_err-program.ensures.1 in
-    rw p.1 (unwritten c.args.verified.now c.args.window c.args.limits (events_of c.args.schedule.now) (g.W.Sink.contents c.args.output.now))
+    on_err c.from_residual-in_err-program.result (unwritten c.args.verified.now c.args.window c.args.limits (events_of c.args.schedule.now) (g.W.Sink.contents c.args.output.now))
 
 pub returns-in_err-names-clause-part : goal.returns-in_err-names-clause-part
 returns-in_err-names-clause-part g c =
-    let p = err_from_is_err_and c.from_residual-in_err-names.result c.from_residual-in_err-names.ensures.1 in
-    rw p.1 (unwritten c.args.verified.now c.args.window c.args.limits (events_of c.args.schedule.now) (g.W.Sink.contents c.args.output.now))
+    on_err c.from_residual-in_err-names.result (unwritten c.args.verified.now c.args.window c.args.limits (events_of c.args.schedule.now) (g.W.Sink.contents c.args.output.now))
 
 pub returns-in_err-done-clause-part : goal.returns-in_err-done-clause-part
 returns-in_err-done-clause-part g c =
-    let p = err_from_is_err_and c.from_residual-in_err-done.result c.from_residual-in_err-done.ensures.1 in
     let trees = c.args.verified.now in
     let window = c.args.window in
     let events = events_of c.args.schedule.now in
@@ -34,11 +29,10 @@ returns-in_err-done-clause-part g c =
     let old = g.W.Sink.contents c.args.output.now in
     let new = g.W.Sink.contents c.events.new.output in
     let stops = subst (λ (t : Program). StopsShort t window opened 0 events old new []) (c.in_ok-names.ensures ∙ c.linked.ensures.same) c.in_err-done.ensures.part in
-    rw p.1 (front_written trees window c.args.limits events opened c.in_ok-machine.ensures old new stops)
+    on_err c.from_residual-in_err-done.result (front_written trees window c.args.limits events opened c.in_ok-machine.ensures old new stops)
 
 pub returns-in_err-report_after-clause-part : goal.returns-in_err-report_after-clause-part
 returns-in_err-report_after-clause-part g c =
-    let p = err_from_is_err_and c.from_residual-in_err-report_after.result c.from_residual-in_err-report_after.ensures.1 in
     let trees = c.args.verified.now in
     let window = c.args.window in
     let events = events_of c.args.schedule.now in
@@ -49,7 +43,7 @@ returns-in_err-report_after-clause-part g c =
     let old = g.W.Sink.contents c.args.output.now in
     let new = g.W.Sink.contents c.events.new.output in
     let told = subst (λ (t : Program). HasTold t window opened 0 events done why after old new [] []) (c.in_ok-names.ensures ∙ c.linked.ensures.same) c.in_ok-done.ensures.told in
-    rw p.1
+    on_err c.from_residual-in_err-report_after.result
     (front_written trees window c.args.limits events opened c.in_ok-machine.ensures old new (writing_stops trees window opened 0 events done why after old new new [] [] told (none_written new [])))
 
 pub returns-clause-traced : goal.returns-clause-traced
