@@ -4,7 +4,7 @@ use Rattle.model.specs.declared.event.ScheduleEntry.{ScheduleEntry}
 use Rattle.model.specs.Schedule.{events_of}
 use Rattle.machine.specs.declared.machine.Stopped.TheVariants as stopped
 use Rattle.machine.proofs.schedule_runs.Joined.{of_entry, around, one_more}
-use Rattle.program_runs.specs.traced_runs.Telling.{HasTold, StopsShort}
+use Rattle.program_runs.specs.traced_runs.Telling.{HasTold}
 use Rattle.program_runs.proofs.traced_runs.Passing.{HasPassed, all_told, none_yet, on_err, told_on, told_short, told_until}
 use Rattle.program_runs.proofs.traced_runs.run.gathered.Goals as goal
 
@@ -26,10 +26,9 @@ returns-in_err-count-clause-part g c =
     let items = c.entries-given-items.result.now in
     let i = c.entries.given-index in
     let entry = of_entry (get_or items i no_entry) in
-    let next = subst (λ k. StopsShort trees window c.entries.machine k entry (contents c.entries.output) (contents c.entry.new.output) c.entries.lines.text.items) (sym (zero-add c.entries.done)) c.in_err-count.ensures.part in
     on_err c.from_residual.result
     (told_short trees window c.args.machine.now 0 (events_of (take i items)) c.entries.done c.entries.machine (contents c.args.output.now) (contents c.entries.output) c.args.lines.now.text.items
-    c.entries.lines.text.items c.entries.invariant.so_far entry (contents c.entry.new.output) next (events_of c.args.schedule.now) (events_of (drop (suc i) items))
+    c.entries.lines.text.items c.entries.invariant.so_far c.entries.done (sym (zero-add c.entries.done)) entry (contents c.entry.new.output) c.in_err-count.ensures.part (events_of c.args.schedule.now) (events_of (drop (suc i) items))
     (ap events_of (sym c.entries-given-items.ensures.are) ∙ around items i no_entry c.entries-test.true))
 
 pub returns-in_default-clause-told : goal.returns-in_default-clause-told
@@ -42,13 +41,11 @@ returns-in_default-clause-told g c =
     let entry = of_entry (get_or items i no_entry) in
     let count = c.in_ok-count.count in
     let why = c.in_ok-count.why in
-    let next = subst (λ k. HasTold trees window c.entries.machine k entry count why c.entry.new.machine (contents c.entries.output) (contents c.entry.new.output) c.entries.lines.text.items c.entry.new.lines.text.items)
-    (sym (zero-add c.entries.done)) c.in_ok-count.ensures.told
-    in
     subst (λ k. HasTold trees window c.args.machine.now 0 (events_of c.args.schedule.now) (c.entries.done + k) why c.entry.new.machine (contents c.args.output.now) (contents c.entry.new.output)
     c.args.lines.now.text.items c.entry.new.lines.text.items) (sym c.from-done.ensures)
     (told_until trees window c.args.machine.now 0 (events_of (take i items)) c.entries.done c.entries.machine (contents c.args.output.now) (contents c.entries.output) c.args.lines.now.text.items
-    c.entries.lines.text.items c.entries.invariant.so_far entry count why c.entry.new.machine (contents c.entry.new.output) c.entry.new.lines.text.items next c.in_default.not-Most (events_of c.args.schedule.now)
+    c.entries.lines.text.items c.entries.invariant.so_far c.entries.done (sym (zero-add c.entries.done)) entry count why c.entry.new.machine (contents c.entry.new.output) c.entry.new.lines.text.items
+    c.in_ok-count.ensures.told c.in_default.not-Most (events_of c.args.schedule.now)
     (events_of (drop (suc i) items)) (ap events_of (sym c.entries-given-items.ensures.are) ∙ around items i no_entry c.entries-test.true))
 
 pub entries-preserved : goal.entries-preserved
@@ -61,14 +58,9 @@ entries-preserved g c =
     let entry = of_entry (get_or items i no_entry) in
     let count = c.in_ok-count.count in
     let why = c.in_ok-count.why in
-    let next = subst (λ k. HasTold trees window c.entries.machine k entry count why c.entry.new.machine (contents c.entries.output) (contents c.entry.new.output) c.entries.lines.text.items c.entry.new.lines.text.items)
-    (sym (zero-add c.entries.done)) c.in_ok-count.ensures.told
-    in
-    let all = subst (λ w. HasTold trees window c.entries.machine (0 + c.entries.done) entry count w c.entry.new.machine (contents c.entries.output) (contents c.entry.new.output) c.entries.lines.text.items
-    c.entry.new.lines.text.items) c.in-Most.is next
-    in
     let on = told_on trees window c.args.machine.now 0 (events_of (take i items)) c.entries.done c.entries.machine (contents c.args.output.now) (contents c.entries.output) c.args.lines.now.text.items
-    c.entries.lines.text.items c.entries.invariant.so_far entry count c.entry.new.machine (contents c.entry.new.output) c.entry.new.lines.text.items all
+    c.entries.lines.text.items c.entries.invariant.so_far c.entries.done (sym (zero-add c.entries.done)) entry count why c.in-Most.is c.entry.new.machine (contents c.entry.new.output)
+    c.entry.new.lines.text.items c.in_ok-count.ensures.told
     in
     let by_entries = subst (λ es. HasPassed trees window c.args.machine.now 0 es (c.entries.done + count) c.entry.new.machine (contents c.args.output.now) (contents c.entry.new.output) c.args.lines.now.text.items
     c.entry.new.lines.text.items) (sym (one_more items i no_entry c.entries-test.true)) on
