@@ -1,5 +1,5 @@
 -- Events that were done and told, some after others.
-use Rattle.std.proofs.Common.{◌≡◌, ◌≤◌, ◌<◌, ◌+◌, ◌-◌, ℕ, zero, suc, List, [], ◌∷◌, ◌++◌, length, length-append, take, drop, replicate, Bool, true, false, Option, Some, refl, sym, ap, subst, ◌∙◌, append_assoc, take-append-drop, arith}
+use Rattle.std.proofs.Common.{◌≡◌, ◌≤◌, ◌<◌, ◌+◌, ◌-◌, ℕ, List, [], ◌∷◌, ◌++◌, length, length-append, take, replicate, true, false, Some, refl, sym, ap, subst, ◌∙◌, append_assoc, arith}
 use Rattle.std.specs.Prelude.{OnErr, Result, Ok, Err}
 use Rattle.std.specs.Io.KnownBytes.{Appends}
 use Rattle.std.proofs.Math.Seq.{take-append-add, take-append_seam}
@@ -17,7 +17,7 @@ use Rattle.machine.specs.schedule_runs.Done.{EndsBy, GoesThrough, HasDone, HasGo
 use Rattle.machine.proofs.schedule_runs.Joined.{IsPassed, begins, goes_on, stops, all_done}
 use Rattle.listings.proofs.disasm.Writing.{none_written}
 use Rattle.traces.specs.declared.form.Form.{Form}
-use Rattle.program_runs.specs.traced_runs.Telling.{AddsOne, AfterRun, AreCutShort, AreTold, Gathers, HasTold, StopsShort, times, tried}
+use Rattle.program_runs.specs.traced_runs.Telling.{AddsOne, AfterRun, AreTold, Gathers, HasTold, StopsShort, times, tried}
 use Rattle.program_runs.specs.traced_runs.Traces.{Tells, TellsIf}
 use Rattle.program_runs.specs.traced_runs.Windows.{is_told}
 use Rattle.program_runs.specs.declared.traced_runs.window.Window.{Window}

@@ -1,4 +1,4 @@
-use Rattle.std.proofs.Common.{◌≡◌, ◌+◌, ◌-◌, ◌<◌, ◌≤◌, replicate, ap, arith, refl, subst, ◌∙◌}
+use Rattle.std.proofs.Common.{◌≡◌, ◌+◌, ◌-◌, ◌≤◌, replicate, ap, arith, refl, subst, ◌∙◌}
 use Rattle.machine.specs.declared.machine.Stopped.TheVariants as stopped
 use Rattle.machine.proofs.schedule_runs.Repeated.{entry_gone}
 use Rattle.program_runs.specs.traced_runs.Telling.{HasTold, tried}

@@ -1,4 +1,4 @@
-use Rattle.std.proofs.Common.{◌≡◌, ◌∷◌, [], Bool, false, true, subst, sym, ◌∙◌}
+use Rattle.std.proofs.Common.{◌≡◌, ◌∷◌, [], false, true}
 use Rattle.program_runs.specs.traced_runs.Telling.{times}
 use Rattle.program_runs.specs.traced_runs.Windows.{is_told}
 use Rattle.program_runs.proofs.traced_runs.Passing.{eased, line_told, none_done, none_of_event, on_err, writing_stops}

@@ -1,4 +1,4 @@
-use Rattle.std.proofs.Common.{◌≡◌, List, [], ℕ, Option, refl, subst, sym, ◌∙◌}
+use Rattle.std.proofs.Common.{[], subst}
 use Rattle.model.specs.Schedule.{events_of}
 use Rattle.program_runs.specs.traced_runs.Telling.{HasTold, StopsShort}
 use Rattle.program_runs.proofs.traced_runs.Passing.{flushed, on_err, writing_stops}

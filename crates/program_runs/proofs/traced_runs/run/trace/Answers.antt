@@ -1,4 +1,4 @@
-use Rattle.std.proofs.Common.{◌≡◌, [], subst, sym, ◌∙◌}
+use Rattle.std.proofs.Common.{[], subst, ◌∙◌}
 use Rattle.model.specs.Classes.{Program}
 use Rattle.model.specs.Schedule.{events_of}
 use Rattle.machine.specs.machine_replay.Shown.{Tells}
