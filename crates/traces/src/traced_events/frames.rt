@@ -1,6 +1,6 @@
 //! Where a thread stands before its event.
 
-ghost use Rattle.std.specs.Prelude.{◌≡◌, option_map};
+ghost use Rattle.std.specs.Prelude.{◌≡◌};
 ghost use Rattle.linked_code.specs.thread_stacks.Stacks.{shown_frame};
 ghost use Rattle.machine_state.specs.shown_stacks.Shown.{offset_at, starts_of as starts_in};
 ghost use Rattle.traces.specs.traced_events.Seen.{IsFrameSeen};
