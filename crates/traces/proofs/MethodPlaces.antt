@@ -7,7 +7,7 @@ use Rattle.std.proofs.lemmas.Bool.{and_parts}
 use Rattle.model.specs.Names.{Member, Name}
 use Rattle.model.specs.Tree.{FileTree, MethodTree, CodeTree}
 use Rattle.model.specs.Conditions.{names_utf8, text_at}
-use Rattle.model.specs.Classes.{Program, Body, name_of, classes_of, class_of, declared_in, code_in, with_pool, body_in}
+use Rattle.model.specs.Classes.{Program, Body, name_of, classes_of, declared_in, code_in, with_pool, body_in}
 use Rattle.model.specs.Classes as classes
 use Rattle.run_laws.proofs.laws.Found.{every_all}
 use Rattle.run_laws.proofs.laws.Lists.{every_at}

@@ -7,10 +7,10 @@ ghost use Rattle.traces.specs.Lines.{count_in, fold_words, last_in};
 use crate::form::Form;
 use crate::json::push_number_member;
 use crate::line::Line;
+use crate::names::ProgramNames;
 use crate::numbers::{push_number, push_words};
 use crate::parts::{push_end, push_head};
 use crate::places::push_frame;
-use crate::teller::Teller;
 use crate::traced_events::FrameBefore;
 use std::alloc::AllocError;
 
@@ -52,15 +52,15 @@ fn push_count(text: &mut Vec<u8>, form: Form, count: u64, last: u64) -> Result<(
 /// Writes the line of a run of local instructions behind a text: the numbers of its first event and of its thread, the method, the
 /// offsets of its first and its last instruction, how many they are, and the number of its last event. The only error is a want of
 /// memory.
-pub fn push_fold(text: &mut Vec<u8>, teller: &Teller<'_>, fold: Fold) -> Result<(), AllocError>
+pub fn push_fold(text: &mut Vec<u8>, names: &ProgramNames<'_>, fold: Fold) -> Result<(), AllocError>
     requires some { 1 ≤ fold.count }
     requires numbered { fold.first.number + fold.count < 2 ^ 64 }
-    ensures { (method : _) → IsMethodAt teller.now.linked.now fold.from.method method → OnOk result (text.new.items ≡ text.old.items
+    ensures { (method : _) → IsMethodAt names.now.linked.now fold.from.method method → OnOk result (text.new.items ≡ text.old.items
         ++ fold_words fold.first.form fold.first.number fold.count fold.first.event.thread method fold.from.offset fold.to) }
 {
     let last = fold.first.number + u64::from(fold.count - 1);
     push_head(text, fold.first)?;
-    push_frame(text, teller, fold.first.form, fold.from)?;
+    push_frame(text, names, fold.first.form, fold.from)?;
     push_last(text, fold.first.form, fold.to)?;
     push_count(text, fold.first.form, u64::from(fold.count), last)?;
     push_end(text, fold.first.form)

@@ -5,10 +5,10 @@ ghost use Rattle.traces.specs.traced_events.Places.{Sees};
 ghost use Rattle.traces.specs.Lines.{AddsLine};
 
 use crate::form::Form;
+use crate::names::ProgramNames;
 use crate::parts::{Part, push_end, push_head, push_part};
 use crate::places::{push_instruction, push_place, push_source};
 use crate::sorts::{Sort, sort_of};
-use crate::teller::Teller;
 use crate::traced_events::{Before, told_of};
 use crate::words::Words;
 use classfile::Reference;
@@ -49,67 +49,36 @@ fn field_of<'a>(method: &MethodCode<'a>, instr: Instr) -> Option<Reference<'a>> 
     }
 }
 
-/// The instruction at which a method stands.
-fn instr_of(method: &MethodCode<'_>, offset: u16) -> Option<Instr> {
-    decode_at(&method.code().code, usize::from(offset))
-}
-
-/// What an event did whose thread stood at no instruction.
-fn push_plain(
-    text: &mut Vec<u8>,
-    teller: &Teller<'_>,
-    shared: &Shared,
+/// The instruction at which a thread stood before its event, if it stood at one, and its method.
+fn instr_before<'a>(
+    names: &'a ProgramNames<'_>,
     before: &Before,
-    event: Event,
-) -> Result<(), AllocError> {
-    let words = Words {
-        teller,
-        shared,
-        field: None,
-        sort: Sort::Int,
-    };
-    words.push(text, before, told_of(before, shared, teller.program, event))
-}
-
-/// What an event did whose thread stood in a method.
-fn push_in_method(
-    text: &mut Vec<u8>,
-    teller: &Teller<'_>,
-    shared: &Shared,
-    before: &Before,
-    event: Event,
-    method: &MethodCode<'_>,
-    offset: u16,
-) -> Result<(), AllocError> {
-    let Some(instr) = instr_of(method, offset) else {
-        return push_plain(text, teller, shared, before, event);
-    };
-    let words = Words {
-        teller,
-        shared,
-        field: field_of(method, instr),
-        sort: sort_of(method.file(), instr),
-    };
-    words.push(text, before, told_of(before, shared, teller.program, event))
+) -> Option<(MethodCode<'a>, Instr)> {
+    let frame = before.frame?;
+    let method = names.method(frame.method)?;
+    let instr = decode_at(&method.code().code, usize::from(frame.offset))?;
+    Some((method, instr))
 }
 
 /// What an event did.
 fn push_deed(
     text: &mut Vec<u8>,
-    teller: &Teller<'_>,
+    names: &ProgramNames<'_>,
     shared: &Shared,
     before: &Before,
     event: Event,
 ) -> Result<(), AllocError> {
-    let Some(frame) = before.frame else {
-        return push_plain(text, teller, shared, before, event);
+    let (field, sort) = match instr_before(names, before) {
+        Some((method, instr)) => (field_of(&method, instr), sort_of(method.file(), instr)),
+        None => (None, Sort::Int),
     };
-    match teller.method(frame.method) {
-        Some(method) => {
-            push_in_method(text, teller, shared, before, event, &method, frame.offset)
-        }
-        None => push_plain(text, teller, shared, before, event),
-    }
+    let words = Words {
+        names,
+        shared,
+        field,
+        sort,
+    };
+    words.push(text, before, told_of(before, shared, names.program, event))
 }
 
 /// Writes the line of an event behind a text, by what was seen before it and the state after it: the event's
@@ -118,24 +87,24 @@ fn push_deed(
 pub fn push_line(
     text: &mut Vec<u8>,
     spare: &mut Vec<u8>,
-    teller: &Teller<'_>,
+    names: &ProgramNames<'_>,
     line: Line,
     before: &Before,
     shared: &Shared,
 ) -> Result<(), AllocError>
-    ensures { (stack : _) → Sees teller.now.linked.now before.now.frame before.now.class stack
-        → OnOk result (AddsLine line.form teller.now.linked.now line.number line.event.thread stack text.old.items text.new.items) }
+    ensures { (stack : _) → Sees names.now.linked.now before.now.frame before.now.class stack
+        → OnOk result (AddsLine line.form names.now.linked.now line.number line.event.thread stack text.old.items text.new.items) }
 {
     push_head(text, line)?;
-    push_place(text, teller, line.form, before)?;
+    push_place(text, names, line.form, before)?;
     spare.clear();
-    push_source(spare, teller, before)?;
+    push_source(spare, names, before)?;
     push_part(text, line.form, SOURCE, spare.as_slice())?;
     spare.clear();
-    push_instruction(spare, teller, before)?;
+    push_instruction(spare, names, before)?;
     push_part(text, line.form, INSTRUCTION, spare.as_slice())?;
     spare.clear();
-    push_deed(spare, teller, shared, before, line.event)?;
+    push_deed(spare, names, shared, before, line.event)?;
     push_part(text, line.form, DEED, spare.as_slice())?;
     push_end(text, line.form)
 }

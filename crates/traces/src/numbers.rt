@@ -7,14 +7,15 @@ ghost use Rattle.traces.specs.Lines.{in_seven};
 use itoa::Buffer;
 use std::alloc::AllocError;
 
-pub(crate) fn push_words(text: &mut Vec<u8>, words: &str) -> Result<(), AllocError>
+/// Writes words behind a text.
+pub fn push_words(text: &mut Vec<u8>, words: &str) -> Result<(), AllocError>
     ensures { OnOk result (text.new.items ≡ text.old.items ++ words.now) }
 {
     Ok(text.extend_from_slice(words.as_bytes())?)
 }
 
-/// A number in decimal.
-pub(crate) fn push_number(text: &mut Vec<u8>, number: u64) -> Result<(), AllocError>
+/// Writes a number in decimal behind a text.
+pub fn push_number(text: &mut Vec<u8>, number: u64) -> Result<(), AllocError>
     ensures { OnOk result (text.new.items ≡ text.old.items ++ digits number) }
 {
     let mut buffer = Buffer::new();

@@ -1,7 +1,7 @@
-//! The names of objects.
+//! Objects by their types and numbers.
 
+use crate::names::ProgramNames;
 use crate::numbers::{push_number, push_words};
-use crate::teller::Teller;
 use heap::{Heap, NarrowKind, ObjectKind};
 use linked_code::{Element, LinkedType, Primitive};
 use std::alloc::AllocError;
@@ -9,11 +9,11 @@ use std::alloc::AllocError;
 /// The number of java.lang.Class: the built-in classes come first in each program.
 const CLASS: u32 = 4;
 
-/// The reference to the first of the Class objects, which stand in the order of the classes behind the PrintStream of
-/// System.out, the arguments and the Thread of `main`.
+/// The first of the Class objects, which stand in the order of the classes behind the PrintStream of System.out, the arguments and
+/// the Thread of `main`.
 const FIRST_CLASS_OBJECT: u32 = 3;
 
-/// What the elements of an array are that have fewer than 32 bits.
+/// The type of an array whose elements have fewer than 32 bits.
 fn narrow_name(kind: NarrowKind) -> &'static str {
     match kind {
         NarrowKind::Boolean => "boolean[]",
@@ -33,60 +33,79 @@ fn primitive_name(primitive: Primitive) -> &'static str {
     }
 }
 
-/// The name of a reference type: `int[][]`.
-fn push_type(text: &mut Vec<u8>, teller: &Teller<'_>, of: LinkedType) -> Result<(), AllocError> {
-    match of.element {
-        Element::Class(class) => {
-            text.extend_from_slice(teller.class_name(u32::from(class)))?;
-        }
-        Element::Primitive(primitive) => push_words(text, primitive_name(primitive))?,
-    }
-    for _ in 0..of.dimensions {
-        push_words(text, "[]")?;
-    }
-    Ok(())
-}
-
-/// The type of an object.
-fn push_kind(text: &mut Vec<u8>, teller: &Teller<'_>, kind: ObjectKind) -> Result<(), AllocError> {
-    match kind {
-        ObjectKind::Instance { class } => Ok(text.extend_from_slice(teller.class_name(class))?),
-        ObjectKind::Ints => push_words(text, "int[]"),
-        ObjectKind::Narrow(narrow) => push_words(text, narrow_name(narrow)),
-        ObjectKind::References { of } => {
-            if let Some(component) = teller.program.components.get(of as usize) {
-                push_type(text, teller, *component)?;
-            }
-            push_words(text, "[]")
-        }
-    }
+/// The Class object of a class, by its number.
+pub fn class_object_of(class: u16) -> u32 {
+    FIRST_CLASS_OBJECT + u32::from(class)
 }
 
 /// The number of the class of which an object is the Class object.
-fn class_of_object(kind: Option<ObjectKind>, object: u32) -> Option<u32> {
+fn class_of_object(kind: ObjectKind, object: u32) -> Option<u32> {
     match kind {
-        Some(ObjectKind::Instance { class: CLASS }) => object.checked_sub(FIRST_CLASS_OBJECT),
+        ObjectKind::Instance { class: CLASS } => object.checked_sub(FIRST_CLASS_OBJECT),
         _ => None,
     }
 }
 
-/// An object: `Counter.class` where it is the Class object of a class, and else its class, or the type of an array, and its number among all
-/// objects: `Counter #34`.
-pub(crate) fn push_object(
-    text: &mut Vec<u8>,
-    teller: &Teller<'_>,
-    heap: &Heap,
-    object: u32,
-) -> Result<(), AllocError> {
-    let kind = heap.class_of(object);
-    if let Some(class) = class_of_object(kind, object) {
-        text.extend_from_slice(teller.class_name(class))?;
-        return push_words(text, ".class");
+impl ProgramNames<'_> {
+    /// The name of a reference type: `int[][]`.
+    fn push_type(&self, text: &mut Vec<u8>, of: LinkedType) -> Result<(), AllocError> {
+        match of.element {
+            Element::Class(class) => {
+                text.extend_from_slice(self.class_name(u32::from(class)))?;
+            }
+            Element::Primitive(primitive) => push_words(text, primitive_name(primitive))?,
+        }
+        for _ in 0..of.dimensions {
+            push_words(text, "[]")?;
+        }
+        Ok(())
     }
-    if let Some(kind) = kind {
-        push_kind(text, teller, kind)?;
-        text.push(b' ')?;
+
+    /// The type of an object.
+    fn push_kind(&self, text: &mut Vec<u8>, kind: ObjectKind) -> Result<(), AllocError> {
+        match kind {
+            ObjectKind::Instance { class } => Ok(text.extend_from_slice(self.class_name(class))?),
+            ObjectKind::Ints => push_words(text, "int[]"),
+            ObjectKind::Narrow(narrow) => push_words(text, narrow_name(narrow)),
+            ObjectKind::References { of } => {
+                if let Some(component) = self.program.components.get(of as usize) {
+                    self.push_type(text, *component)?;
+                }
+                push_words(text, "[]")
+            }
+        }
     }
-    text.push(b'#')?;
-    push_number(text, u64::from(object))
+
+    /// An object by its type and its number among all objects.
+    fn push_numbered(
+        &self,
+        text: &mut Vec<u8>,
+        kind: ObjectKind,
+        object: u32,
+    ) -> Result<(), AllocError> {
+        self.push_kind(text, kind)?;
+        push_words(text, " #")?;
+        push_number(text, u64::from(object))
+    }
+
+    /// Writes an object: `Counter.class` where it is the Class object of a class, and else its class, or the type of an array, and its
+    /// number among all objects, which are numbered from 0 in the order in which they were made: `Counter #34`. Nothing is written of
+    /// one that isn't there.
+    pub fn push_object(
+        &self,
+        text: &mut Vec<u8>,
+        heap: &Heap,
+        object: u32,
+    ) -> Result<(), AllocError> {
+        let Some(kind) = heap.class_of(object) else {
+            return Ok(());
+        };
+        match class_of_object(kind, object) {
+            Some(class) => {
+                text.extend_from_slice(self.class_name(class))?;
+                push_words(text, ".class")
+            }
+            None => self.push_numbered(text, kind, object),
+        }
+    }
 }

@@ -1,6 +1,6 @@
 //! The parts of a line.
 
-ghost use Rattle.std.specs.Prelude.{◌≡◌, ◌∷◌, ◌++◌, OnOk};
+ghost use Rattle.std.specs.Prelude.{◌≡◌, ◌++◌, OnOk};
 ghost use Rattle.traces.specs.Lines.{end_words, head_words, indent, part};
 
 use crate::form::Form;

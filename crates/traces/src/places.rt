@@ -8,10 +8,9 @@ ghost use Rattle.traces.specs.Lines.{class_in, frame_in, instruction_words, mean
 
 use crate::form::Form;
 use crate::json::{push_number_member, push_text_member};
+use crate::names::ProgramNames;
 use crate::numbers::{push_number, push_words};
-use crate::teller::Teller;
 use crate::traced_events::{Before, FrameBefore};
-use classfile::source_lines::{line_at, source_file};
 use listings::disasm::push_meaning;
 use std::alloc::AllocError;
 use types::method_code::MethodCode;
@@ -19,19 +18,19 @@ use types::method_code::MethodCode;
 /// ` Counter.run 12`, of a frame.
 pub(crate) fn push_frame(
     text: &mut Vec<u8>,
-    teller: &Teller<'_>,
+    names: &ProgramNames<'_>,
     form: Form,
     frame: FrameBefore,
 ) -> Result<(), AllocError>
-    ensures { (method : _) → IsMethodAt teller.now.linked.now frame.method method
+    ensures { (method : _) → IsMethodAt names.now.linked.now frame.method method
         → OnOk result (text.new.items ≡ text.old.items ++ frame_in form method frame.offset) }
 {
     if let Form::Json = form {
-        teller.push_method_members(text, frame.method)?;
+        names.push_method_members(text, frame.method)?;
         return push_number_member(text, "offset", u64::from(frame.offset));
     }
     push_words(text, " ")?;
-    teller.push_method(text, frame.method)?;
+    names.push_method(text, frame.method)?;
     push_words(text, " ")?;
     push_number(text, u64::from(frame.offset))
 }
@@ -60,52 +59,32 @@ fn push_nowhere(text: &mut Vec<u8>, form: Form) -> Result<(), AllocError>
 /// Where the thread stands: in a method, in the initialisation of a class, or nowhere.
 pub(crate) fn push_place(
     text: &mut Vec<u8>,
-    teller: &Teller<'_>,
+    names: &ProgramNames<'_>,
     form: Form,
     before: &Before,
 ) -> Result<(), AllocError>
-    ensures { (stack : _) → Sees teller.now.linked.now before.now.frame before.now.class stack
+    ensures { (stack : _) → Sees names.now.linked.now before.now.frame before.now.class stack
         → OnOk result (text.new.items ≡ text.old.items ++ place_in form stack) }
 {
     if let Some(frame) = before.frame {
-        return push_frame(text, teller, form, frame);
+        return push_frame(text, names, form, frame);
     }
     match before.class {
-        Some(class) => push_class(text, form, teller.class_name(u32::from(class))),
+        Some(class) => push_class(text, form, names.class_name(u32::from(class))),
         None => push_nowhere(text, form),
     }
 }
 
-/// `Counter.java:12`, where the class file tells it.
-fn push_line_of(
-    text: &mut Vec<u8>,
-    method: &MethodCode<'_>,
-    offset: u16,
-) -> Result<(), AllocError> {
-    let Some(source) = source_file(method.file()) else {
-        return Ok(());
-    };
-    let Some(line) = line_at(method.file(), method.code(), offset) else {
-        return Ok(());
-    };
-    text.extend_from_slice(source)?;
-    text.push(b':')?;
-    push_number(text, u64::from(line))
-}
-
-/// The same of the frame on top.
+/// `Counter.java:12`, of the frame on top, where the class file tells it.
 pub(crate) fn push_source(
     text: &mut Vec<u8>,
-    teller: &Teller<'_>,
+    names: &ProgramNames<'_>,
     before: &Before,
 ) -> Result<(), AllocError> {
-    let Some(frame) = before.frame else {
-        return Ok(());
-    };
-    match teller.method(frame.method) {
-        Some(method) => push_line_of(text, &method, frame.offset),
-        None => Ok(()),
+    if let Some(frame) = before.frame {
+        let _is_told = names.push_source_line(text, frame.method, frame.offset)?;
     }
+    Ok(())
 }
 
 /// The instruction at an offset as a listing has it.
@@ -126,16 +105,16 @@ fn push_meaning_in(
 /// The instruction of the frame on top.
 pub(crate) fn push_instruction(
     text: &mut Vec<u8>,
-    teller: &Teller<'_>,
+    names: &ProgramNames<'_>,
     before: &Before,
 ) -> Result<(), AllocError>
-    ensures { (stack : _) → Sees teller.now.linked.now before.now.frame before.now.class stack
-        → OnOk result (text.new.items ≡ text.old.items ++ instruction_words teller.now.linked.now stack) }
+    ensures { (stack : _) → Sees names.now.linked.now before.now.frame before.now.class stack
+        → OnOk result (text.new.items ≡ text.old.items ++ instruction_words names.now.linked.now stack) }
 {
     let Some(frame) = before.frame else {
         return Ok(());
     };
-    match teller.method(frame.method) {
+    match names.method(frame.method) {
         Some(method) => push_meaning_in(text, &method, frame.offset),
         None => Ok(()),
     }

@@ -1,13 +1,12 @@
 //! Threads.
 
+use crate::names::ProgramNames;
 use crate::numbers::{push_number, push_words};
-use crate::objects::push_object;
-use crate::teller::Teller;
 use machine_state::Shared;
 use std::alloc::AllocError;
 
-/// `thread 1`.
-pub(crate) fn push_thread(text: &mut Vec<u8>, thread: u16) -> Result<(), AllocError> {
+/// Writes a thread by its number behind a text: `thread 1`.
+pub fn push_thread(text: &mut Vec<u8>, thread: u16) -> Result<(), AllocError> {
     push_words(text, "thread ")?;
     push_number(text, u64::from(thread))
 }
@@ -15,13 +14,13 @@ pub(crate) fn push_thread(text: &mut Vec<u8>, thread: u16) -> Result<(), AllocEr
 /// The thread of a Thread object, or the object, where its thread was not started.
 pub(crate) fn push_thread_of(
     text: &mut Vec<u8>,
-    teller: &Teller<'_>,
+    names: &ProgramNames<'_>,
     shared: &Shared,
     object: u32,
 ) -> Result<(), AllocError> {
     match shared.threads.number(object) {
         Some(thread) => push_thread(text, thread),
-        None => push_object(text, teller, &shared.heap, object),
+        None => names.push_object(text, &shared.heap, object),
     }
 }
 

@@ -1,21 +1,20 @@
 //! Values.
 
+use crate::names::ProgramNames;
 use crate::numbers::{push_signed, push_words};
-use crate::objects::push_object;
 use crate::sorts::Sort;
-use crate::teller::Teller;
 use heap::Heap;
 use std::alloc::AllocError;
 
 /// A reference: `null`, or its object.
 fn push_reference(
     text: &mut Vec<u8>,
-    teller: &Teller<'_>,
+    names: &ProgramNames<'_>,
     heap: &Heap,
     word: u32,
 ) -> Result<(), AllocError> {
     match word.checked_sub(1) {
-        Some(object) => push_object(text, teller, heap, object),
+        Some(object) => names.push_object(text, heap, object),
         None => push_words(text, "null"),
     }
 }
@@ -23,7 +22,7 @@ fn push_reference(
 /// The value that a word stands for.
 pub(crate) fn push_value(
     text: &mut Vec<u8>,
-    teller: &Teller<'_>,
+    names: &ProgramNames<'_>,
     heap: &Heap,
     sort: Sort,
     word: u32,
@@ -31,6 +30,6 @@ pub(crate) fn push_value(
     match sort {
         Sort::Int => push_signed(text, word.cast_signed()),
         Sort::Boolean => push_words(text, if word == 0 { "false" } else { "true" }),
-        Sort::Reference => push_reference(text, teller, heap, word),
+        Sort::Reference => push_reference(text, names, heap, word),
     }
 }

@@ -1,9 +1,8 @@
 //! In words what an event did.
 
+use crate::names::ProgramNames;
 use crate::numbers::{push_number, push_ordinal, push_signed, push_words};
-use crate::objects::push_object;
 use crate::sorts::Sort;
-use crate::teller::Teller;
 use crate::threads::{push_thread_of, push_threads};
 use crate::traced_events::{Before, Deed, Entries, Told};
 use crate::values::push_value;
@@ -15,7 +14,7 @@ use std::alloc::AllocError;
 /// What the words are made of: the names, the state after the event, and of the instruction the field that it names and what its word is.
 #[derive(Clone, Copy)]
 pub(crate) struct Words<'t, 'l, 's, 'f> {
-    pub(crate) teller: &'t Teller<'l>,
+    pub(crate) names: &'t ProgramNames<'l>,
     pub(crate) shared: &'s Shared,
     pub(crate) field: Option<Reference<'f>>,
     pub(crate) sort: Sort,
@@ -23,11 +22,11 @@ pub(crate) struct Words<'t, 'l, 's, 'f> {
 
 impl Words<'_, '_, '_, '_> {
     fn object(&self, text: &mut Vec<u8>, object: u32) -> Result<(), AllocError> {
-        push_object(text, self.teller, &self.shared.heap, object)
+        self.names.push_object(text, &self.shared.heap, object)
     }
 
     fn value(&self, text: &mut Vec<u8>, word: u32) -> Result<(), AllocError> {
-        push_value(text, self.teller, &self.shared.heap, self.sort, word)
+        push_value(text, self.names, &self.shared.heap, self.sort, word)
     }
 
     /// `reads Counter.n = 1`, `writes Point.x of Point #34 = 1`.
@@ -119,7 +118,7 @@ impl Words<'_, '_, '_, '_> {
         entered: Option<Entries>,
     ) -> Result<(), AllocError> {
         push_words(text, "calls ")?;
-        self.teller.push_method(text, method)?;
+        self.names.push_method(text, method)?;
         match entered {
             Some(entries) => {
                 push_words(text, ", ")?;
@@ -152,13 +151,13 @@ impl Words<'_, '_, '_, '_> {
     /// Words and a thread behind them.
     fn of_thread(&self, text: &mut Vec<u8>, verb: &str, object: u32) -> Result<(), AllocError> {
         push_words(text, verb)?;
-        push_thread_of(text, self.teller, self.shared, object)
+        push_thread_of(text, self.names, self.shared, object)
     }
 
     /// Words and a class behind them.
     fn of_class(&self, text: &mut Vec<u8>, verb: &str, class: u16) -> Result<(), AllocError> {
         push_words(text, verb)?;
-        Ok(text.extend_from_slice(self.teller.class_name(u32::from(class)))?)
+        Ok(text.extend_from_slice(self.names.class_name(u32::from(class)))?)
     }
 
     fn notifies(&self, text: &mut Vec<u8>, threads: &[u16]) -> Result<(), AllocError> {
@@ -203,7 +202,7 @@ impl Words<'_, '_, '_, '_> {
         exited: Option<Entries>,
     ) -> Result<(), AllocError> {
         push_words(text, "leaves ")?;
-        self.teller.push_method(text, method)?;
+        self.names.push_method(text, method)?;
         self.of_object(text, " by ", exception)?;
         self.also_exits(text, exited)
     }
@@ -245,7 +244,7 @@ impl Words<'_, '_, '_, '_> {
             Deed::Returns { word, exited } => self.returns(text, word, exited),
             Deed::Runs { method } => {
                 push_words(text, "runs ")?;
-                self.teller.push_method(text, method)
+                self.names.push_method(text, method)
             }
             Deed::Catches { exception, offset } => self.catches(text, exception, offset),
             Deed::Leaves {

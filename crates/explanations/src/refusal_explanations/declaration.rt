@@ -5,7 +5,7 @@ use classfile::{ClassFile, Method};
 use hierarchy::ClassSet;
 
 /// The name of the class behind the brackets of an array's descriptor, or the name itself.
-pub(crate) fn innermost(name: &[u8]) -> &[u8] {
+fn innermost(name: &[u8]) -> &[u8] {
     if name.first().copied() != Some(b'[') {
         return name;
     }
@@ -34,13 +34,18 @@ pub(crate) fn lacking_in<'a>(set: &ClassSet, descriptor: &'a [u8]) -> Option<&'a
     None
 }
 
-/// The class of an index, where it is not in the set.
-fn lacking_class<'a>(set: &ClassSet, file: &'a ClassFile, index: u16) -> Option<&'a [u8]> {
-    let name = innermost(file.class_name(index)?);
-    if name.is_empty() || set.class_of(name).is_some() {
+/// The class of a name, or of the elements of an array of this descriptor, where it is not in the set.
+pub(crate) fn lacking_name<'a>(set: &ClassSet, name: &'a [u8]) -> Option<&'a [u8]> {
+    let class = innermost(name);
+    if class.is_empty() || set.class_of(class).is_some() {
         return None;
     }
-    Some(name)
+    Some(class)
+}
+
+/// The class of an index, where it is not in the set.
+fn lacking_class<'a>(set: &ClassSet, file: &'a ClassFile, index: u16) -> Option<&'a [u8]> {
+    lacking_name(set, file.class_name(index)?)
 }
 
 /// The first class that is not in the set of those that the class names above itself and in its fields, and what names

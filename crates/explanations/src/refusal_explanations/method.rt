@@ -34,3 +34,8 @@ pub(crate) fn code_of(method: &Method) -> Option<&Code> {
     }
     None
 }
+
+/// The code of the method with this text.
+pub(crate) fn code_called<'a>(file: &'a ClassFile, text: &[u8]) -> Option<&'a Code> {
+    code_of(method_called(file, text)?)
+}

@@ -2,23 +2,19 @@
 
 use crate::refusal_explanations::instruction::say_instruction;
 use crate::refusal_explanations::line::Line;
-use crate::refusal_explanations::method::{class_name, code_of, method_called};
+use crate::refusal_explanations::method::{class_name, code_called};
 use classfile::ClassFile;
 use classfile::profile::{Place, first_fault};
 use std::alloc::{AllocError, Global};
 
-/// Adds the instruction at an offset of a method.
+/// Adds the instruction at an offset of a method, and where it stands.
 pub(crate) fn say_place(
     line: &mut Line,
     file: &ClassFile,
     method: &[u8],
     pc: usize,
 ) -> Result<(), AllocError> {
-    let code = match method_called(file, method) {
-        Some(method) => code_of(method),
-        None => None,
-    };
-    match code {
+    match code_called(file, method) {
         Some(code) => say_instruction(line, file, &code.code, pc)?,
         None => line.say("an instruction")?,
     }

@@ -1,11 +1,12 @@
 //! Names that are not found.
 
 use crate::refusal_explanations::declaration::{
-    innermost, lacking_above, lacking_in, lacking_in_method,
+    lacking_above, lacking_in, lacking_in_method, lacking_name,
 };
-use crate::refusal_explanations::instruction::{Named, named_at, say_instruction};
+use crate::refusal_explanations::instruction::{Named, named_at};
 use crate::refusal_explanations::line::Line;
-use crate::refusal_explanations::method::{class_name, code_of, method_called};
+use crate::refusal_explanations::method::{class_name, code_called, method_called};
+use crate::refusal_explanations::outside::say_place;
 use classfile::ClassFile;
 use hierarchy::ClassSet;
 use std::alloc::AllocError;
@@ -15,8 +16,7 @@ const MOST: usize = 65_536;
 
 /// The class that an instruction names and the set lacks.
 fn lacking_class<'a>(set: &ClassSet, named: &Named<'a>) -> Option<&'a [u8]> {
-    let class = innermost(named.class);
-    if !class.is_empty() && set.class_of(class).is_none() {
+    if let Some(class) = lacking_name(set, named.class) {
         return Some(class);
     }
     let (_, descriptor) = named.member?;
@@ -102,23 +102,36 @@ fn say_in_code(
     text: &[u8],
     pc: usize,
 ) -> Result<(), AllocError> {
-    let code = match method_called(file, text) {
-        Some(method) => code_of(method),
-        None => None,
-    };
-    let Some(code) = code else {
+    let Some(code) = code_called(file, text) else {
         return line.say("a name of an instruction is not found");
     };
     if let Some(named) = named_at(file, &code.code, pc) {
         say_named(line, set, &named)?;
         line.say("; ")?;
     }
-    say_instruction(line, file, &code.code, pc)?;
-    line.say(" at offset ")?;
-    line.number(pc)?;
-    line.say(" of ")?;
-    line.name(text)?;
+    say_place(line, file, text, pc)?;
     line.say(" names it")
+}
+
+/// Adds which class isn't found that a method or a class names, and where it names it. The sort of the two stands before its name.
+fn say_lacking(
+    line: &mut Line,
+    lacking: Option<(&[u8], &'static str)>,
+    sort: &str,
+    by: &[u8],
+) -> Result<(), AllocError> {
+    let Some((name, place)) = lacking else {
+        line.say("a name of ")?;
+        line.say(sort)?;
+        line.name(by)?;
+        return line.say(" is not found");
+    };
+    say_class(line, name)?;
+    line.say("; ")?;
+    line.say(sort)?;
+    line.name(by)?;
+    line.say(" names it ")?;
+    line.say(place)
 }
 
 /// Adds what a method names outside of its instructions that isn't found.
@@ -132,30 +145,17 @@ fn say_in_method(
         Some(method) => lacking_in_method(set, file, method),
         None => None,
     };
-    let Some((name, place)) = lacking else {
-        line.say("a name of the method ")?;
-        line.name(text)?;
-        return line.say(" is not found");
-    };
-    say_class(line, name)?;
-    line.say("; the method ")?;
-    line.name(text)?;
-    line.say(" names it ")?;
-    line.say(place)
+    say_lacking(line, lacking, "the method ", text)
 }
 
 /// Adds what a class names above itself or in its fields that isn't found.
 fn say_in_class(line: &mut Line, set: &ClassSet, file: &ClassFile) -> Result<(), AllocError> {
-    let Some((name, place)) = lacking_above(set, file) else {
-        line.say("a name of the class ")?;
-        line.name(class_name(file))?;
-        return line.say(" is not found");
-    };
-    say_class(line, name)?;
-    line.say("; the class ")?;
-    line.name(class_name(file))?;
-    line.say(" names it ")?;
-    line.say(place)
+    say_lacking(
+        line,
+        lacking_above(set, file),
+        "the class ",
+        class_name(file),
+    )
 }
 
 /// Adds what isn't found, and what names it.

@@ -9,10 +9,7 @@ use machine_state::method_selection::method_at;
 use machine_state::{ClassStatus, Shared};
 use machine_threads::instruction_needs::class_needed;
 use model::EndState;
-
-/// The first of the Class objects, which stand in the order of the classes behind the PrintStream of System.out, the arguments and
-/// the Thread of `main`.
-const FIRST_CLASS_OBJECT: u32 = 3;
+use traces::class_object_of;
 
 /// The thread that runs `main`.
 const MAIN_THREAD: u16 = 0;
@@ -36,11 +33,6 @@ pub(crate) enum Awaited {
 /// The object of the reference under so many operands.
 fn object_under(frame: Option<&Frame>, operands: usize) -> Option<u32> {
     frame?.operand(operands).checked_sub(1)
-}
-
-/// The Class object of a class.
-fn class_object_of(class: u16) -> u32 {
-    FIRST_CLASS_OBJECT + u32::from(class)
 }
 
 /// The Class object of the class that declares a method.

@@ -2,10 +2,10 @@
 
 use crate::thread_explanations::awaited::Awaited;
 use crate::thread_explanations::cycles::cycles;
-use crate::thread_explanations::lines::{ThreadFacts, push_thread};
+use crate::thread_explanations::lines::ThreadFacts;
 use model::EndState;
 use std::alloc::{AllocError, Global};
-use traces::program_names::push_words;
+use traces::{push_thread, push_words};
 
 /// For which thread each one waits.
 fn waits_of(alloc: Global, threads: &[ThreadFacts]) -> Result<Vec<Option<u16>>, AllocError> {

@@ -18,7 +18,7 @@ use model::{EndState, Limits};
 use schedule::Schedule;
 use std::alloc::{AllocError, Global};
 use std::sync::Arc;
-use traces::program_names::ProgramNames;
+use traces::ProgramNames;
 
 /// What is told of the threads of a run, in lines.
 #[derive(Drop)]

@@ -15,18 +15,9 @@ use linker::Linked;
 use machine::machine_replay::replay;
 use model::{EndState, Limits};
 use schedule::Schedule;
-use schedule::report::push_thread;
+use schedule::report::{push_line, push_thread};
 use std::alloc::{AllocError, Global};
 use std::sync::Arc;
-
-/// A line with its end.
-fn push_line(text: &mut Vec<u8>, words: &[u8]) -> Result<(), AllocError>
-    ensures { OnOk result (text.new.items ≡ text.old.items ++ line words.now) }
-{
-    text.extend_from_slice(words)?;
-    text.push(b'\n')?;
-    Ok(())
-}
 
 /// Lines.
 fn push_lines(text: &mut Vec<u8>, lines: &[Vec<u8>]) -> Result<(), AllocError>

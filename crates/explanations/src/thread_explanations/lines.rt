@@ -7,7 +7,7 @@ use machine_state::Shared;
 use machine_state::method_selection::class_of_kind;
 use model::EndState;
 use std::alloc::{AllocError, Global};
-use traces::program_names::{ProgramNames, push_number, push_words};
+use traces::{ProgramNames, push_number, push_thread, push_words};
 
 /// A thread in the state to which a run came.
 #[derive(Drop)]
@@ -29,12 +29,6 @@ pub(crate) struct Facts<'a> {
     pub(crate) shared: &'a Shared,
     pub(crate) threads: &'a [ThreadFacts],
     pub(crate) ends: &'a [EndState],
-}
-
-/// A thread by its number: `thread 1`.
-pub(crate) fn push_thread(text: &mut Vec<u8>, thread: u16) -> Result<(), AllocError> {
-    push_words(text, "thread ")?;
-    push_number(text, usize::from(thread))
 }
 
 impl Facts<'_> {
@@ -68,7 +62,7 @@ impl Facts<'_> {
         let more = stack.count.saturating_sub(stack.told.len());
         if more > 0 {
             let mut line = Vec::from_slice(self.alloc, b"and ")?;
-            push_number(&mut line, more)?;
+            push_number(&mut line, more as u64)?;
             push_words(&mut line, " more")?;
             lines.push(line)?;
         }

@@ -41,43 +41,38 @@ fn exception_of(shared: &Shared, thread: u16) -> Option<u32> {
     }
 }
 
-/// A watch for each thread, on the exception that ended it. None where no thread was ended by one.
-fn watches_of(alloc: Global, shared: &Shared) -> Result<Option<Vec<Watch>>, AllocError> {
+/// A watch for each thread, on the exception that ended it.
+fn watches_of(alloc: Global, shared: &Shared) -> Result<Vec<Watch>, AllocError> {
     let mut watches = Vec::new(alloc);
-    let mut any = false;
     for thread in 0..shared.threads.len() {
-        let exception = exception_of(shared, thread as u16);
-        any = any || exception.is_some();
-        watches.push(Watch::new(alloc, exception))?;
+        watches.push(Watch::new(alloc, exception_of(shared, thread as u16)))?;
     }
-    Ok(if any { Some(watches) } else { None })
+    Ok(watches)
 }
 
-/// A watch for each thread, on the exception that is the cause of what was thrown there. None where there is no such exception.
-fn causes_of(alloc: Global, watches: &[Watch]) -> Result<Option<Vec<Watch>>, AllocError> {
+/// A watch for each thread, on the exception that is the cause of what was thrown there.
+fn causes_of(alloc: Global, watches: &[Watch]) -> Result<Vec<Watch>, AllocError> {
     let mut causes = Vec::new(alloc);
-    let mut any = false;
     for watch in watches {
-        let cause = watch.cause();
-        any = any || cause.is_some();
-        causes.push(Watch::new(alloc, cause))?;
+        causes.push(Watch::new(alloc, watch.cause()))?;
     }
-    Ok(if any { Some(causes) } else { None })
+    Ok(causes)
 }
 
-/// Does the events of the schedule once more, and looks at those that the watches are for.
+/// Does the events of the schedule once more, and looks at those that the watches are for. Does none where no watch is for one.
 fn watched(
     alloc: Global,
     program: &Arc<LinkedProgram>,
     schedule: &Schedule,
     limits: Limits,
-    watches: Option<Vec<Watch>>,
+    watches: Vec<Watch>,
 ) -> Result<Vec<Watch>, AllocError>
     requires { IsOfAccepted (arc_value program.now) }
 {
-    let Some(mut watches) = watches else {
-        return Ok(Vec::new(alloc));
-    };
+    if !watches.iter().any(|watch| watch.is_seeking()) {
+        return Ok(watches);
+    }
+    let mut watches = watches;
     let mut machine = Machine::open(alloc, Arc::try_clone(program)?, limits)?;
     follow(alloc, &mut machine, schedule, &mut watches)?;
     Ok(watches)
@@ -116,8 +111,8 @@ fn stack_of(throw: Option<Throw>) -> Option<StackPlaces> {
     }
 }
 
-/// Of each thread, by its number, from where the exception was thrown that ended it. The run is done once more for it, and once again
-/// where one of them has a cause. None where no thread was ended by one.
+/// Of each thread, by its number, from where the exception was thrown that ended it. Where there is one, the run is done once more for
+/// it, and once again where one of them has a cause.
 pub(crate) fn throws_of(
     alloc: Global,
     program: &Arc<LinkedProgram>,

@@ -2,9 +2,9 @@
 
 use crate::thread_explanations::stacks::{FramePlace, StackPlaces};
 use heap::java_threads::ThreadStatus;
-use linked_code::thread_stacks::{ThreadStack, Top};
 use machine_state::Shared;
 use std::alloc::{AllocError, Global};
+use traces::traced_events::class_on_top;
 
 /// What was seen of the event at which an exception was thrown.
 #[derive(Drop)]
@@ -37,14 +37,6 @@ fn thrown_in(shared: &Shared, thread: u16) -> Option<u32> {
     match shared.threads.status(thread) {
         ThreadStatus::Ended(exception) => exception,
         _ => shared.threads.pending(thread),
-    }
-}
-
-/// The class on top of a stack, by its number, if a class is on top.
-fn class_on_top(stack: &ThreadStack) -> Option<u16> {
-    match stack.top() {
-        Top::Initialisation { class, .. } => Some(class),
-        Top::Empty | Top::Invocation => None,
     }
 }
 

@@ -1,5 +1,5 @@
 -- A schedule, and a run behind it.
-use Rattle.std.proofs.Common.{◌≡◌, ◌⊎◌, ◌≤◌, ◌+◌, ℕ, List, [], ◌++◌, Option, Some, None, Result, Ok, Err, length, inl, inr, refl, sym, ap, subst, ◌∙◌, arith}
+use Rattle.std.proofs.Common.{◌≡◌, ◌⊎◌, ◌≤◌, ◌+◌, ℕ, List, [], ◌++◌, Some, length, inl, inr, refl, ap, subst, ◌∙◌, arith}
 use Rattle.std.proofs.lemmas.List.{length-append}
 use Rattle.model.specs.declared.event.Event.{Event}
 use Rattle.model.specs.declared.limits.Limits.{Limits}
@@ -13,7 +13,7 @@ use Rattle.program_runs.specs.declared.worlds.records.Recorded.{Recorded}
 use Rattle.program_runs.specs.worlds.Worlds.{WorldOf, IsNew}
 use Rattle.machine.specs.schedule_runs.Done.{EndsBy}
 use Rattle.program_runs.specs.worlds.Records.{IsRecordOf, Keeps}
-use Rattle.program_runs.specs.continued_runs.Following.{Stands, StopsBy, Follows}
+use Rattle.program_runs.specs.continued_runs.Following.{Stands, Follows}
 use Rattle.program_runs.specs.continued_runs.Turns.{AreInTurn, TakesTurns}
 use Rattle.program_runs.specs.continued_runs.Continuing.{Continues, IsStuck}
 

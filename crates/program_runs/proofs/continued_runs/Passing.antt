@@ -10,7 +10,6 @@ use Rattle.model.specs.Classes.{Program}
 use Rattle.model.specs.LimitStands.{bounds_of}
 use Rattle.machine.specs.declared.machine.Stopped.{Stopped}
 use Rattle.machine.specs.declared.machine.Stopped.TheVariants as stopped
-use Rattle.machine.specs.Machines.{MachineOf}
 use Rattle.machine.specs.schedule_runs.Done.{OfNext, EndsBy}
 use Rattle.program_runs.specs.worlds.Worlds.{WorldOf, IsOfSame, HasRepeated, RepeatsWithin}
 use Rattle.program_runs.specs.continued_runs.Following.{Stands, StopsBy, Follows}

@@ -1,6 +1,6 @@
 -- Threads go on in turn.
-use Rattle.std.proofs.Common.{◌≡◌, ◌<◌, ◌≤◌, ◌-◌, ℕ, List, [], ◌∷◌, ◌++◌, Option, Some, None, length, replicate, refl, sym, ap, subst, ◌∙◌, arith}
-use Rattle.std.specs.Prelude.{Bool, true, false, is_some, min}
+use Rattle.std.proofs.Common.{◌≡◌, ◌-◌, ℕ, List, [], ◌∷◌, ◌++◌, Option, Some, None, length, replicate, refl, sym, ap, subst, ◌∙◌, arith}
+use Rattle.std.specs.Prelude.{Bool, true, false, is_some}
 use Rattle.std.proofs.lemmas.List.{append-nil, append_assoc, length-append, length-replicate}
 use Rattle.std.proofs.Math.Nat.{min-le_left}
 use Rattle.model.specs.declared.end.End.{End}
@@ -11,7 +11,7 @@ use Rattle.model.specs.Run.{run}
 use Rattle.model.specs.State.{State}
 use Rattle.machine.specs.Tops.{plain}
 use Rattle.program_runs.specs.worlds.Turns.{IsNext}
-use Rattle.program_runs.specs.worlds.Worlds.{WorldOf, Holds, IsOfSame, HasShared, HasEnded, TakesTurn}
+use Rattle.program_runs.specs.worlds.Worlds.{WorldOf, Holds, IsOfSame, HasShared, TakesTurn}
 use Rattle.program_runs.specs.continued_runs.Turns.{behind, AreInTurn, TakesTurns}
 use Rattle.program_runs.proofs.continued_runs.Passing.{joined}
 

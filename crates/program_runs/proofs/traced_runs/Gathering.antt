@@ -1,15 +1,12 @@
 -- Lines of events, one behind the other, and how they are gathered and written.
-use Rattle.std.proofs.Common.{◌≡◌, ◌≤◌, ◌<◌, ◌+◌, inl, ℕ, zero, suc, List, [], ◌∷◌, ◌++◌, flat_map, length, length-append, replicate, Bool, true, false, Option, refl, sym, ap, subst, ◌∙◌, append_assoc, arith}
-use Rattle.std.specs.Io.KnownBytes.{Appends}
+use Rattle.std.proofs.Common.{◌≡◌, ◌≤◌, ◌<◌, ◌+◌, inl, ℕ, zero, suc, List, [], ◌∷◌, ◌++◌, flat_map, length, length-append, replicate, Bool, false, Option, refl, sym, ap, subst, ◌∙◌, append_assoc, arith}
 use Rattle.std.proofs.lemmas.List.{append-nil}
 use Rattle.std.proofs.lemmas.List.Concat.{flat_map-append}
 use Rattle.model.specs.declared.event.Event.{Event}
 use Rattle.model.specs.Classes.{Program}
 use Rattle.model.specs.Devices.{AppendsFront}
 use Rattle.listings.proofs.disasm.Writing.{nothing_on, appends_on, then_fails}
-use Rattle.machine.specs.declared.machine.Stopped.{Stopped}
-use Rattle.machine.specs.declared.machine.Stopped.TheVariants as stopped
-use Rattle.program_runs.specs.traced_runs.Telling.{AddsOne, AreTold, Gathers, times}
+use Rattle.program_runs.specs.traced_runs.Telling.{Gathers}
 use Rattle.program_runs.specs.traced_runs.Traces.{Tells, TellsGroup, TellsGroups, TellsIf}
 use Rattle.program_runs.specs.traced_runs.Windows.{is_told}
 use Rattle.program_runs.specs.declared.traced_runs.window.Window.{Window}

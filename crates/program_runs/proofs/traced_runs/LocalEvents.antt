@@ -27,14 +27,13 @@ use Rattle.linked_code.specs.declared.instruction.LinkedInstruction.TheVariants 
 use Rattle.linked_code.specs.declared.method.LinkedCode.{LinkedCode}
 use Rattle.linked_code.specs.declared.program.LinkedProgram.{LinkedProgram}
 use Rattle.linked_code.specs.Linked.{IsLinked, offset_in}
-use Rattle.linked_code.specs.LocalRows.{IsLocal, IsRowOf}
 use Rattle.linked_code.specs.thread_stacks.Stacks.{ShownFrame, ShownEntry, Invocation, Initialisation, IsTopFrame}
 use Rattle.machine_state.specs.shown_stacks.Shown.{ShowsStack}
 use Rattle.machine_state.specs.declared.state.Shared.{Shared}
-use Rattle.machine_state.specs.Shown.{IsProgram, IsLent}
+use Rattle.machine_state.specs.Shown.{IsLent}
 use Rattle.machine_state.specs.linked_frames.Frames.{AreFramesStanding, IsInstruction, IsRunning}
 use Rattle.machine_state.proofs.linked_frames.Frames.{slots_are, top_frame}
-use Rattle.machine_state.specs.state_events.Whole.{AreStacksLent, IsShown}
+use Rattle.machine_state.specs.state_events.Whole.{AreStacksLent}
 use Rattle.machine_state.proofs.state_events.Places.{set_same}
 use Rattle.machine_instructions.specs.local_instructions.Local as instructions
 use Rattle.machine.specs.Machines.{MachineOf}

@@ -1,5 +1,5 @@
 -- Events that were done and told, some after others.
-use Rattle.std.proofs.Common.{◌≡◌, ◌≤◌, ◌<◌, ◌+◌, ◌-◌, ℕ, zero, suc, List, [], ◌∷◌, ◌++◌, length, length-append, take, drop, replicate, Bool, true, false, Option, Some, refl, sym, ap, subst, ◌∙◌, append_assoc, take-append-drop, arith}
+use Rattle.std.proofs.Common.{◌≡◌, ◌≤◌, ◌<◌, ◌+◌, ◌-◌, ℕ, List, [], ◌∷◌, ◌++◌, length, length-append, take, replicate, true, false, Some, refl, sym, ap, subst, ◌∙◌, append_assoc, arith}
 use Rattle.std.specs.Prelude.{OnErr, Result, Ok, Err}
 use Rattle.std.specs.Io.KnownBytes.{Appends}
 use Rattle.std.proofs.Math.Seq.{take-append-add, take-append_seam}
@@ -16,7 +16,8 @@ use Rattle.machine.specs.Machines.{MachineOf}
 use Rattle.machine.specs.schedule_runs.Done.{EndsBy, GoesThrough, HasDone, HasGone, OfNext}
 use Rattle.machine.proofs.schedule_runs.Joined.{IsPassed, begins, goes_on, stops, all_done}
 use Rattle.listings.proofs.disasm.Writing.{none_written}
-use Rattle.program_runs.specs.traced_runs.Telling.{AddsOne, AfterRun, AreCutShort, AreTold, Gathers, HasTold, StopsShort, times, tried}
+use Rattle.traces.specs.declared.form.Form.{Form}
+use Rattle.program_runs.specs.traced_runs.Telling.{AddsOne, AfterRun, AreTold, Gathers, HasTold, StopsShort, times, tried}
 use Rattle.program_runs.specs.traced_runs.Traces.{Tells, TellsIf}
 use Rattle.program_runs.specs.traced_runs.Windows.{is_told}
 use Rattle.program_runs.specs.declared.traced_runs.window.Window.{Window}
@@ -66,10 +67,12 @@ module _ (trees : Program) (window : Window) (old : MachineOf) (count : ℕ) (ev
 
   pub line_told : (why : Stopped) (new : MachineOf) (held : Held) (before now : List ℕ) → is_told window count event.thread ≡ true
       → GoesThrough (times why, why) (event ∷ []) old new
-      → AfterRun trees old count (λ done. AddsOne why window.form trees old.limits.frames before now done event)
+      → (form : Form) → form ≡ window.form
+      → AfterRun trees old count (λ done. AddsOne why form trees old.limits.frames before now done event)
       → HasTold trees window old count (event ∷ []) (times why) why new held held before now
-  line_told why new held before now told goes adds =
-      record { goes = goes; told = λ files done has at. line_of old.limits.frames done at told why held before now (adds files done has at) }
+  line_told why new held before now told goes form same adds =
+      let here = subst (λ (f : Form). AfterRun trees old count (λ done. AddsOne why f trees old.limits.frames before now done event)) same adds in
+      record { goes = goes; told = λ files done has at. line_of old.limits.frames done at told why held before now (here files done has at) }
 
 -- ---- an event again and again that is not told
 
@@ -135,7 +138,7 @@ none_yet trees window m count held before =
 
 module _ (trees : Program) (window : Window) (m : MachineOf) (count : ℕ) (schedule : List Event) (n : ℕ) (between : MachineOf)
     (old mid : Held) (before gathered : List ℕ)
-    (so_far : HasPassed trees window m count schedule n between old mid before gathered) where
+    (so_far : HasPassed trees window m count schedule n between old mid before gathered) (number : ℕ) (here : number ≡ count + n) where
   same_frames : between.limits.frames ≡ m.limits.frames
   same_frames = ap (λ (x : MachineOf). x.limits.frames) so_far.passed.same
 
@@ -144,8 +147,8 @@ module _ (trees : Program) (window : Window) (m : MachineOf) (count : ℕ) (sche
     passed_is : (n ≡ length schedule) × HasDone between files trees (done ++ schedule)
     passed_is = so_far.passed.done files trees done has
 
-    behind : length (done ++ schedule) ≡ count + n
-    behind = omega (arith, passed_is.0, at, length-append done schedule)
+    behind : length (done ++ schedule) ≡ number
+    behind = omega (arith, passed_is.0, at, here, length-append done schedule)
 
     both_told : (more : List Event) (new : Held) (now : List ℕ)
         → AreTold trees between.limits.frames window (done ++ schedule) more mid new gathered now
@@ -158,7 +161,7 @@ module _ (trees : Program) (window : Window) (m : MachineOf) (count : ℕ) (sche
           gathers_on old mid new before gathered now first.0 then.0 first.2 then.2,
         )
 
-  module _ (more : List Event) (k : ℕ) (why : Stopped) (after : MachineOf) (new : Held) (now : List ℕ) (next : HasTold trees window between (count + n) more k why after mid new gathered now) where
+  module _ (more : List Event) (k : ℕ) (why : Stopped) (after : MachineOf) (new : Held) (now : List ℕ) (next : HasTold trees window between number more k why after mid new gathered now) where
     within : (files : List (List ℕ)) (done : List Event) → HasDone m files trees done → k ≤ length more
     within files done has =
         let gone = next.goes.1 files trees (done ++ schedule) (so_far.passed.done files trees done has).1 in
@@ -183,15 +186,16 @@ module _ (trees : Program) (window : Window) (m : MachineOf) (count : ℕ) (sche
         }
 
   -- all of them were done
-  pub told_on : (more : List Event) (k : ℕ) (after : MachineOf) (new : Held) (now : List ℕ)
-      → HasTold trees window between (count + n) more k stopped.Most after mid new gathered now
+  pub told_on : (more : List Event) (k : ℕ) (why : Stopped) → why ≡ stopped.Most → (after : MachineOf) (new : Held) (now : List ℕ)
+      → HasTold trees window between number more k why after mid new gathered now
       → HasPassed trees window m count (schedule ++ more) (n + k) after old new before now
-  told_on more k after new now next =
+  told_on more k why most after new now next =
+      let goes = subst (λ w. GoesThrough (k, w) more between after) most next.goes in
       record {
-        passed = goes_on schedule n m between after so_far.passed more k next.goes;
+        passed = goes_on schedule n m between after so_far.passed more k goes;
         told = λ files done has at.
             let is_passed = passed_is files done has at in
-            let gone = next.goes.1 files trees (done ++ schedule) is_passed.1 in
+            let gone = goes.1 files trees (done ++ schedule) is_passed.1 in
             let none : length gone.left ≡ 0 = ap length gone.ends in
             let all : take k more ≡ more = take_all k more (omega (arith, gone.count, ap length gone.schedule_is, length-append gone.front gone.left, none)) in
             both_told files done has at more new now
@@ -199,7 +203,7 @@ module _ (trees : Program) (window : Window) (m : MachineOf) (count : ℕ) (sche
       }
 
   -- then something failed
-  pub told_short : (more : List Event) (new : Held) → StopsShort trees window between (count + n) more mid new gathered
+  pub told_short : (more : List Event) (new : Held) → StopsShort trees window between number more mid new gathered
       → (all rest : List Event) → all ≡ schedule ++ (more ++ rest)
       → StopsShort trees window m count all old new before
   told_short more new next all rest is files done has at =
@@ -233,6 +237,11 @@ all_told trees window m count schedule n after old new before now so_far =
     }
 
 -- ---- before an error
+
+-- what is so in any case
+pub on_err : {T E P : Type 0} (r : Result T E) → P → OnErr r P
+on_err (Ok value) p = tt
+on_err (Err fault) p = p
 
 -- nothing was done, and nothing is written
 pub none_done : (trees : Program) (window : Window) (m : MachineOf) (count : ℕ) (schedule : List Event) (held : Held) (before : List ℕ)
@@ -332,30 +341,18 @@ module _ (trees : Program) (window : Window) (m : MachineOf) (count : ℕ) (even
   pub again_on : (n : ℕ) (why : Stopped) → why ≡ stopped.Most → (after : MachineOf) (new : Held) (now : List ℕ) → HasTold trees window between number (replicate (tried n why) event) n why after mid new gathered now
       → HasPassed trees window m count (replicate (k + n) event) (k + n) after old new before now
   again_on n why most after new now next =
-      let placed : HasTold trees window between (count + k) (replicate (tried n why) event) n why after mid new gathered now =
-      subst (λ j. HasTold trees window between j (replicate (tried n why) event) n why after mid new gathered now) here next
-      in
-      let all : HasTold trees window between (count + k) (replicate (tried n stopped.Most) event) n stopped.Most after mid new gathered now =
-      subst (λ w. HasTold trees window between (count + k) (replicate (tried n w) event) n w after mid new gathered now) most placed
-      in
       let as_often : tried n stopped.Most ≡ n = omega arith in
-      let done : HasTold trees window between (count + k) (replicate n event) n stopped.Most after mid new gathered now =
-      subst (λ j. HasTold trees window between (count + k) (replicate j event) n stopped.Most after mid new gathered now) as_often all
-      in
-      subst (λ es. HasPassed trees window m count es (k + n) after old new before now) (replicate-append-replicate k n event)
-      (told_on trees window m count (replicate k event) k between old mid before gathered so_far (replicate n event) n after new now done)
+      let more : replicate (tried n why) event ≡ replicate n event = ap (λ j. replicate j event) (ap (tried n) most ∙ as_often) in
+      subst (λ es. HasPassed trees window m count es (k + n) after old new before now) (ap (λ l. replicate k event ++ l) more ∙ replicate-append-replicate k n event)
+      (told_on trees window m count (replicate k event) k between old mid before gathered so_far number here (replicate (tried n why) event) n why most after new now next)
 
   pub again_until : (most n : ℕ) (why : Stopped) → k + tried n why ≤ most → (why ≡ stopped.Most → ⊥) → (after : MachineOf) (new : Held) (now : List ℕ)
       → HasTold trees window between number (replicate (tried n why) event) n why after mid new gathered now
       → HasTold trees window m count (replicate most event) (k + n) why after old new before now
   again_until most n why within not_most after new now next =
-      let placed : HasTold trees window between (count + k) (replicate (tried n why) event) n why after mid new gathered now =
-      subst (λ j. HasTold trees window between j (replicate (tried n why) event) n why after mid new gathered now) here next
-      in
-      told_until trees window m count (replicate k event) k between old mid before gathered so_far (replicate (tried n why) event) n why after new now placed not_most (replicate most event)
+      told_until trees window m count (replicate k event) k between old mid before gathered so_far number here (replicate (tried n why) event) n why after new now next not_most (replicate most event)
       (replicate (most - (k + tried n why)) event) (split most (tried n why) within)
 
   pub again_short : (most left : ℕ) → k + left ≤ most → (new : Held) → StopsShort trees window between number (replicate left event) mid new gathered → StopsShort trees window m count (replicate most event) old new before
   again_short most left within new next =
-      let placed : StopsShort trees window between (count + k) (replicate left event) mid new gathered = subst (λ j. StopsShort trees window between j (replicate left event) mid new gathered) here next in
-      told_short trees window m count (replicate k event) k between old mid before gathered so_far (replicate left event) new placed (replicate most event) (replicate (most - (k + left)) event) (split most left within)
+      told_short trees window m count (replicate k event) k between old mid before gathered so_far number here (replicate left event) new next (replicate most event) (replicate (most - (k + left)) event) (split most left within)

@@ -22,11 +22,11 @@ use Rattle.traces.specs.traced_events.Places.{IsSeenOf, Sees}
 use Rattle.traces.specs.Lines.{fold_words}
 use Rattle.program_runs.specs.traced_runs.Locals.{IsNextIn, IsNextLocal}
 use Rattle.program_runs.specs.traced_runs.Telling.{AddsOne, AfterRun, AreTold, EndsAt, HasRunOn, HasTold, RunsOn, times, tried}
-use Rattle.program_runs.specs.traced_runs.Traces.{AreLocal, IsFolded, IsLocalAt, StandsIn, Tells, stack_at}
+use Rattle.program_runs.specs.traced_runs.Traces.{AreLocal, IsFolded, IsLocalAt, StandsIn, stack_at}
 use Rattle.program_runs.specs.traced_runs.Windows.{is_told}
 use Rattle.program_runs.specs.declared.traced_runs.window.Window.{Window}
-use Rattle.program_runs.proofs.traced_runs.Gathering.{Held, group_told, line_gathered, none_gathered, nothing_told}
-use Rattle.program_runs.proofs.traced_runs.Passing.{HasPassed, all_told, no_times, told_on, told_until}
+use Rattle.program_runs.proofs.traced_runs.Gathering.{Held, group_told, line_gathered}
+use Rattle.program_runs.proofs.traced_runs.Passing.{no_times}
 use Rattle.program_runs.proofs.traced_runs.Seen.{seen_at, stack_of_words}
 
 -- ---- where a thread stands

@@ -1,6 +1,5 @@
 -- A whole run that is told.
-use Rattle.std.proofs.Common.{◌≡◌, ℕ, List, [], ◌∷◌, ◌++◌, length, take, Option, Some, refl, sym, ap, subst, ◌∙◌}
-use Rattle.std.specs.Prelude.{IfOk, OnErr, Result, Ok, Err}
+use Rattle.std.proofs.Common.{◌≡◌, ℕ, List, [], length, take, Some, refl, sym, ap, subst, ◌∙◌}
 use Rattle.std.specs.Io.KnownBytes.{Appends}
 use Rattle.std.proofs.Math.Seq.{take-append_seam}
 use Rattle.std.proofs.lemmas.List.{append-nil}
@@ -9,7 +8,7 @@ use Rattle.model.specs.declared.event.Event.{Event}
 use Rattle.model.specs.declared.limits.Limits.{Limits}
 use Rattle.model.specs.declared.report.Report.{Report}
 use Rattle.model.specs.Classes.{Program}
-use Rattle.model.specs.LimitStands.{bounds_of, inflated}
+use Rattle.model.specs.LimitStands.{bounds_of}
 use Rattle.model.specs.Opening.{opening}
 use Rattle.model.specs.Operands.{values}
 use Rattle.model.specs.Run.{run}
@@ -17,7 +16,6 @@ use Rattle.run_laws.specs.soundness.Runs.{IsNoEventWrong}
 use Rattle.run_laws.specs.word_reports.Reports.{AreReportsOfWords}
 use Rattle.machine.specs.declared.machine.Stopped.{Stopped}
 use Rattle.machine.specs.Machines.{MachineOf}
-use Rattle.machine.specs.machine_replay.Replays.{IsReplay}
 use Rattle.machine.specs.machine_replay.Shown.{IsOpened}
 use Rattle.machine.specs.machine_replay.Shown as shown
 use Rattle.machine.proofs.machine_replay.Replayed.{is_replay}

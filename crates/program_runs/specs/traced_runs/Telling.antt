@@ -14,6 +14,7 @@ use Rattle.machine.specs.Machines.{MachineOf}
 use Rattle.machine.specs.schedule_runs.Done.{HasDone, GoesThrough}
 use Rattle.traces.specs.declared.form.Form.{Form}
 use Rattle.program_runs.specs.traced_runs.Traces.{AreLocal, IsLocalAt, Tells, TellsIf}
+use Rattle.program_runs.specs.declared.traced_runs.events.Telling.{Telling}
 use Rattle.program_runs.specs.declared.traced_runs.window.Window.{Window}
 
 -- how often an event was done that was tried once
@@ -70,6 +71,12 @@ pub record HasTold (trees : Program) (window : Window) (m : MachineOf) (count : 
   pub goes : GoesThrough (n, why) schedule m after
   pub told : AfterRun trees m count (λ done. AreTold trees m.limits.frames window done (take n schedule) old new before now)
 
+-- by the names and the window of a telling
+abbrev pub HasToldBy : Telling → MachineOf → (count : ℕ) → (schedule : List Event) → (n : ℕ) → Stopped → (after : MachineOf)
+    → (old new : Option (List ℕ)) → (before now : List ℕ) → Type 0
+HasToldBy telling m count schedule n why after old new before now =
+    HasTold telling.names.now.linked.now telling.window m count schedule n why after old new before now
+
 -- ---- before an error
 
 -- a front of the next events was done, and of what was gathered and their lines a front is written
@@ -87,3 +94,9 @@ pub record AreCutShort (trees : Program) (frames : ℕ) (window : Window) (done 
 abbrev pub StopsShort : Program → Window → MachineOf → (count : ℕ) → (schedule : List Event) → (old new : Option (List ℕ))
     → (before : List ℕ) → Type 0
 StopsShort trees window m count schedule old new before = AfterRun trees m count (λ done. AreCutShort trees m.limits.frames window done schedule old new before)
+
+-- by the names and the window of a telling
+abbrev pub StopsShortBy : Telling → MachineOf → (count : ℕ) → (schedule : List Event) → (old new : Option (List ℕ))
+    → (before : List ℕ) → Type 0
+StopsShortBy telling m count schedule old new before =
+    StopsShort telling.names.now.linked.now telling.window m count schedule old new before

@@ -5,7 +5,7 @@ ghost use Rattle.model.specs.Devices.{Counts};
 ghost use Rattle.machine.specs.declared.machine.Stopped.TheVariants.{Most};
 ghost use Rattle.machine.specs.schedule_runs.Done.{GoesThrough};
 ghost use Rattle.traces.specs.traced_events.Places.{IsSeenOf};
-ghost use Rattle.program_runs.specs.traced_runs.Telling.{AddsOne, AfterRun, HasTold, StopsShort, times, tried};
+ghost use Rattle.program_runs.specs.traced_runs.Telling.{AddsOne, AfterRun, HasToldBy, StopsShortBy, times, tried};
 
 use crate::traced_runs::folds::run_of_locals;
 use crate::traced_runs::lines::Lines;
@@ -15,12 +15,12 @@ use machine::{Machine, Stopped};
 use model::{DeviceFault, Event, ScheduleEntry, Sink};
 use std::alloc::AllocError;
 use traces::traced_events::Before;
-use traces::{Line, Teller, push_line};
+use traces::{Line, ProgramNames, push_line};
 
-/// Who tells which events.
+/// By which names events are told, and which of them are.
 #[derive(Clone, Copy)]
 pub(crate) struct Telling<'a> {
-    pub(crate) teller: &'a Teller<'a>,
+    pub(crate) names: &'a ProgramNames<'a>,
     pub(crate) window: Window<'a>,
 }
 
@@ -35,15 +35,16 @@ pub(crate) fn once(machine: &mut Machine, event: Event) -> Stopped
 /// Does an event, and gathers its line. Returns why it was not done, or `Most`.
 pub(crate) fn told_event(
     machine: &mut Machine,
-    teller: &Teller<'_>,
+    names: &ProgramNames<'_>,
     before: &mut Before,
     line: Line,
     lines: &mut Lines,
 ) -> Result<Stopped, AllocError>
     ensures goes { IfOk result (λ why. GoesThrough (times why, why) (line.event ∷ []) machine.old machine.new) }
-    ensures seen { IfOk result (λ why. IsSeenOf machine.old.program machine.old.shared line.event.thread before.new.frame before.new.class) }
-    ensures told { IfOk result (λ why. AfterRun teller.now.linked.now machine.old line.number (λ done.
-        AddsOne why line.form teller.now.linked.now machine.old.limits.frames lines.old.text.items lines.new.text.items done line.event)) }
+    ensures seen { IfOk result (λ why. IsSeenOf machine.old.program machine.old.shared line.event.thread
+        before.new.frame before.new.class) }
+    ensures told { IfOk result (λ why. AfterRun names.now.linked.now machine.old line.number (λ done.
+        AddsOne why line.form names.now.linked.now machine.old.limits.frames lines.old.text.items lines.new.text.items done line.event)) }
 {
     before.look(machine.shared(), machine.program(), line.event.thread)?;
     match once(machine, line.event) {
@@ -51,7 +52,7 @@ pub(crate) fn told_event(
             push_line(
                 &mut lines.text,
                 &mut lines.spare,
-                teller,
+                names,
                 line,
                 before,
                 machine.shared(),
@@ -72,18 +73,16 @@ fn event<W: Sink>(
     output: &mut W,
 ) -> Result<Stopped, DeviceFault>
     requires { line.form ≡ telling.window.form }
-    ensures told { IfOk result (λ why. HasTold telling.entry.teller.now.linked.now telling.entry.window machine.old line.number (line.event
-        ∷ []) (times why) why machine.new
+    ensures told { IfOk result (λ why. HasToldBy telling.entry machine.old line.number (line.event ∷ []) (times why) why machine.new
         (W.contents output.old) (W.contents output.new) lines.old.text.items lines.new.text.items) }
-    ensures part { OnErr result (StopsShort telling.entry.teller.now.linked.now telling.entry.window machine.old line.number (line.event
-        ∷ [])
+    ensures part { OnErr result (StopsShortBy telling.entry machine.old line.number (line.event ∷ [])
         (W.contents output.old) (W.contents output.new) lines.old.text.items) }
     ensures counted { Counts result (W.failures output.old) (W.failures output.new) }
 {
     if !telling.window.has(line.number, line.event.thread) {
         return Ok(once(machine, line.event));
     }
-    let why = told_event(machine, telling.teller, before, line, lines)?;
+    let why = told_event(machine, telling.names, before, line, lines)?;
     lines.ease(output)?;
     Ok(why)
 }
@@ -105,9 +104,10 @@ fn some_events<W: Sink>(
     ensures some { IfOk result (λ r. r.1 ≡ Most → 1 ≤ r.0) }
     ensures bound { IfOk result (λ r. r.0 ≤ most) }
     ensures within { IfOk result (λ r. tried r.0 r.1 ≤ most) }
-    ensures told { IfOk result (λ r. HasTold telling.entry.teller.now.linked.now telling.entry.window machine.old line.number (replicate (tried r.0 r.1) line.event) r.0 r.1 machine.new
+    ensures told { IfOk result (λ r. HasToldBy telling.entry machine.old line.number
+        (replicate (tried r.0 r.1) line.event) r.0 r.1 machine.new
         (W.contents output.old) (W.contents output.new) lines.old.text.items lines.new.text.items) }
-    ensures part { OnErr result (StopsShort telling.entry.teller.now.linked.now telling.entry.window machine.old line.number (replicate most line.event)
+    ensures part { OnErr result (StopsShortBy telling.entry machine.old line.number (replicate most line.event)
         (W.contents output.old) (W.contents output.new) lines.old.text.items) }
     ensures counted { Counts result (W.failures output.old) (W.failures output.new) }
 {
@@ -136,11 +136,9 @@ pub(crate) fn entry<W: Sink>(
     output: &mut W,
 ) -> Result<(u32, Stopped), DeviceFault>
     requires { first + entry.repeat < 2 ^ 64 }
-    ensures told { IfOk result (λ r. HasTold telling.entry.teller.now.linked.now telling.entry.window machine.old
-        first (replicate entry.repeat entry.event) r.0 r.1 machine.new
+    ensures told { IfOk result (λ r. HasToldBy telling.entry machine.old first (replicate entry.repeat entry.event) r.0 r.1 machine.new
         (W.contents output.old) (W.contents output.new) lines.old.text.items lines.new.text.items) }
-    ensures part { OnErr result (StopsShort telling.entry.teller.now.linked.now telling.entry.window machine.old
-        first (replicate entry.repeat entry.event)
+    ensures part { OnErr result (StopsShortBy telling.entry machine.old first (replicate entry.repeat entry.event)
         (W.contents output.old) (W.contents output.new) lines.old.text.items) }
     ensures counted { Counts result (W.failures output.old) (W.failures output.new) }
 {

@@ -4,7 +4,7 @@ ghost use Rattle.std.specs.Prelude.{◌≡◌, ◌+◌, ◌^◌, ◌<◌, ◌≤
 ghost use Rattle.machine.specs.declared.machine.Stopped.TheVariants.{Most};
 ghost use Rattle.machine.specs.schedule_runs.Done.{GoesThrough};
 ghost use Rattle.program_runs.specs.traced_runs.Locals.{IsNextIn, IsNextLocal};
-ghost use Rattle.program_runs.specs.traced_runs.Telling.{HasTold, RunsOn, tried};
+ghost use Rattle.program_runs.specs.traced_runs.Telling.{HasToldBy, RunsOn, tried};
 ghost use Rattle.program_runs.specs.traced_runs.Windows.{is_told};
 
 use crate::traced_runs::events::{Telling, once, told_event};
@@ -96,11 +96,11 @@ pub(crate) fn run_of_locals(
     ensures some { IfOk result (λ r. r.1 ≡ Most → 1 ≤ r.0) }
     ensures bound { IfOk result (λ r. r.0 ≤ most) }
     ensures within { IfOk result (λ r. tried r.0 r.1 ≤ most) }
-    ensures told { IfOk result (λ r. (held : _) → HasTold telling.entry.teller.now.linked.now telling.entry.window machine.old line.number
+    ensures told { IfOk result (λ r. (held : _) → HasToldBy telling.entry machine.old line.number
         (replicate (tried r.0 r.1) line.event) r.0 r.1 machine.new held held lines.old.text.items lines.new.text.items) }
 {
     let start = lines.text.len();
-    match told_event(machine, telling.teller, before, line, lines)? {
+    match told_event(machine, telling.names, before, line, lines)? {
         Stopped::Most => {}
         why => return Ok((0, why)),
     }
@@ -123,6 +123,6 @@ pub(crate) fn run_of_locals(
         count: run.more + 1,
     };
     lines.text.truncate(start);
-    push_fold(&mut lines.text, telling.teller, fold)?;
+    push_fold(&mut lines.text, telling.names, fold)?;
     Ok((run.more + 1, why))
 }

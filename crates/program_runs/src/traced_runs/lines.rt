@@ -43,7 +43,8 @@ impl Lines {
 
     /// Writes the text, if it is long.
     pub(crate) fn ease<W: Sink>(&mut self, output: &mut W) -> Result<(), DeviceFault>
-        ensures gathered { OnOk result (Gathers (W.contents output.old) (W.contents output.new) self.old.text.items self.new.text.items []) }
+        ensures gathered { OnOk result (Gathers (W.contents output.old) (W.contents output.new)
+            self.old.text.items self.new.text.items []) }
         ensures part { OnErr result (AppendsFront (W.contents output.old) (W.contents output.new) self.old.text.items) }
         ensures counted { Counts result (W.failures output.old) (W.failures output.new) }
     {

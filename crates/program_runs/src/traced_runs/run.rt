@@ -1,10 +1,10 @@
 //! A whole run.
 
-ghost use Rattle.std.specs.Prelude.{◌≡◌, [], IfOk, OnErr};
+ghost use Rattle.std.specs.Prelude.{[], IfOk, OnErr};
 ghost use Rattle.std.specs.Io.KnownBytes.{Appends};
 ghost use Rattle.model.specs.Devices.{Counts};
 ghost use Rattle.model.specs.Schedule.{events_of};
-ghost use Rattle.program_runs.specs.traced_runs.Telling.{HasTold, StopsShort};
+ghost use Rattle.program_runs.specs.traced_runs.Telling.{HasToldBy, StopsShortBy};
 ghost use Rattle.program_runs.specs.traced_runs.Traces.{IsTrace, WritesFront};
 
 use crate::traced_runs::events::{Telling, entry};
@@ -19,7 +19,7 @@ use run_laws::word_reports::reports_of_words;
 use schedule::Schedule;
 use std::alloc::Global;
 use std::sync::Arc;
-use traces::Teller;
+use traces::ProgramNames;
 use traces::traced_events::Before;
 use verifier::Verified;
 
@@ -33,10 +33,9 @@ fn gathered<W: Sink>(
     lines: &mut Lines,
     output: &mut W,
 ) -> Result<(u64, Stopped), DeviceFault>
-    ensures told { IfOk result (λ r. HasTold telling.entry.teller.now.linked.now telling.entry.window machine.old
-        0 (events_of schedule.now) r.0 r.1 machine.new
+    ensures told { IfOk result (λ r. HasToldBy telling.entry machine.old 0 (events_of schedule.now) r.0 r.1 machine.new
         (W.contents output.old) (W.contents output.new) lines.old.text.items lines.new.text.items) }
-    ensures part { OnErr result (StopsShort telling.entry.teller.now.linked.now telling.entry.window machine.old 0 (events_of schedule.now)
+    ensures part { OnErr result (StopsShortBy telling.entry machine.old 0 (events_of schedule.now)
         (W.contents output.old) (W.contents output.new) lines.old.text.items) }
     ensures counted { Counts result (W.failures output.old) (W.failures output.new) }
 {
@@ -60,10 +59,9 @@ fn events<W: Sink>(
     schedule: &Schedule,
     output: &mut W,
 ) -> Result<(u64, Stopped), DeviceFault>
-    ensures told { IfOk result (λ r. HasTold telling.entry.teller.now.linked.now telling.entry.window machine.old
-        0 (events_of schedule.now) r.0 r.1 machine.new
+    ensures told { IfOk result (λ r. HasToldBy telling.entry machine.old 0 (events_of schedule.now) r.0 r.1 machine.new
         (W.contents output.old) (W.contents output.new) [] []) }
-    ensures part { OnErr result (StopsShort telling.entry.teller.now.linked.now telling.entry.window machine.old 0 (events_of schedule.now)
+    ensures part { OnErr result (StopsShortBy telling.entry machine.old 0 (events_of schedule.now)
         (W.contents output.old) (W.contents output.new) []) }
     ensures counted { Counts result (W.failures output.old) (W.failures output.new) }
 {
@@ -74,8 +72,8 @@ fn events<W: Sink>(
     Ok(done)
 }
 
-/// Does the events of a schedule over verified class files, as far as they go, under the limits of the run (JVMS 2.5, 2.6, 5.5, chapter 6; JLS 17),
-/// and writes a line for each that is to be told. Returns the report of those that were done, and why no more were.
+/// Does the events of a schedule over verified class files, as far as they go, under the limits of the run (JVMS 2.5, 2.6, 5.5, chapter
+/// 6; JLS 17), and writes a line for each that is to be told. Returns the report of those that were done, and why no more were.
 ///
 /// `Device` is answered where the writer failed, `Memory` for want of memory; a front of the lines is written then.
 pub fn trace<W: Sink>(
@@ -96,9 +94,9 @@ pub fn trace<W: Sink>(
     no_event_is_wrong();
     let mut machine = open_machine(alloc, verified, limits)?;
     let program = Arc::try_clone(machine.program())?;
-    let teller = Teller::new(alloc, verified.linked(), &program)?;
+    let names = ProgramNames::new(alloc, verified.linked(), &program)?;
     let telling = Telling {
-        teller: &teller,
+        names: &names,
         window,
     };
     let (done, why) = events(alloc, &mut machine, telling, schedule, output)?;

@@ -28,8 +28,8 @@ impl World {
         Ok((done, why))
     }
 
-    /// Does up to so many events of the first thread that has one which is enabled, in rotation from a number up, within the budget; none of
-    /// them picks a waiter. Returns the thread, or none where an end is set: if it wasn't before, it is now.
+    /// Does up to so many events of the first thread that has one which is enabled, in rotation from a number up, within the budget;
+    /// none of them picks a waiter. Returns the thread, or none where an end is set: if it wasn't before, it is now.
     pub fn shared_steps(&mut self, from: u16, most: u32) -> Option<u16>
         requires { 1 ≤ most }
         ensures { TakesTurn from most self.old.end result self.old self.new }

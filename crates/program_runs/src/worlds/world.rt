@@ -24,14 +24,15 @@ pub struct World {
 }
 
 impl Model for World {
-    ghost use Rattle.std.specs.Arc.{arc_value};
     ghost use Rattle.program_runs.specs.worlds.Worlds as spec;
 
     ghost Value = { spec.WorldOf };
 
-    ghost view = { λ w. record { trees = arc_value w.verified; budget = w.budget; events = w.recorded.events; machine = w.machine; end = w.end } };
+    ghost use Rattle.program_runs.specs.worlds.Shown.{shown};
 
-    ghost invariant = { λ w. spec.Holds (record { trees = arc_value w.verified; budget = w.budget; events = w.recorded.events; machine = w.machine; end = w.end }) };
+    ghost view = { shown };
+
+    ghost invariant = { λ w. spec.Holds (shown w) };
 }
 
 impl World {

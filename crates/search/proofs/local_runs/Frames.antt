@@ -11,7 +11,7 @@ use Rattle.model.specs.Operands.{Slots, values}
 use Rattle.model.specs.Run.{run}
 use Rattle.model.specs.Sites.{MeaningOf, Site}
 use Rattle.model.specs.State as model
-use Rattle.model.specs.State.{FrameOf, StackOf, State, StateOf, Thread}
+use Rattle.model.specs.State.{FrameOf, StackOf, State, Thread}
 use Rattle.model.specs.Worlds.{thread_at}
 use Rattle.run_laws.specs.soundness.Runs.{IsStepKept}
 use Rattle.run_laws.specs.word_runs.Words.{IsStepCarried}

@@ -1,14 +1,12 @@
 -- Local events behind a run, and the instructions of linked code that are such events (own; JVMS 2.6, 6.5; JLS 17).
-use Rattle.std.specs.Prelude.{◌≡◌, ℕ, List, ◌++◌, Option, Some, None, Bool, true, false, replicate, slice_get}
+use Rattle.std.specs.Prelude.{◌≡◌, ℕ, List, ◌++◌, Option, Some, None, replicate, slice_get}
 use Rattle.model.specs.declared.event.Event.{Event}
 use Rattle.model.specs.Accepted.{IsAccepted}
 use Rattle.model.specs.Classes.{Program}
 use Rattle.model.specs.LimitStands.{Bounds}
 use Rattle.model.specs.Run.{run}
-use Rattle.model.specs.State as model
-use Rattle.model.specs.State.{State, Thread}
+use Rattle.model.specs.State.{State}
 use Rattle.run_laws.specs.searches.Searches.{AreLocal}
-use Rattle.heap.specs.java_threads.Table.{thread_at}
 use Rattle.linked_code.specs.declared.program.LinkedProgram.{LinkedProgram}
 use Rattle.linked_code.specs.linked_events.Local.{Running}
 use Rattle.linked_code.specs.local_bursts.Steps.{steps}
@@ -18,6 +16,7 @@ use Rattle.machine_state.specs.thread_bursts.Threads.{event_of}
 use Rattle.machine_state.specs.declared.state.Shared.{Shared}
 use Rattle.machine_state.specs.Shown.{IsProgram}
 use Rattle.machine_state.specs.shown_runs.Runs.{HasRun}
+use Rattle.machine.specs.top_frames.Tops.{GoesOn}
 
 -- ---- events
 
@@ -39,14 +38,6 @@ AreNextLocal p shared t n =
 
 -- ---- instructions
 
--- a thread runs, with no exception pending
-abbrev pub Goes : List Thread → ℕ → Type 0
-Goes threads t = ((thread_at threads t).status ≡ model.Running) × ((thread_at threads t).pending ≡ None)
-
-abbrev pub GoesIf : Bool → List Thread → ℕ → Type 0
-GoesIf true threads t = Goes threads t
-GoesIf false threads t = Unit {0}
-
 abbrev pub running_of : ShownFrame → Running
 running_of shown = record { pc = shown.place; locals = shown.locals; stack = shown.operands }
 
@@ -56,7 +47,7 @@ CanDo p shown n = (then : Running) × (steps (code_of p shown.method) n (running
 
 -- a thread runs, with no exception pending, and the frame is on top of its stack
 pub record HasTop (shared : Shared) (t : ℕ) (shown : ShownFrame) : Type 0 where
-  pub goes : Goes shared.threads.threads t
+  pub goes : GoesOn shared.threads.threads t
   pub stack : List ShownEntry
   pub is_stack : slice_get shared.stacks.items t ≡ Some stack
   pub top : IsTopFrame stack (Some shown)

@@ -53,8 +53,8 @@ fn receiver_of(frame: Option<&Frame>, instruction: Option<LinkedInstruction>) ->
     }
 }
 
-/// The class on top of a stack, if there is a class on top.
-fn class_on_top(stack: &ThreadStack) -> Option<u16>
+/// The class on top of a stack, by its number, if there is a class on top.
+pub fn class_on_top(stack: &ThreadStack) -> Option<u16>
     ensures { (p : _) (frame : _) → IsFrameSeen p stack.now frame → IsSeen p stack.now frame result }
 {
     match stack.top() {

@@ -1,6 +1,6 @@
 //! Where a thread stands before its event.
 
-ghost use Rattle.std.specs.Prelude.{◌≡◌, option_map};
+ghost use Rattle.std.specs.Prelude.{◌≡◌};
 ghost use Rattle.linked_code.specs.thread_stacks.Stacks.{shown_frame};
 ghost use Rattle.machine_state.specs.shown_stacks.Shown.{offset_at, starts_of as starts_in};
 ghost use Rattle.traces.specs.traced_events.Seen.{IsFrameSeen};
@@ -34,7 +34,7 @@ fn starts_of(body: &MethodBody) -> &[u16]
 }
 
 /// The offset of a place in the code of a method, by the method's number.
-fn offset_of(program: &LinkedProgram, method: u32, place: usize) -> u16
+pub(crate) fn offset_of(program: &LinkedProgram, method: u32, place: usize) -> u16
     ensures { result ≡ offset_at program.now method place }
 {
     match method_at(program, method) {
@@ -48,7 +48,11 @@ fn offset_of(program: &LinkedProgram, method: u32, place: usize) -> u16
 
 /// Where a frame stands.
 fn frame_before(program: &LinkedProgram, frame: &Frame) -> FrameBefore
-    ensures { result ≡ record { method = (shown_frame frame.now).method; offset = offset_at program.now frame.now.method frame.now.place; entered = frame.now.entered } }
+    ensures { result ≡ record {
+      method = (shown_frame frame.now).method;
+      offset = offset_at program.now frame.now.method frame.now.place;
+      entered = frame.now.entered;
+    } }
 {
     FrameBefore {
         method: frame.method,

@@ -10,8 +10,9 @@ mod monitors;
 mod rules;
 mod told;
 
-pub use before::Before;
+pub use before::{Before, class_on_top};
 pub use deed::{Deed, Entries};
 pub use frames::FrameBefore;
+pub(crate) use frames::offset_of;
 pub use rules::{Rule, rule_of};
 pub use told::{Told, told_of};

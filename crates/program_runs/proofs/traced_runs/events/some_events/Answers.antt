@@ -1,20 +1,17 @@
 use Rattle.std.proofs.Common.{replicate}
-use Rattle.std.proofs.lemmas.Result.{err_from_is_err_and}
 use Rattle.program_runs.specs.traced_runs.Telling.{tried}
-use Rattle.program_runs.proofs.traced_runs.Passing.{eased, never_done, none_done, short_of_most, writing_stops}
+use Rattle.program_runs.proofs.traced_runs.Passing.{eased, never_done, none_done, on_err, short_of_most, writing_stops}
 use Rattle.program_runs.proofs.traced_runs.events.some_events.Goals as goal
 
 pub returns-in_err-done-clause-part : goal.returns-in_err-done-clause-part
 returns-in_err-done-clause-part g c =
-    let p = err_from_is_err_and c.from_residual.result c.from_residual.ensures.1 in
-    rw p.1
-    (none_done c.args.telling.teller.now.linked.now c.args.telling.window c.args.machine.now c.args.line.number (replicate c.args.most c.args.line.event) (g.W.Sink.contents c.args.output.now)
+    on_err c.from_residual.result
+    (none_done c.args.telling.names.now.linked.now c.args.telling.window c.args.machine.now c.args.line.number (replicate c.args.most c.args.line.event) (g.W.Sink.contents c.args.output.now)
     c.args.lines.now.text.items)
 
 pub returns-in_err-ease-clause-part : goal.returns-in_err-ease-clause-part
 returns-in_err-ease-clause-part g c =
-    let p = err_from_is_err_and c.from_residual-in_err-ease.result c.from_residual-in_err-ease.ensures.1 in
-    let trees = c.args.telling.teller.now.linked.now in
+    let trees = c.args.telling.names.now.linked.now in
     let window = c.args.telling.window in
     let m = c.args.machine.now in
     let line = c.args.line in
@@ -22,14 +19,14 @@ returns-in_err-ease-clause-part g c =
     let held = g.W.Sink.contents c.args.output.now in
     let new = g.W.Sink.contents c.ease.new.output in
     let before = c.args.lines.now.text.items in
-    rw p.1
+    on_err c.from_residual-in_err-ease.result
     (short_of_most trees window m line.number line.event (tried r.0 r.1) c.args.most c.in_ok-done.ensures.within held new before
     (writing_stops trees window m line.number (replicate (tried r.0 r.1) line.event) r.0 r.1 c.run_of_locals.new.machine held held new before c.run_of_locals.new.lines.text.items
     (c.in_ok-done.ensures.told held) c.in_err-ease.ensures.part))
 
 pub returns-then-is_next_local-clause-told : goal.returns-then-is_next_local-clause-told
 returns-then-is_next_local-clause-told g c =
-    let trees = c.args.telling.teller.now.linked.now in
+    let trees = c.args.telling.names.now.linked.now in
     let window = c.args.telling.window in
     let m = c.args.machine.now in
     let line = c.args.line in
@@ -41,12 +38,11 @@ returns-then-is_next_local-clause-told g c =
 
 pub returns-in_err-why-clause-part : goal.returns-in_err-why-clause-part
 returns-in_err-why-clause-part g c =
-    let p = err_from_is_err_and c.from_residual-in_err-why.result c.from_residual-in_err-why.ensures.1 in
-    rw p.1
-    (short_of_most c.args.telling.teller.now.linked.now c.args.telling.window c.args.machine.now c.args.line.number c.args.line.event 1 c.args.most c.requires.some (g.W.Sink.contents c.args.output.now)
+    on_err c.from_residual-in_err-why.result
+    (short_of_most c.args.telling.names.now.linked.now c.args.telling.window c.args.machine.now c.args.line.number c.args.line.event 1 c.args.most c.requires.some (g.W.Sink.contents c.args.output.now)
     (g.W.Sink.contents c.event.new.output) c.args.lines.now.text.items c.in_err-why.ensures.part)
 
 pub returns-in_default-clause-told : goal.returns-in_default-clause-told
 returns-in_default-clause-told g c =
-    never_done c.args.telling.teller.now.linked.now c.args.telling.window c.args.machine.now c.args.line.number c.args.line.event c.in_ok-why.why c.in_default.not-Most c.event.new.machine
+    never_done c.args.telling.names.now.linked.now c.args.telling.window c.args.machine.now c.args.line.number c.args.line.event c.in_ok-why.why c.in_default.not-Most c.event.new.machine
     (g.W.Sink.contents c.args.output.now) (g.W.Sink.contents c.event.new.output) c.args.lines.now.text.items c.event.new.lines.text.items c.in_ok-why.ensures.told

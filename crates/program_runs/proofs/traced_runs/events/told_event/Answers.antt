@@ -11,5 +11,5 @@ returns-in_ok-push_line-in-Most-clause-told c =
     let by_program = subst (λ p. IsSeenOf p c.shared.result.now t seen.frame seen.class) (c.deref.ensures ∙ c.program.ensures) c.in_ok-look.ensures in
     let by_shared = subst (λ shared. IsSeenOf m.program shared t seen.frame seen.class) c.shared.ensures.same by_program in
     λ files done has count.
-    own_line c.args.line.form c.args.teller.now.linked.now m files done has c.args.line.number count c.args.line.event seen.frame seen.class by_shared c.args.lines.now.text.items c.push_line.new.text.items
+    own_line c.args.line.form c.args.names.now.linked.now m files done has c.args.line.number count c.args.line.event seen.frame seen.class by_shared c.args.lines.now.text.items c.push_line.new.text.items
     c.in_ok-push_line-in-Most.ensures

@@ -1,4 +1,4 @@
-use Rattle.std.proofs.Common.{◌≡◌, Bool, true, Option, Some, ap, refl, subst, sym, ◌∙◌}
+use Rattle.std.proofs.Common.{◌≡◌, true, Option, ap, refl, subst, sym, ◌∙◌}
 use Rattle.std.proofs.lemmas.Option.{same_Some}
 use Rattle.traces.specs.declared.traced_events.frames.FrameBefore.{FrameBefore}
 use Rattle.traces.specs.traced_events.Places.{IsSeenOf}

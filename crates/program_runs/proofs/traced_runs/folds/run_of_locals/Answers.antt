@@ -11,34 +11,32 @@ use Rattle.program_runs.proofs.traced_runs.folds.run_of_locals.Goals as goal
 
 pub returns-in_default-clause-told : goal.returns-in_default-clause-told
 returns-in_default-clause-told c = λ held.
-    let trees = c.args.telling.teller.now.linked.now in
+    let trees = c.args.telling.names.now.linked.now in
     let window = c.args.telling.window in
     let m = c.args.machine.now in
     let line = c.args.line in
     let why = c.in_ok-why.why in
     let before = c.args.lines.now.text.items in
     let now = c.told_event.new.lines.text.items in
-    let adds = subst (λ (form : Form). AfterRun trees m line.number (λ done. AddsOne why form trees m.limits.frames before now done line.event)) c.requires.form c.in_ok-why.ensures.told in
     never_done trees window m line.number line.event why c.in_default.not-Most c.told_event.new.machine held held before now
-    (line_told trees window m line.number line.event why c.told_event.new.machine held before now c.requires.told c.in_ok-why.ensures.goes adds)
+    (line_told trees window m line.number line.event why c.told_event.new.machine held before now c.requires.told c.in_ok-why.ensures.goes line.form c.requires.form c.in_ok-why.ensures.told)
 
 pub returns-in_default-frame-clause-told : goal.returns-in_default-frame-clause-told
 returns-in_default-frame-clause-told c = λ held.
-    let trees = c.args.telling.teller.now.linked.now in
+    let trees = c.args.telling.names.now.linked.now in
     let window = c.args.telling.window in
     let m = c.args.machine.now in
     let line = c.args.line in
     let why = c.in_ok-why.why in
     let before = c.args.lines.now.text.items in
     let now = c.told_event.new.lines.text.items in
-    let adds = subst (λ (form : Form). AfterRun trees m line.number (λ done. AddsOne why form trees m.limits.frames before now done line.event)) c.requires.form c.in_ok-why.ensures.told in
-    let told = line_told trees window m line.number line.event why c.told_event.new.machine held before now c.requires.told c.in_ok-why.ensures.goes adds in
+    let told = line_told trees window m line.number line.event why c.told_event.new.machine held before now c.requires.told c.in_ok-why.ensures.goes line.form c.requires.form c.in_ok-why.ensures.told in
     subst (λ w. HasTold trees window m line.number (replicate (tried (times w) w) line.event) (times w) w c.told_event.new.machine held held before now) c.in-Most.is
     (once_tried trees window m line.number line.event why c.told_event.new.machine held held before now told)
 
 pub returns-then-run-eq0-clause-told : goal.returns-then-run-eq0-clause-told
 returns-then-run-eq0-clause-told c = λ held.
-    let trees = c.args.telling.teller.now.linked.now in
+    let trees = c.args.telling.names.now.linked.now in
     let window = c.args.telling.window in
     let m = c.args.machine.now in
     let mid = c.told_event.new.machine in
@@ -47,9 +45,8 @@ returns-then-run-eq0-clause-told c = λ held.
     let before = c.args.lines.now.text.items in
     let now = c.told_event.new.lines.text.items in
     let once = subst (λ w. GoesThrough (times w, w) (line.event ∷ []) m mid) c.in-Most.is c.in_ok-why.ensures.goes in
-    let adds_by = subst (λ (form : Form). AfterRun trees m line.number (λ done. AddsOne c.in_ok-why.why form trees m.limits.frames before now done line.event)) c.requires.form c.in_ok-why.ensures.told in
-    let adds = subst (λ w. AfterRun trees m line.number (λ done. AddsOne w window.form trees m.limits.frames before now done line.event)) c.in-Most.is adds_by in
-    let told = line_told trees window m line.number line.event stopped.Most mid held before now c.requires.told once adds in
+    let adds = subst (λ w. AfterRun trees m line.number (λ done. AddsOne w line.form trees m.limits.frames before now done line.event)) c.in-Most.is c.in_ok-why.ensures.told in
+    let told = line_told trees window m line.number line.event stopped.Most mid held before now c.requires.told once line.form c.requires.form adds in
     let k = c.in_ok-run.run'.more in
     let why = c.in_ok-run.why in
     let none : k ≡ 0 = c.if-run-eq0.true in
@@ -58,7 +55,7 @@ returns-then-run-eq0-clause-told c = λ held.
 
 pub returns-clause-told : goal.returns-clause-told
 returns-clause-told c = λ held.
-    let trees = c.args.telling.teller.now.linked.now in
+    let trees = c.args.telling.names.now.linked.now in
     let window = c.args.telling.window in
     let m = c.args.machine.now in
     let mid = c.told_event.new.machine in

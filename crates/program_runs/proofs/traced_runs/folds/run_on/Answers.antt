@@ -1,4 +1,4 @@
-use Rattle.std.proofs.Common.{◌≡◌, ◌+◌, ℕ, ap, arith, replicate, subst}
+use Rattle.std.proofs.Common.{◌≡◌, ◌+◌, ap, arith, replicate, subst}
 use Rattle.model.specs.Classes.{Program}
 use Rattle.machine.specs.declared.machine.Stopped.TheVariants as stopped
 use Rattle.machine.specs.schedule_runs.Done.{GoesThrough}

@@ -1,12 +1,10 @@
-use Rattle.std.proofs.Common.{◌≡◌, ◌≤◌, ◌+◌, ◌<◌, ◌++◌, ℕ, suc, List, length, take, drop, get_or, refl, sym, ap, subst, ◌∙◌, arith, zero-add}
+use Rattle.std.proofs.Common.{◌≡◌, ◌≤◌, ◌+◌, suc, length, take, drop, get_or, refl, sym, ap, subst, ◌∙◌, arith, zero-add}
 use Rattle.std.proofs.lemmas.List.{take_all}
-use Rattle.std.proofs.lemmas.Result.{err_from_is_err_and}
 use Rattle.model.specs.declared.event.ScheduleEntry.{ScheduleEntry}
 use Rattle.model.specs.Schedule.{events_of}
-use Rattle.machine.specs.declared.machine.Stopped.TheVariants as stopped
 use Rattle.machine.proofs.schedule_runs.Joined.{of_entry, around, one_more}
-use Rattle.program_runs.specs.traced_runs.Telling.{HasTold, StopsShort}
-use Rattle.program_runs.proofs.traced_runs.Passing.{HasPassed, all_told, none_yet, told_on, told_short, told_until}
+use Rattle.program_runs.specs.traced_runs.Telling.{HasTold}
+use Rattle.program_runs.proofs.traced_runs.Passing.{HasPassed, all_told, none_yet, on_err, told_on, told_short, told_until}
 use Rattle.program_runs.proofs.traced_runs.run.gathered.Goals as goal
 
 abbrev pub no_entry : ScheduleEntry
@@ -15,28 +13,26 @@ no_entry = record { event = record { thread = 0; pick = 0 }; repeat = 0 }
 pub entries-init : goal.entries-init
 entries-init g c = record {
   below = omega arith;
-  so_far = none_yet c.args.telling.teller.now.linked.now c.args.telling.window c.args.machine.now 0 (g.W.Sink.contents c.args.output.now) c.args.lines.now.text.items;
+  so_far = none_yet c.args.telling.names.now.linked.now c.args.telling.window c.args.machine.now 0 (g.W.Sink.contents c.args.output.now) c.args.lines.now.text.items;
   failures = refl;
 }
 
 pub returns-in_err-count-clause-part : goal.returns-in_err-count-clause-part
 returns-in_err-count-clause-part g c =
-    let p = err_from_is_err_and c.from_residual.result c.from_residual.ensures.1 in
-    let trees = c.args.telling.teller.now.linked.now in
+    let trees = c.args.telling.names.now.linked.now in
     let window = c.args.telling.window in
     let contents = g.W.Sink.contents in
     let items = c.entries-given-items.result.now in
     let i = c.entries.given-index in
     let entry = of_entry (get_or items i no_entry) in
-    let next = subst (λ k. StopsShort trees window c.entries.machine k entry (contents c.entries.output) (contents c.entry.new.output) c.entries.lines.text.items) (sym (zero-add c.entries.done)) c.in_err-count.ensures.part in
-    rw p.1
+    on_err c.from_residual.result
     (told_short trees window c.args.machine.now 0 (events_of (take i items)) c.entries.done c.entries.machine (contents c.args.output.now) (contents c.entries.output) c.args.lines.now.text.items
-    c.entries.lines.text.items c.entries.invariant.so_far entry (contents c.entry.new.output) next (events_of c.args.schedule.now) (events_of (drop (suc i) items))
+    c.entries.lines.text.items c.entries.invariant.so_far c.entries.done (sym (zero-add c.entries.done)) entry (contents c.entry.new.output) c.in_err-count.ensures.part (events_of c.args.schedule.now) (events_of (drop (suc i) items))
     (ap events_of (sym c.entries-given-items.ensures.are) ∙ around items i no_entry c.entries-test.true))
 
 pub returns-in_default-clause-told : goal.returns-in_default-clause-told
 returns-in_default-clause-told g c =
-    let trees = c.args.telling.teller.now.linked.now in
+    let trees = c.args.telling.names.now.linked.now in
     let window = c.args.telling.window in
     let contents = g.W.Sink.contents in
     let items = c.entries-given-items.result.now in
@@ -44,18 +40,16 @@ returns-in_default-clause-told g c =
     let entry = of_entry (get_or items i no_entry) in
     let count = c.in_ok-count.count in
     let why = c.in_ok-count.why in
-    let next = subst (λ k. HasTold trees window c.entries.machine k entry count why c.entry.new.machine (contents c.entries.output) (contents c.entry.new.output) c.entries.lines.text.items c.entry.new.lines.text.items)
-    (sym (zero-add c.entries.done)) c.in_ok-count.ensures.told
-    in
     subst (λ k. HasTold trees window c.args.machine.now 0 (events_of c.args.schedule.now) (c.entries.done + k) why c.entry.new.machine (contents c.args.output.now) (contents c.entry.new.output)
     c.args.lines.now.text.items c.entry.new.lines.text.items) (sym c.from-done.ensures)
     (told_until trees window c.args.machine.now 0 (events_of (take i items)) c.entries.done c.entries.machine (contents c.args.output.now) (contents c.entries.output) c.args.lines.now.text.items
-    c.entries.lines.text.items c.entries.invariant.so_far entry count why c.entry.new.machine (contents c.entry.new.output) c.entry.new.lines.text.items next c.in_default.not-Most (events_of c.args.schedule.now)
+    c.entries.lines.text.items c.entries.invariant.so_far c.entries.done (sym (zero-add c.entries.done)) entry count why c.entry.new.machine (contents c.entry.new.output) c.entry.new.lines.text.items
+    c.in_ok-count.ensures.told c.in_default.not-Most (events_of c.args.schedule.now)
     (events_of (drop (suc i) items)) (ap events_of (sym c.entries-given-items.ensures.are) ∙ around items i no_entry c.entries-test.true))
 
 pub entries-preserved : goal.entries-preserved
 entries-preserved g c =
-    let trees = c.args.telling.teller.now.linked.now in
+    let trees = c.args.telling.names.now.linked.now in
     let window = c.args.telling.window in
     let contents = g.W.Sink.contents in
     let items = c.entries-given-items.result.now in
@@ -63,14 +57,9 @@ entries-preserved g c =
     let entry = of_entry (get_or items i no_entry) in
     let count = c.in_ok-count.count in
     let why = c.in_ok-count.why in
-    let next = subst (λ k. HasTold trees window c.entries.machine k entry count why c.entry.new.machine (contents c.entries.output) (contents c.entry.new.output) c.entries.lines.text.items c.entry.new.lines.text.items)
-    (sym (zero-add c.entries.done)) c.in_ok-count.ensures.told
-    in
-    let all = subst (λ w. HasTold trees window c.entries.machine (0 + c.entries.done) entry count w c.entry.new.machine (contents c.entries.output) (contents c.entry.new.output) c.entries.lines.text.items
-    c.entry.new.lines.text.items) c.in-Most.is next
-    in
     let on = told_on trees window c.args.machine.now 0 (events_of (take i items)) c.entries.done c.entries.machine (contents c.args.output.now) (contents c.entries.output) c.args.lines.now.text.items
-    c.entries.lines.text.items c.entries.invariant.so_far entry count c.entry.new.machine (contents c.entry.new.output) c.entry.new.lines.text.items all
+    c.entries.lines.text.items c.entries.invariant.so_far c.entries.done (sym (zero-add c.entries.done)) entry count why c.in-Most.is c.entry.new.machine (contents c.entry.new.output)
+    c.entry.new.lines.text.items c.in_ok-count.ensures.told
     in
     let by_entries = subst (λ es. HasPassed trees window c.args.machine.now 0 es (c.entries.done + count) c.entry.new.machine (contents c.args.output.now) (contents c.entry.new.output) c.args.lines.now.text.items
     c.entry.new.lines.text.items) (sym (one_more items i no_entry c.entries-test.true)) on
@@ -85,7 +74,7 @@ entries-preserved g c =
 
 pub returns-clause-told : goal.returns-clause-told
 returns-clause-told g c =
-    let trees = c.args.telling.teller.now.linked.now in
+    let trees = c.args.telling.names.now.linked.now in
     let window = c.args.telling.window in
     let contents = g.W.Sink.contents in
     let items = c.entries-given-items.result.now in

@@ -1,44 +1,38 @@
-use Rattle.std.proofs.Common.{◌≡◌, [], subst, sym, ◌∙◌}
-use Rattle.std.proofs.lemmas.Result.{err_from_is_err_and}
+use Rattle.std.proofs.Common.{[], subst, ◌∙◌}
 use Rattle.model.specs.Classes.{Program}
 use Rattle.model.specs.Schedule.{events_of}
 use Rattle.machine.specs.machine_replay.Shown.{Tells}
 use Rattle.listings.proofs.disasm.Writing.{none_written}
 use Rattle.program_runs.specs.traced_runs.Telling.{HasTold, StopsShort}
-use Rattle.program_runs.proofs.traced_runs.Passing.{writing_stops}
+use Rattle.program_runs.proofs.traced_runs.Passing.{on_err, writing_stops}
 use Rattle.program_runs.proofs.traced_runs.Traced.{front_written, is_trace, unwritten}
 use Rattle.program_runs.proofs.traced_runs.run.trace.Goals as goal
 
 pub returns-in_err-machine-clause-part : goal.returns-in_err-machine-clause-part
 returns-in_err-machine-clause-part g c =
-    let p = err_from_is_err_and c.from_residual.result c.from_residual.ensures.1 in
-    rw p.1 (unwritten c.args.verified.now c.args.window c.args.limits (events_of c.args.schedule.now) (g.W.Sink.contents c.args.output.now))
+    on_err c.from_residual.result (unwritten c.args.verified.now c.args.window c.args.limits (events_of c.args.schedule.now) (g.W.Sink.contents c.args.output.now))
 
 pub returns-in_err-program-clause-part : goal.returns-in_err-program-clause-part
 returns-in_err-program-clause-part g c =
-    let p = err_from_is_err_and c.from_residual-in_err-program.result c.from_residual-in_err-program.ensures.1 in
-    rw p.1 (unwritten c.args.verified.now c.args.window c.args.limits (events_of c.args.schedule.now) (g.W.Sink.contents c.args.output.now))
+    on_err c.from_residual-in_err-program.result (unwritten c.args.verified.now c.args.window c.args.limits (events_of c.args.schedule.now) (g.W.Sink.contents c.args.output.now))
 
-pub returns-in_err-teller-clause-part : goal.returns-in_err-teller-clause-part
-returns-in_err-teller-clause-part g c =
-    let p = err_from_is_err_and c.from_residual-in_err-teller.result c.from_residual-in_err-teller.ensures.1 in
-    rw p.1 (unwritten c.args.verified.now c.args.window c.args.limits (events_of c.args.schedule.now) (g.W.Sink.contents c.args.output.now))
+pub returns-in_err-names-clause-part : goal.returns-in_err-names-clause-part
+returns-in_err-names-clause-part g c =
+    on_err c.from_residual-in_err-names.result (unwritten c.args.verified.now c.args.window c.args.limits (events_of c.args.schedule.now) (g.W.Sink.contents c.args.output.now))
 
 pub returns-in_err-done-clause-part : goal.returns-in_err-done-clause-part
 returns-in_err-done-clause-part g c =
-    let p = err_from_is_err_and c.from_residual-in_err-done.result c.from_residual-in_err-done.ensures.1 in
     let trees = c.args.verified.now in
     let window = c.args.window in
     let events = events_of c.args.schedule.now in
     let opened = c.in_ok-machine.machine in
     let old = g.W.Sink.contents c.args.output.now in
     let new = g.W.Sink.contents c.events.new.output in
-    let stops = subst (λ (t : Program). StopsShort t window opened 0 events old new []) (c.in_ok-teller.ensures ∙ c.linked.ensures.same) c.in_err-done.ensures.part in
-    rw p.1 (front_written trees window c.args.limits events opened c.in_ok-machine.ensures old new stops)
+    let stops = subst (λ (t : Program). StopsShort t window opened 0 events old new []) (c.in_ok-names.ensures ∙ c.linked.ensures.same) c.in_err-done.ensures.part in
+    on_err c.from_residual-in_err-done.result (front_written trees window c.args.limits events opened c.in_ok-machine.ensures old new stops)
 
 pub returns-in_err-report_after-clause-part : goal.returns-in_err-report_after-clause-part
 returns-in_err-report_after-clause-part g c =
-    let p = err_from_is_err_and c.from_residual-in_err-report_after.result c.from_residual-in_err-report_after.ensures.1 in
     let trees = c.args.verified.now in
     let window = c.args.window in
     let events = events_of c.args.schedule.now in
@@ -48,8 +42,8 @@ returns-in_err-report_after-clause-part g c =
     let why = c.in_ok-done.why in
     let old = g.W.Sink.contents c.args.output.now in
     let new = g.W.Sink.contents c.events.new.output in
-    let told = subst (λ (t : Program). HasTold t window opened 0 events done why after old new [] []) (c.in_ok-teller.ensures ∙ c.linked.ensures.same) c.in_ok-done.ensures.told in
-    rw p.1
+    let told = subst (λ (t : Program). HasTold t window opened 0 events done why after old new [] []) (c.in_ok-names.ensures ∙ c.linked.ensures.same) c.in_ok-done.ensures.told in
+    on_err c.from_residual-in_err-report_after.result
     (front_written trees window c.args.limits events opened c.in_ok-machine.ensures old new (writing_stops trees window opened 0 events done why after old new new [] [] told (none_written new [])))
 
 pub returns-clause-traced : goal.returns-clause-traced
@@ -64,6 +58,6 @@ returns-clause-traced g c =
     let old = g.W.Sink.contents c.args.output.now in
     let new = g.W.Sink.contents c.events.new.output in
     let r = c.in_ok-report_after.field-0 in
-    let told = subst (λ (t : Program). HasTold t window opened 0 events done why after old new [] []) (c.in_ok-teller.ensures ∙ c.linked.ensures.same) c.in_ok-done.ensures.told in
+    let told = subst (λ (t : Program). HasTold t window opened 0 events done why after old new [] []) (c.in_ok-names.ensures ∙ c.linked.ensures.same) c.in_ok-done.ensures.told in
     let reported = subst (λ (t : Program). Tells t after done why r.0 r.1) (c.set.ensures.same ∙ c.linked-2.ensures.same) c.in_ok-report_after.ensures in
     is_trace trees window c.args.limits events opened c.in_ok-machine.ensures after done why old new told c.reports_of_words.ensures.holds c.no_event_is_wrong.ensures.holds r.0 r.1 reported

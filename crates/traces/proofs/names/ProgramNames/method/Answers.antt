@@ -1,7 +1,7 @@
 use Rattle.std.proofs.Common.{ap, ◌∙◌}
 use Rattle.types.specs.method_code.View.{shown_at}
 use Rattle.traces.proofs.MethodPlaces.{body_found}
-use Rattle.traces.proofs.teller.Teller.method.Goals as goal
+use Rattle.traces.proofs.names.ProgramNames.method.Goals as goal
 
 pub returns : goal.returns
 returns c =

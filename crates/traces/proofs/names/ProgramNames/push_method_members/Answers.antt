@@ -2,7 +2,7 @@ use Rattle.std.proofs.Common.{ap, ◌∙◌}
 use Rattle.hierarchy.specs.Places.{name_at}
 use Rattle.traces.specs.Methods.{name_in}
 use Rattle.traces.proofs.MethodPlaces.{members_told}
-use Rattle.traces.proofs.teller.Teller.push_method_members.Goals as goal
+use Rattle.traces.proofs.names.ProgramNames.push_method_members.Goals as goal
 
 pub returns : goal.returns
 returns c =

@@ -1,8 +1,13 @@
-//! Classes and methods.
+//! Classes and methods by their names.
 
-ghost use Rattle.std.specs.Prelude.{◌≡◌, IfOk};
+ghost use Rattle.std.specs.Prelude.{◌≡◌, ◌++◌, IfOk, OnOk};
 ghost use Rattle.hierarchy.specs.Places.{name_at};
+ghost use Rattle.linked_code.specs.Numbers.{IsMethodAt};
+ghost use Rattle.method_tables.specs.method_links.Numbers.{AreNumbersOf};
+ghost use Rattle.traces.specs.Lines.{method_members, method_words};
+ghost use Rattle.traces.specs.Methods.{IsPlaceOf, IsBodyOf, name_in};
 
+use crate::json::push_text_member;
 use hierarchy::{ClassSet, MemberPlace};
 use linked_code::LinkedProgram;
 use linker::Linked;
@@ -16,6 +21,7 @@ pub struct ProgramNames<'a> {
     pub(crate) linked: &'a Linked,
     pub(crate) program: &'a LinkedProgram,
     numbers: MethodNumbers,
+    ghost numbered: { AreNumbersOf linked.now numbers },
 }
 
 /// The name of a class, by its number.
@@ -29,7 +35,9 @@ fn class_name(set: &ClassSet, class: usize) -> &[u8]
 }
 
 /// The name of the method at a place.
-fn method_name(set: &ClassSet, place: MemberPlace) -> &[u8] {
+fn method_name(set: &ClassSet, place: MemberPlace) -> &[u8]
+    ensures { result.now ≡ name_in set.now place }
+{
     match set.class_at(place.class) {
         Some(class) => match class.methods.get(place.member) {
             Some(method) => class.pool.text(method.name),
@@ -45,7 +53,9 @@ impl<'a> ProgramNames<'a> {
         alloc: Global,
         linked: &'a Linked,
         program: &'a LinkedProgram,
-    ) -> Result<ProgramNames<'a>, AllocError> {
+    ) -> Result<ProgramNames<'a>, AllocError>
+        ensures { IfOk result (λ names. names.linked.now ≡ linked.entry.now) }
+    {
         let numbers = MethodNumbers::new(alloc, linked.set())?;
         Ok(ProgramNames {
             linked,
@@ -62,25 +72,51 @@ impl<'a> ProgramNames<'a> {
     }
 
     /// Where the method of a number stands.
-    fn place(&self, method: u32) -> Option<MemberPlace> {
-        self.numbers.place(method as usize)
+    fn place(&self, number: u32) -> MemberPlace
+        ensures { IsPlaceOf self.now.linked.now number result }
+    {
+        match self.numbers.place(number as usize) {
+            Some(found) => found,
+            None => MemberPlace {
+                class: 0,
+                member: 0,
+            },
+        }
     }
 
     /// The method of a number, if it has code.
-    pub(crate) fn method(&self, method: u32) -> Option<MethodCode<'_>> {
-        let place = self.place(method)?;
+    pub(crate) fn method(&self, number: u32) -> Option<MethodCode<'_>>
+        ensures { IsBodyOf self.now.linked.now number result }
+    {
+        let place = self.place(number);
         MethodCode::new(self.linked.hierarchy(), place.class, place.member)
     }
 
     /// Writes the name of a method, by its number, behind that of its class and a dot: `Counter.run`.
-    pub fn push_method(&self, text: &mut Vec<u8>, method: u32) -> Result<(), AllocError> {
-        let Some(place) = self.place(method) else {
-            return Ok(());
-        };
+    pub fn push_method(&self, text: &mut Vec<u8>, number: u32) -> Result<(), AllocError>
+        ensures { (method : _) → IsMethodAt self.now.linked.now number method
+            → OnOk result (text.new.items ≡ text.old.items ++ method_words method) }
+    {
+        let place = self.place(number);
         let set = self.linked.set();
         text.extend_from_slice(class_name(set, place.class))?;
-        text.push(b'.')?;
+        text.extend_from_slice(b".")?;
         text.extend_from_slice(method_name(set, place))?;
         Ok(())
+    }
+
+    /// The same as members of an object of JSON.
+    pub(crate) fn push_method_members(
+        &self,
+        text: &mut Vec<u8>,
+        number: u32,
+    ) -> Result<(), AllocError>
+        ensures { (method : _) → IsMethodAt self.now.linked.now number method
+            → OnOk result (text.new.items ≡ text.old.items ++ method_members method) }
+    {
+        let place = self.place(number);
+        let set = self.linked.set();
+        push_text_member(text, "class", class_name(set, place.class))?;
+        push_text_member(text, "method", method_name(set, place))
     }
 }
