@@ -7,8 +7,9 @@ PROGRAM is the built program `bench` [default: crates/bench/out/bench, which `rt
 printed for each set of class files: bytes of code, the seconds of the verification alone, bytes a second, and the peak
 resident memory. The sets: 10,000 methods that javac compiles (`ordinary`); a method of 65,535 bytes with a thousand
 handlers over all of it, without and with stores to local variables (`handlers`, `stores`); one with 65,535 local
-variables (`locals`), and one of 65,535 bytes with as many (`both`); 5,000 joins up a chain of 5,000 classes, of one place
-after all (`ladder`) and at the head of a loop (`loop`). All names are the sets that are made [default: all].
+variables (`locals`), and one of 65,535 bytes with as many (`both`), which takes more steps than there may be; 5,000
+joins up a chain of 5,000 classes, of one place after all (`ladder`) and at the head of a loop (`loop`). All names are
+the sets that are made [default: all].
 """
 
 import argparse
