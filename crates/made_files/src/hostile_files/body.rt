@@ -28,6 +28,8 @@ pub const RETURN: u8 = 0xb1;
 
 pub const GETSTATIC: u8 = 0xb2;
 
+pub const INVOKEVIRTUAL: u8 = 0xb6;
+
 pub const INVOKESTATIC: u8 = 0xb8;
 
 pub const ATHROW: u8 = 0xbf;
