@@ -1,7 +1,7 @@
 //! The shapes by their names.
 
 use crate::hostile_files::chains::{
-    catch_chain, interface_ladder, long_class_name, loop_up_a_chain,
+    catch_chain, descriptors_up_a_chain, interface_ladder, long_class_name, loop_up_a_chain,
 };
 use crate::hostile_files::handlers::{
     alternating_handlers, early_handlers, handlers, raised_handlers,
@@ -17,10 +17,11 @@ use crate::hostile_files::variables::{deep_stack, slow_loop};
 use std::alloc::{AllocError, Global};
 
 /// Their names, in the order of the alphabet.
-pub const SHAPES: [&str; 19] = [
+pub const SHAPES: [&str; 20] = [
     "alternating-handlers",
     "catch-chain",
     "deep-stack",
+    "descriptors-up-a-chain",
     "early-handlers",
     "handlers",
     "inherited-fields",
@@ -50,6 +51,7 @@ pub fn class_files(
         "alternating-handlers" => alternating_handlers(alloc, number)?,
         "catch-chain" => catch_chain(alloc, number)?,
         "deep-stack" => deep_stack(alloc, number)?,
+        "descriptors-up-a-chain" => descriptors_up_a_chain(alloc, number)?,
         "early-handlers" => early_handlers(alloc, number)?,
         "handlers" => handlers(alloc, number)?,
         "inherited-fields" => inherited_fields(alloc, number)?,
