@@ -82,13 +82,13 @@ from_class files rank r flat m (suc n) class low =
     let inside : first_found (λ i. field_from files n m i) (superinterfaces_of files class) ≡ first_found (field_in_class files m) (interfaces_above files class) =
     each_found (field_in_class files m) (λ i. field_from files n m i) (names_above (directly_above files above.Interfaces) n) (λ s. nat_le (rank class) (rank s)) (is_below_other files) (superinterfaces_of files class) (r.interfaces class) (interfaces_flat files class flat)
     (λ i below near. from_interface files rank r flat m n i (one_less (rank i) (rank class) n (leb-false (rank class) (rank i) below) low) near)
-    ∙ ap (first_found (field_in_class files m)) (steady files rank r (suc n) (suc count) class low few ∙ above_is files class) in
+    ∙ ap (first_found (field_in_class files m)) (steady files rank r above.Interfaces (suc n) (suc count) class low few ∙ above_is files class) in
     ap (λ o. option_or (field_in_class files m class) (option_or o (option_and_then (λ s. field_from files n m s) (superclass_of files class)))) inside
     ∙ sym (or_else_assoc (field_in_class files m class) (first_found (field_in_class files m) (interfaces_above files class)) (option_and_then (λ s. field_from files n m s) (superclass_of files class)))
     ∙ ap (option_or (first_found (field_in_class files m) (class ∷ interfaces_above files class))) (super (superclass_of files class) (r.superclass class) (λ s less. from_class files rank r flat m n s less))
     ∙ sym (found-append (field_in_class files m) (class ∷ interfaces_above files class) (flat_map (λ c. c ∷ interfaces_above files c) (option_map_or (λ s. lineage_of files n s) (superclass_of files class) [])))
   where
-    at_most : (a b : ℕ) → a ≤ b → a ≤ suc b
+    at_most : (a b : ℕ) → a < b → a ≤ suc b
     at_most a b h = omega arith
 
     one_less : (a b n : ℕ) → a < b → b ≤ suc n → a ≤ n
@@ -110,10 +110,13 @@ pub along_superclasses : (files : Program) → FieldsAlongSuperclasses files →
 along_superclasses files h m =
     let r = ranked_by files h.ranked in
     ap (λ n. first_found (field_in_class files m) (flat_map (λ c. c ∷ interfaces_above files c) (lineage_of files n m.class))) (all (length (classes_of files)))
-    ∙ sym (from_class files (rank_of files h.ranked.ranks) r h.flat m (length (classes_of files)) m.class (r.few m.class))
+    ∙ sym (from_class files (rank_of files h.ranked.ranks) r h.flat m (length (classes_of files)) m.class (within (rank_of files h.ranked.ranks m.class) (length (classes_of files)) (r.few m.class)))
   where
     all : (n : ℕ) → n - 0 ≡ n
     all n = omega arith
+
+    within : (a b : ℕ) → a < b → a ≤ b
+    within a b h = omega arith
 
 -- nothing is found at the last of the superclasses
 pub last_found : (files : Program) (g : Name → List Name) (f : Name → Option Member) (n i : ℕ) (class : Name) (all : Option Member) → i < n

@@ -114,7 +114,7 @@ once_inside f g same acc (x ∷ xs) =
 
 -- ---- rows
 
-next_of_none : (files : Program) (kind : declared_above.Above) (name : Name) → class_of files name ≡ None
+pub next_of_none : (files : Program) (kind : declared_above.Above) (name : Name) → class_of files name ≡ None
     → directly_above files kind name ≡ []
 next_of_none files above.Interfaces name e = rw e refl
 next_of_none files above.Supertypes name e = rw e refl

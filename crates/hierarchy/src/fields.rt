@@ -15,7 +15,8 @@ ghost use Rattle.hierarchy.specs.Places.{member_in, IsFieldAt};
 
 use crate::name_set::NameSet;
 use crate::place::MemberPlace;
-use crate::rows::{row_of, supertype_rows};
+use crate::ranked_rows::ordered_supertype_rows;
+use crate::rows::row_of;
 use crate::set::ClassSet;
 use class_tree::{ClassFile, Reference};
 use std::alloc::{AllocError, Global};
@@ -61,14 +62,18 @@ fn superinterfaces_are_flat(set: &ClassSet) -> bool
 }
 
 /// The rows of all supertypes, where fields are sought in them. None where fields are found along superclasses.
-pub(crate) fn rows_for_fields(alloc: Global, set: &ClassSet) -> Result<Vec<NameSet>, AllocError>
+pub(crate) fn rows_for_fields(
+    alloc: Global,
+    set: &ClassSet,
+    order: &[usize],
+) -> Result<Vec<NameSet>, AllocError>
     requires { HasRanks set.now }
     ensures { IfOk result (λ rows. HasSupertypes set.now rows.items) }
 {
     if superinterfaces_are_flat(set) {
         Ok(Vec::new(alloc))
     } else {
-        supertype_rows(alloc, set)
+        ordered_supertype_rows(alloc, set, order)
     }
 }
 

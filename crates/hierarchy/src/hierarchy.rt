@@ -83,7 +83,7 @@ impl Hierarchy {
             return Hierarchy::by_steps(alloc, set);
         };
         let interfaces = ordered_interface_rows(alloc, &set, &order)?;
-        let supertypes = rows_for_fields(alloc, &set)?;
+        let supertypes = rows_for_fields(alloc, &set, &order)?;
         Ok(Hierarchy {
             set,
             interfaces,
