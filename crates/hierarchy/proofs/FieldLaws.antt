@@ -11,7 +11,7 @@ use Rattle.model.specs.Classes.{Program, class_of, classes_of, superclass_of, su
 use Rattle.model.specs.Lookup.{first_found, field_from, field_in_class, find_field}
 use Rattle.hierarchy.specs.declared.rows.Above.TheVariants as above
 use Rattle.hierarchy.specs.Above.{directly_above, names_above, rows_of}
-use Rattle.hierarchy.specs.Fields.{is_below_other, has_interface_below_other, FieldsAlongSuperclasses, HasSupertypes}
+use Rattle.hierarchy.specs.Fields.{is_below_other, has_interface_below_other, SuperinterfacesAreFlat, HasSupertypes}
 use Rattle.hierarchy.specs.Ranks.{rank_of}
 use Rattle.hierarchy.proofs.SetLaws.{same_name, field_of_none}
 use Rattle.hierarchy.proofs.Indices.{not_found}
@@ -20,7 +20,7 @@ use Rattle.hierarchy.proofs.RankLaws.{Ranked, ranked_by, steady}
 
 -- ---- Object, which declares no field
 
-object_is : (files : Program) → class_of files java_lang_object ≡ Some object_class
+pub object_is : (files : Program) → class_of files java_lang_object ≡ Some object_class
 unfolding built_in_classes
 object_is files = refl
 
@@ -50,7 +50,7 @@ each_found f g h late other (x ∷ xs) low flat same =
     ∙ sym (found-append f (x ∷ h x) (flat_map (λ x. x ∷ h x) xs))
 
 -- no superinterface of a class is below another class than Object
-interfaces_flat : (files : Program) (class : Name) → list_any (has_interface_below_other files) (classes_of files) ≡ false
+pub interfaces_flat : (files : Program) (class : Name) → list_any (has_interface_below_other files) (classes_of files) ≡ false
     → list_any (is_below_other files) (superinterfaces_of files class) ≡ false
 interfaces_flat files class flat = by (class_of files class) refl
   where
@@ -104,7 +104,7 @@ from_class files rank r flat m (suc n) class low =
     super None h same = refl
     super (Some s) h same = same s (one_less (rank s) (rank class) n (leb-false (rank class) (rank s) (or_parts (nat_le (rank class) (rank s)) false h).0) low)
 
-pub along_superclasses : (files : Program) → FieldsAlongSuperclasses files → (m : Member)
+pub along_superclasses : (files : Program) → SuperinterfacesAreFlat files → (m : Member)
     → first_found (field_in_class files m) (flat_map (λ c. c
     ∷ interfaces_above files c) (lineage_of files (length (classes_of files) - 0) m.class)) ≡ find_field files m
 along_superclasses files h m =

@@ -119,7 +119,7 @@ pub next_of_none : (files : Program) (kind : declared_above.Above) (name : Name)
 next_of_none files above.Interfaces name e = rw e refl
 next_of_none files above.Supertypes name e = rw e refl
 
-above_none : (next : Name → List Name) (n : ℕ) (name : Name) → next name ≡ [] → names_above next n name ≡ []
+pub above_none : (next : Name → List Name) (n : ℕ) (name : Name) → next name ≡ [] → names_above next n name ≡ []
 above_none next zero name e = refl
 above_none next (suc n) name e = ap (λ l. flat_map (λ i. i ∷ names_above next n i) l) e
 
