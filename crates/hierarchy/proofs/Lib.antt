@@ -8,6 +8,7 @@ pub mod Walks
 pub mod Indices
 pub mod RankLaws
 pub mod FieldLaws
+pub mod MethodLaws
 pub mod CycleLaws
 pub mod TypeLaws
 pub mod Apart

@@ -11,7 +11,9 @@ ghost use Rattle.model.specs.Lookup.{method_in_class, any_method, first_found, f
 ghost use Rattle.hierarchy.specs.Above.{each_once};
 ghost use Rattle.hierarchy.specs.Places.{member_in, IsFieldAt, IsMethodAt};
 
-use crate::fields::{field_along_superclasses, field_among_supertypes, rows_for_fields};
+use crate::fields::{
+    field_along_superclasses, field_among_supertypes, rows_for_fields, superinterfaces_are_flat,
+};
 use crate::lookup::Wanted;
 use crate::name_set::NameSet;
 use crate::place::MemberPlace;
@@ -29,8 +31,10 @@ pub struct Hierarchy {
     set: ClassSet,
     /// For each class its direct superinterfaces and what is above these, without the superinterfaces of its superclass.
     interfaces: Vec<NameSet>,
-    /// For each class all that is above it. Empty where fields are found along superclasses.
+    /// For each class all that is above it. Empty where look-ups go along superclasses.
     supertypes: Vec<NameSet>,
+    /// No class is above itself, and no superinterface has a superclass but Object. False where that isn't known.
+    superinterfaces_are_flat: bool,
 }
 
 impl Model for Hierarchy {
@@ -41,7 +45,7 @@ impl Model for Hierarchy {
 
     ghost view = { λ h. h.set };
 
-    ghost invariant = { λ h. HasRows h.set h.interfaces.items h.supertypes.items };
+    ghost invariant = { λ h. HasRows h.set h.interfaces.items h.supertypes.items h.superinterfaces_are_flat };
 }
 
 /// The first of the names of a row whose class declares the method.
@@ -72,6 +76,7 @@ impl Hierarchy {
             set,
             interfaces,
             supertypes,
+            superinterfaces_are_flat: false,
         })
     }
 
@@ -83,11 +88,13 @@ impl Hierarchy {
             return Hierarchy::by_steps(alloc, set);
         };
         let interfaces = ordered_interface_rows(alloc, &set, &order)?;
-        let supertypes = rows_for_fields(alloc, &set)?;
+        let are_flat = superinterfaces_are_flat(&set);
+        let supertypes = rows_for_fields(alloc, &set, &order, &interfaces, are_flat)?;
         Ok(Hierarchy {
             set,
             interfaces,
             supertypes,
+            superinterfaces_are_flat: are_flat,
         })
     }
 
@@ -145,8 +152,8 @@ impl Hierarchy {
         }
     }
 
-    /// The method that one of all superinterfaces of a class declares, the first of several.
-    fn method_in_superinterfaces(&self, class: &[u8], method: Reference<'_>) -> Option<MemberPlace>
+    /// The method that one of all superinterfaces of a class declares, sought in the rows of the class and of its superclasses.
+    fn method_along_superclasses(&self, class: &[u8], method: Reference<'_>) -> Option<MemberPlace>
         ensures found { option_map (λ p. member_in self.now (reference_of method.entry) p) result
             ≡ first_found (method_in_class self.now any_method (reference_of method.entry)) (all_superinterfaces self.now class.now) }
         ensures place { IfSome result (IsMethodAt self.now (reference_of method.entry)) }
@@ -162,6 +169,36 @@ impl Hierarchy {
             class = next;
         }
         None
+    }
+
+    /// The row of all that is above a class, where none of these but superinterfaces can declare the method.
+    fn row_with_superinterfaces(&self, class: &[u8], method: Reference<'_>) -> Option<&NameSet>
+        ensures { IfSome result (λ row. first_found (method_in_class self.now any_method (reference_of method.entry)) row.now
+            ≡ first_found (method_in_class self.now any_method (reference_of method.entry)) (all_superinterfaces self.now class.now)) }
+    {
+        if !self.superinterfaces_are_flat || self.supertypes.is_empty() {
+            return None;
+        }
+        let object = b"java/lang/Object";
+        if let Some(_declared) = self.set.method_in(object, method, Wanted::Any) {
+            return None;
+        }
+        if let Some(_declared) = self.set.method_above(class, method, Wanted::Any) {
+            return None;
+        }
+        row_of(&self.set, &self.supertypes, class)
+    }
+
+    /// The method that one of all superinterfaces of a class declares, the first of several.
+    fn method_in_superinterfaces(&self, class: &[u8], method: Reference<'_>) -> Option<MemberPlace>
+        ensures found { option_map (λ p. member_in self.now (reference_of method.entry) p) result
+            ≡ first_found (method_in_class self.now any_method (reference_of method.entry)) (all_superinterfaces self.now class.now) }
+        ensures place { IfSome result (IsMethodAt self.now (reference_of method.entry)) }
+    {
+        match self.row_with_superinterfaces(class, method) {
+            Some(row) => method_among(&self.set, row, method),
+            None => self.method_along_superclasses(class, method),
+        }
     }
 
     /// The method that a symbolic reference to a method of a class names (JVMS 5.4.3.3). Takes no memory.

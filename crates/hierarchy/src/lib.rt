@@ -8,6 +8,7 @@ mod declared;
 mod fields;
 mod hierarchy;
 mod lineage;
+mod long_walks;
 mod lookup;
 mod name_set;
 mod order;

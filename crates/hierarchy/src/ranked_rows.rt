@@ -1,29 +1,30 @@
-//! Rows of superinterfaces, each made once.
+//! Rows of what is above classes, each made once.
 
-ghost use Rattle.std.specs.Prelude.{◌≡◌, suc, length, true, IfOk};
+ghost use Rattle.std.specs.Prelude.{◌≡◌, ◌-◌, suc, length, true, IfOk};
 ghost use Rattle.model.specs.Classes.{classes_of};
 ghost use Rattle.hierarchy.specs.declared.rows.Above.TheVariants as above;
 ghost use Rattle.hierarchy.specs.Above.{next_rows, rows_of};
 ghost use Rattle.hierarchy.specs.Ranks.{HasRanks};
 
 use crate::name_set::NameSet;
-use crate::rows::{Above, empty_rows, interface_rows, row_above};
+use crate::rows::{Above, empty_rows, interface_rows, row_above, supertype_rows};
 use crate::set::{ClassSet, class_name};
 use std::alloc::{AllocError, Global};
 
-/// Rows of superinterfaces, made one after the other by those that are made. The order only spares time: nothing is proved of
-/// these rows, and they are checked.
+/// Rows made one after the other by those that are made. The order only spares time: nothing is proved of these rows, and they
+/// are checked.
 fn rows_in_order(
     alloc: Global,
     set: &ClassSet,
     order: &[usize],
+    kind: Above,
 ) -> Result<Vec<NameSet>, AllocError> {
-    let mut rows = empty_rows(alloc, set, Above::Interfaces)?;
+    let mut rows = empty_rows(alloc, set, kind)?;
     for place in order {
         let Some(class) = set.class_at(*place) else {
             return Ok(rows);
         };
-        let made = row_above(alloc, set, &rows, Above::Interfaces, class_name(class))?;
+        let made = row_above(alloc, set, &rows, kind, class_name(class))?;
         if let Some(row) = rows.get_mut(*place) {
             *row = made;
         }
@@ -32,8 +33,13 @@ fn rows_in_order(
 }
 
 /// Whether one step more changes no row.
-fn are_settled(alloc: Global, set: &ClassSet, rows: &[NameSet]) -> Result<bool, AllocError>
-    ensures { IfOk result (λ settled. settled ≡ true → next_rows set.now above.Interfaces rows.now ≡ rows.now) }
+fn are_settled(
+    alloc: Global,
+    set: &ClassSet,
+    rows: &[NameSet],
+    kind: Above,
+) -> Result<bool, AllocError>
+    ensures { IfOk result (λ settled. settled ≡ true → next_rows set.now kind rows.now ≡ rows.now) }
 {
     if rows.len() != set.count() {
         return Ok(false);
@@ -45,7 +51,7 @@ fn are_settled(alloc: Global, set: &ClassSet, rows: &[NameSet]) -> Result<bool, 
         let Some(row) = rows.get(place) else {
             return Ok(false);
         };
-        let next = row_above(alloc, set, rows, Above::Interfaces, class_name(class))?;
+        let next = row_above(alloc, set, rows, kind, class_name(class))?;
         if !next.is_same(row) {
             return Ok(false);
         }
@@ -62,10 +68,27 @@ pub(crate) fn ordered_interface_rows(
     requires { HasRanks set.now }
     ensures { IfOk result (λ rows. rows.items ≡ rows_of set.now above.Interfaces (suc (length (classes_of set.now)))) }
 {
-    let rows = rows_in_order(alloc, set, order)?;
-    if are_settled(alloc, set, &rows)? {
+    let rows = rows_in_order(alloc, set, order, Above::Interfaces)?;
+    if are_settled(alloc, set, &rows, Above::Interfaces)? {
         Ok(rows)
     } else {
         interface_rows(alloc, set)
+    }
+}
+
+/// For each class all that is above it, by an order of the classes.
+pub(crate) fn ordered_supertype_rows(
+    alloc: Global,
+    set: &ClassSet,
+    order: &[usize],
+) -> Result<Vec<NameSet>, AllocError>
+    requires { HasRanks set.now }
+    ensures { IfOk result (λ rows. rows.items ≡ rows_of set.now above.Supertypes (length (classes_of set.now) - 1)) }
+{
+    let rows = rows_in_order(alloc, set, order, Above::Supertypes)?;
+    if are_settled(alloc, set, &rows, Above::Supertypes)? {
+        Ok(rows)
+    } else {
+        supertype_rows(alloc, set)
     }
 }

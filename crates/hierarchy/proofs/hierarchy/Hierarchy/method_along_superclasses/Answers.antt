@@ -4,7 +4,7 @@ use Rattle.model.specs.Classes.{classes_of, superclass_of, interfaces_above}
 use Rattle.model.specs.Lookup.{method_in_class, any_method}
 use Rattle.hierarchy.specs.Places.{member_in}
 use Rattle.hierarchy.proofs.Walks.{lineage_found, lineage_found_here}
-use Rattle.hierarchy.proofs.hierarchy.Hierarchy.method_in_superinterfaces.Goals as goal
+use Rattle.hierarchy.proofs.hierarchy.Hierarchy.method_along_superclasses.Goals as goal
 
 pub returns-in-Some-clause-found : goal.returns-in-Some-clause-found
 returns-in-Some-clause-found c =
