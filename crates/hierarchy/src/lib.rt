@@ -9,6 +9,7 @@ mod fields;
 mod hierarchy;
 mod lineage;
 mod lookup;
+mod member_keys;
 mod name_set;
 mod order;
 mod place;
@@ -18,6 +19,7 @@ mod reference_type;
 mod refusal;
 mod rows;
 mod set;
+mod sought;
 
 pub use cycles::first_in_cycle;
 pub use hierarchy::Hierarchy;
