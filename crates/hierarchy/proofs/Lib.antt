@@ -15,3 +15,5 @@ pub mod Apart
 pub mod Climbing
 pub mod LineageLaws
 pub mod LineageWalks
+pub mod KeyLaws
+pub mod PlaceLaws

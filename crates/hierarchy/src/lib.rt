@@ -10,6 +10,7 @@ mod hierarchy;
 mod lineage;
 mod long_walks;
 mod lookup;
+mod member_keys;
 mod name_set;
 mod order;
 mod place;
@@ -19,6 +20,7 @@ mod reference_type;
 mod refusal;
 mod rows;
 mod set;
+mod sought;
 
 pub use cycles::first_in_cycle;
 pub use hierarchy::Hierarchy;
