@@ -1,5 +1,5 @@
 -- Programs whose fields are found along superclasses, and the rows that are kept of others.
-use Rattle.std.specs.Prelude.{◌≡◌, ◌-◌, suc, length, List, [], ◌∷◌, Bool, false, not}
+use Rattle.std.specs.Prelude.{◌≡◌, ℕ, ◌-◌, suc, length, List, [], ◌∷◌, Bool, false, not}
 use Rattle.std.specs.Option.{option_map_or}
 use Rattle.std.specs.List.{list_any}
 use Rattle.model.specs.Names.{Name, name_eq, java_lang_object}
@@ -7,6 +7,7 @@ use Rattle.model.specs.Tree.{FileTree}
 use Rattle.model.specs.Classes.{Program, classes_of, superclass_of, interface_names}
 use Rattle.hierarchy.specs.declared.rows.Above.TheVariants as above
 use Rattle.hierarchy.specs.Above.{rows_of}
+use Rattle.hierarchy.specs.Numbers.{named_rows, HasNames}
 use Rattle.hierarchy.specs.Ranks.{HasRanks}
 
 -- the class of a name has a superclass, and that isn't Object
@@ -33,3 +34,8 @@ HasSupertypes files (row ∷ rows) = row ∷ rows ≡ rows_of files above.Supert
 pub record HasRows (files : Program) (interfaces supertypes : List (List Name)) : Type 0 where
   pub by_interfaces : interfaces ≡ rows_of files above.Interfaces (suc (length (classes_of files)))
   pub by_supertypes : HasSupertypes files supertypes
+
+-- The rows, by numbers of a table of names.
+pub record HasNamedRows (files : Program) (names : List Name) (interfaces supertypes : List (List ℕ)) : Type 0 where
+  pub has_names : HasNames files names
+  pub rows : HasRows files (named_rows names interfaces) (named_rows names supertypes)

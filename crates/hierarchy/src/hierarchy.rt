@@ -1,23 +1,24 @@
 //! Look-ups that go through superinterfaces (JVMS 5.4.3).
 
-ghost use Rattle.std.specs.Prelude.{◌≡◌, [], option_map, IfOk, IfSome};
-ghost use Rattle.std.specs.Option.{option_map_or};
+ghost use Rattle.std.specs.Prelude.{◌≡◌, slice_get, option_map, IfOk, IfSome};
+ghost use Rattle.std.specs.Option.{option_and_then};
 ghost use Rattle.std.specs.List.{list_any};
 ghost use Rattle.model.specs.Names.{name_eq};
 ghost use Rattle.constant_pool.specs.View.{reference_of};
 ghost use Rattle.model.specs.ReferenceTypes.{is_subclass_or_implements};
 ghost use Rattle.model.specs.Classes.{interfaces_above, all_superinterfaces, implements};
 ghost use Rattle.model.specs.Lookup.{method_in_class, any_method, first_found, find_field, find_method, find_interface_method};
-ghost use Rattle.hierarchy.specs.Above.{each_once};
+ghost use Rattle.hierarchy.specs.Numbers.{names_of};
 ghost use Rattle.hierarchy.specs.Places.{member_in, IsFieldAt, IsMethodAt};
 
 use crate::fields::{field_along_superclasses, field_among_supertypes, rows_for_fields};
 use crate::lookup::Wanted;
-use crate::name_set::NameSet;
+use crate::name_table::NameTable;
 use crate::place::MemberPlace;
 use crate::ranked_rows::ordered_interface_rows;
 use crate::ranks::ranked_order;
-use crate::rows::{interface_rows, row_of, supertype_rows};
+use crate::row::Row;
+use crate::rows::{interface_rows, is_among, row_of, supertype_rows};
 use crate::set::ClassSet;
 use class_tree::Reference;
 use std::alloc::{AllocError, Global};
@@ -27,34 +28,58 @@ use std::marker::Model;
 #[derive(Drop)]
 pub struct Hierarchy {
     set: ClassSet,
+    /// The names of its classes, and then of what stands directly above them.
+    names: NameTable,
     /// For each class its direct superinterfaces and what is above these, without the superinterfaces of its superclass.
-    interfaces: Vec<NameSet>,
+    interfaces: Vec<Row>,
     /// For each class all that is above it. Empty where fields are found along superclasses.
-    supertypes: Vec<NameSet>,
+    supertypes: Vec<Row>,
 }
 
 impl Model for Hierarchy {
     ghost use Rattle.model.specs.Classes.{Program};
-    ghost use Rattle.hierarchy.specs.Fields.{HasRows};
+    ghost use Rattle.hierarchy.specs.Fields.{HasNamedRows};
 
     ghost Value = { Program };
 
     ghost view = { λ h. h.set };
 
-    ghost invariant = { λ h. HasRows h.set h.interfaces.items h.supertypes.items };
+    ghost invariant = { λ h. HasNamedRows h.set h.names h.interfaces.items h.supertypes.items };
+}
+
+/// The method that the class of the name of a number declares.
+fn method_of(
+    set: &ClassSet,
+    names: &NameTable,
+    number: u32,
+    method: Reference<'_>,
+) -> Option<MemberPlace>
+    ensures found { option_map (λ p. member_in set.now (reference_of method.entry) p) result
+        ≡ option_and_then (method_in_class set.now any_method (reference_of method.entry)) (slice_get names.now number) }
+    ensures place { IfSome result (IsMethodAt set.now (reference_of method.entry)) }
+{
+    match names.name_of(number) {
+        Some(name) => set.method_in(name, method, Wanted::Any),
+        None => None,
+    }
 }
 
 /// The first of the names of a row whose class declares the method.
-fn method_among(set: &ClassSet, row: &NameSet, method: Reference<'_>) -> Option<MemberPlace>
+fn method_among(
+    set: &ClassSet,
+    names: &NameTable,
+    row: &Row,
+    method: Reference<'_>,
+) -> Option<MemberPlace>
     ensures found { option_map (λ p. member_in set.now (reference_of method.entry) p) result
-        ≡ first_found (method_in_class set.now any_method (reference_of method.entry)) row.now }
+        ≡ first_found (method_in_class set.now any_method (reference_of method.entry)) (names_of names.now row.now) }
     ensures place { IfSome result (IsMethodAt set.now (reference_of method.entry)) }
 {
     for place in 0..row.count() {
-        let Some(name) = row.get(place) else {
+        let Some(number) = row.get(place) else {
             return None;
         };
-        if let Some(found) = set.method_in(name, method, Wanted::Any) {
+        if let Some(found) = method_of(set, names, number, method) {
             return Some(found);
         }
     }
@@ -66,10 +91,12 @@ impl Hierarchy {
     fn by_steps(alloc: Global, set: ClassSet) -> Result<Hierarchy, AllocError>
         ensures { IfOk result (λ hierarchy. hierarchy ≡ set) }
     {
-        let interfaces = interface_rows(alloc, &set)?;
-        let supertypes = supertype_rows(alloc, &set)?;
+        let names = NameTable::of_set(alloc, &set)?;
+        let interfaces = interface_rows(alloc, &set, &names)?;
+        let supertypes = supertype_rows(alloc, &set, &names)?;
         Ok(Hierarchy {
             set,
+            names,
             interfaces,
             supertypes,
         })
@@ -82,10 +109,12 @@ impl Hierarchy {
         let Some(order) = ranked_order(alloc, &set)? else {
             return Hierarchy::by_steps(alloc, set);
         };
-        let interfaces = ordered_interface_rows(alloc, &set, &order)?;
-        let supertypes = rows_for_fields(alloc, &set)?;
+        let names = NameTable::of_set(alloc, &set)?;
+        let interfaces = ordered_interface_rows(alloc, &set, &names, &order)?;
+        let supertypes = rows_for_fields(alloc, &set, &names)?;
         Ok(Hierarchy {
             set,
+            names,
             interfaces,
             supertypes,
         })
@@ -98,18 +127,11 @@ impl Hierarchy {
         &self.set
     }
 
-    /// The direct superinterfaces of a class and what is above these, each once.
-    fn interfaces_above(&self, class: &[u8]) -> Option<&NameSet>
-        ensures { option_map_or (λ row. row.now) result [] ≡ each_once (interfaces_above self.now class.now) }
-    {
-        row_of(&self.set, &self.interfaces, class)
-    }
-
     fn has_interface_above(&self, class: &[u8], interface: &[u8]) -> bool
         ensures { result ≡ list_any (λ i. name_eq i interface.now) (interfaces_above self.now class.now) }
     {
-        match self.interfaces_above(class) {
-            Some(row) => row.contains(interface),
+        match row_of(&self.set, &self.interfaces, class) {
+            Some(row) => is_among(&self.names, row, interface),
             None => false,
         }
     }
@@ -139,8 +161,8 @@ impl Hierarchy {
             ≡ first_found (method_in_class self.now any_method (reference_of method.entry)) (interfaces_above self.now class.now) }
         ensures place { IfSome result (IsMethodAt self.now (reference_of method.entry)) }
     {
-        match self.interfaces_above(class) {
-            Some(row) => method_among(&self.set, row, method),
+        match row_of(&self.set, &self.interfaces, class) {
+            Some(row) => method_among(&self.set, &self.names, row, method),
             None => None,
         }
     }
@@ -199,9 +221,9 @@ impl Hierarchy {
         ensures place { IfSome result (IsFieldAt self.now (reference_of field.entry)) }
     {
         if self.supertypes.is_empty() {
-            field_along_superclasses(&self.set, &self.interfaces, field)
+            field_along_superclasses(&self.set, &self.names, &self.interfaces, field)
         } else {
-            field_among_supertypes(&self.set, &self.supertypes, field)
+            field_among_supertypes(&self.set, &self.names, &self.supertypes, field)
         }
     }
 

@@ -9,13 +9,14 @@ mod fields;
 mod hierarchy;
 mod lineage;
 mod lookup;
-mod name_set;
+mod name_table;
 mod order;
 mod place;
 mod ranked_rows;
 mod ranks;
 mod reference_type;
 mod refusal;
+mod row;
 mod rows;
 mod set;
 
