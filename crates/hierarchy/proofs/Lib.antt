@@ -4,6 +4,7 @@ pub mod Chains
 pub mod SetLaws
 pub mod Adding
 pub mod RowLaws
+pub mod NumberLaws
 pub mod Walks
 pub mod Indices
 pub mod RankLaws

@@ -20,7 +20,7 @@ use Rattle.hierarchy.proofs.RankLaws.{Ranked, ranked_by, steady}
 use Rattle.hierarchy.proofs.FieldLaws.{object_is, interfaces_flat}
 
 -- what is so of the row of a class is so of one that is given
-pub of_row : {A : Type 0} {row : List Name} (o : Option A) (view : A → List Name) (P : List Name → Type 0) → option_map_or view o [] ≡ row
+pub of_row : {A B : Type 0} {row : List B} (o : Option A) (view : A → List B) (P : List B → Type 0) → option_map_or view o [] ≡ row
     → P row → IfSome o (λ a. P (view a))
 of_row None view P e h = tt
 of_row (Some a) view P e h = subst P (sym e) h

@@ -2,6 +2,7 @@ pub mod Set
 pub mod Places
 pub mod Wanted
 pub mod Above
+pub mod Numbers
 pub mod Ranks
 pub mod Fields
 pub mod Types

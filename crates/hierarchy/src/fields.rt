@@ -1,7 +1,7 @@
 //! Look-ups of fields (JVMS 5.4.3.2).
 
-ghost use Rattle.std.specs.Prelude.{◌≡◌, ◌∷◌, ◌-◌, suc, length, true, not, option_map, IfSome, IfOk};
-ghost use Rattle.std.specs.Option.{option_to_list};
+ghost use Rattle.std.specs.Prelude.{◌≡◌, ◌∷◌, ◌-◌, suc, length, true, not, slice_get, option_map, IfSome, IfOk};
+ghost use Rattle.std.specs.Option.{option_and_then, option_to_list};
 ghost use Rattle.std.specs.List.{list_any};
 ghost use Rattle.constant_pool.specs.View.{reference_of};
 ghost use Rattle.class_tree.specs.View.{file_of};
@@ -9,14 +9,16 @@ ghost use Rattle.model.specs.Classes.{classes_of, interfaces_above};
 ghost use Rattle.model.specs.Lookup.{first_found, field_in_class, find_field};
 ghost use Rattle.hierarchy.specs.declared.rows.Above.TheVariants as above;
 ghost use Rattle.hierarchy.specs.Above.{rows_of};
+ghost use Rattle.hierarchy.specs.Numbers.{names_of, named_rows, HasNames};
 ghost use Rattle.hierarchy.specs.Fields.{is_below_other, has_interface_below_other, SuperinterfacesAreFlat, HasSupertypes};
 ghost use Rattle.hierarchy.specs.Ranks.{HasRanks};
 ghost use Rattle.hierarchy.specs.Places.{member_in, IsFieldAt};
 
 use crate::long_walks::a_walk_is_long;
-use crate::name_set::NameSet;
+use crate::name_table::NameTable;
 use crate::place::MemberPlace;
 use crate::ranked_rows::ordered_supertype_rows;
+use crate::row::Row;
 use crate::rows::row_of;
 use crate::set::ClassSet;
 use class_tree::{ClassFile, Reference};
@@ -67,32 +69,56 @@ pub(crate) fn superinterfaces_are_flat(set: &ClassSet) -> bool
 pub(crate) fn rows_for_fields(
     alloc: Global,
     set: &ClassSet,
+    names: &NameTable,
     order: &[usize],
-    interfaces: &[NameSet],
+    interfaces: &[Row],
     are_flat: bool,
-) -> Result<Vec<NameSet>, AllocError>
-    requires ranked { HasRanks set.now }
+) -> Result<Vec<Row>, AllocError>
+    requires ranks { HasRanks set.now }
+    requires names { HasNames set.now names.now }
     requires flat { are_flat ≡ true → SuperinterfacesAreFlat set.now }
-    ensures { IfOk result (λ rows. HasSupertypes set.now rows.items) }
+    ensures { IfOk result (λ rows. HasSupertypes set.now (named_rows names.now rows.items)) }
 {
     if are_flat && !a_walk_is_long(alloc, set, order, interfaces)? {
         Ok(Vec::new(alloc))
     } else {
-        ordered_supertype_rows(alloc, set, order)
+        ordered_supertype_rows(alloc, set, names, order)
+    }
+}
+
+/// The field that the class of the name of a number declares.
+fn field_of(
+    set: &ClassSet,
+    names: &NameTable,
+    number: u32,
+    field: Reference<'_>,
+) -> Option<MemberPlace>
+    ensures found { option_map (λ p. member_in set.now (reference_of field.entry) p) result
+        ≡ option_and_then (field_in_class set.now (reference_of field.entry)) (slice_get names.now number) }
+    ensures place { IfSome result (IsFieldAt set.now (reference_of field.entry)) }
+{
+    match names.name_of(number) {
+        Some(name) => set.field_in(name, field),
+        None => None,
     }
 }
 
 /// The first of the names of a row whose class declares the field.
-fn field_among(set: &ClassSet, row: &NameSet, field: Reference<'_>) -> Option<MemberPlace>
+fn field_among(
+    set: &ClassSet,
+    names: &NameTable,
+    row: &Row,
+    field: Reference<'_>,
+) -> Option<MemberPlace>
     ensures found { option_map (λ p. member_in set.now (reference_of field.entry) p) result
-        ≡ first_found (field_in_class set.now (reference_of field.entry)) row.now }
+        ≡ first_found (field_in_class set.now (reference_of field.entry)) (names_of names.now row.now) }
     ensures place { IfSome result (IsFieldAt set.now (reference_of field.entry)) }
 {
     for place in 0..row.count() {
-        let Some(name) = row.get(place) else {
+        let Some(number) = row.get(place) else {
             return None;
         };
-        if let Some(found) = set.field_in(name, field) {
+        if let Some(found) = field_of(set, names, number, field) {
             return Some(found);
         }
     }
@@ -102,11 +128,12 @@ fn field_among(set: &ClassSet, row: &NameSet, field: Reference<'_>) -> Option<Me
 /// The field that a class declares, else one of its superinterfaces without those of its superclasses.
 fn field_near(
     set: &ClassSet,
-    interfaces: &[NameSet],
+    names: &NameTable,
+    interfaces: &[Row],
     class: &[u8],
     field: Reference<'_>,
 ) -> Option<MemberPlace>
-    requires { interfaces.now ≡ rows_of set.now above.Interfaces (suc (length (classes_of set.now))) }
+    requires { named_rows names.now interfaces.now ≡ rows_of set.now above.Interfaces (suc (length (classes_of set.now))) }
     ensures found { option_map (λ p. member_in set.now (reference_of field.entry) p) result
         ≡ first_found (field_in_class set.now (reference_of field.entry)) (class.now ∷ interfaces_above set.now class.now) }
     ensures place { IfSome result (IsFieldAt set.now (reference_of field.entry)) }
@@ -115,7 +142,7 @@ fn field_near(
         return Some(found);
     }
     match row_of(set, interfaces, class) {
-        Some(row) => field_among(set, row, field),
+        Some(row) => field_among(set, names, row, field),
         None => None,
     }
 }
@@ -123,10 +150,11 @@ fn field_near(
 /// The field that a symbolic reference names, sought in its class and the superclasses, each with its superinterfaces.
 pub(crate) fn field_along_superclasses(
     set: &ClassSet,
-    interfaces: &[NameSet],
+    names: &NameTable,
+    interfaces: &[Row],
     field: Reference<'_>,
 ) -> Option<MemberPlace>
-    requires rows { interfaces.now ≡ rows_of set.now above.Interfaces (suc (length (classes_of set.now))) }
+    requires rows { named_rows names.now interfaces.now ≡ rows_of set.now above.Interfaces (suc (length (classes_of set.now))) }
     requires along { SuperinterfacesAreFlat set.now }
     ensures found { option_map (λ p. member_in set.now (reference_of field.entry) p) result
         ≡ find_field set.now (reference_of field.entry) }
@@ -134,7 +162,7 @@ pub(crate) fn field_along_superclasses(
 {
     let mut class = field.class;
     for _step in 0..set.count() {
-        if let Some(found) = field_near(set, interfaces, class, field) {
+        if let Some(found) = field_near(set, names, interfaces, class, field) {
             return Some(found);
         }
         let Some(next) = set.superclass_of(class) else {
@@ -148,10 +176,11 @@ pub(crate) fn field_along_superclasses(
 /// The field that a symbolic reference names, sought in its class and then in the row of all that is above it.
 pub(crate) fn field_among_supertypes(
     set: &ClassSet,
-    supertypes: &[NameSet],
+    names: &NameTable,
+    supertypes: &[Row],
     field: Reference<'_>,
 ) -> Option<MemberPlace>
-    requires { supertypes.now ≡ rows_of set.now above.Supertypes (length (classes_of set.now) - 1) }
+    requires { named_rows names.now supertypes.now ≡ rows_of set.now above.Supertypes (length (classes_of set.now) - 1) }
     ensures found { option_map (λ p. member_in set.now (reference_of field.entry) p) result
         ≡ find_field set.now (reference_of field.entry) }
     ensures place { IfSome result (IsFieldAt set.now (reference_of field.entry)) }
@@ -160,7 +189,7 @@ pub(crate) fn field_among_supertypes(
         return Some(found);
     }
     match row_of(set, supertypes, field.class) {
-        Some(row) => field_among(set, row, field),
+        Some(row) => field_among(set, names, row, field),
         None => None,
     }
 }

@@ -1,6 +1,6 @@
 //! How many names look-ups pass on walks along superclasses. That only spares time: nothing is proved of it.
 
-use crate::name_set::NameSet;
+use crate::row::Row;
 use crate::rows::row_of;
 use crate::set::{ClassSet, class_name, superclass_name};
 use class_tree::ClassFile;
@@ -21,12 +21,7 @@ fn passed_above(set: &ClassSet, passed: &[usize], file: &ClassFile) -> usize {
 }
 
 /// How many names a walk from a class passes: the class, its superclasses, and the rows of superinterfaces of all these.
-fn passed_from(
-    set: &ClassSet,
-    interfaces: &[NameSet],
-    passed: &[usize],
-    file: &ClassFile,
-) -> usize {
+fn passed_from(set: &ClassSet, interfaces: &[Row], passed: &[usize], file: &ClassFile) -> usize {
     let near = match row_of(set, interfaces, class_name(file)) {
         Some(row) => row.count(),
         None => 0,
@@ -41,7 +36,7 @@ pub(crate) fn a_walk_is_long(
     alloc: Global,
     set: &ClassSet,
     order: &[usize],
-    interfaces: &[NameSet],
+    interfaces: &[Row],
 ) -> Result<bool, AllocError> {
     let few = set.count().saturating_mul(4).saturating_add(1000);
     let mut passed = Vec::new(alloc);

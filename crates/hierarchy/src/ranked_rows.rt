@@ -4,9 +4,11 @@ ghost use Rattle.std.specs.Prelude.{◌≡◌, ◌-◌, suc, length, true, IfOk}
 ghost use Rattle.model.specs.Classes.{classes_of};
 ghost use Rattle.hierarchy.specs.declared.rows.Above.TheVariants as above;
 ghost use Rattle.hierarchy.specs.Above.{next_rows, rows_of};
+ghost use Rattle.hierarchy.specs.Numbers.{named_rows, HasNames};
 ghost use Rattle.hierarchy.specs.Ranks.{HasRanks};
 
-use crate::name_set::NameSet;
+use crate::name_table::NameTable;
+use crate::row::Row;
 use crate::rows::{Above, empty_rows, interface_rows, row_above, supertype_rows};
 use crate::set::{ClassSet, class_name};
 use std::alloc::{AllocError, Global};
@@ -16,15 +18,18 @@ use std::alloc::{AllocError, Global};
 fn rows_in_order(
     alloc: Global,
     set: &ClassSet,
+    names: &NameTable,
     order: &[usize],
     kind: Above,
-) -> Result<Vec<NameSet>, AllocError> {
-    let mut rows = empty_rows(alloc, set, kind)?;
+) -> Result<Vec<Row>, AllocError>
+    requires { HasNames set.now names.now }
+{
+    let mut rows = empty_rows(alloc, set)?;
     for place in order {
         let Some(class) = set.class_at(*place) else {
             return Ok(rows);
         };
-        let made = row_above(alloc, set, &rows, kind, class_name(class))?;
+        let made = row_above(alloc, set, names, &rows, kind, class_name(class))?;
         if let Some(row) = rows.get_mut(*place) {
             *row = made;
         }
@@ -36,10 +41,13 @@ fn rows_in_order(
 fn are_settled(
     alloc: Global,
     set: &ClassSet,
-    rows: &[NameSet],
+    names: &NameTable,
+    rows: &[Row],
     kind: Above,
 ) -> Result<bool, AllocError>
-    ensures { IfOk result (λ settled. settled ≡ true → next_rows set.now kind rows.now ≡ rows.now) }
+    requires { HasNames set.now names.now }
+    ensures { IfOk result (λ settled. settled ≡ true
+        → next_rows set.now kind (named_rows names.now rows.now) ≡ named_rows names.now rows.now) }
 {
     if rows.len() != set.count() {
         return Ok(false);
@@ -51,7 +59,7 @@ fn are_settled(
         let Some(row) = rows.get(place) else {
             return Ok(false);
         };
-        let next = row_above(alloc, set, rows, kind, class_name(class))?;
+        let next = row_above(alloc, set, names, rows, kind, class_name(class))?;
         if !next.is_same(row) {
             return Ok(false);
         }
@@ -63,16 +71,19 @@ fn are_settled(
 pub(crate) fn ordered_interface_rows(
     alloc: Global,
     set: &ClassSet,
+    names: &NameTable,
     order: &[usize],
-) -> Result<Vec<NameSet>, AllocError>
-    requires { HasRanks set.now }
-    ensures { IfOk result (λ rows. rows.items ≡ rows_of set.now above.Interfaces (suc (length (classes_of set.now)))) }
+) -> Result<Vec<Row>, AllocError>
+    requires ranks { HasRanks set.now }
+    requires names { HasNames set.now names.now }
+    ensures { IfOk result (λ rows. named_rows names.now rows.items
+        ≡ rows_of set.now above.Interfaces (suc (length (classes_of set.now)))) }
 {
-    let rows = rows_in_order(alloc, set, order, Above::Interfaces)?;
-    if are_settled(alloc, set, &rows, Above::Interfaces)? {
+    let rows = rows_in_order(alloc, set, names, order, Above::Interfaces)?;
+    if are_settled(alloc, set, names, &rows, Above::Interfaces)? {
         Ok(rows)
     } else {
-        interface_rows(alloc, set)
+        interface_rows(alloc, set, names)
     }
 }
 
@@ -80,15 +91,18 @@ pub(crate) fn ordered_interface_rows(
 pub(crate) fn ordered_supertype_rows(
     alloc: Global,
     set: &ClassSet,
+    names: &NameTable,
     order: &[usize],
-) -> Result<Vec<NameSet>, AllocError>
-    requires { HasRanks set.now }
-    ensures { IfOk result (λ rows. rows.items ≡ rows_of set.now above.Supertypes (length (classes_of set.now) - 1)) }
+) -> Result<Vec<Row>, AllocError>
+    requires ranks { HasRanks set.now }
+    requires names { HasNames set.now names.now }
+    ensures { IfOk result (λ rows. named_rows names.now rows.items
+        ≡ rows_of set.now above.Supertypes (length (classes_of set.now) - 1)) }
 {
-    let rows = rows_in_order(alloc, set, order, Above::Supertypes)?;
-    if are_settled(alloc, set, &rows, Above::Supertypes)? {
+    let rows = rows_in_order(alloc, set, names, order, Above::Supertypes)?;
+    if are_settled(alloc, set, names, &rows, Above::Supertypes)? {
         Ok(rows)
     } else {
-        supertype_rows(alloc, set)
+        supertype_rows(alloc, set, names)
     }
 }

@@ -6,8 +6,10 @@ use Rattle.model.specs.Classes.{Program, classes_of, interfaces_above}
 use Rattle.model.specs.Lookup.{field_in_class, first_found}
 use Rattle.hierarchy.specs.declared.rows.Above.TheVariants as above
 use Rattle.hierarchy.specs.Above.{each_once, row_of, rows_of}
+use Rattle.hierarchy.specs.Numbers.{names_of, named_rows}
 use Rattle.hierarchy.proofs.RowLaws.{row_is}
 use Rattle.hierarchy.proofs.Walks.{found_once, above_is}
+use Rattle.hierarchy.proofs.NumberLaws.{named_row}
 use Rattle.hierarchy.proofs.fields.field_near.Goals as goal
 
 -- where the class declares none, the field is one of its row
@@ -28,8 +30,15 @@ returns-in-Some-clause-found c =
 
 pub returns-in-Some-row_of-clause-found : goal.returns-in-Some-row_of-clause-found
 returns-in-Some-row_of-clause-found c =
-    c.field_among.ensures.found ∙ in_row c.args.set.now (reference_of c.args.field) c.args.class.now c.args.interfaces.now c.in-Some-row_of.row.now c.requires c.in-Some-row_of.ensures c.in_default.ensures.found
+    let files = c.args.set.now in
+    let names = c.args.names.now in
+    let class = c.args.class.now in
+    c.field_among.ensures.found
+    ∙ in_row files (reference_of c.args.field) class (named_rows names c.args.interfaces.now) (names_of names c.in-Some-row_of.row.now) c.requires (named_row files names c.args.interfaces.now c.in-Some-row_of.row.now class c.in-Some-row_of.ensures) c.in_default.ensures.found
 
 pub returns-in-None-clause-found : goal.returns-in-None-clause-found
 returns-in-None-clause-found c =
-    in_row c.args.set.now (reference_of c.args.field) c.args.class.now c.args.interfaces.now _ c.requires c.in-None.ensures c.in_default.ensures.found
+    let files = c.args.set.now in
+    let names = c.args.names.now in
+    let class = c.args.class.now in
+    in_row files (reference_of c.args.field) class (named_rows names c.args.interfaces.now) _ c.requires (named_row files names c.args.interfaces.now _ class c.in-None.ensures) c.in_default.ensures.found
