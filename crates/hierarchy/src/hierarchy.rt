@@ -29,7 +29,7 @@ use std::marker::Model;
 #[derive(Drop)]
 pub struct Hierarchy {
     set: ClassSet,
-    /// For each class its direct superinterfaces and what is above these, without the superinterfaces of its superclass.
+    /// For each class its direct superinterfaces and what is above these, without those of its superclass.
     interfaces: Vec<NameSet>,
     /// For each class all that is above it. Empty where look-ups go along superclasses.
     supertypes: Vec<NameSet>,
@@ -152,7 +152,7 @@ impl Hierarchy {
         }
     }
 
-    /// The method that one of all superinterfaces of a class declares, sought in the rows of the class and of its superclasses.
+    /// The method that one of all superinterfaces of a class declares, sought in its row and those of its superclasses.
     fn method_along_superclasses(&self, class: &[u8], method: Reference<'_>) -> Option<MemberPlace>
         ensures found { option_map (λ p. member_in self.now (reference_of method.entry) p) result
             ≡ first_found (method_in_class self.now any_method (reference_of method.entry)) (all_superinterfaces self.now class.now) }
@@ -171,7 +171,8 @@ impl Hierarchy {
         None
     }
 
-    /// The row of all that is above a class, where none of these but superinterfaces can declare the method.
+    /// The row of all that is above a class, where none of these but superinterfaces can declare the method. None where
+    /// the method is to be sought along superclasses.
     fn row_with_superinterfaces(&self, class: &[u8], method: Reference<'_>) -> Option<&NameSet>
         ensures { IfSome result (λ row. first_found (method_in_class self.now any_method (reference_of method.entry)) row.now
             ≡ first_found (method_in_class self.now any_method (reference_of method.entry)) (all_superinterfaces self.now class.now)) }
