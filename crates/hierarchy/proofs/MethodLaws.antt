@@ -25,7 +25,7 @@ pub of_row : {A B : Type 0} {row : List B} (o : Option A) (view : A → List B) 
 of_row None view P e h = tt
 of_row (Some a) view P e h = subst P (sym e) h
 
--- where neither is found, there is none of each
+-- where the first of two is none, both are
 neither : (a b : Option Member) → option_or a b ≡ None → (a ≡ None) × (b ≡ None)
 neither None b e = (refl, e)
 neither (Some m) b e = absurd cc
@@ -116,8 +116,8 @@ module _ (files : Program) (f : Name → Option Member) (object : f java_lang_ob
         ∙ ap (option_or (first_found f above_class)) (from_superclass n class (superclass_of files class) low (r.superclass class) (neither (f class) _ none).1 (from_class n))
         ∙ sym (found-append f above_class (flat_map (interfaces_above files) others))
 
--- Where no class is above itself and superinterfaces are flat, what neither Object nor a class nor its superclasses have is found
--- among all that is above the class as it is among all superinterfaces.
+-- Where no class is above itself and superinterfaces are flat, what neither Object nor a class nor its superclasses have
+-- is found among all that is above the class as it is among all superinterfaces.
 pub among_supertypes : (files : Program) → SuperinterfacesAreFlat files → (f : Name → Option Member) → f java_lang_object ≡ None
     → (class : Name) → first_found f (lineage files class) ≡ None
     → first_found f (each_once (names_above (directly_above files above.Supertypes) (length (classes_of files) - 1) class))

@@ -18,8 +18,8 @@ is_below_other files name = option_map_or (λ s. not (name_eq s java_lang_object
 abbrev pub has_interface_below_other : Program → FileTree → Bool
 has_interface_below_other files file = list_any (is_below_other files) (interface_names file)
 
--- No class is above itself, and no superinterface has a superclass but Object: no field that a superinterface's superclass
--- declares can be found.
+-- No class is above itself, and no superinterface has a superclass but Object: no field that a superinterface's
+-- superclass declares can be found.
 pub record SuperinterfacesAreFlat (files : Program) : Type 0 where
   pub ranked : HasRanks files
   pub flat : list_any (has_interface_below_other files) (classes_of files) ≡ false
@@ -29,8 +29,8 @@ abbrev pub HasSupertypes : Program → List (List Name) → Type 0
 HasSupertypes files [] = SuperinterfacesAreFlat files
 HasSupertypes files (row ∷ rows) = row ∷ rows ≡ rows_of files above.Supertypes (length (classes_of files) - 1)
 
--- The rows that look-ups go through: the superinterfaces of each class without those of its superclasses, and all that is
--- above each class; and whether superinterfaces are known to be flat.
+-- The rows that look-ups go through: the superinterfaces of each class without those of its superclasses, and all that
+-- is above each class; and whether superinterfaces are known to be flat.
 pub record HasRows (files : Program) (interfaces supertypes : List (List Name)) (flat : Bool) : Type 0 where
   pub by_interfaces : interfaces ≡ rows_of files above.Interfaces (suc (length (classes_of files)))
   pub by_supertypes : HasSupertypes files supertypes

@@ -13,8 +13,8 @@ use crate::rows::{Above, empty_rows, interface_rows, row_above, supertype_rows};
 use crate::set::{ClassSet, class_name};
 use std::alloc::{AllocError, Global};
 
-/// Rows made one after the other by those that are made. The order only spares time: nothing is proved of these rows, and they
-/// are checked.
+/// Rows made one after the other by those that are made. The order only spares time: nothing is proved of these rows,
+/// and they are checked.
 fn rows_in_order(
     alloc: Global,
     set: &ClassSet,

@@ -47,7 +47,7 @@ fn an_interface_is_late(set: &ClassSet, ranks: &[usize], rank: usize, file: &Cla
     false
 }
 
-/// Whether a class has no rank, or one that isn't below the number of classes, or isn't above that of each direct supertype.
+/// Whether a class has no rank, or one that isn't below the number of classes, or above that of each direct supertype.
 fn is_misranked(set: &ClassSet, ranks: &[usize], file: &ClassFile) -> bool
     ensures { result ≡ is_misranked set.now ranks.now (file_of file.now) }
 {
