@@ -16,3 +16,4 @@ pub mod LineageLaws
 pub mod LineageWalks
 pub mod KeyLaws
 pub mod PlaceLaws
+pub mod UpLaws
