@@ -6,13 +6,14 @@ use Rattle.std.specs.List.{position_or_len, list_any}
 use borrow.Author.Tests.{ltb-true}
 use Rattle.std.proofs.lemmas.Bool.{or_parts}
 use Rattle.std.proofs.lemmas.Bool.Decides.{eqb_tells}
+use Rattle.std.proofs.Math.ListN.{get_or-map}
 use Rattle.std.proofs.lemmas.Option.{slice_get_within, slice_get-get_or}
 use Rattle.model.specs.Names.{Name, name_eq, spells, Member}
-use Rattle.model.specs.Tree.{Entry, FieldTree, MethodTree, FileTree}
-use Rattle.model.specs.Pool.{utf8_at}
+use Rattle.model.specs.Tree.{Entry, Unusable, FieldTree, MethodTree, FileTree}
+use Rattle.model.specs.Pool.{utf8_of, utf8_at}
 use Rattle.model.specs.Classes.{Program, is_method}
 use Rattle.model.specs.Lookup.{is_field}
-use Rattle.hierarchy.specs.MemberKeys.{number_of, is_unnumbered, is_same_number, key_of, field_key, method_key, key_sought, is_of_key, has_unnumbered, has_unnumbered_field, has_unnumbered_method, HasKeys, HasMemberKeys}
+use Rattle.hierarchy.specs.MemberKeys.{number_of, numbers_of, number_at, is_unnumbered, is_same_number, key_of, field_key, method_key, key_sought, is_of_key, has_unnumbered, has_unnumbered_field, has_unnumbered_method, HasKeys, HasMemberKeys}
 use Rattle.hierarchy.specs.Places.{class_at}
 use Rattle.hierarchy.specs.MembersAt.{IsSought, method_place, field_place}
 use Rattle.hierarchy.specs.declared.member_keys.ClassKeys.{ClassKeys}
@@ -61,7 +62,7 @@ module _ (texts : List Name) where
       unlike differ true d = let text : t ≡ s = same_name t s d in let same : i ≡ j = cc in absurd (differ same)
 
   -- a text that has a number has that of a name where it is this name
-  same_text : (text : Option Name) (s : Name) → is_unnumbered texts text ≡ false
+  same_text : (text : Option Name) (s : Name) → (is_some text && not (is_some (number_of texts text))) ≡ false
       → is_same_number (number_of texts text) (number_of texts (Some s)) ≡ spells text s
   same_text None s h = refl
   same_text (Some t) s h = by (position (name_eq t) texts) refl (position (name_eq s) texts) refl h
@@ -77,28 +78,42 @@ module _ (texts : List Name) where
       by (Some i) e None f h = apart i (name_eq t s) e f refl
       by (Some i) e (Some j) f h = same_number_of t s i j e f
 
-  same_key : (pool : List Entry) (name descriptor : ℕ) (m : Member) → has_unnumbered texts pool name descriptor ≡ false
-      → is_of_key (key_sought texts m) (key_of texts pool name descriptor)
+  -- the number of the text of an index
+  number_in : (pool : List Entry) (index : ℕ) → number_at (numbers_of texts pool) index ≡ number_of texts (utf8_at pool index)
+  number_in pool index = get_or-map (λ e. number_of texts (utf8_of e)) (Unusable ∷ pool) index Unusable
+
+  same_at : (pool : List Entry) (index : ℕ) (s : Name) → is_unnumbered pool (numbers_of texts pool) index ≡ false
+      → is_same_number (number_at (numbers_of texts pool) index) (number_of texts (Some s)) ≡ spells (utf8_at pool index) s
+  same_at pool index s h =
+      ap (λ n. is_same_number n (number_of texts (Some s))) (number_in pool index)
+      ∙ same_text (utf8_at pool index) s (ap (λ n. is_some (utf8_at pool index) && not (is_some n)) (sym (number_in pool index)) ∙ h)
+
+  same_key : (pool : List Entry) (name descriptor : ℕ) (m : Member) → has_unnumbered pool (numbers_of texts pool) name descriptor ≡ false
+      → is_of_key (key_sought texts m) (key_of (numbers_of texts pool) name descriptor)
       ≡ (spells (utf8_at pool name) m.name && spells (utf8_at pool descriptor) m.descriptor)
   same_key pool name descriptor m h =
       let both = or_parts _ _ h in
-      rw (same_text (utf8_at pool name) m.name both.0, same_text (utf8_at pool descriptor) m.descriptor both.1) refl
+      let rest = is_same_number (number_at (numbers_of texts pool) descriptor) (number_of texts (Some m.descriptor)) in
+      ap (λ b. b && rest) (same_at pool name m.name both.0)
+      ∙ ap (λ b. spells (utf8_at pool name) m.name && b) (same_at pool descriptor m.descriptor both.1)
 
   pub methods_by_key : (pool : List Entry) (methods : List MethodTree) (m : Member)
-      → list_any (has_unnumbered_method texts pool) methods ≡ false
-      → position (is_of_key (key_sought texts m)) (map (method_key texts pool) methods)
+      → list_any (has_unnumbered_method pool (numbers_of texts pool)) methods ≡ false
+      → position (is_of_key (key_sought texts m)) (map (method_key (numbers_of texts pool)) methods)
       ≡ position (is_method pool m.name m.descriptor) methods
   methods_by_key pool methods m h =
-      position-map (is_of_key (key_sought texts m)) (method_key texts pool) methods
-      ∙ position_agree (λ x. is_of_key (key_sought texts m) (method_key texts pool x)) (is_method pool m.name m.descriptor) (has_unnumbered_method texts pool) (λ x known. same_key pool x.name x.descriptor m known) methods h
+      let numbers = numbers_of texts pool in
+      position-map (is_of_key (key_sought texts m)) (method_key numbers) methods
+      ∙ position_agree (λ x. is_of_key (key_sought texts m) (method_key numbers x)) (is_method pool m.name m.descriptor) (has_unnumbered_method pool numbers) (λ x known. same_key pool x.name x.descriptor m known) methods h
 
   pub fields_by_key : (pool : List Entry) (fields : List FieldTree) (m : Member)
-      → list_any (has_unnumbered_field texts pool) fields ≡ false
-      → position (is_of_key (key_sought texts m)) (map (field_key texts pool) fields)
+      → list_any (has_unnumbered_field pool (numbers_of texts pool)) fields ≡ false
+      → position (is_of_key (key_sought texts m)) (map (field_key (numbers_of texts pool)) fields)
       ≡ position (is_field pool m.name m.descriptor) fields
   fields_by_key pool fields m h =
-      position-map (is_of_key (key_sought texts m)) (field_key texts pool) fields
-      ∙ position_agree (λ x. is_of_key (key_sought texts m) (field_key texts pool x)) (is_field pool m.name m.descriptor) (has_unnumbered_field texts pool) (λ x known. same_key pool x.name x.descriptor m known) fields h
+      let numbers = numbers_of texts pool in
+      position-map (is_of_key (key_sought texts m)) (field_key numbers) fields
+      ∙ position_agree (λ x. is_of_key (key_sought texts m) (field_key numbers x)) (is_field pool m.name m.descriptor) (has_unnumbered_field pool numbers) (λ x known. same_key pool x.name x.descriptor m known) fields h
 
 -- ---- tables of keys
 

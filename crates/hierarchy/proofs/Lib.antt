@@ -18,3 +18,4 @@ pub mod LineageLaws
 pub mod LineageWalks
 pub mod KeyLaws
 pub mod PlaceLaws
+pub mod UpLaws

@@ -76,15 +76,19 @@ impl ClassSet {
             ≡ first_found (method_in_class self.now (wants wanted) (reference_of method.entry)) (lineage self.now class.now) }
         ensures place { IfSome result (IsMethodAt self.now (reference_of method.entry)) }
     {
-        let mut class = class;
+        let Some(start) = self.place_of(class) else {
+            return None;
+        };
+        let sought = self.sought(method);
+        let mut place = start;
         for _step in 0..self.count() {
-            if let Some(found) = self.method_in(class, method, wanted) {
+            if let Some(found) = sought.method_at(place, wanted) {
                 return Some(found);
             }
-            let Some(next) = self.superclass_of(class) else {
+            let Some(next) = self.superclass_place(place) else {
                 return None;
             };
-            class = next;
+            place = next;
         }
         None
     }

@@ -3,13 +3,15 @@
 ghost use Rattle.std.specs.Prelude.{◌≡◌, [], position, map, IfOk, IfSome};
 ghost use Rattle.std.specs.List.{list_any};
 ghost use Rattle.model.specs.Names.{name_eq};
-ghost use Rattle.model.specs.Pool.{utf8_at};
+ghost use Rattle.model.specs.Pool.{utf8_of};
+ghost use Rattle.constant_pool.specs.View.{entry_of};
 ghost use Rattle.class_tree.specs.View.{field_of, method_of, file_of};
-ghost use Rattle.hierarchy.specs.MemberKeys.{number_of, is_same_number, key_of, is_of_key, is_unnumbered, has_unnumbered, field_key, method_key, has_unnumbered_field, has_unnumbered_method, HasKeys, HasMemberKeys};
+ghost use Rattle.hierarchy.specs.MemberKeys.{number_of, number_at, is_same_number, key_of, is_of_key, is_unnumbered, has_unnumbered, field_key, method_key, has_unnumbered_field, has_unnumbered_method, HasKeys, HasMemberKeys};
 
 use crate::order::is_first_visit;
 use crate::set::ClassSet;
 use class_tree::{ClassFile, Field, Method};
+use constant_pool::Constant;
 use indexmap::IndexSet;
 use std::alloc::{AllocError, Global};
 use std::marker::Model;
@@ -128,83 +130,106 @@ fn texts_of(alloc: Global, set: &ClassSet) -> Result<MemberTexts, AllocError> {
 
 // ---- keys
 
-/// The number of the text of an index.
-fn number_at(texts: &MemberTexts, file: &ClassFile, index: u16) -> Option<usize>
-    ensures { result ≡ number_of texts.now (utf8_at file.now.pool index) }
+/// The number of the text of an entry.
+fn number_of_entry(texts: &MemberTexts, constant: &Constant) -> Option<usize>
+    ensures { result ≡ number_of texts.now (utf8_of (entry_of constant.now)) }
 {
-    match file.utf8(index) {
-        Some(text) => texts.number_of(text),
+    match constant {
+        Constant::Utf8(text) => texts.number_of(text),
+        _ => None,
+    }
+}
+
+/// The numbers of the texts of the entries of a constant pool. So each text is looked up once, however many members name it.
+fn numbers_of(
+    alloc: Global,
+    texts: &MemberTexts,
+    constants: &[Constant],
+) -> Result<Vec<Option<usize>>, AllocError>
+    ensures { IfOk result (λ numbers. numbers.items ≡ map (λ c. number_of texts.now (utf8_of (entry_of c))) constants.now) }
+{
+    let mut numbers = Vec::new(alloc);
+    for constant in constants {
+        numbers.push(number_of_entry(texts, constant))?;
+    }
+    Ok(numbers)
+}
+
+/// The number of the text of an index, which counts from 1.
+fn number_at(numbers: &[Option<usize>], index: u16) -> Option<usize>
+    ensures { result ≡ number_at numbers.now index }
+{
+    if index == 0 {
+        return None;
+    }
+    match numbers.get(index as usize - 1) {
+        Some(number) => *number,
         None => None,
     }
 }
 
 /// The key of a member, by the indices of its name and of its descriptor.
-fn key_of(texts: &MemberTexts, file: &ClassFile, name: u16, descriptor: u16) -> MemberKey
-    ensures { result ≡ key_of texts.now file.now.pool name descriptor }
+fn key_of(numbers: &[Option<usize>], name: u16, descriptor: u16) -> MemberKey
+    ensures { result ≡ key_of numbers.now name descriptor }
 {
     MemberKey {
-        name: number_at(texts, file, name),
-        descriptor: number_at(texts, file, descriptor),
+        name: number_at(numbers, name),
+        descriptor: number_at(numbers, descriptor),
     }
 }
 
 /// Whether the text of an index is there, and has no number.
-fn is_unnumbered(texts: &MemberTexts, file: &ClassFile, index: u16) -> bool
-    ensures { result ≡ is_unnumbered texts.now (utf8_at file.now.pool index) }
+fn is_unnumbered(file: &ClassFile, numbers: &[Option<usize>], index: u16) -> bool
+    ensures { result ≡ is_unnumbered file.now.pool numbers.now index }
 {
-    match file.utf8(index) {
-        Some(text) => texts.number_of(text).is_none(),
-        None => false,
-    }
+    file.utf8(index).is_some() && number_at(numbers, index).is_none()
 }
 
 /// Whether the name or the descriptor of a member is there, and has no number.
-fn has_unnumbered(texts: &MemberTexts, file: &ClassFile, name: u16, descriptor: u16) -> bool
-    ensures { result ≡ has_unnumbered texts.now file.now.pool name descriptor }
+fn has_unnumbered(file: &ClassFile, numbers: &[Option<usize>], name: u16, descriptor: u16) -> bool
+    ensures { result ≡ has_unnumbered file.now.pool numbers.now name descriptor }
 {
-    is_unnumbered(texts, file, name) || is_unnumbered(texts, file, descriptor)
+    is_unnumbered(file, numbers, name) || is_unnumbered(file, numbers, descriptor)
 }
 
 fn field_keys(
     alloc: Global,
-    texts: &MemberTexts,
-    file: &ClassFile,
+    numbers: &[Option<usize>],
     fields: &[Field],
 ) -> Result<Vec<MemberKey>, AllocError>
-    ensures { IfOk result (λ keys. keys.items ≡ map (λ f. field_key texts.now file.now.pool (field_of f)) fields.now) }
+    ensures { IfOk result (λ keys. keys.items ≡ map (λ f. field_key numbers.now (field_of f)) fields.now) }
 {
     let mut keys = Vec::new(alloc);
     for field in fields {
-        keys.push(key_of(texts, file, field.name, field.descriptor))?;
+        keys.push(key_of(numbers, field.name, field.descriptor))?;
     }
     Ok(keys)
 }
 
 fn method_keys(
     alloc: Global,
-    texts: &MemberTexts,
-    file: &ClassFile,
+    numbers: &[Option<usize>],
     methods: &[Method],
 ) -> Result<Vec<MemberKey>, AllocError>
-    ensures { IfOk result (λ keys. keys.items ≡ map (λ m. method_key texts.now file.now.pool (method_of m)) methods.now) }
+    ensures { IfOk result (λ keys. keys.items ≡ map (λ m. method_key numbers.now (method_of m)) methods.now) }
 {
     let mut keys = Vec::new(alloc);
     for method in methods {
-        keys.push(key_of(texts, file, method.name, method.descriptor))?;
+        keys.push(key_of(numbers, method.name, method.descriptor))?;
     }
     Ok(keys)
 }
 
-fn has_unnumbered_field(texts: &MemberTexts, file: &ClassFile, fields: &[Field]) -> bool
-    ensures { result ≡ list_any (λ f. has_unnumbered_field texts.now file.now.pool (field_of f)) fields.now }
+fn has_unnumbered_field(file: &ClassFile, numbers: &[Option<usize>], fields: &[Field]) -> bool
+    ensures { result ≡ list_any (λ f. has_unnumbered_field file.now.pool numbers.now (field_of f)) fields.now }
 {
-    fields.iter().any(|field| has_unnumbered(texts, file, field.name, field.descriptor))
+    fields.iter().any(|field| has_unnumbered(file, numbers, field.name, field.descriptor))
 }
 
-fn has_unnumbered_method(texts: &MemberTexts, file: &ClassFile, methods: &[Method]) -> bool
-    ensures { result ≡ list_any (λ m. has_unnumbered_method texts.now file.now.pool (method_of m)) methods.now }
+fn has_unnumbered_method(file: &ClassFile, numbers: &[Option<usize>], methods: &[Method]) -> bool
+    ensures { result ≡ list_any (λ m. has_unnumbered_method file.now.pool numbers.now (method_of m)) methods.now }
 {
-    methods.iter().any(|method| has_unnumbered(texts, file, method.name, method.descriptor))
+    methods.iter().any(|method| has_unnumbered(file, numbers, method.name, method.descriptor))
 }
 
 /// The keys of the members of a class. None where a text has no number.
@@ -215,14 +240,15 @@ fn class_keys(
 ) -> Result<Option<ClassKeys>, AllocError>
     ensures { IfOk result (λ keys. IfSome keys (HasKeys texts.now (file_of file.now))) }
 {
-    if has_unnumbered_field(texts, file, &file.fields)
-        || has_unnumbered_method(texts, file, &file.methods)
+    let numbers = numbers_of(alloc, texts, file.pool.constants())?;
+    if has_unnumbered_field(file, &numbers, &file.fields)
+        || has_unnumbered_method(file, &numbers, &file.methods)
     {
         return Ok(None);
     }
     Ok(Some(ClassKeys {
-        fields: field_keys(alloc, texts, file, &file.fields)?,
-        methods: method_keys(alloc, texts, file, &file.methods)?,
+        fields: field_keys(alloc, &numbers, &file.fields)?,
+        methods: method_keys(alloc, &numbers, &file.methods)?,
     }))
 }
 

@@ -9,8 +9,9 @@ ghost use Rattle.constant_pool.specs.View.{reference_of};
 ghost use Rattle.class_tree.specs.View.{file_of};
 ghost use Rattle.hierarchy.specs.Set.{trees_of, files_of, IsRefused};
 ghost use Rattle.hierarchy.specs.Places.{place_of, class_at, name_at};
+ghost use Rattle.hierarchy.specs.MembersAt.{superclass_place};
 
-use crate::climb::{common_superclass, is_subclass_by};
+use crate::climb::{common_superclass, is_subclass_by, superclass_by};
 use crate::lineage::{Lineage, lineages};
 use crate::member_keys::{MemberKeys, member_keys, no_member_keys};
 use crate::refusal::SetRefusal;
@@ -186,6 +187,22 @@ impl ClassSet {
             Some(class) => class_name(class),
             None => b"",
         }
+    }
+
+    /// The place of the direct superclass of the class at a place. None where it has none, or that isn't found.
+    pub(crate) fn superclass_place(&self, place: usize) -> Option<usize>
+        ensures { result ≡ superclass_place self.now place }
+    {
+        if place < self.lineages.len() {
+            return superclass_by(self, &self.lineages, place);
+        }
+        let Some(class) = self.class_at(place) else {
+            return None;
+        };
+        let Some(name) = superclass_name(class) else {
+            return None;
+        };
+        self.place_of(name)
     }
 
     /// A member that is sought in these classes.

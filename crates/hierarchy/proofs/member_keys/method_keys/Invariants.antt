@@ -4,4 +4,4 @@ use Rattle.hierarchy.specs.MemberKeys.{method_key}
 use Rattle.hierarchy.proofs.member_keys.method_keys.Given as goal
 
 abbrev pub invariant-loop-method : goal.invariant-loop-method
-invariant-loop-method l = l.keys.items ≡ map (λ m. method_key l.texts l.file.pool (method_of m)) (take l.method-index l.methods)
+invariant-loop-method l = l.keys.items ≡ map (λ m. method_key l.numbers (method_of m)) (take l.method-index l.methods)
