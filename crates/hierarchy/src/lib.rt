@@ -10,6 +10,7 @@ mod hierarchy;
 mod lineage;
 mod lookup;
 mod name_table;
+mod number_set;
 mod order;
 mod place;
 mod ranked_rows;

@@ -1,6 +1,6 @@
 //! Names with numbers.
 
-ghost use Rattle.std.specs.Prelude.{◌≡◌, [], slice_get, position, map, option_map, OnOk, IfOk};
+ghost use Rattle.std.specs.Prelude.{◌≡◌, [], length, slice_get, position, map, option_map, OnOk, IfOk};
 ghost use Rattle.std.specs.Option.{option_to_list};
 ghost use Rattle.std.specs.List.{flat_map};
 ghost use Rattle.class_tree.specs.View.{file_of};
@@ -101,6 +101,13 @@ impl NameTable {
         add_classes(alloc, &mut names, set)?;
         add_supertypes(alloc, &mut names, set)?;
         Ok(names)
+    }
+
+    /// How many names there are.
+    pub(crate) fn count(&self) -> usize
+        ensures { result ≡ length self.now }
+    {
+        self.names.len()
     }
 
     /// The name of a number.

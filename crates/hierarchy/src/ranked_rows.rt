@@ -8,6 +8,7 @@ ghost use Rattle.hierarchy.specs.Numbers.{named_rows, HasNames};
 ghost use Rattle.hierarchy.specs.Ranks.{HasRanks};
 
 use crate::name_table::NameTable;
+use crate::number_set::NumberSet;
 use crate::row::Row;
 use crate::rows::{Above, empty_rows, interface_rows, row_above};
 use crate::set::{ClassSet, class_name};
@@ -24,20 +25,22 @@ fn rows_in_order(
     requires { HasNames set.now names.now }
 {
     let mut rows = empty_rows(alloc, set)?;
+    let mut made = NumberSet::new(alloc, names.count())?;
     for place in order {
         let Some(class) = set.class_at(*place) else {
             return Ok(rows);
         };
-        let made = row_above(
+        let above = row_above(
             alloc,
             set,
             names,
             &rows,
+            &mut made,
             Above::Interfaces,
             class_name(class),
         )?;
         if let Some(row) = rows.get_mut(*place) {
-            *row = made;
+            *row = above;
         }
     }
     Ok(rows)
@@ -57,6 +60,7 @@ fn are_settled(
     if rows.len() != set.count() {
         return Ok(false);
     }
+    let mut made = NumberSet::new(alloc, names.count())?;
     for place in 0..set.count() {
         let Some(class) = set.class_at(place) else {
             return Ok(false);
@@ -69,6 +73,7 @@ fn are_settled(
             set,
             names,
             rows,
+            &mut made,
             Above::Interfaces,
             class_name(class),
         )?;
