@@ -51,7 +51,8 @@ pub fn replay_engine<S: Source, W: Sink>(
 /// The text and the status of what the class files do under the schedule.
 fn replayed(alloc: Global, opened: &Opened) -> Result<(Vec<u8>, Status), AllocError>
     ensures { IfOk result (λ told. (bytes : _) (options : _)
-        → IsOpened bytes (map vec_items opened.now.files.items) options opened.now.verified (events_of opened.now.schedule) opened.now.limits
+        → IsOpened bytes (map vec_items opened.now.files.items) options opened.now.verified
+        (events_of opened.now.schedule) opened.now.limits
         → IsReplayed bytes (map vec_items opened.now.files.items) options told.0.items told.1) }
 {
     let (report, end) = replay(alloc, &opened.verified, &opened.schedule, opened.limits)?;

@@ -58,11 +58,13 @@ fn traced<W: Sink>(
     output: &mut W,
 ) -> Result<Status, DeviceFault>
     ensures traced { IfOk result (λ status. (bytes : _) (options : _)
-        → IsOpened bytes (map vec_items opened.now.files.items) options opened.now.verified (events_of opened.now.schedule) opened.now.limits
+        → IsOpened bytes (map vec_items opened.now.files.items) options opened.now.verified
+        (events_of opened.now.schedule) opened.now.limits
         → (text : _) × IsTraced bytes (map vec_items opened.now.files.items) options window.entry text status
         × Appends (W.contents output.old) (W.contents output.new) text) }
     ensures part { OnErr result ((bytes : _) (options : _)
-        → IsOpened bytes (map vec_items opened.now.files.items) options opened.now.verified (events_of opened.now.schedule) opened.now.limits
+        → IsOpened bytes (map vec_items opened.now.files.items) options opened.now.verified
+        (events_of opened.now.schedule) opened.now.limits
         → TracesFront bytes (map vec_items opened.now.files.items) options window.entry (W.contents output.old) (W.contents output.new)) }
     ensures counted { Counts result (W.failures output.old) (W.failures output.new) }
 {

@@ -40,13 +40,20 @@ impl Model for Heap {
 
     ghost view = { λ h. heap_of h.table.items h.cells.items h.monitors h.opening h.object_limit h.cell_limit };
 
-    ghost invariant = { λ h. IsSound h.table.items (length h.cells.items) (length h.monitors.monitors) h.opening h.object_limit h.cell_limit };
+    ghost invariant = { λ h. IsSound h.table.items (length h.cells.items) (length h.monitors.monitors)
+        h.opening h.object_limit h.cell_limit };
 }
 
 impl Heap {
     /// No objects yet. The limits on objects and cells hold for what is allocated, and not for the opening state.
     pub fn new(alloc: Global, limits: Limits) -> Heap
-        ensures { result ≡ record { objects = []; locks = record { monitors = []; fat = []; limit = limits.monitors }; opening = 0; object_limit = limits.objects; cell_limit = limits.cells } }
+        ensures { result ≡ record {
+          objects = [];
+          locks = record { monitors = []; fat = []; limit = limits.monitors };
+          opening = 0;
+          object_limit = limits.objects;
+          cell_limit = limits.cells;
+        } }
     {
         Heap {
             table: Vec::new(alloc),

@@ -10,9 +10,13 @@ pub mod Walks
 pub mod Indices
 pub mod RankLaws
 pub mod FieldLaws
+pub mod MethodLaws
 pub mod CycleLaws
 pub mod TypeLaws
 pub mod Apart
 pub mod Climbing
 pub mod LineageLaws
 pub mod LineageWalks
+pub mod KeyLaws
+pub mod PlaceLaws
+pub mod UpLaws

@@ -114,12 +114,12 @@ once_inside f g same acc (x ∷ xs) =
 
 -- ---- rows
 
-next_of_none : (files : Program) (kind : declared_above.Above) (name : Name) → class_of files name ≡ None
+pub next_of_none : (files : Program) (kind : declared_above.Above) (name : Name) → class_of files name ≡ None
     → directly_above files kind name ≡ []
 next_of_none files above.Interfaces name e = rw e refl
 next_of_none files above.Supertypes name e = rw e refl
 
-above_none : (next : Name → List Name) (n : ℕ) (name : Name) → next name ≡ [] → names_above next n name ≡ []
+pub above_none : (next : Name → List Name) (n : ℕ) (name : Name) → next name ≡ [] → names_above next n name ≡ []
 above_none next zero name e = refl
 above_none next (suc n) name e = ap (λ l. flat_map (λ i. i ∷ names_above next n i) l) e
 

@@ -1,5 +1,5 @@
--- Programs whose fields are found along superclasses, and the rows that are kept of others.
-use Rattle.std.specs.Prelude.{◌≡◌, ℕ, ◌-◌, suc, length, List, [], ◌∷◌, Bool, false, not}
+-- Programs whose superinterfaces are flat, and the rows that look-ups go through.
+use Rattle.std.specs.Prelude.{◌≡◌, ℕ, ◌-◌, suc, length, List, [], ◌∷◌, Bool, true, false, not}
 use Rattle.std.specs.Option.{option_map_or}
 use Rattle.std.specs.List.{list_any}
 use Rattle.model.specs.Names.{Name, name_eq, java_lang_object}
@@ -18,24 +18,25 @@ is_below_other files name = option_map_or (λ s. not (name_eq s java_lang_object
 abbrev pub has_interface_below_other : Program → FileTree → Bool
 has_interface_below_other files file = list_any (is_below_other files) (interface_names file)
 
--- No class is above itself, and no superinterface has a superclass but Object: nothing that a superinterface's superclass
--- declares can be found.
-pub record FieldsAlongSuperclasses (files : Program) : Type 0 where
+-- No class is above itself, and no superinterface has a superclass but Object: no field that a superinterface's
+-- superclass declares can be found.
+pub record SuperinterfacesAreFlat (files : Program) : Type 0 where
   pub ranked : HasRanks files
   pub flat : list_any (has_interface_below_other files) (classes_of files) ≡ false
 
--- The rows of all supertypes. None are kept where fields are found along superclasses.
+-- The rows of all supertypes. None are kept only where superinterfaces are flat.
 abbrev pub HasSupertypes : Program → List (List Name) → Type 0
-HasSupertypes files [] = FieldsAlongSuperclasses files
+HasSupertypes files [] = SuperinterfacesAreFlat files
 HasSupertypes files (row ∷ rows) = row ∷ rows ≡ rows_of files above.Supertypes (length (classes_of files) - 1)
 
--- The rows that look-ups go through: the superinterfaces of each class without those of its superclasses, and all that is
--- above each class.
-pub record HasRows (files : Program) (interfaces supertypes : List (List Name)) : Type 0 where
+-- The rows that look-ups go through: the superinterfaces of each class without those of its superclasses, and all that
+-- is above each class; and whether superinterfaces are known to be flat.
+pub record HasRows (files : Program) (interfaces supertypes : List (List Name)) (flat : Bool) : Type 0 where
   pub by_interfaces : interfaces ≡ rows_of files above.Interfaces (suc (length (classes_of files)))
   pub by_supertypes : HasSupertypes files supertypes
+  pub by_flat : flat ≡ true → SuperinterfacesAreFlat files
 
 -- The rows, by numbers of a table of names.
-pub record HasNamedRows (files : Program) (names : List Name) (interfaces supertypes : List (List ℕ)) : Type 0 where
+pub record HasNamedRows (files : Program) (names : List Name) (interfaces supertypes : List (List ℕ)) (flat : Bool) : Type 0 where
   pub has_names : HasNames files names
-  pub rows : HasRows files (named_rows names interfaces) (named_rows names supertypes)
+  pub rows : HasRows files (named_rows names interfaces) (named_rows names supertypes) flat

@@ -7,3 +7,5 @@ pub mod Ranks
 pub mod Fields
 pub mod Types
 pub mod Lineages
+pub mod MemberKeys
+pub mod MembersAt

@@ -1,6 +1,6 @@
 //! Look-ups of fields (JVMS 5.4.3.2).
 
-ghost use Rattle.std.specs.Prelude.{◌≡◌, ◌∷◌, ◌-◌, suc, length, not, slice_get, option_map, IfSome, IfOk};
+ghost use Rattle.std.specs.Prelude.{◌≡◌, ◌∷◌, ◌-◌, suc, length, true, not, slice_get, option_map, IfSome, IfOk};
 ghost use Rattle.std.specs.Option.{option_and_then, option_to_list};
 ghost use Rattle.std.specs.List.{list_any};
 ghost use Rattle.constant_pool.specs.View.{reference_of};
@@ -10,14 +10,16 @@ ghost use Rattle.model.specs.Lookup.{first_found, field_in_class, find_field};
 ghost use Rattle.hierarchy.specs.declared.rows.Above.TheVariants as above;
 ghost use Rattle.hierarchy.specs.Above.{rows_of};
 ghost use Rattle.hierarchy.specs.Numbers.{names_of, named_rows, HasNames};
-ghost use Rattle.hierarchy.specs.Fields.{is_below_other, has_interface_below_other, FieldsAlongSuperclasses, HasSupertypes};
+ghost use Rattle.hierarchy.specs.Fields.{is_below_other, has_interface_below_other, SuperinterfacesAreFlat, HasSupertypes};
 ghost use Rattle.hierarchy.specs.Ranks.{HasRanks};
 ghost use Rattle.hierarchy.specs.Places.{member_in, IsFieldAt};
 
+use crate::long_walks::a_walk_is_long;
 use crate::name_table::NameTable;
 use crate::place::MemberPlace;
+use crate::ranked_rows::ordered_supertype_rows;
 use crate::row::Row;
-use crate::rows::{row_of, supertype_rows};
+use crate::rows::row_of;
 use crate::set::ClassSet;
 use class_tree::{ClassFile, Reference};
 use std::alloc::{AllocError, Global};
@@ -48,7 +50,7 @@ fn has_interface_below_other(set: &ClassSet, file: &ClassFile) -> bool
 }
 
 /// Whether no superinterface of any class has a superclass but Object.
-fn superinterfaces_are_flat(set: &ClassSet) -> bool
+pub(crate) fn superinterfaces_are_flat(set: &ClassSet) -> bool
     ensures { result ≡ not (list_any (has_interface_below_other set.now) (classes_of set.now)) }
 {
     for place in 0..set.count() {
@@ -62,20 +64,25 @@ fn superinterfaces_are_flat(set: &ClassSet) -> bool
     true
 }
 
-/// The rows of all supertypes, where fields are sought in them. None where fields are found along superclasses.
+/// The rows of all supertypes, where members are sought in them. None where superinterfaces are flat and no walk along
+/// superclasses is long.
 pub(crate) fn rows_for_fields(
     alloc: Global,
     set: &ClassSet,
     names: &NameTable,
+    order: &[usize],
+    interfaces: &[Row],
+    are_flat: bool,
 ) -> Result<Vec<Row>, AllocError>
     requires ranks { HasRanks set.now }
     requires names { HasNames set.now names.now }
+    requires flat { are_flat ≡ true → SuperinterfacesAreFlat set.now }
     ensures { IfOk result (λ rows. HasSupertypes set.now (named_rows names.now rows.items)) }
 {
-    if superinterfaces_are_flat(set) {
+    if are_flat && !a_walk_is_long(alloc, set, order, interfaces)? {
         Ok(Vec::new(alloc))
     } else {
-        supertype_rows(alloc, set, names)
+        ordered_supertype_rows(alloc, set, names, order)
     }
 }
 
@@ -148,7 +155,7 @@ pub(crate) fn field_along_superclasses(
     field: Reference<'_>,
 ) -> Option<MemberPlace>
     requires rows { named_rows names.now interfaces.now ≡ rows_of set.now above.Interfaces (suc (length (classes_of set.now))) }
-    requires along { FieldsAlongSuperclasses set.now }
+    requires along { SuperinterfacesAreFlat set.now }
     ensures found { option_map (λ p. member_in set.now (reference_of field.entry) p) result
         ≡ find_field set.now (reference_of field.entry) }
     ensures place { IfSome result (IsFieldAt set.now (reference_of field.entry)) }

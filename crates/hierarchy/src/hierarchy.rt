@@ -1,17 +1,22 @@
 //! Look-ups that go through superinterfaces (JVMS 5.4.3).
 
-ghost use Rattle.std.specs.Prelude.{◌≡◌, slice_get, option_map, IfOk, IfSome};
+ghost use Rattle.std.specs.Prelude.{◌≡◌, ◌-◌, length, slice_get, option_map, IfOk, IfSome};
 ghost use Rattle.std.specs.Option.{option_and_then};
 ghost use Rattle.std.specs.List.{list_any};
 ghost use Rattle.model.specs.Names.{name_eq};
 ghost use Rattle.constant_pool.specs.View.{reference_of};
 ghost use Rattle.model.specs.ReferenceTypes.{is_subclass_or_implements};
-ghost use Rattle.model.specs.Classes.{interfaces_above, all_superinterfaces, implements};
+ghost use Rattle.model.specs.Classes.{classes_of, interfaces_above, all_superinterfaces, implements};
 ghost use Rattle.model.specs.Lookup.{method_in_class, any_method, first_found, find_field, find_method, find_interface_method};
-ghost use Rattle.hierarchy.specs.Numbers.{names_of};
+ghost use Rattle.hierarchy.specs.declared.rows.Above.TheVariants as above;
+ghost use Rattle.hierarchy.specs.Above.{rows_of};
+ghost use Rattle.hierarchy.specs.Fields.{SuperinterfacesAreFlat};
+ghost use Rattle.hierarchy.specs.Numbers.{names_of, named_rows};
 ghost use Rattle.hierarchy.specs.Places.{member_in, IsFieldAt, IsMethodAt};
 
-use crate::fields::{field_along_superclasses, field_among_supertypes, rows_for_fields};
+use crate::fields::{
+    field_along_superclasses, field_among_supertypes, rows_for_fields, superinterfaces_are_flat,
+};
 use crate::lookup::Wanted;
 use crate::name_table::NameTable;
 use crate::place::MemberPlace;
@@ -32,8 +37,10 @@ pub struct Hierarchy {
     names: NameTable,
     /// For each class its direct superinterfaces and what is above these, without the superinterfaces of its superclass.
     interfaces: Vec<Row>,
-    /// For each class all that is above it. Empty where fields are found along superclasses.
+    /// For each class all that is above it. Empty where look-ups go along superclasses.
     supertypes: Vec<Row>,
+    /// No class is above itself, and no superinterface has a superclass but Object. False where that isn't known.
+    superinterfaces_are_flat: bool,
 }
 
 impl Model for Hierarchy {
@@ -44,7 +51,7 @@ impl Model for Hierarchy {
 
     ghost view = { λ h. h.set };
 
-    ghost invariant = { λ h. HasNamedRows h.set h.names h.interfaces.items h.supertypes.items };
+    ghost invariant = { λ h. HasNamedRows h.set h.names h.interfaces.items h.supertypes.items h.superinterfaces_are_flat };
 }
 
 /// The method that the class of the name of a number declares.
@@ -86,6 +93,29 @@ fn method_among(
     None
 }
 
+/// The row of all that is above a class, where none of these but superinterfaces can declare the method.
+fn row_with_superinterfaces<'a>(
+    set: &ClassSet,
+    names: &NameTable,
+    supertypes: &'a [Row],
+    class: &[u8],
+    method: Reference<'_>,
+) -> Option<&'a Row>
+    requires rows { named_rows names.now supertypes.now ≡ rows_of set.now above.Supertypes (length (classes_of set.now) - 1) }
+    requires flat { SuperinterfacesAreFlat set.now }
+    ensures { IfSome result (λ row. first_found (method_in_class set.now any_method (reference_of method.entry)) (names_of names.now row.now)
+        ≡ first_found (method_in_class set.now any_method (reference_of method.entry)) (all_superinterfaces set.now class.now)) }
+{
+    let object = b"java/lang/Object";
+    if let Some(_declared) = set.method_in(object, method, Wanted::Any) {
+        return None;
+    }
+    if let Some(_declared) = set.method_above(class, method, Wanted::Any) {
+        return None;
+    }
+    row_of(set, supertypes, class)
+}
+
 impl Hierarchy {
     /// The hierarchy of a set in which a class is above itself.
     fn by_steps(alloc: Global, set: ClassSet) -> Result<Hierarchy, AllocError>
@@ -99,6 +129,7 @@ impl Hierarchy {
             names,
             interfaces,
             supertypes,
+            superinterfaces_are_flat: false,
         })
     }
 
@@ -111,12 +142,14 @@ impl Hierarchy {
         };
         let names = NameTable::of_set(alloc, &set)?;
         let interfaces = ordered_interface_rows(alloc, &set, &names, &order)?;
-        let supertypes = rows_for_fields(alloc, &set, &names)?;
+        let are_flat = superinterfaces_are_flat(&set);
+        let supertypes = rows_for_fields(alloc, &set, &names, &order, &interfaces, are_flat)?;
         Ok(Hierarchy {
             set,
             names,
             interfaces,
             supertypes,
+            superinterfaces_are_flat: are_flat,
         })
     }
 
@@ -167,8 +200,8 @@ impl Hierarchy {
         }
     }
 
-    /// The method that one of all superinterfaces of a class declares, the first of several.
-    fn method_in_superinterfaces(&self, class: &[u8], method: Reference<'_>) -> Option<MemberPlace>
+    /// The method that one of all superinterfaces of a class declares, sought in the rows of the class and of its superclasses.
+    fn method_along_superclasses(&self, class: &[u8], method: Reference<'_>) -> Option<MemberPlace>
         ensures found { option_map (λ p. member_in self.now (reference_of method.entry) p) result
             ≡ first_found (method_in_class self.now any_method (reference_of method.entry)) (all_superinterfaces self.now class.now) }
         ensures place { IfSome result (IsMethodAt self.now (reference_of method.entry)) }
@@ -184,6 +217,21 @@ impl Hierarchy {
             class = next;
         }
         None
+    }
+
+    /// The method that one of all superinterfaces of a class declares, the first of several.
+    fn method_in_superinterfaces(&self, class: &[u8], method: Reference<'_>) -> Option<MemberPlace>
+        ensures found { option_map (λ p. member_in self.now (reference_of method.entry) p) result
+            ≡ first_found (method_in_class self.now any_method (reference_of method.entry)) (all_superinterfaces self.now class.now) }
+        ensures place { IfSome result (IsMethodAt self.now (reference_of method.entry)) }
+    {
+        if !self.superinterfaces_are_flat || self.supertypes.is_empty() {
+            return self.method_along_superclasses(class, method);
+        }
+        match row_with_superinterfaces(&self.set, &self.names, &self.supertypes, class, method) {
+            Some(row) => method_among(&self.set, &self.names, row, method),
+            None => self.method_along_superclasses(class, method),
+        }
     }
 
     /// The method that a symbolic reference to a method of a class names (JVMS 5.4.3.3). Takes no memory.

@@ -8,7 +8,9 @@ mod declared;
 mod fields;
 mod hierarchy;
 mod lineage;
+mod long_walks;
 mod lookup;
+mod member_keys;
 mod name_table;
 mod number_set;
 mod order;
@@ -20,6 +22,7 @@ mod refusal;
 mod row;
 mod rows;
 mod set;
+mod sought;
 
 pub use cycles::first_in_cycle;
 pub use hierarchy::Hierarchy;

@@ -144,12 +144,20 @@ pub(crate) fn rows_above(
     ensures { IfOk result (λ next. named_rows names.now next.items ≡ next_rows set.now kind (named_rows names.now rows.now)) }
 {
     let mut next = Vec::new(alloc);
-    let mut made = NumberSet::new(alloc, names.count())?;
+    let mut numbers = NumberSet::new(alloc, names.count())?;
     for place in 0..set.count() {
         let Some(class) = set.class_at(place) else {
             return Ok(next);
         };
-        let row = row_above(alloc, set, names, rows, &mut made, kind, class_name(class))?;
+        let row = row_above(
+            alloc,
+            set,
+            names,
+            rows,
+            &mut numbers,
+            kind,
+            class_name(class),
+        )?;
         next.push(row)?;
     }
     Ok(next)

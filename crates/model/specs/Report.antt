@@ -65,8 +65,6 @@ cause_word causes.Memory = codes "memory"
 cause_word causes.Objects = codes "objects"
 cause_word causes.Cells = codes "cells"
 cause_word causes.Threads = codes "threads"
-cause_word causes.WrongKind = codes "wrongkind"
-cause_word causes.Throws = codes "throws"
 
 abbrev pub end_words : End → List ℕ
 end_words ends.Schedule = codes "schedule"

@@ -17,10 +17,6 @@ pub enum RunCause {
     Cells,
     /// It would start one thread more than the limits allow.
     Threads,
-    /// An operand is of the wrong kind. This stands only until class files are verified before they run.
-    WrongKind,
-    /// An exception would be thrown. This stands only until exceptions are handled.
-    Throws,
 }
 
 /// The word of a report.
@@ -38,8 +34,6 @@ impl fmt::Display for RunCause {
             RunCause::Objects => "objects",
             RunCause::Cells => "cells",
             RunCause::Threads => "threads",
-            RunCause::WrongKind => "wrongkind",
-            RunCause::Throws => "throws",
         })
     }
 }

@@ -25,7 +25,7 @@ use crate::found::{Edge, Found, Origin};
 use crate::look::Look;
 use crate::near::{Near, near_found};
 use crate::packed::PackedFrame;
-use crate::steps::{Steps, merged, places, steps_of_turn};
+use crate::steps::{Steps, merged, steps_of_look, steps_of_turn};
 use opcodes::starts;
 use std::alloc::{AllocError, Global};
 use types::FrameType;
@@ -145,7 +145,7 @@ fn look_at(
             let before = found.before(alloc, offset, &leads)?;
             let near = last_if_near(alloc, found, &before, offset, &leads)?;
             found.last = last_after(found.last, offset, &leads);
-            found.merged = merged(leads.len(), places(method));
+            found.merged = steps_of_look(method, offset, leads.len());
             let origin = Origin {
                 offset,
                 before,

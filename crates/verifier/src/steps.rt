@@ -7,6 +7,9 @@ ghost use Rattle.types.specs.method_code.View.{body_of};
 ghost use Rattle.verifier.specs.Steps.{most_a_turn};
 
 use crate::fault::MethodFault;
+use classfile::Reference;
+use model::Instr;
+use opcodes::decode_at;
 use types::method_code::MethodCode;
 
 /// How many steps the verification of a set of classes may take.
@@ -42,7 +45,7 @@ impl Steps {
 }
 
 /// How many places the frame types of a method have.
-pub(crate) fn places(method: &MethodCode<'_>) -> usize
+fn places(method: &MethodCode<'_>) -> usize
     ensures { result ≡ places (body_of method.now) }
 {
     usize::from(method.code.max_locals) + usize::from(method.code.max_stack)
@@ -54,6 +57,47 @@ pub(crate) fn merged(leads: usize, types: usize) -> u64
 {
     let frames = (leads as u64).saturating_add(1);
     frames.saturating_mul((types as u64).saturating_add(1))
+}
+
+/// How many bytes the texts of a member have.
+fn member_bytes(member: Option<Reference<'_>>) -> usize {
+    match member {
+        Some(member) => member
+            .class
+            .len()
+            .saturating_add(member.name.len())
+            .saturating_add(member.descriptor.len()),
+        None => 0,
+    }
+}
+
+/// How many bytes the texts have that the instruction at an offset names: a class, or a member with its descriptor. They are
+/// read and sought whenever it is looked at as a whole.
+fn named_bytes(method: &MethodCode<'_>, offset: usize) -> usize {
+    let file = method.file();
+    let Some(instruction) = decode_at(&method.code().code, offset) else {
+        return 0;
+    };
+    let class = match instruction {
+        Instr::Field { index, .. } => return member_bytes(file.field_reference(index)),
+        Instr::Invoke { index, .. } => return member_bytes(file.method_reference(index)),
+        Instr::InvokeInterface { index, .. } => {
+            return member_bytes(file.interface_method_reference(index));
+        }
+        Instr::New { index } => file.class_name(index),
+        Instr::NewReferenceArray { index } => file.class_name(index),
+        Instr::CheckCast { index } => file.class_name(index),
+        Instr::InstanceOf { index } => file.class_name(index),
+        Instr::LoadConstant { index } => file.class_name(index),
+        _ => None,
+    };
+    class.map_or(0, |name| name.len())
+}
+
+/// How many steps a look as a whole takes at an instruction that leads to so many offsets, beside what each turn takes: what
+/// it merges, and one for every four bytes of the texts that it names.
+pub(crate) fn steps_of_look(method: &MethodCode<'_>, offset: usize, leads: usize) -> u64 {
+    merged(leads, places(method)).saturating_add(named_bytes(method, offset) as u64 / 4)
 }
 
 /// How many steps a turn takes at most.

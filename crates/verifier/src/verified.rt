@@ -99,7 +99,8 @@ fn unverified(alloc: Global, class: usize, method: &MethodCode<'_>, offset: usiz
 
 /// The refusal of one whose search needs more steps than are left.
 fn too_long(alloc: Global, class: usize, method: &MethodCode<'_>) -> Refusal
-    ensures { (result.kind ≡ kinds.OutOfMemory) ⊎ (IsRefusalOf kinds.TooLarge class (member_of method.now) result × (result.offset ≡ None)) }
+    ensures { (result.kind ≡ kinds.OutOfMemory) ⊎ (IsRefusalOf kinds.TooLarge class (member_of method.now) result
+        × (result.offset ≡ None)) }
 {
     refusal_of(alloc, class, method, RefusalKind::TooLarge, None)
 }

@@ -85,7 +85,10 @@ impl Monitors {
 
     /// The monitor of one more object, which no thread owns.
     pub fn add(&mut self) -> Result<(), AllocError>
-        ensures ok { OnOk result (self.new ≡ record self.old { monitors = self.old.monitors ++ unlocked ∷ []; fat = self.old.fat ++ false ∷ [] }) }
+        ensures ok { OnOk result (self.new ≡ record self.old {
+          monitors = self.old.monitors ++ unlocked ∷ [];
+          fat = self.old.fat ++ false ∷ [];
+        }) }
         ensures err { OnErr result (self.new ≡ self.old) }
     {
         self.words.push(LockWord::unlocked(0))?;

@@ -70,7 +70,8 @@ fn has_room(frame: &FrameType, pops: usize, grows: usize, max_stack: u16) -> boo
 
 /// Whether a frame type has what is asked for.
 pub(crate) fn is_met(set: &ClassSet, asked: Asked<'_>, max_stack: u16, frame: &FrameType) -> bool
-    ensures { result ≡ is_ready (type_meets set.now) over_types (asked_in set.now asked.entry) max_stack (frame_in set.now frame.now).slots }
+    ensures { result ≡ is_ready (type_meets set.now) over_types (asked_in set.now asked.entry) max_stack
+        (frame_in set.now frame.now).slots }
 {
     asked.allowed
         && reads_meet(set, asked.reads, frame)
@@ -98,7 +99,8 @@ fn popped_type(frame: &FrameType, pops: usize, k: usize) -> VerificationType
 
 /// The type of the operand of a number.
 pub(crate) fn operand_of(asked: Asked<'_>, frame: &FrameType, k: usize) -> VerificationType
-    ensures { (files : Program) → type_in files result ≡ slice_index_or (operands over_types (asked_in files asked.entry) (frame_in files frame.now).slots) k Unusable }
+    ensures { (files : Program) → type_in files result
+        ≡ slice_index_or (operands over_types (asked_in files asked.entry) (frame_in files frame.now).slots) k Unusable }
 {
     let pops = asked.pops.len();
     match asked.reads {

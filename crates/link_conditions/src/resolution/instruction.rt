@@ -106,7 +106,8 @@ pub(crate) fn first_instruction(
     requires marked { marks.now ≡ starts code.now.code.items }
     ensures { MatchOption result (list_any (instruction_stands hierarchy.now (file_of file.now) (code_of code.now))
         (boundaries code.now.code.items) ≡ false)
-        (λ pc. (is_start code.now.code.items pc ≡ true) × (instruction_stands hierarchy.now (file_of file.now) (code_of code.now) pc ≡ true)) }
+        (λ pc. (is_start code.now.code.items pc ≡ true)
+        × (instruction_stands hierarchy.now (file_of file.now) (code_of code.now) pc ≡ true)) }
 {
     for (pc, is_start) in marks.iter().enumerate() {
         if *is_start && is_unresolved_at(hierarchy, file, rows, code, pc) {

@@ -26,7 +26,7 @@ use Rattle.machine.specs.Machines.{MachineOf}
 use Rattle.machine.specs.schedule_runs.Done as done
 use Rattle.machine.specs.schedule_runs.Done.{EndsBy, HasGone, GoesThrough}
 use Rattle.machine.specs.machine_reports.Told.{ReportsOn}
-use Rattle.machine.specs.machine_replay.Replays.{IsRefusedFor, OfNext, EndFits, IsRight, AreOperandsFound, IsReplay}
+use Rattle.machine.specs.machine_replay.Replays.{IsRefusedFor, OfNext, EndFits, AreOperandsFound, IsReplay}
 use Rattle.machine.specs.machine_replay.Shown.{IsOpened, Tells, end_of}
 
 -- ---- the end
@@ -54,17 +54,6 @@ module _ (trees : Program) (bounds : Bounds) (state : State) (front : List Event
   fits (stopped.Refused told) n quiet left count e h = (count, next_is _ _ (λ event p. (p.0, refused_for event told p.1)) left h)
 
 -- ---- no operand is of a wrong kind
-
-is_right : (why : Stopped) (n : ℕ) (quiet : Bool) → IsRight (end_of why n quiet)
-is_right stopped.Most n true = tt
-is_right stopped.Most n false = tt
-is_right stopped.NotEnabled n quiet = tt
-is_right (stopped.Refused refusal.Objects) n quiet = tt
-is_right (stopped.Refused refusal.Cells) n quiet = tt
-is_right (stopped.Refused refusal.Monitors) n quiet = tt
-is_right (stopped.Refused refusal.Threads) n quiet = tt
-is_right (stopped.Refused refusal.LockCount) n quiet = tt
-is_right (stopped.Refused refusal.Memory) n quiet = tt
 
 pub operands_found : IsNoEventWrong → (files : List (List ℕ)) (trees : Program) → IsAccepted files trees → (frames : ℕ)
     (events : List Event) → AreOperandsFound trees frames events
@@ -108,7 +97,6 @@ module _ (files : List (List ℕ)) (trees : Program) (m : MachineOf) (schedule :
         means = same.report gone.front end has.lead.reached ∙ ap Some (told_of trees m.limits.frames has.at gone.front n r gone.count on end);
         ended = subst (EndFits trees (bounds_of m.limits) state gone.front gone.left) (sym tells.end_is)
             (fits trees (bounds_of m.limits) state gone.front why n tells.quiet gone.left gone.count quiet gone.ends);
-        right = subst IsRight (sym tells.end_is) (is_right why n tells.quiet);
         found = operands_found sound files trees gone.done.accepted m.limits.frames schedule;
       }
 

@@ -19,7 +19,7 @@ use Rattle.model.specs.Step.{WrongKind, stepped, is_enabled}
 -- ---- why no more events were done
 
 -- The cause stands at an enabled event after those that were done: the limit that it names forbids the event. Where memory was
--- wanted, nothing stands in the definitions. The two causes of older machines never stand.
+-- wanted, nothing stands in the definitions.
 abbrev pub IsRefusedFor : Program → Bounds → (done : List Event) → Event → RunCause → Type 0
 IsRefusedFor trees bounds done event cause.Objects = limit_after trees bounds done event ≡ Some cause.Objects
 IsRefusedFor trees bounds done event cause.Cells = limit_after trees bounds done event ≡ Some cause.Cells
@@ -27,8 +27,6 @@ IsRefusedFor trees bounds done event cause.Monitors = limit_after trees bounds d
 IsRefusedFor trees bounds done event cause.Threads = limit_after trees bounds done event ≡ Some cause.Threads
 IsRefusedFor trees bounds done event cause.LockCount = limit_after trees bounds done event ≡ Some cause.LockCount
 IsRefusedFor trees bounds done event cause.Memory = Unit {0}
-IsRefusedFor trees bounds done event cause.WrongKind = ⊥
-IsRefusedFor trees bounds done event cause.Throws = ⊥
 
 -- what is said of the next event, which is there
 abbrev pub OfNext : List Event → (Event → Type 0) → Type 0
@@ -47,11 +45,6 @@ EndFits trees bounds state done left ends.Budget = ⊥
 
 -- ---- what a run never meets
 
--- no operand was of a wrong kind
-abbrev pub IsRight : End → Type 0
-IsRight (ends.Refused i cause.WrongKind) = ⊥
-IsRight end = Unit {0}
-
 -- At each of these events to which a run by those before it comes, the one behind the last that was done too, its thread finds its
 -- instruction, and the operands as they are wanted.
 abbrev pub AreOperandsFound : Program → (frames : ℕ) → List Event → Type 0
@@ -64,8 +57,8 @@ AreOperandsFound trees frames events =
 abbrev pub text_of : Report → End → List ℕ
 text_of r end = report_text r.printed.items (map end_state_of r.threads.items) r.events end
 
--- A front of the events was done, at none of which a limit stood; the report is its meaning; and the end says why it is not longer,
--- which is never an operand of a wrong kind: neither an event of the front nor the next one met any.
+-- A front of the events was done, at none of which a limit stood; the report is its meaning; and the end says why it is not longer.
+-- Neither an event of the front nor the next one met an operand of a wrong kind.
 pub record IsReplay (trees : Program) (events : List Event) (limits : Limits) (r : Report) (end : End) : Type 0 where
   pub front : List Event
   pub left : List Event
@@ -78,5 +71,4 @@ pub record IsReplay (trees : Program) (events : List Event) (limits : Limits) (r
   pub count : r.events ≡ length front
   pub means : meaning trees limits.frames front end ≡ Some (text_of r end)
   pub ended : EndFits trees (bounds_of limits) state front left end
-  pub right : IsRight end
   pub found : AreOperandsFound trees limits.frames events

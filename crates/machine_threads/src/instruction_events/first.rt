@@ -23,7 +23,8 @@ pub(crate) fn class_first(
     pick: u16,
     instruction: LinkedInstruction,
 ) -> Result<Option<Answer>, Refusal>
-    ensures { ComesFirst program.now instruction (record { thread = thread; pick = pick }) result shared.old shared.new stack.old stack.new }
+    ensures { ComesFirst program.now instruction (record { thread = thread; pick = pick }) result
+        shared.old shared.new stack.old stack.new }
 {
     instructions_are_done();
     match class_needed(instruction) {

@@ -28,6 +28,10 @@ pub const RETURN: u8 = 0xb1;
 
 pub const GETSTATIC: u8 = 0xb2;
 
+pub const INVOKEVIRTUAL: u8 = 0xb6;
+
+pub const INVOKESPECIAL: u8 = 0xb7;
+
 pub const INVOKESTATIC: u8 = 0xb8;
 
 pub const ATHROW: u8 = 0xbf;
@@ -145,10 +149,11 @@ impl Body {
         )
     }
 
-    /// Adds a static method that has this code, with so much room on the stack and so many local variables.
-    pub fn add_to(
+    /// Adds a method that has these access flags and this code, with so much room on the stack and so many local variables.
+    pub fn add_method(
         &self,
         class: &mut ClassBuilder,
+        flags: u16,
         name: &[u8],
         descriptor: &[u8],
         max_stack: u32,
@@ -160,7 +165,26 @@ impl Body {
             bytes: self.bytes.as_slice(),
             exceptions: self.exceptions.as_slice(),
         };
-        class.add_method(PUBLIC_STATIC, name, descriptor, Some(parts))
+        class.add_method(flags, name, descriptor, Some(parts))
+    }
+
+    /// Adds a static method that has this code, with so much room on the stack and so many local variables.
+    pub fn add_to(
+        &self,
+        class: &mut ClassBuilder,
+        name: &[u8],
+        descriptor: &[u8],
+        max_stack: u32,
+        max_locals: u32,
+    ) -> Result<(), AllocError> {
+        self.add_method(
+            class,
+            PUBLIC_STATIC,
+            name,
+            descriptor,
+            max_stack,
+            max_locals,
+        )
     }
 
     /// Adds it as `main`.

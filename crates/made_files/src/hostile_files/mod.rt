@@ -4,6 +4,7 @@
 mod body;
 mod chains;
 mod handlers;
+mod lookups;
 mod members;
 mod names;
 mod set;

@@ -1,10 +1,14 @@
 //! The shapes by their names.
 
 use crate::hostile_files::chains::{
-    catch_chain, interface_ladder, long_class_name, loop_up_a_chain,
+    catch_chain, descriptors_up_a_chain, interface_ladder, long_class_name, loop_up_a_chain,
 };
 use crate::hostile_files::handlers::{
     alternating_handlers, early_handlers, handlers, raised_handlers,
+};
+use crate::hostile_files::lookups::{
+    inherited_fields, inherited_methods, long_method_name, methods_of_interfaces,
+    methods_up_a_chain,
 };
 use crate::hostile_files::members::{
     long_descriptor, overriding_methods, read_fields, redeclared_fields,
@@ -13,16 +17,22 @@ use crate::hostile_files::variables::{deep_stack, slow_loop};
 use std::alloc::{AllocError, Global};
 
 /// Their names, in the order of the alphabet.
-pub const SHAPES: [&str; 14] = [
+pub const SHAPES: [&str; 20] = [
     "alternating-handlers",
     "catch-chain",
     "deep-stack",
+    "descriptors-up-a-chain",
     "early-handlers",
     "handlers",
+    "inherited-fields",
+    "inherited-methods",
     "interface-ladder",
     "long-class-name",
     "long-descriptor",
+    "long-method-name",
     "loop-up-a-chain",
+    "methods-of-interfaces",
+    "methods-up-a-chain",
     "overriding-methods",
     "raised-handlers",
     "read-fields",
@@ -41,12 +51,18 @@ pub fn class_files(
         "alternating-handlers" => alternating_handlers(alloc, number)?,
         "catch-chain" => catch_chain(alloc, number)?,
         "deep-stack" => deep_stack(alloc, number)?,
+        "descriptors-up-a-chain" => descriptors_up_a_chain(alloc, number)?,
         "early-handlers" => early_handlers(alloc, number)?,
         "handlers" => handlers(alloc, number)?,
+        "inherited-fields" => inherited_fields(alloc, number)?,
+        "inherited-methods" => inherited_methods(alloc, number)?,
         "interface-ladder" => interface_ladder(alloc, number)?,
         "long-class-name" => long_class_name(alloc, number)?,
         "long-descriptor" => long_descriptor(alloc, number)?,
+        "long-method-name" => long_method_name(alloc, number)?,
         "loop-up-a-chain" => loop_up_a_chain(alloc, number)?,
+        "methods-of-interfaces" => methods_of_interfaces(alloc, number)?,
+        "methods-up-a-chain" => methods_up_a_chain(alloc, number)?,
         "overriding-methods" => overriding_methods(alloc, number)?,
         "raised-handlers" => raised_handlers(alloc, number)?,
         "read-fields" => read_fields(alloc, number)?,

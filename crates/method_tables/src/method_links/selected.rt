@@ -40,7 +40,12 @@ impl Model for SelectedMethods {
 
     ghost Value = { SelectionTable };
 
-    ghost view = { λ s. record { names = s.names.items; descriptors = s.descriptors.items; superclasses = s.superclasses.items; declared = s.declared.entries } };
+    ghost view = { λ s. record {
+      names = s.names.items;
+      descriptors = s.descriptors.items;
+      superclasses = s.superclasses.items;
+      declared = s.declared.entries;
+    } };
 }
 
 /// The place of the superclass of a class.
@@ -113,7 +118,10 @@ impl SelectedMethods {
     /// The number of the method that a receiver of the class at a place has in place of the method of a number: the nearest
     /// declaration from the class upwards that is neither static nor private, abstract or not. Takes no memory.
     pub fn selected(&self, class: usize, method: usize) -> Option<usize>
-        ensures { (files : Program) → AreSelectionsOf files self.now → (file : FileTree) → class_at files class ≡ Some file → (m : Member) → slice_get (methods_of files) method ≡ Some m → Names files result (select files (name_of file) m) }
+        ensures { (files : Program) → AreSelectionsOf files self.now
+            → (file : FileTree) → class_at files class ≡ Some file
+            → (m : Member) → slice_get (methods_of files) method ≡ Some m
+            → Names files result (select files (name_of file) m) }
     {
         let mut class = class;
         for _step in 0..self.superclasses.len() {

@@ -50,7 +50,6 @@ fn a_report_says_why_a_run_ended(rt: HostRuntime) -> Result<(), Fail> {
         (End::Refused(3, RunCause::Objects), "refused 3 objects"),
         (End::Refused(3, RunCause::Cells), "refused 3 cells"),
         (End::Refused(3, RunCause::Threads), "refused 3 threads"),
-        (End::Refused(3, RunCause::WrongKind), "refused 3 wrongkind"),
         (End::Quiet, "quiet"),
         (End::Budget, "budget"),
     ];

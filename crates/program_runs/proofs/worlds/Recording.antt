@@ -4,7 +4,6 @@ use Rattle.std.specs.Prelude.{IfOk}
 use Rattle.std.specs.Arc.{arc_value}
 use Rattle.model.specs.declared.end.End.{End}
 use Rattle.model.specs.declared.end.End.TheVariants as ends
-use Rattle.model.specs.declared.end.RunCause.TheVariants as cause
 use Rattle.model.specs.declared.event.Event.{Event}
 use Rattle.model.specs.declared.report.Report.{Report}
 use Rattle.model.specs.Classes.{Program}
@@ -18,7 +17,6 @@ use Rattle.linked_code.specs.declared.program.LinkedProgram.{LinkedProgram}
 use Rattle.machine_state.specs.declared.state.Shared.{Shared}
 use Rattle.machine_state.specs.shown_runs.Runs.{HasRun}
 use Rattle.machine.specs.machine_reports.Told.{ReportsOn, Reports}
-use Rattle.machine.specs.machine_replay.Replays.{IsRight}
 use Rattle.machine.proofs.machine_replay.Replayed.{told_of, operands_found}
 use Rattle.program_runs.specs.declared.worlds.records.Recorded.{Recorded}
 use Rattle.program_runs.specs.worlds.Worlds.{WorldOf, Holds, EndFits}
@@ -43,22 +41,6 @@ is_report_on w classes p shared frames count classes_are p_is shared_is frames_a
 
 -- ---- the record
 
--- the end is none for an operand of a wrong kind
-is_right : (trees : Program) (bounds : Bounds) (state : State) (budget : ℕ) (events : List Event) (end : End)
-    → EndFits trees bounds state budget events (Some end) → IsRight end
-is_right trees bounds state budget events ends.Schedule fits = absurd fits
-is_right trees bounds state budget events (ends.NotEnabled i) fits = absurd fits
-is_right trees bounds state budget events ends.Quiet fits = tt
-is_right trees bounds state budget events ends.Budget fits = tt
-is_right trees bounds state budget events (ends.Refused i cause.Objects) fits = tt
-is_right trees bounds state budget events (ends.Refused i cause.Cells) fits = tt
-is_right trees bounds state budget events (ends.Refused i cause.Monitors) fits = tt
-is_right trees bounds state budget events (ends.Refused i cause.Threads) fits = tt
-is_right trees bounds state budget events (ends.Refused i cause.LockCount) fits = tt
-is_right trees bounds state budget events (ends.Refused i cause.Memory) fits = tt
-is_right trees bounds state budget events (ends.Refused i cause.WrongKind) fits = absurd fits.2.2
-is_right trees bounds state budget events (ends.Refused i cause.Throws) fits = tt
-
 module _ (reported : AreReportsOfWords) (sound : IsNoEventWrong) (w : WorldOf) (h : Holds w) (end : End) (ended : w.end ≡ Some end) where
   abbrev has : HasRun w.trees w.machine.program (bounds_of w.machine.limits) w.machine.shared w.events
   has = h.done.run
@@ -82,7 +64,6 @@ module _ (reported : AreReportsOfWords) (sound : IsNoEventWrong) (w : WorldOf) (
         count = on.count;
         means = same.report w.events end has.lead.reached ∙ ap Some (told_of w.trees w.machine.limits.frames has.at w.events (length w.events) r refl on end);
         ended = fits;
-        right = is_right w.trees (bounds_of w.machine.limits) has.lead.state w.budget w.events end fits;
         found = λ next. operands_found sound h.files w.trees h.done.accepted w.machine.limits.frames (w.events ++ next ∷ []);
       }
 

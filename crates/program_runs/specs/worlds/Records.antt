@@ -12,13 +12,12 @@ use Rattle.model.specs.Report.{end_state_of}
 use Rattle.model.specs.Run.{run}
 use Rattle.model.specs.Schedule.{events_of}
 use Rattle.model.specs.State.{State}
-use Rattle.machine.specs.machine_replay.Replays.{IsRight, AreOperandsFound, text_of}
+use Rattle.machine.specs.machine_replay.Replays.{AreOperandsFound, text_of}
 use Rattle.program_runs.specs.declared.worlds.records.Recorded.{Recorded}
 use Rattle.program_runs.specs.worlds.Worlds.{WorldOf, EndFits}
 
 -- The events lead to a state, and at none of them a limit stood; they are no more than the budget. The report is their meaning, and
--- the end says why they are no more, which is never an operand of a wrong kind: neither one of the events nor any that could be the
--- next one meets any.
+-- the end says why they are no more. Neither one of the events nor any that could be the next one meets an operand of a wrong kind.
 pub record IsRecorded (trees : Program) (limits : Limits) (budget : ℕ) (events : List Event) (r : Report) (end : End) : Type 0 where
   pub state : State
   pub reached : run trees limits.frames events ≡ Some state
@@ -29,7 +28,6 @@ pub record IsRecorded (trees : Program) (limits : Limits) (budget : ℕ) (events
   pub count : r.events ≡ length events
   pub means : meaning trees limits.frames events end ≡ Some (text_of r end)
   pub ended : EndFits trees (bounds_of limits) state budget events (Some end)
-  pub right : IsRight end
   pub found : (next : Event) → AreOperandsFound trees limits.frames (events ++ next ∷ [])
 
 -- the record of a run of these class files, under these limits and with this budget

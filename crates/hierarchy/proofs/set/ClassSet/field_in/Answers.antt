@@ -1,12 +1,11 @@
-use Rattle.std.proofs.Common.{◌≡◌, ◌∙◌, [], Option, Some, sym, ap}
-use Rattle.std.specs.Option.{option_map_or}
+use Rattle.std.proofs.Common.{◌≡◌, ◌∙◌, sym, ap, subst}
+use Rattle.std.specs.Prelude.{IfSome}
+use Rattle.std.specs.Option.{option_map}
 use Rattle.constant_pool.specs.View.{reference_of}
-use Rattle.class_tree.specs.View.{file_of}
-use Rattle.model.specs.Names.{Name}
-use Rattle.model.specs.Tree.{FileTree}
-use Rattle.model.specs.Classes.{name_of}
-use Rattle.model.specs.Lookup.{in_class}
-use Rattle.hierarchy.proofs.SetLaws.{no_class, class_at_place, name_at_place, field_of_none, no_field, field_at}
+use Rattle.hierarchy.specs.Places.{member_in, IsFieldAt}
+use Rattle.hierarchy.specs.MembersAt.{field_at}
+use Rattle.hierarchy.proofs.SetLaws.{no_class, field_of_none}
+use Rattle.hierarchy.proofs.PlaceLaws.{field_by_place, is_field_at}
 use Rattle.hierarchy.proofs.set.ClassSet.field_in.Goals as goal
 
 pub returns-in_default-clause-found : goal.returns-in_default-clause-found
@@ -14,23 +13,15 @@ returns-in_default-clause-found c =
     let files = c.args.self.now in
     sym (field_of_none files (reference_of c.args.field) c.args.class.now (no_class files c.args.class.now (sym c.in_default.ensures.place)))
 
-pub returns-in_default-class_at-clause-found : goal.returns-in_default-class_at-clause-found
-returns-in_default-class_at-clause-found c =
-    let files = c.args.self.now in
-    sym (field_of_none files (reference_of c.args.field) c.args.class.now (class_at_place files c.args.class.now c.in-Some.place (sym c.in-Some.ensures.place) ∙ sym c.in_default-class_at.ensures))
-
-pub returns-in_default-field_place-clause-found : goal.returns-in_default-field_place-clause-found
-returns-in_default-field_place-clause-found c =
-    let files = c.args.self.now in
-    let class = class_at_place files c.args.class.now c.in-Some.place (sym c.in-Some.ensures.place) ∙ sym c.in-Some-class_at.ensures in
-    sym (no_field files (reference_of c.args.field) c.args.class.now (file_of c.in-Some-class_at.file.now) class (sym c.in_default-field_place.ensures))
-
-pub returns-clause-found : goal.returns-clause-found
-returns-clause-found c =
+pub returns : goal.returns
+returns c =
     let files = c.args.self.now in
     let m = reference_of c.args.field in
-    let file = file_of c.in-Some-class_at.file.now in
-    let class = class_at_place files c.args.class.now c.in-Some.place (sym c.in-Some.ensures.place) ∙ sym c.in-Some-class_at.ensures in
-    let named : name_of file ≡ c.args.class.now = name_at_place files c.args.class.now c.in-Some.place file (sym c.in-Some.ensures.place) (sym c.in-Some-class_at.ensures) in
-    ap (λ (n : Name). Some (in_class n m)) (ap (λ (o : Option FileTree). option_map_or name_of o []) (sym c.in-Some-class_at.ensures) ∙ named)
-    ∙ sym (field_at files m c.args.class.now file c.in-Some-field_place.member class (sym c.in-Some-field_place.ensures))
+    let place = c.in-Some.place in
+    let at : c.field_at.result ≡ field_at files m place =
+    c.field_at.ensures ∙ ap (λ f. field_at f c.sought.result.member place) c.sought.ensures.files
+    ∙ ap (λ n. field_at files n place) c.sought.ensures.member in
+    record {
+      found = ap (option_map (member_in files m)) at ∙ field_by_place files m c.args.class.now place (sym c.in-Some.ensures.place);
+      place = subst (λ o. IfSome o (IsFieldAt files m)) (sym at) (is_field_at files m place);
+    }

@@ -3,7 +3,7 @@ use Rattle.std.specs.List.{flat_map}
 use Rattle.constant_pool.specs.View.{reference_of}
 use Rattle.model.specs.Classes.{classes_of, lineage_of, interfaces_above, all_superinterfaces}
 use Rattle.model.specs.Lookup.{method_in_class, any_method, first_found}
-use Rattle.hierarchy.proofs.hierarchy.Hierarchy.method_in_superinterfaces.Given as goal
+use Rattle.hierarchy.proofs.hierarchy.Hierarchy.method_along_superclasses.Given as goal
 
 abbrev pub invariant-loop-step : goal.invariant-loop-step
 invariant-loop-step l =
