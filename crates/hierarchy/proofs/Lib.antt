@@ -5,6 +5,7 @@ pub mod SetLaws
 pub mod Adding
 pub mod RowLaws
 pub mod NumberLaws
+pub mod NumberSets
 pub mod Walks
 pub mod Indices
 pub mod RankLaws

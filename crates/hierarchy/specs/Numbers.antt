@@ -16,6 +16,14 @@ abbrev pub with_numbers : List ℕ → List ℕ → List ℕ
 with_numbers numbers [] = numbers
 with_numbers numbers (number ∷ more) = with_numbers (with_number numbers number) more
 
+-- for each number the place at which it stands is written down
+abbrev pub ArePlaces : List ℕ → List ℕ → Type 0
+ArePlaces numbers places = (place number : ℕ) → slice_get numbers place ≡ Some number → slice_get places number ≡ Some place
+
+-- what is written down of other numbers stays
+abbrev pub KeepsOthers : ℕ → List ℕ → List ℕ → Type 0
+KeepsOthers number old new = (other place : ℕ) → (other ≡ number → ⊥) → slice_get old other ≡ Some place → slice_get new other ≡ Some place
+
 -- ---- the names that they stand for
 
 -- the names of numbers, in their order; a number that the table doesn't have stands for none

@@ -12,6 +12,7 @@ mod long_walks;
 mod lookup;
 mod member_keys;
 mod name_table;
+mod number_set;
 mod order;
 mod place;
 mod ranked_rows;

@@ -115,7 +115,7 @@ impl NameTable {
     }
 
     /// How many names there are.
-    fn count(&self) -> usize
+    pub(crate) fn count(&self) -> usize
         ensures { result ≡ length self.now }
     {
         self.names.len()

@@ -8,6 +8,7 @@ ghost use Rattle.hierarchy.specs.Numbers.{named_rows, HasNames};
 ghost use Rattle.hierarchy.specs.Ranks.{HasRanks};
 
 use crate::name_table::NameTable;
+use crate::number_set::NumberSet;
 use crate::row::Row;
 use crate::rows::{Above, empty_rows, interface_rows, row_above, supertype_rows};
 use crate::set::{ClassSet, class_name};
@@ -25,11 +26,20 @@ fn rows_in_order(
     requires { HasNames set.now names.now }
 {
     let mut rows = empty_rows(alloc, set)?;
+    let mut numbers = NumberSet::new(alloc, names.count())?;
     for place in order {
         let Some(class) = set.class_at(*place) else {
             return Ok(rows);
         };
-        let made = row_above(alloc, set, names, &rows, kind, class_name(class))?;
+        let made = row_above(
+            alloc,
+            set,
+            names,
+            &rows,
+            &mut numbers,
+            kind,
+            class_name(class),
+        )?;
         if let Some(row) = rows.get_mut(*place) {
             *row = made;
         }
@@ -52,6 +62,7 @@ fn are_settled(
     if rows.len() != set.count() {
         return Ok(false);
     }
+    let mut numbers = NumberSet::new(alloc, names.count())?;
     for place in 0..set.count() {
         let Some(class) = set.class_at(place) else {
             return Ok(false);
@@ -59,7 +70,15 @@ fn are_settled(
         let Some(row) = rows.get(place) else {
             return Ok(false);
         };
-        let next = row_above(alloc, set, names, rows, kind, class_name(class))?;
+        let next = row_above(
+            alloc,
+            set,
+            names,
+            rows,
+            &mut numbers,
+            kind,
+            class_name(class),
+        )?;
         if !next.is_same(row) {
             return Ok(false);
         }

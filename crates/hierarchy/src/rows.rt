@@ -12,7 +12,8 @@ ghost use Rattle.hierarchy.specs.Above.{with_names, row_of, next_row, next_rows,
 ghost use Rattle.hierarchy.specs.Numbers.{names_of, named_rows, HasAll, HasNames};
 
 use crate::name_table::NameTable;
-use crate::row::{NumberSet, Row};
+use crate::number_set::NumberSet;
+use crate::row::Row;
 use crate::set::{ClassSet, class_name, superclass_name};
 use class_tree::ClassFile;
 use std::alloc::{AllocError, Global};
@@ -111,27 +112,28 @@ fn add_interfaces(
     Ok(())
 }
 
-/// The row of a class, by the rows of what stands directly above it.
+/// The row of a class, by the rows of what stands directly above it. It is made in a set of numbers.
 pub(crate) fn row_above(
     alloc: Global,
     set: &ClassSet,
     names: &NameTable,
     rows: &[Row],
+    row: &mut NumberSet,
     kind: Above,
     class: &[u8],
 ) -> Result<Row, AllocError>
     requires { HasNames set.now names.now }
     ensures { IfOk result (λ row. names_of names.now row ≡ next_row set.now kind (named_rows names.now rows.now) class.now) }
 {
-    let mut row = NumberSet::new(alloc);
+    row.clear();
     let Some(file) = set.class_of(class) else {
         return Ok(Row::empty(alloc));
     };
-    add_interfaces(set, names, rows, &mut row, file)?;
+    add_interfaces(set, names, rows, row, file)?;
     match kind {
         Above::Interfaces => row.to_row(alloc),
         Above::Supertypes => {
-            add_named(set, names, rows, &mut row, superclass_name(file))?;
+            add_named(set, names, rows, row, superclass_name(file))?;
             row.to_row(alloc)
         }
     }
@@ -149,11 +151,20 @@ pub(crate) fn rows_above(
     ensures { IfOk result (λ next. named_rows names.now next.items ≡ next_rows set.now kind (named_rows names.now rows.now)) }
 {
     let mut next = Vec::new(alloc);
+    let mut numbers = NumberSet::new(alloc, names.count())?;
     for place in 0..set.count() {
         let Some(class) = set.class_at(place) else {
             return Ok(next);
         };
-        let row = row_above(alloc, set, names, rows, kind, class_name(class))?;
+        let row = row_above(
+            alloc,
+            set,
+            names,
+            rows,
+            &mut numbers,
+            kind,
+            class_name(class),
+        )?;
         next.push(row)?;
     }
     Ok(next)

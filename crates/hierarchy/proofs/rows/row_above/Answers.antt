@@ -31,12 +31,12 @@ returns-in-Interfaces c =
     let file = file_of c.in-Some.file.now in
     let g : Name → List Name = λ n. n ∷ row_of files rows n in
     ok_weaken _ _ (λ row is. ap (names_of names) is
-    ∙ c.in_ok-add_interfaces.ensures ∙ ap (λ l. with_names (names_of names l) (flat_map g (interface_names file))) c.new-row.ensures
+    ∙ c.in_ok-add_interfaces.ensures ∙ ap (λ l. with_names (names_of names l) (flat_map g (interface_names file))) c.clear.ensures
     ∙ ap (λ (o : Option FileTree). with_names [] (flat_map g (option_map_or interface_names o []))) c.in-Some.ensures
     ∙ ap (λ kind. next_row files kind rows c.args.class.now) (sym c.in-Interfaces.is)) c.to_row.result c.to_row.ensures
 
-pub returns : goal.returns
-returns c =
+pub returns-in_ok-add_named-in-Supertypes : goal.returns-in_ok-add_named-in-Supertypes
+returns-in_ok-add_named-in-Supertypes c =
     let files = c.args.set.now in
     let names = c.args.names.now in
     let rows = named_rows names c.args.rows.now in
@@ -44,7 +44,7 @@ returns c =
     let g : Name → List Name = λ n. n ∷ row_of files rows n in
     let near = names_of names c.add_interfaces.new.row in
     let all = names_of names c.add_named.new.row in
-    let first : near ≡ with_names [] (flat_map g (interface_names file)) = c.in_ok-add_interfaces.ensures ∙ ap (λ l. with_names (names_of names l) (flat_map g (interface_names file))) c.new-row.ensures in
+    let first : near ≡ with_names [] (flat_map g (interface_names file)) = c.in_ok-add_interfaces.ensures ∙ ap (λ l. with_names (names_of names l) (flat_map g (interface_names file))) c.clear.ensures in
     let second : all ≡ with_names near (flat_map g (option_to_list (super_name_of file))) = c.in_ok-add_named-in-Supertypes.ensures ∙ ap (λ o. with_names near (flat_map g (option_to_list o))) c.superclass_name.ensures in
     ok_weaken _ _ (λ row is. ap (names_of names) is
     ∙ both_added g [] near all (interface_names file) (option_to_list (super_name_of file)) first second

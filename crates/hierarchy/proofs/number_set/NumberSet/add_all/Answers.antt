@@ -1,7 +1,7 @@
 use Rattle.std.proofs.Common.{sym}
 use Rattle.hierarchy.specs.Numbers.{with_numbers}
 use Rattle.hierarchy.proofs.NumberLaws.{number_added}
-use Rattle.hierarchy.proofs.row.NumberSet.add_all.Goals as goal
+use Rattle.hierarchy.proofs.number_set.NumberSet.add_all.Goals as goal
 
 pub loop-place-preserved : goal.loop-place-preserved
 loop-place-preserved c =
