@@ -41,6 +41,9 @@ pub(crate) fn row_of<'a>(set: &ClassSet, rows: &'a [Row], name: &[u8]) -> Option
 pub(crate) fn is_among(names: &NameTable, row: &Row, name: &[u8]) -> bool
     ensures { result ≡ list_any (name_eq name.now) (names_of names.now row.now) }
 {
+    if row.count() == 0 {
+        return false;
+    }
     match names.number_of(name) {
         Some(number) => row.contains(number),
         None => false,
