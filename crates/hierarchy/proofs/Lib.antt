@@ -20,3 +20,4 @@ pub mod LineageWalks
 pub mod KeyLaws
 pub mod PlaceLaws
 pub mod UpLaws
+pub mod BelowLaws

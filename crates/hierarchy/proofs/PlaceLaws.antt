@@ -1,5 +1,5 @@
 -- Members by the places of the classes that declare them.
-use Rattle.std.proofs.Common.{◌≡◌, ◌∙◌, ℕ, Bool, true, false, refl, sym, ap, Option, Some, None}
+use Rattle.std.proofs.Common.{◌≡◌, ◌∙◌, ℕ, zero, suc, Bool, true, false, List, [], ◌∷◌, map, refl, sym, ap, subst, Option, Some, None}
 use Rattle.std.specs.Prelude.{position, slice_get, IfSome}
 use Rattle.std.specs.Option.{option_and_then, option_map, option_map_or}
 use Rattle.model.specs.Names.{Name, Member}
@@ -7,9 +7,11 @@ use Rattle.model.specs.Tree.{FileTree, MethodTree}
 use Rattle.model.specs.Classes.{Program, is_method}
 use Rattle.model.specs.Lookup.{in_class, where_so, is_field, method_in_class, field_in_class}
 use Rattle.hierarchy.specs.Places.{class_at, place_of, member_in, IsFieldAt, IsMethodAt}
-use Rattle.hierarchy.specs.MembersAt.{member_at, where_wanted, method_here, method_at, field_at, field_place}
+use Rattle.hierarchy.specs.declared.place.MemberPlace.{MemberPlace}
+use Rattle.hierarchy.specs.Numbers.{place_by}
+use Rattle.hierarchy.specs.MembersAt.{SoughtIn, member_at, where_wanted, method_here, method_at, field_at, field_place}
 use Rattle.hierarchy.proofs.Finding.{position_within}
-use Rattle.hierarchy.proofs.SetLaws.{class_at_place, no_item, method_found, no_method, method_of_none, field_at as field_declared, no_field, field_of_none}
+use Rattle.hierarchy.proofs.SetLaws.{class_at_place, no_class, no_item, method_found, no_method, method_of_none, field_at as field_declared, no_field, field_of_none}
 use Rattle.hierarchy.proofs.LineageLaws.{named_at}
 
 module _ (files : Program) (m : Member) where
@@ -85,3 +87,36 @@ module _ (files : Program) (m : Member) where
       by : (o : Option ℕ) → field_place files m place ≡ o → IfSome (option_map (member_at place) o) (IsFieldAt files m)
       by None q = tt
       by (Some i) q = q
+
+-- ---- members by the numbers of names, where the places of the classes of these are kept
+
+by_number : (files : Program) (m : Member) (found : Name → Option Member) (at : ℕ → Option MemberPlace)
+    → ((class : Name) (place : ℕ) → place_of files class ≡ Some place → option_map (member_in files m) (at place) ≡ found class)
+    → ((class : Name) → place_of files class ≡ None → found class ≡ None) → (names : List Name) (number : ℕ)
+    → option_map (member_in files m) (option_and_then at (place_by (map (place_of files) names) number)) ≡ option_and_then found (slice_get names number)
+by_number files m found at there absent [] number = refl
+by_number files m found at there absent (x ∷ names) zero = by (place_of files x) refl
+  where
+    by : (o : Option ℕ) → place_of files x ≡ o → option_map (member_in files m) (option_and_then at o) ≡ found x
+    by None e = sym (absent x e)
+    by (Some place) e = there x place e
+by_number files m found at there absent (x ∷ names) (suc number) = by_number files m found at there absent names number
+
+pub method_by_number : (files : Program) (m : Member) (wanted : MethodTree → Bool) (names : List Name) (places : List (Option ℕ)) (number : ℕ)
+    (place : Option ℕ) → places ≡ map (place_of files) names → place ≡ place_by places number
+    → option_map (member_in files m) (option_and_then (method_at files wanted m) place) ≡ option_and_then (method_in_class files wanted m) (slice_get names number)
+method_by_number files m wanted names places number place are is =
+    ap (λ o. option_map (member_in files m) (option_and_then (method_at files wanted m) o)) (is ∙ ap (λ (l : List (Option ℕ)). place_by l number) are)
+    ∙ by_number files m (method_in_class files wanted m) (method_at files wanted m) (method_by_place files m wanted) (λ class e. method_of_none files wanted m class (no_class files class e)) names number
+
+pub field_by_number : (files : Program) (m : Member) (names : List Name) (places : List (Option ℕ)) (number : ℕ) (place : Option ℕ)
+    → places ≡ map (place_of files) names → place ≡ place_by places number
+    → option_map (member_in files m) (option_and_then (field_at files m) place) ≡ option_and_then (field_in_class files m) (slice_get names number)
+field_by_number files m names places number place are is =
+    ap (λ o. option_map (member_in files m) (option_and_then (field_at files m) o)) (is ∙ ap (λ (l : List (Option ℕ)). place_by l number) are)
+    ∙ by_number files m (field_in_class files m) (field_at files m) (field_by_place files m) (λ class e. field_of_none files m class (no_class files class e)) names number
+
+-- what is said of a member that is sought, of the classes and the member
+pub of_sought : (P : Program → Member → Type 0) (s : SoughtIn) (files : Program) (m : Member) → s.files ≡ files → s.member ≡ m
+    → P s.files s.member → P files m
+of_sought P s files m same_files same_member p = subst (P files) same_member (subst (λ f. P f s.member) same_files p)

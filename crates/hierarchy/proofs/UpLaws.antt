@@ -13,7 +13,7 @@ use Rattle.hierarchy.proofs.Chains.{lineage_step}
 
 module _ (files : Program) where
   -- the direct superclass of the class of a name, by its place
-  superclass_by_place : (place : ℕ) → place_of files (name_at files place) ≡ Some place
+  pub superclass_by_place : (place : ℕ) → place_of files (name_at files place) ≡ Some place
       → superclass_place files place ≡ option_and_then (place_of files) (superclass_of files (name_at files place))
   superclass_by_place place stood =
       ap (λ (o : Option FileTree). option_and_then (place_of files) (option_and_then super_name_of o)) (sym (class_at_place files (name_at files place) place stood))

@@ -1,5 +1,5 @@
 -- Programs whose superinterfaces are flat, and the rows that look-ups go through.
-use Rattle.std.specs.Prelude.{◌≡◌, ℕ, ◌-◌, suc, length, List, [], ◌∷◌, Bool, true, false, not}
+use Rattle.std.specs.Prelude.{◌≡◌, ℕ, ◌-◌, suc, length, List, [], ◌∷◌, Option, map, Bool, true, false, not}
 use Rattle.std.specs.Option.{option_map_or}
 use Rattle.std.specs.List.{list_any}
 use Rattle.model.specs.Names.{Name, name_eq, java_lang_object}
@@ -7,6 +7,7 @@ use Rattle.model.specs.Tree.{FileTree}
 use Rattle.model.specs.Classes.{Program, classes_of, superclass_of, interface_names}
 use Rattle.hierarchy.specs.declared.rows.Above.TheVariants as above
 use Rattle.hierarchy.specs.Above.{rows_of}
+use Rattle.hierarchy.specs.Places.{place_of}
 use Rattle.hierarchy.specs.Numbers.{named_rows, HasNames}
 use Rattle.hierarchy.specs.Ranks.{HasRanks}
 
@@ -36,7 +37,8 @@ pub record HasRows (files : Program) (interfaces supertypes : List (List Name)) 
   pub by_supertypes : HasSupertypes files supertypes
   pub by_flat : flat ≡ true → SuperinterfacesAreFlat files
 
--- The rows, by numbers of a table of names.
-pub record HasNamedRows (files : Program) (names : List Name) (interfaces supertypes : List (List ℕ)) (flat : Bool) : Type 0 where
+-- The rows, by numbers of a table of names, and the places of the classes of these names.
+pub record HasNamedRows (files : Program) (names : List Name) (places : List (Option ℕ)) (interfaces supertypes : List (List ℕ)) (flat : Bool) : Type 0 where
   pub has_names : HasNames files names
+  pub has_places : places ≡ map (place_of files) names
   pub rows : HasRows files (named_rows names interfaces) (named_rows names supertypes) flat

@@ -1,10 +1,10 @@
 -- Look-ups of members by the places of classes.
-use Rattle.std.specs.Prelude.{◌≡◌, ℕ, List, Option, Some, None, Bool, true, false, slice_get, position}
+use Rattle.std.specs.Prelude.{◌≡◌, ◌∷◌, ℕ, List, Option, Some, None, Bool, true, false, slice_get, position}
 use Rattle.std.specs.Option.{option_and_then, option_map, option_map_or}
 use Rattle.model.specs.Names.{Name, Member}
 use Rattle.model.specs.Tree.{FileTree, MethodTree}
-use Rattle.model.specs.Classes.{Program, super_name_of, is_method}
-use Rattle.model.specs.Lookup.{is_field}
+use Rattle.model.specs.Classes.{Program, super_name_of, is_method, interfaces_above}
+use Rattle.model.specs.Lookup.{is_field, first_found}
 use Rattle.hierarchy.specs.Places.{class_at, place_of}
 use Rattle.hierarchy.specs.declared.place.MemberPlace.{MemberPlace}
 use Rattle.hierarchy.specs.declared.member_keys.MemberKey.{MemberKey}
@@ -53,6 +53,11 @@ method_at files wanted m place = option_and_then (method_here wanted m place) (c
 -- the place of the direct superclass of the class at a place; none where there is none, or it isn't found
 abbrev pub superclass_place : Program → ℕ → Option ℕ
 superclass_place files place = option_and_then (place_of files) (option_and_then super_name_of (class_at files place))
+
+-- ---- a class with its superinterfaces, without those of its superclasses
+
+abbrev pub first_near : (Name → Option Member) → Program → Name → Option Member
+first_near found files class = first_found found (class ∷ interfaces_above files class)
 
 -- ---- what is sought, by its key
 

@@ -1,6 +1,6 @@
 -- Names by numbers: the places at which they stand in a table.
-use Rattle.std.specs.Prelude.{◌≡◌, ℕ, List, [], ◌∷◌, ◌++◌, Some, map, true, nat_eq, slice_get, if◌then◌else◌}
-use Rattle.std.specs.Option.{option_to_list}
+use Rattle.std.specs.Prelude.{◌≡◌, ℕ, List, [], ◌∷◌, ◌++◌, Option, Some, map, true, nat_eq, slice_get, if◌then◌else◌}
+use Rattle.std.specs.Option.{option_and_then, option_to_list}
 use Rattle.std.specs.List.{flat_map, filter_map, list_any}
 use Rattle.model.specs.Names.{Name, name_eq}
 use Rattle.model.specs.Tree.{FileTree}
@@ -53,3 +53,9 @@ names_in files = with_names (each_once (map name_of (classes_of files))) (flat_m
 
 abbrev pub HasNames : Program → List Name → Type 0
 HasNames files names = names ≡ names_in files
+
+-- ---- the classes of the names
+
+-- the place of the class of the name of a number, by the places of all of them; none for a name of no class
+abbrev pub place_by : List (Option ℕ) → ℕ → Option ℕ
+place_by places number = option_and_then (λ place. place) (slice_get places number)

@@ -11,7 +11,7 @@ use Rattle.model.specs.Names.{Name}
 use Rattle.model.specs.Classes.{Program, name_of, classes_of, class_of}
 use Rattle.hierarchy.specs.declared.lineage.Lineage.{Lineage}
 use Rattle.hierarchy.specs.Lineages.{HasLineages}
-use Rattle.hierarchy.specs.declared.member_keys.ClassKeys.{ClassKeys}
+use Rattle.hierarchy.specs.declared.member_keys.MemberKeys.{MemberKeys}
 use Rattle.hierarchy.specs.MemberKeys.{HasMemberKeys}
 
 abbrev pub trees_of : List ClassFile → List FileTree
@@ -22,11 +22,11 @@ unfoldable pub files_of : List FileTree → Program
 files_of trees = drop (length built_in_classes) trees
 
 -- The trees are those of the built-in classes, and of files; the names are theirs, in this order; and the tables are so of them.
-pub record Holds (trees : List FileTree) (names : List Name) (table : List Lineage) (texts : List Name) (keys : List ClassKeys) : Type 0 where
+pub record Holds (trees : List FileTree) (names : List Name) (table : List Lineage) (keys : MemberKeys) : Type 0 where
   pub whole : classes_of (files_of trees) ≡ trees
   pub named : names ≡ map name_of trees
   pub lineages : HasLineages (files_of trees) table
-  pub keyed : HasMemberKeys (files_of trees) texts keys
+  pub keyed : HasMemberKeys (files_of trees) keys.texts keys.classes.items
 
 -- the class of the file at a place has the name of a built-in class, or of a file before it
 pub record IsAgain (files : Program) (place : ℕ) : Type 0 where

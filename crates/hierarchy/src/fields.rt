@@ -1,6 +1,6 @@
 //! Look-ups of fields (JVMS 5.4.3.2).
 
-ghost use Rattle.std.specs.Prelude.{◌≡◌, ◌∷◌, ◌-◌, suc, length, true, not, slice_get, option_map, IfSome, IfOk};
+ghost use Rattle.std.specs.Prelude.{◌≡◌, ◌∷◌, ◌-◌, suc, length, true, not, slice_get, map, option_map, Some, IfSome, IfOk};
 ghost use Rattle.std.specs.Option.{option_and_then, option_to_list};
 ghost use Rattle.std.specs.List.{list_any};
 ghost use Rattle.constant_pool.specs.View.{reference_of};
@@ -12,15 +12,17 @@ ghost use Rattle.hierarchy.specs.Above.{rows_of};
 ghost use Rattle.hierarchy.specs.Numbers.{names_of, named_rows, HasNames};
 ghost use Rattle.hierarchy.specs.Fields.{is_below_other, has_interface_below_other, SuperinterfacesAreFlat, HasSupertypes};
 ghost use Rattle.hierarchy.specs.Ranks.{HasRanks};
-ghost use Rattle.hierarchy.specs.Places.{member_in, IsFieldAt};
+ghost use Rattle.hierarchy.specs.Places.{place_of, name_at, member_in, IsFieldAt};
+ghost use Rattle.hierarchy.specs.MembersAt.{first_near};
 
 use crate::long_walks::a_walk_is_long;
-use crate::name_table::NameTable;
+use crate::name_table::{NameTable, place_by};
 use crate::place::MemberPlace;
 use crate::ranked_rows::ordered_supertype_rows;
 use crate::row::Row;
-use crate::rows::row_of;
+use crate::rows::{row_at, row_of};
 use crate::set::ClassSet;
+use crate::sought::Sought;
 use class_tree::{ClassFile, Reference};
 use std::alloc::{AllocError, Global};
 
@@ -88,61 +90,66 @@ pub(crate) fn rows_for_fields(
 
 /// The field that the class of the name of a number declares.
 fn field_of(
-    set: &ClassSet,
     names: &NameTable,
+    places: &[Option<usize>],
+    sought: &Sought<'_>,
     number: u32,
-    field: Reference<'_>,
 ) -> Option<MemberPlace>
-    ensures found { option_map (λ p. member_in set.now (reference_of field.entry) p) result
-        ≡ option_and_then (field_in_class set.now (reference_of field.entry)) (slice_get names.now number) }
-    ensures place { IfSome result (IsFieldAt set.now (reference_of field.entry)) }
+    requires { places.now ≡ map (place_of sought.now.files) names.now }
+    ensures found { option_map (λ p. member_in sought.now.files sought.now.member p) result
+        ≡ option_and_then (field_in_class sought.now.files sought.now.member) (slice_get names.now number) }
+    ensures place { IfSome result (IsFieldAt sought.now.files sought.now.member) }
 {
-    match names.name_of(number) {
-        Some(name) => set.field_in(name, field),
+    match place_by(places, number) {
+        Some(place) => sought.field_at(place),
         None => None,
     }
 }
 
 /// The first of the names of a row whose class declares the field.
 fn field_among(
-    set: &ClassSet,
     names: &NameTable,
+    places: &[Option<usize>],
     row: &Row,
-    field: Reference<'_>,
+    sought: &Sought<'_>,
 ) -> Option<MemberPlace>
-    ensures found { option_map (λ p. member_in set.now (reference_of field.entry) p) result
-        ≡ first_found (field_in_class set.now (reference_of field.entry)) (names_of names.now row.now) }
-    ensures place { IfSome result (IsFieldAt set.now (reference_of field.entry)) }
+    requires { places.now ≡ map (place_of sought.now.files) names.now }
+    ensures found { option_map (λ p. member_in sought.now.files sought.now.member p) result
+        ≡ first_found (field_in_class sought.now.files sought.now.member) (names_of names.now row.now) }
+    ensures place { IfSome result (IsFieldAt sought.now.files sought.now.member) }
 {
     for place in 0..row.count() {
         let Some(number) = row.get(place) else {
             return None;
         };
-        if let Some(found) = field_of(set, names, number, field) {
+        if let Some(found) = field_of(names, places, sought, number) {
             return Some(found);
         }
     }
     None
 }
 
-/// The field that a class declares, else one of its superinterfaces without those of its superclasses.
+/// The field that the class at a place declares, else one of its superinterfaces without those of its superclasses.
 fn field_near(
-    set: &ClassSet,
     names: &NameTable,
+    places: &[Option<usize>],
     interfaces: &[Row],
-    class: &[u8],
-    field: Reference<'_>,
+    class: usize,
+    sought: &Sought<'_>,
 ) -> Option<MemberPlace>
-    requires { named_rows names.now interfaces.now ≡ rows_of set.now above.Interfaces (suc (length (classes_of set.now))) }
-    ensures found { option_map (λ p. member_in set.now (reference_of field.entry) p) result
-        ≡ first_found (field_in_class set.now (reference_of field.entry)) (class.now ∷ interfaces_above set.now class.now) }
-    ensures place { IfSome result (IsFieldAt set.now (reference_of field.entry)) }
+    requires rows { named_rows names.now interfaces.now
+        ≡ rows_of sought.now.files above.Interfaces (suc (length (classes_of sought.now.files))) }
+    requires places { places.now ≡ map (place_of sought.now.files) names.now }
+    requires stood { place_of sought.now.files (name_at sought.now.files class) ≡ Some class }
+    ensures found { option_map (λ p. member_in sought.now.files sought.now.member p) result
+        ≡ first_near (field_in_class sought.now.files sought.now.member) sought.now.files (name_at sought.now.files class) }
+    ensures place { IfSome result (IsFieldAt sought.now.files sought.now.member) }
 {
-    if let Some(found) = set.field_in(class, field) {
+    if let Some(found) = sought.field_at(class) {
         return Some(found);
     }
-    match row_of(set, interfaces, class) {
-        Some(row) => field_among(set, names, row, field),
+    match row_at(interfaces, class) {
+        Some(row) => field_among(names, places, row, sought),
         None => None,
     }
 }
@@ -151,21 +158,27 @@ fn field_near(
 pub(crate) fn field_along_superclasses(
     set: &ClassSet,
     names: &NameTable,
+    places: &[Option<usize>],
     interfaces: &[Row],
     field: Reference<'_>,
 ) -> Option<MemberPlace>
     requires rows { named_rows names.now interfaces.now ≡ rows_of set.now above.Interfaces (suc (length (classes_of set.now))) }
+    requires places { places.now ≡ map (place_of set.now) names.now }
     requires along { SuperinterfacesAreFlat set.now }
     ensures found { option_map (λ p. member_in set.now (reference_of field.entry) p) result
         ≡ find_field set.now (reference_of field.entry) }
     ensures place { IfSome result (IsFieldAt set.now (reference_of field.entry)) }
 {
-    let mut class = field.class;
+    let Some(start) = set.place_of(field.class) else {
+        return None;
+    };
+    let sought = set.sought(field);
+    let mut class = start;
     for _step in 0..set.count() {
-        if let Some(found) = field_near(set, names, interfaces, class, field) {
+        if let Some(found) = field_near(names, places, interfaces, class, &sought) {
             return Some(found);
         }
-        let Some(next) = set.superclass_of(class) else {
+        let Some(next) = set.superclass_place(class) else {
             return None;
         };
         class = next;
@@ -177,10 +190,12 @@ pub(crate) fn field_along_superclasses(
 pub(crate) fn field_among_supertypes(
     set: &ClassSet,
     names: &NameTable,
+    places: &[Option<usize>],
     supertypes: &[Row],
     field: Reference<'_>,
 ) -> Option<MemberPlace>
-    requires { named_rows names.now supertypes.now ≡ rows_of set.now above.Supertypes (length (classes_of set.now) - 1) }
+    requires places { places.now ≡ map (place_of set.now) names.now }
+    requires rows { named_rows names.now supertypes.now ≡ rows_of set.now above.Supertypes (length (classes_of set.now) - 1) }
     ensures found { option_map (λ p. member_in set.now (reference_of field.entry) p) result
         ≡ find_field set.now (reference_of field.entry) }
     ensures place { IfSome result (IsFieldAt set.now (reference_of field.entry)) }
@@ -189,7 +204,7 @@ pub(crate) fn field_among_supertypes(
         return Some(found);
     }
     match row_of(set, supertypes, field.class) {
-        Some(row) => field_among(set, names, row, field),
+        Some(row) => field_among(names, places, row, &set.sought(field)),
         None => None,
     }
 }

@@ -1,6 +1,6 @@
 //! Look-ups that go through superinterfaces (JVMS 5.4.3).
 
-ghost use Rattle.std.specs.Prelude.{◌≡◌, ◌-◌, length, slice_get, option_map, IfOk, IfSome};
+ghost use Rattle.std.specs.Prelude.{◌≡◌, ◌-◌, length, slice_get, map, option_map, IfOk, IfSome};
 ghost use Rattle.std.specs.Option.{option_and_then};
 ghost use Rattle.std.specs.List.{list_any};
 ghost use Rattle.model.specs.Names.{name_eq};
@@ -12,19 +12,20 @@ ghost use Rattle.hierarchy.specs.declared.rows.Above.TheVariants as above;
 ghost use Rattle.hierarchy.specs.Above.{rows_of};
 ghost use Rattle.hierarchy.specs.Fields.{SuperinterfacesAreFlat};
 ghost use Rattle.hierarchy.specs.Numbers.{names_of, named_rows};
-ghost use Rattle.hierarchy.specs.Places.{member_in, IsFieldAt, IsMethodAt};
+ghost use Rattle.hierarchy.specs.Places.{place_of, member_in, IsFieldAt, IsMethodAt};
 
 use crate::fields::{
     field_along_superclasses, field_among_supertypes, rows_for_fields, superinterfaces_are_flat,
 };
 use crate::lookup::Wanted;
-use crate::name_table::NameTable;
+use crate::name_table::{NameTable, place_by};
 use crate::place::MemberPlace;
 use crate::ranked_rows::ordered_interface_rows;
 use crate::ranks::ranked_order;
 use crate::row::Row;
 use crate::rows::{interface_rows, is_among, row_of, supertype_rows};
 use crate::set::ClassSet;
+use crate::sought::Sought;
 use class_tree::Reference;
 use std::alloc::{AllocError, Global};
 use std::marker::Model;
@@ -35,6 +36,8 @@ pub struct Hierarchy {
     set: ClassSet,
     /// The names of its classes, and then of what stands directly above them.
     names: NameTable,
+    /// The places of the classes of these names, by their numbers.
+    places: Vec<Option<usize>>,
     /// For each class its direct superinterfaces and what is above these, without the superinterfaces of its superclass.
     interfaces: Vec<Row>,
     /// For each class all that is above it. Empty where look-ups go along superclasses.
@@ -51,42 +54,44 @@ impl Model for Hierarchy {
 
     ghost view = { λ h. h.set };
 
-    ghost invariant = { λ h. HasNamedRows h.set h.names h.interfaces.items h.supertypes.items h.superinterfaces_are_flat };
+    ghost invariant = { λ h. HasNamedRows h.set h.names h.places.items h.interfaces.items h.supertypes.items h.superinterfaces_are_flat };
 }
 
 /// The method that the class of the name of a number declares.
 fn method_of(
-    set: &ClassSet,
     names: &NameTable,
+    places: &[Option<usize>],
+    sought: &Sought<'_>,
     number: u32,
-    method: Reference<'_>,
 ) -> Option<MemberPlace>
-    ensures found { option_map (λ p. member_in set.now (reference_of method.entry) p) result
-        ≡ option_and_then (method_in_class set.now any_method (reference_of method.entry)) (slice_get names.now number) }
-    ensures place { IfSome result (IsMethodAt set.now (reference_of method.entry)) }
+    requires { places.now ≡ map (place_of sought.now.files) names.now }
+    ensures found { option_map (λ p. member_in sought.now.files sought.now.member p) result
+        ≡ option_and_then (method_in_class sought.now.files any_method sought.now.member) (slice_get names.now number) }
+    ensures place { IfSome result (IsMethodAt sought.now.files sought.now.member) }
 {
-    match names.name_of(number) {
-        Some(name) => set.method_in(name, method, Wanted::Any),
+    match place_by(places, number) {
+        Some(place) => sought.method_at(place, Wanted::Any),
         None => None,
     }
 }
 
 /// The first of the names of a row whose class declares the method.
 fn method_among(
-    set: &ClassSet,
     names: &NameTable,
+    places: &[Option<usize>],
     row: &Row,
-    method: Reference<'_>,
+    sought: &Sought<'_>,
 ) -> Option<MemberPlace>
-    ensures found { option_map (λ p. member_in set.now (reference_of method.entry) p) result
-        ≡ first_found (method_in_class set.now any_method (reference_of method.entry)) (names_of names.now row.now) }
-    ensures place { IfSome result (IsMethodAt set.now (reference_of method.entry)) }
+    requires { places.now ≡ map (place_of sought.now.files) names.now }
+    ensures found { option_map (λ p. member_in sought.now.files sought.now.member p) result
+        ≡ first_found (method_in_class sought.now.files any_method sought.now.member) (names_of names.now row.now) }
+    ensures place { IfSome result (IsMethodAt sought.now.files sought.now.member) }
 {
     for place in 0..row.count() {
         let Some(number) = row.get(place) else {
             return None;
         };
-        if let Some(found) = method_of(set, names, number, method) {
+        if let Some(found) = method_of(names, places, sought, number) {
             return Some(found);
         }
     }
@@ -122,11 +127,13 @@ impl Hierarchy {
         ensures { IfOk result (λ hierarchy. hierarchy ≡ set) }
     {
         let names = NameTable::of_set(alloc, &set)?;
+        let places = names.places(alloc, &set)?;
         let interfaces = interface_rows(alloc, &set, &names)?;
         let supertypes = supertype_rows(alloc, &set, &names)?;
         Ok(Hierarchy {
             set,
             names,
+            places,
             interfaces,
             supertypes,
             superinterfaces_are_flat: false,
@@ -141,12 +148,14 @@ impl Hierarchy {
             return Hierarchy::by_steps(alloc, set);
         };
         let names = NameTable::of_set(alloc, &set)?;
+        let places = names.places(alloc, &set)?;
         let interfaces = ordered_interface_rows(alloc, &set, &names, &order)?;
         let are_flat = superinterfaces_are_flat(&set);
         let supertypes = rows_for_fields(alloc, &set, &names, &order, &interfaces, are_flat)?;
         Ok(Hierarchy {
             set,
             names,
+            places,
             interfaces,
             supertypes,
             superinterfaces_are_flat: are_flat,
@@ -189,13 +198,14 @@ impl Hierarchy {
         false
     }
 
-    fn method_in_interfaces_above(&self, class: &[u8], method: Reference<'_>) -> Option<MemberPlace>
-        ensures found { option_map (λ p. member_in self.now (reference_of method.entry) p) result
-            ≡ first_found (method_in_class self.now any_method (reference_of method.entry)) (interfaces_above self.now class.now) }
-        ensures place { IfSome result (IsMethodAt self.now (reference_of method.entry)) }
+    fn method_in_interfaces_above(&self, class: &[u8], sought: &Sought<'_>) -> Option<MemberPlace>
+        requires { sought.now.files ≡ self.now }
+        ensures found { option_map (λ p. member_in self.now sought.now.member p) result
+            ≡ first_found (method_in_class self.now any_method sought.now.member) (interfaces_above self.now class.now) }
+        ensures place { IfSome result (IsMethodAt self.now sought.now.member) }
     {
         match row_of(&self.set, &self.interfaces, class) {
-            Some(row) => method_among(&self.set, &self.names, row, method),
+            Some(row) => method_among(&self.names, &self.places, row, sought),
             None => None,
         }
     }
@@ -206,9 +216,10 @@ impl Hierarchy {
             ≡ first_found (method_in_class self.now any_method (reference_of method.entry)) (all_superinterfaces self.now class.now) }
         ensures place { IfSome result (IsMethodAt self.now (reference_of method.entry)) }
     {
+        let sought = self.set.sought(method);
         let mut class = class;
         for _step in 0..self.set.count() {
-            if let Some(found) = self.method_in_interfaces_above(class, method) {
+            if let Some(found) = self.method_in_interfaces_above(class, &sought) {
                 return Some(found);
             }
             let Some(next) = self.set.superclass_of(class) else {
@@ -229,7 +240,7 @@ impl Hierarchy {
             return self.method_along_superclasses(class, method);
         }
         match row_with_superinterfaces(&self.set, &self.names, &self.supertypes, class, method) {
-            Some(row) => method_among(&self.set, &self.names, row, method),
+            Some(row) => method_among(&self.names, &self.places, row, &self.set.sought(method)),
             None => self.method_along_superclasses(class, method),
         }
     }
@@ -269,9 +280,21 @@ impl Hierarchy {
         ensures place { IfSome result (IsFieldAt self.now (reference_of field.entry)) }
     {
         if self.supertypes.is_empty() {
-            field_along_superclasses(&self.set, &self.names, &self.interfaces, field)
+            field_along_superclasses(
+                &self.set,
+                &self.names,
+                &self.places,
+                &self.interfaces,
+                field,
+            )
         } else {
-            field_among_supertypes(&self.set, &self.names, &self.supertypes, field)
+            field_among_supertypes(
+                &self.set,
+                &self.names,
+                &self.places,
+                &self.supertypes,
+                field,
+            )
         }
     }
 

@@ -1,6 +1,7 @@
 //! Sets of classes (JVMS 5.3), and which field or method a symbolic reference names in them (JVMS 5.4.3).
 #![tactic(auto)]
 
+mod below;
 mod climb;
 mod components;
 mod cycles;

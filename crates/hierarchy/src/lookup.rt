@@ -59,10 +59,7 @@ impl ClassSet {
             ≡ method_in_class self.now (wants wanted) (reference_of method.entry) class.now }
         ensures place { IfSome result (IsMethodAt self.now (reference_of method.entry)) }
     {
-        let Some(place) = self.place_of(class) else {
-            return None;
-        };
-        self.sought(method).method_at(place, wanted)
+        self.sought(method).method_in(class, wanted)
     }
 
     /// The nearest declaration, from a class upwards, that counts.
@@ -127,9 +124,6 @@ impl ClassSet {
             ≡ field_in_class self.now (reference_of field.entry) class.now }
         ensures place { IfSome result (IsFieldAt self.now (reference_of field.entry)) }
     {
-        let Some(place) = self.place_of(class) else {
-            return None;
-        };
-        self.sought(field).field_at(place)
+        self.sought(field).field_in(class)
     }
 }

@@ -7,7 +7,8 @@ ghost use Rattle.class_tree.specs.View.{file_of};
 ghost use Rattle.model.specs.Names.{name_eq};
 ghost use Rattle.model.specs.Classes.{name_of, classes_of, interface_names};
 ghost use Rattle.hierarchy.specs.Above.{with_name, with_names};
-ghost use Rattle.hierarchy.specs.Numbers.{AreApart, HasNames, direct_names};
+ghost use Rattle.hierarchy.specs.Numbers.{AreApart, HasNames, direct_names, place_by};
+ghost use Rattle.hierarchy.specs.Places.{place_of};
 
 use crate::set::{ClassSet, class_name, superclass_name};
 use class_tree::ClassFile;
@@ -89,6 +90,16 @@ fn add_supertypes(alloc: Global, names: &mut NameTable, set: &ClassSet) -> Resul
     Ok(())
 }
 
+/// The place of the class of the name of a number, by the places of all; none for a name of no class.
+pub(crate) fn place_by(places: &[Option<usize>], number: u32) -> Option<usize>
+    ensures { result ≡ place_by places.now number }
+{
+    match places.get(number as usize) {
+        Some(place) => *place,
+        None => None,
+    }
+}
+
 impl NameTable {
     /// The names of the classes of a set, in their order, and then those of what stands directly above them. No number is above
     /// 0xffff_ffff: so many names are answered as a want of memory.
@@ -111,13 +122,31 @@ impl NameTable {
     }
 
     /// The name of a number.
-    pub(crate) fn name_of(&self, number: u32) -> Option<&[u8]>
+    fn get(&self, number: usize) -> Option<&[u8]>
         ensures { option_map (λ t. t.now) result ≡ slice_get self.now number }
     {
-        match self.names.get_index(number as usize) {
+        match self.names.get_index(number) {
             Some(name) => Some(name.as_slice()),
             None => None,
         }
+    }
+
+    /// The places of the classes of the names, by their numbers; none for a name of no class.
+    pub(crate) fn places(
+        &self,
+        alloc: Global,
+        set: &ClassSet,
+    ) -> Result<Vec<Option<usize>>, AllocError>
+        ensures { IfOk result (λ places. places.items ≡ map (place_of set.now) self.now) }
+    {
+        let mut places = Vec::new(alloc);
+        for number in 0..self.count() {
+            let Some(name) = self.get(number) else {
+                return Ok(places);
+            };
+            places.push(set.place_of(name))?;
+        }
+        Ok(places)
     }
 
     /// The number of a name.

@@ -1,6 +1,6 @@
 //! For each class of a set the numbers of the names of what is above it.
 
-ghost use Rattle.std.specs.Prelude.{◌≡◌, ◌∷◌, ◌-◌, [], map, suc, length, option_map, IfOk, OnOk, true};
+ghost use Rattle.std.specs.Prelude.{◌≡◌, ◌∷◌, ◌-◌, [], map, suc, length, slice_get, option_map, IfOk, OnOk, true};
 ghost use Rattle.std.specs.Option.{option_map_or, option_to_list};
 ghost use Rattle.std.specs.List.{flat_map, list_any};
 ghost use Rattle.class_tree.specs.View.{file_of};
@@ -34,6 +34,13 @@ pub(crate) fn row_of<'a>(set: &ClassSet, rows: &'a [Row], name: &[u8]) -> Option
     let Some(place) = set.place_of(name) else {
         return None;
     };
+    rows.get(place)
+}
+
+/// The row of the class at a place.
+pub(crate) fn row_at(rows: &[Row], place: usize) -> Option<&Row>
+    ensures { option_map_or (λ row. row.now) result [] ≡ option_map_or (λ row. row) (slice_get rows.now place) [] }
+{
     rows.get(place)
 }
 

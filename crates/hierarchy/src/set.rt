@@ -43,7 +43,7 @@ impl Model for ClassSet {
 
     ghost view = { λ s. files_of (trees_of s.classes.items) };
 
-    ghost invariant = { λ s. Holds (trees_of s.classes.items) (map (λ name. name.items) s.names.keys) s.lineages.items s.member_keys.texts s.member_keys.classes.items };
+    ghost invariant = { λ s. Holds (trees_of s.classes.items) (map (λ name. name.items) s.names.keys) s.lineages.items s.member_keys };
 }
 
 /// The name of the class that a file declares (JVMS 4.1, this_class).
@@ -222,23 +222,6 @@ impl ClassSet {
         common_superclass(self, &self.lineages, c, d)
     }
 
-    /// The same as `is_subclass`, step by step.
-    fn is_subclass_by_steps(&self, class: &[u8], superclass: &[u8]) -> bool
-        ensures { result ≡ is_subclass self.now class.now superclass.now }
-    {
-        let mut class = class;
-        for _step in 0..self.count() {
-            if class == superclass {
-                return true;
-            }
-            let Some(next) = self.superclass_of(class) else {
-                return false;
-            };
-            class = next;
-        }
-        class == superclass
-    }
-
     /// Whether the class at a place is that at another, or a subclass of it (JVMS 2.4). Takes no memory.
     pub fn is_subclass_at(&self, class: usize, superclass: usize) -> bool
         ensures { result ≡ is_subclass self.now (name_at self.now class) (name_at self.now superclass) }
@@ -257,7 +240,7 @@ impl ClassSet {
             return class == superclass;
         };
         let Some(above) = self.place_of(superclass) else {
-            return self.is_subclass_by_steps(class, superclass);
+            return self.is_below_absent(place, superclass);
         };
         self.is_subclass_at(place, above)
     }

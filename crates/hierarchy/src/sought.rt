@@ -1,7 +1,9 @@
 //! Look-ups of one member in many classes, by the places of these.
 
-ghost use Rattle.std.specs.Prelude.{◌≡◌};
+ghost use Rattle.std.specs.Prelude.{◌≡◌, option_map, IfSome};
 ghost use Rattle.constant_pool.specs.View.{reference_of};
+ghost use Rattle.model.specs.Lookup.{method_in_class, field_in_class};
+ghost use Rattle.hierarchy.specs.Places.{member_in, IsFieldAt, IsMethodAt};
 ghost use Rattle.hierarchy.specs.Wanted.{wants};
 ghost use Rattle.hierarchy.specs.MemberKeys.{HasMemberKeys};
 ghost use Rattle.hierarchy.specs.MembersAt.{SoughtIn, method_place, field_place, method_at, field_at};
@@ -105,6 +107,30 @@ impl<'a> Sought<'a> {
     {
         match self.field_place(class) {
             Some(member) => Some(MemberPlace { class, member }),
+            None => None,
+        }
+    }
+
+    /// The method that the class of a name declares, where it counts.
+    pub(crate) fn method_in(&self, class: &[u8], wanted: Wanted) -> Option<MemberPlace>
+        ensures found { option_map (λ p. member_in self.now.files self.now.member p) result
+            ≡ method_in_class self.now.files (wants wanted) self.now.member class.now }
+        ensures place { IfSome result (IsMethodAt self.now.files self.now.member) }
+    {
+        match self.set.place_of(class) {
+            Some(place) => self.method_at(place, wanted),
+            None => None,
+        }
+    }
+
+    /// The field that the class of a name declares.
+    pub(crate) fn field_in(&self, class: &[u8]) -> Option<MemberPlace>
+        ensures found { option_map (λ p. member_in self.now.files self.now.member p) result
+            ≡ field_in_class self.now.files self.now.member class.now }
+        ensures place { IfSome result (IsFieldAt self.now.files self.now.member) }
+    {
+        match self.set.place_of(class) {
+            Some(place) => self.field_at(place),
             None => None,
         }
     }

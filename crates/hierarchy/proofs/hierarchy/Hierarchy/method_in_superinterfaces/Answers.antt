@@ -7,8 +7,9 @@ use Rattle.model.specs.Lookup.{method_in_class, any_method, first_found}
 use Rattle.hierarchy.specs.declared.rows.Above.TheVariants as above
 use Rattle.hierarchy.specs.Above.{rows_of}
 use Rattle.hierarchy.specs.Fields.{HasSupertypes}
-use Rattle.hierarchy.specs.Numbers.{named_rows}
+use Rattle.hierarchy.specs.Numbers.{names_of, named_rows}
 use Rattle.hierarchy.specs.Places.{member_in}
+use Rattle.hierarchy.proofs.PlaceLaws.{of_sought}
 use Rattle.hierarchy.proofs.hierarchy.Hierarchy.method_in_superinterfaces.Goals as goal
 
 -- the rows that are kept
@@ -30,4 +31,5 @@ pub returns-in-Some-clause-found : goal.returns-in-Some-clause-found
 returns-in-Some-clause-found c =
     let ref = reference_of c.args.method in
     subst (λ (files : Program). option_map (λ p. member_in files ref p) c.method_among.result ≡ first_found (method_in_class files any_method ref) (all_superinterfaces files c.args.class.now)) c.self.view_is
-    (c.method_among.ensures.found ∙ c.in-Some.ensures)
+    (of_sought (λ f n. option_map (λ p. member_in f n p) c.method_among.result ≡ first_found (method_in_class f any_method n) (names_of c.self.inside.names c.in-Some.row.now)) c.sought.result c.self.inside.set ref c.sought.ensures.files c.sought.ensures.member c.method_among.ensures.found
+    ∙ c.in-Some.ensures)
