@@ -48,6 +48,9 @@ pub(crate) fn row_at(rows: &[Row], place: usize) -> Option<&Row>
 pub(crate) fn is_among(names: &NameTable, row: &Row, name: &[u8]) -> bool
     ensures { result ≡ list_any (name_eq name.now) (names_of names.now row.now) }
 {
+    if row.count() == 0 {
+        return false;
+    }
     match names.number_of(name) {
         Some(number) => row.contains(number),
         None => false,

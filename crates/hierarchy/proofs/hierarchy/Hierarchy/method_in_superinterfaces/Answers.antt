@@ -1,5 +1,5 @@
 use Rattle.std.proofs.Common.{◌≡◌, ◌∙◌, ◌-◌, ◌∷◌, [], ℕ, List, length, false, sym, ap, subst}
-use Rattle.std.specs.Prelude.{IfSome, option_map, ◌==◌}
+use Rattle.std.specs.Prelude.{option_map, ◌==◌}
 use Rattle.constant_pool.specs.View.{reference_of}
 use Rattle.model.specs.Names.{Name}
 use Rattle.model.specs.Classes.{Program, classes_of, all_superinterfaces}
