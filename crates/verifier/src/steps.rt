@@ -95,9 +95,9 @@ fn named_bytes(method: &MethodCode<'_>, offset: usize) -> usize {
 }
 
 /// How many steps a look as a whole takes at an instruction that leads to so many offsets, beside what each turn takes: what
-/// it merges, and one for every four bytes of the texts that it names.
+/// it merges, and one for each byte of the texts that it names.
 pub(crate) fn steps_of_look(method: &MethodCode<'_>, offset: usize, leads: usize) -> u64 {
-    merged(leads, places(method)).saturating_add(named_bytes(method, offset) as u64 / 4)
+    merged(leads, places(method)).saturating_add(named_bytes(method, offset) as u64)
 }
 
 /// How many steps a turn takes at most.
