@@ -43,17 +43,17 @@ pub fn replay_engine<S: Source, W: Sink>(
         (S.failures schedule.new + sum_by S.failures files.new + W.failures report.new) }
 {
     let opened = open(alloc, schedule, files, limits)?;
-    let (text, status) = replayed(alloc, &opened)?;
+    let (text, status) = replayed(alloc, opened)?;
     report.write_all(text.as_slice())?;
     Ok(status)
 }
 
 /// The text and the status of what the class files do under the schedule.
-fn replayed(alloc: Global, opened: &Opened) -> Result<(Vec<u8>, Status), AllocError>
+fn replayed(alloc: Global, opened: Opened) -> Result<(Vec<u8>, Status), AllocError>
     ensures { IfOk result (λ told. (bytes : _) (options : _)
-        → IsOpened bytes (map vec_items opened.now.files.items) options opened.now.verified
-        (events_of opened.now.schedule) opened.now.limits
-        → IsReplayed bytes (map vec_items opened.now.files.items) options told.0.items told.1) }
+        → IsOpened bytes (map vec_items opened.files.items) options opened.verified
+        (events_of opened.schedule) opened.limits
+        → IsReplayed bytes (map vec_items opened.files.items) options told.0.items told.1) }
 {
     let (report, end) = replay(alloc, &opened.verified, &opened.schedule, opened.limits)?;
     let text = text(alloc, &report, &end)?;

@@ -58,7 +58,7 @@ pub fn search_engine<P: Progress, S: Source, W: Sink, V: Sink>(
     let searched = searched(
         alloc,
         progress,
-        &verified,
+        verified,
         files,
         limits,
         wanted,
@@ -74,19 +74,19 @@ pub fn search_engine<P: Progress, S: Source, W: Sink, V: Sink>(
 fn searched<P: Progress>(
     alloc: Global,
     progress: &P,
-    verified: &Verified,
+    verified: Verified,
     files: &[Vec<u8>],
     limits: &LimitOptions,
     wanted: &Wanted,
     most: u32,
     is_recorded: bool,
 ) -> Result<Outcome, AllocError>
-    requires { IsAccepted (map vec_items files.now) verified.now }
+    requires { IsAccepted (map vec_items files.now) verified }
     ensures { IfOk result (λ searched. IsSearched (map vec_items files.now) limits.now wanted.now is_recorded
         searched.text.items (option_map vec_items searched.file) searched.status) }
 {
     let limits = limits.limits();
-    let program = verified_program(alloc, verified)?;
+    let program = verified_program(alloc, &verified)?;
     let classes = verified.linked().set();
     let searched = search_report(alloc, progress, classes, program, limits, wanted, most)?;
     let text = searched.text(alloc)?;

@@ -46,26 +46,26 @@ pub fn trace_engine<S: Source, W: Sink>(
         (S.failures schedule.new + sum_by S.failures files.new + W.failures output.new) }
 {
     let opened = open(alloc, schedule, files, limits)?;
-    let status = traced(alloc, &opened, window, output)?;
+    let status = traced(alloc, opened, window, output)?;
     Ok(status)
 }
 
 /// Runs what was opened, and writes the lines and the report. Answers its status.
 fn traced<W: Sink>(
     alloc: Global,
-    opened: &Opened,
+    opened: Opened,
     window: Window<'_>,
     output: &mut W,
 ) -> Result<Status, DeviceFault>
     ensures traced { IfOk result (λ status. (bytes : _) (options : _)
-        → IsOpened bytes (map vec_items opened.now.files.items) options opened.now.verified
-        (events_of opened.now.schedule) opened.now.limits
-        → (text : _) × IsTraced bytes (map vec_items opened.now.files.items) options window.entry text status
+        → IsOpened bytes (map vec_items opened.files.items) options opened.verified
+        (events_of opened.schedule) opened.limits
+        → (text : _) × IsTraced bytes (map vec_items opened.files.items) options window.entry text status
         × Appends (W.contents output.old) (W.contents output.new) text) }
     ensures part { OnErr result ((bytes : _) (options : _)
-        → IsOpened bytes (map vec_items opened.now.files.items) options opened.now.verified
-        (events_of opened.now.schedule) opened.now.limits
-        → TracesFront bytes (map vec_items opened.now.files.items) options window.entry (W.contents output.old) (W.contents output.new)) }
+        → IsOpened bytes (map vec_items opened.files.items) options opened.verified
+        (events_of opened.schedule) opened.limits
+        → TracesFront bytes (map vec_items opened.files.items) options window.entry (W.contents output.old) (W.contents output.new)) }
     ensures counted { Counts result (W.failures output.old) (W.failures output.new) }
 {
     let (report, end) = trace(

@@ -12,13 +12,13 @@ search_report-requires g c =
     subst (λ (t : Program). IsProgramOf t (arc_value c.in_ok-program.program)) (sym (c.set-classes.ensures.same ∙ c.linked.ensures.same)) c.in_ok-program.ensures
 
 pub found_file-requires : goal.found_file-requires
-found_file-requires g c = omega (arith, few_files (map vec_items c.args.files.now) c.args.verified.now c.requires, length-map c.args.files.now vec_items)
+found_file-requires g c = omega (arith, few_files (map vec_items c.args.files.now) c.args.verified c.requires, length-map c.args.files.now vec_items)
 
 pub returns : goal.returns
 returns g c =
     let found = c.in_ok-searched.searched in
     record {
-      trees = c.args.verified.now;
+      trees = c.args.verified;
       accepted = c.requires;
       limits = c.limits-limits.result;
       chosen = c.limits-limits.ensures;
