@@ -11,7 +11,7 @@ use Rattle.model.specs.Classes.{Program, class_of, classes_of, superclass_of, su
 use Rattle.model.specs.Lookup.{first_found, field_from, field_in_class, find_field}
 use Rattle.hierarchy.specs.declared.rows.Above.TheVariants as above
 use Rattle.hierarchy.specs.Above.{directly_above, names_above, rows_of}
-use Rattle.hierarchy.specs.Fields.{is_below_other, has_interface_below_other, FieldsAlongSuperclasses, HasSupertypes}
+use Rattle.hierarchy.specs.Fields.{is_below_other, has_interface_below_other, SuperinterfacesAreFlat, HasSupertypes}
 use Rattle.hierarchy.specs.Ranks.{rank_of}
 use Rattle.hierarchy.proofs.SetLaws.{same_name, field_of_none}
 use Rattle.hierarchy.proofs.Indices.{not_found}
@@ -20,7 +20,7 @@ use Rattle.hierarchy.proofs.RankLaws.{Ranked, ranked_by, steady}
 
 -- ---- Object, which declares no field
 
-object_is : (files : Program) → class_of files java_lang_object ≡ Some object_class
+pub object_is : (files : Program) → class_of files java_lang_object ≡ Some object_class
 unfolding built_in_classes
 object_is files = refl
 
@@ -50,7 +50,7 @@ each_found f g h late other (x ∷ xs) low flat same =
     ∙ sym (found-append f (x ∷ h x) (flat_map (λ x. x ∷ h x) xs))
 
 -- no superinterface of a class is below another class than Object
-interfaces_flat : (files : Program) (class : Name) → list_any (has_interface_below_other files) (classes_of files) ≡ false
+pub interfaces_flat : (files : Program) (class : Name) → list_any (has_interface_below_other files) (classes_of files) ≡ false
     → list_any (is_below_other files) (superinterfaces_of files class) ≡ false
 interfaces_flat files class flat = by (class_of files class) refl
   where
@@ -82,13 +82,13 @@ from_class files rank r flat m (suc n) class low =
     let inside : first_found (λ i. field_from files n m i) (superinterfaces_of files class) ≡ first_found (field_in_class files m) (interfaces_above files class) =
     each_found (field_in_class files m) (λ i. field_from files n m i) (names_above (directly_above files above.Interfaces) n) (λ s. nat_le (rank class) (rank s)) (is_below_other files) (superinterfaces_of files class) (r.interfaces class) (interfaces_flat files class flat)
     (λ i below near. from_interface files rank r flat m n i (one_less (rank i) (rank class) n (leb-false (rank class) (rank i) below) low) near)
-    ∙ ap (first_found (field_in_class files m)) (steady files rank r (suc n) (suc count) class low few ∙ above_is files class) in
+    ∙ ap (first_found (field_in_class files m)) (steady files rank r above.Interfaces (suc n) (suc count) class low few ∙ above_is files class) in
     ap (λ o. option_or (field_in_class files m class) (option_or o (option_and_then (λ s. field_from files n m s) (superclass_of files class)))) inside
     ∙ sym (or_else_assoc (field_in_class files m class) (first_found (field_in_class files m) (interfaces_above files class)) (option_and_then (λ s. field_from files n m s) (superclass_of files class)))
     ∙ ap (option_or (first_found (field_in_class files m) (class ∷ interfaces_above files class))) (super (superclass_of files class) (r.superclass class) (λ s less. from_class files rank r flat m n s less))
     ∙ sym (found-append (field_in_class files m) (class ∷ interfaces_above files class) (flat_map (λ c. c ∷ interfaces_above files c) (option_map_or (λ s. lineage_of files n s) (superclass_of files class) [])))
   where
-    at_most : (a b : ℕ) → a ≤ b → a ≤ suc b
+    at_most : (a b : ℕ) → a < b → a ≤ suc b
     at_most a b h = omega arith
 
     one_less : (a b n : ℕ) → a < b → b ≤ suc n → a ≤ n
@@ -104,16 +104,19 @@ from_class files rank r flat m (suc n) class low =
     super None h same = refl
     super (Some s) h same = same s (one_less (rank s) (rank class) n (leb-false (rank class) (rank s) (or_parts (nat_le (rank class) (rank s)) false h).0) low)
 
-pub along_superclasses : (files : Program) → FieldsAlongSuperclasses files → (m : Member)
+pub along_superclasses : (files : Program) → SuperinterfacesAreFlat files → (m : Member)
     → first_found (field_in_class files m) (flat_map (λ c. c
     ∷ interfaces_above files c) (lineage_of files (length (classes_of files) - 0) m.class)) ≡ find_field files m
 along_superclasses files h m =
     let r = ranked_by files h.ranked in
     ap (λ n. first_found (field_in_class files m) (flat_map (λ c. c ∷ interfaces_above files c) (lineage_of files n m.class))) (all (length (classes_of files)))
-    ∙ sym (from_class files (rank_of files h.ranked.ranks) r h.flat m (length (classes_of files)) m.class (r.few m.class))
+    ∙ sym (from_class files (rank_of files h.ranked.ranks) r h.flat m (length (classes_of files)) m.class (within (rank_of files h.ranked.ranks m.class) (length (classes_of files)) (r.few m.class)))
   where
     all : (n : ℕ) → n - 0 ≡ n
     all n = omega arith
+
+    within : (a b : ℕ) → a < b → a ≤ b
+    within a b h = omega arith
 
 -- nothing is found at the last of the superclasses
 pub last_found : (files : Program) (g : Name → List Name) (f : Name → Option Member) (n i : ℕ) (class : Name) (all : Option Member) → i < n

@@ -1,7 +1,7 @@
 -- What follows from ranks: no class is above itself, and what is above a class is above it by few steps.
-use Rattle.std.proofs.Common.{◌≡◌, ◌∙◌, ℕ, zero, suc, ◌<◌, ◌≤◌, Bool, true, false, ◌||◌, List, [], ◌∷◌, ◌++◌, length, refl, sym, ap, subst, arith, Option, Some, None, leb-false, ltb-false, ⊎_elim}
+use Rattle.std.proofs.Common.{◌≡◌, ◌∙◌, ℕ, zero, suc, ◌<◌, ◌≤◌, Bool, true, false, ◌||◌, List, [], ◌∷◌, ◌++◌, length, refl, sym, ap, subst, arith, Option, Some, None, leb-false, ⊎_elim}
 use borrow.Author.Tests.{eqb-false}
-use Rattle.std.specs.Prelude.{slice_get, nat_le, nat_lt, ◌==◌}
+use Rattle.std.specs.Prelude.{slice_get, nat_le, ◌==◌}
 use Rattle.std.specs.Option.{option_and_then, option_map_or, option_to_list}
 use Rattle.std.specs.List.{flat_map, list_any}
 use Rattle.std.proofs.lemmas.List.Folds.{list_any-append}
@@ -11,20 +11,22 @@ use Rattle.model.specs.Tree.{FileTree}
 use Rattle.model.specs.Classes.{Program, name_of, classes_of, class_of, super_name_of, superclass_of, superinterfaces_of, interface_names, is_named}
 use Rattle.model.specs.Hierarchy.{is_above, in_cycle}
 use Rattle.hierarchy.specs.Places.{place_of}
+use Rattle.hierarchy.specs.declared.rows.Above as declared_above
 use Rattle.hierarchy.specs.declared.rows.Above.TheVariants as above
 use Rattle.hierarchy.specs.Above.{each_once, with_names, directly_above, names_above, row_of, rows_of, next_row, next_rows}
 use Rattle.hierarchy.specs.Ranks.{rank_of, is_late, is_misranked, HasRanks}
 use Rattle.hierarchy.proofs.Finding.{position_within}
 use Rattle.hierarchy.proofs.SetLaws.{same_name, named_so, no_class, no_item, name_at_place, class_at_place}
 use Rattle.hierarchy.proofs.Indices.{not_found, none_both}
-use Rattle.hierarchy.proofs.RowLaws.{get_map, map_same, once_inside, row_is, rows_step}
+use Rattle.hierarchy.proofs.RowLaws.{next_of_none, get_map, map_same, once_inside}
+use Rattle.hierarchy.proofs.Walks.{some_class}
 
 -- ---- ranks of names
 
 -- A number for each name: 0 for those of no class alone, and for a class more than for what is directly above it.
 pub record Ranked (files : Program) (rank : Name → ℕ) : Type 0 where
   pub none : (class : Name) → rank class ≤ 0 → class_of files class ≡ None
-  pub few : (class : Name) → rank class ≤ length (classes_of files)
+  pub few : (class : Name) → rank class < length (classes_of files)
   pub interfaces : (class : Name) → list_any (λ s. nat_le (rank class) (rank s)) (superinterfaces_of files class) ≡ false
   pub superclass : (class : Name) → list_any (λ s. nat_le (rank class) (rank s)) (option_to_list (superclass_of files class)) ≡ false
 
@@ -42,15 +44,15 @@ no_place files name e = by (place_of files name) refl
 -- what is checked of a class of a name
 checked : (files : Program) (ranks : List ℕ) (name : Name) (file : FileTree)
     → list_any (is_misranked files ranks) (classes_of files) ≡ false → class_of files name ≡ Some file
-    → ((rank_of files ranks name == 0) ≡ false) × (nat_lt (length (classes_of files)) (rank_of files ranks name) ≡ false)
+    → ((rank_of files ranks name == 0) ≡ false) × (nat_le (length (classes_of files)) (rank_of files ranks name) ≡ false)
     × (list_any (is_late files ranks (rank_of files ranks name)) (option_to_list (super_name_of file)) ≡ false)
     × (list_any (is_late files ranks (rank_of files ranks name)) (interface_names file) ≡ false)
 checked files ranks name file h is =
     let all : is_misranked files ranks file ≡ false = not_found (is_named name) (is_misranked files ranks) (classes_of files) file is h in
     let named : name_of file ≡ name = named_so files name file is in
     let r = rank_of files ranks name in
-    let here : (r == 0 || (nat_lt (length (classes_of files)) r || (list_any (is_late files ranks r) (option_to_list (super_name_of file)) || list_any (is_late files ranks r) (interface_names file)))) ≡ false =
-    subst (λ (n : Name). (rank_of files ranks n == 0 || (nat_lt (length (classes_of files)) (rank_of files ranks n) || (list_any (is_late files ranks (rank_of files ranks n)) (option_to_list (super_name_of file)) || list_any (is_late files ranks (rank_of files ranks n)) (interface_names file)))) ≡ false) named all in
+    let here : (r == 0 || (nat_le (length (classes_of files)) r || (list_any (is_late files ranks r) (option_to_list (super_name_of file)) || list_any (is_late files ranks r) (interface_names file)))) ≡ false =
+    subst (λ (n : Name). (rank_of files ranks n == 0 || (nat_le (length (classes_of files)) (rank_of files ranks n) || (list_any (is_late files ranks (rank_of files ranks n)) (option_to_list (super_name_of file)) || list_any (is_late files ranks (rank_of files ranks n)) (interface_names file)))) ≡ false) named all in
     let one = or_parts _ _ here in
     let two = or_parts _ _ one.1 in
     let three = or_parts _ _ two.1 in
@@ -72,9 +74,9 @@ ranked_by files h = record {
     none_by class low None e = e
     none_by class low (Some file) e = absurd (eqb-false (rank class) 0 (checked files h.ranks class file h.ranked e).0 (omega arith))
 
-    few_by : (class : Name) → (o : Option FileTree) → class_of files class ≡ o → rank class ≤ length (classes_of files)
-    few_by class None e = let zero_rank : rank class ≡ 0 = ap (λ (o : Option ℕ). option_map_or (λ rank. rank) (option_and_then (slice_get h.ranks) o) 0) (no_place files class e) in omega arith
-    few_by class (Some file) e = ltb-false _ _ (checked files h.ranks class file h.ranked e).1
+    few_by : (class : Name) → (o : Option FileTree) → class_of files class ≡ o → rank class < length (classes_of files)
+    few_by class None e = let zero_rank : rank class ≡ 0 = ap (λ (o : Option ℕ). option_map_or (λ rank. rank) (option_and_then (slice_get h.ranks) o) 0) (no_place files class e) in let some : 0 < length (classes_of files) = some_class files in omega arith
+    few_by class (Some file) e = leb-false _ _ (checked files h.ranks class file h.ranked e).1
 
     interfaces_by : (class : Name) → (o : Option FileTree) → class_of files class ≡ o
         → list_any (is_late files h.ranks (rank class)) (superinterfaces_of files class) ≡ false
@@ -136,59 +138,65 @@ once_where : (q : Name → Bool) (f g : Name → List Name) (acc xs : List Name)
 once_where q f g acc xs h same =
     ap (with_names acc) (flat_where q f (λ x. each_once (g x)) xs h same) ∙ once_inside (λ x. each_once (g x)) g (λ x. refl) acc xs
 
-no_interfaces : (files : Program) (class : Name) → class_of files class ≡ None → superinterfaces_of files class ≡ []
-no_interfaces files class e = ap (λ (o : Option FileTree). option_map_or interface_names o []) e
+-- what is directly above a class has a smaller rank
+lower_above : (files : Program) (rank : Name → ℕ) → Ranked files rank → (kind : declared_above.Above) (class : Name)
+    → list_any (λ s. nat_le (rank class) (rank s)) (directly_above files kind class) ≡ false
+lower_above files rank r above.Interfaces class = r.interfaces class
+lower_above files rank r above.Supertypes class =
+    list_any-append (λ s. nat_le (rank class) (rank s)) (superinterfaces_of files class) (option_to_list (superclass_of files class))
+    ∙ ap (λ b. b || list_any (λ s. nat_le (rank class) (rank s)) (option_to_list (superclass_of files class))) (r.interfaces class)
+    ∙ r.superclass class
 
 -- beyond the rank of a class a further step changes nothing
-pub steady : (files : Program) (rank : Name → ℕ) → Ranked files rank → (n m : ℕ) (class : Name) → rank class ≤ n → rank class ≤ m
-    → names_above (directly_above files above.Interfaces) n class ≡ names_above (directly_above files above.Interfaces) m class
-steady files rank r zero zero class p q = refl
-steady files rank r zero (suc m) class p q = ap (flat_map (λ i. i ∷ names_above (directly_above files above.Interfaces) m i)) (sym (no_interfaces files class (r.none class p)))
-steady files rank r (suc n) zero class p q = ap (flat_map (λ i. i ∷ names_above (directly_above files above.Interfaces) n i)) (no_interfaces files class (r.none class q))
-steady files rank r (suc n) (suc m) class p q =
-    flat_where (λ s. nat_le (rank class) (rank s)) (names_above (directly_above files above.Interfaces) n) (names_above (directly_above files above.Interfaces) m) (superinterfaces_of files class) (r.interfaces class)
-    (λ s low. let less : rank s < rank class = leb-false (rank class) (rank s) low in steady files rank r n m s (omega arith) (omega arith))
+pub steady : (files : Program) (rank : Name → ℕ) → Ranked files rank → (kind : declared_above.Above) (n m : ℕ) (class : Name)
+    → rank class ≤ n → rank class ≤ m
+    → names_above (directly_above files kind) n class ≡ names_above (directly_above files kind) m class
+steady files rank r kind zero zero class p q = refl
+steady files rank r kind zero (suc m) class p q = ap (flat_map (λ i. i ∷ names_above (directly_above files kind) m i)) (sym (next_of_none files kind class (r.none class p)))
+steady files rank r kind (suc n) zero class p q = ap (flat_map (λ i. i ∷ names_above (directly_above files kind) n i)) (next_of_none files kind class (r.none class q))
+steady files rank r kind (suc n) (suc m) class p q =
+    flat_where (λ s. nat_le (rank class) (rank s)) (names_above (directly_above files kind) n) (names_above (directly_above files kind) m) (directly_above files kind class) (lower_above files rank r kind class)
+    (λ s low. let less : rank s < rank class = leb-false (rank class) (rank s) low in steady files rank r kind n m s (omega arith) (omega arith))
 
 -- ---- rows that a step doesn't change
 
 -- the row of a class after a step
-row_next : (files : Program) (rows : List (List Name)) (name : Name)
-    → row_of files (next_rows files above.Interfaces rows) name ≡ next_row files above.Interfaces rows name
-row_next files rows name = by (place_of files name) refl
+row_next : (files : Program) (kind : declared_above.Above) (rows : List (List Name)) (name : Name)
+    → row_of files (next_rows files kind rows) name ≡ next_row files kind rows name
+row_next files kind rows name = by (place_of files name) refl
   where
     by : (o : Option ℕ) → place_of files name ≡ o
-        → option_map_or (λ row. row) (option_and_then (slice_get (next_rows files above.Interfaces rows)) o) []
-        ≡ next_row files above.Interfaces rows name
-    by None e = ap (λ (l : List Name). each_once (flat_map (λ n. n ∷ row_of files rows n) l)) (sym (no_interfaces files name (no_class files name e)))
+        → option_map_or (λ row. row) (option_and_then (slice_get (next_rows files kind rows)) o) []
+        ≡ next_row files kind rows name
+    by None e = ap (λ (l : List Name). each_once (flat_map (λ n. n ∷ row_of files rows n) l)) (sym (next_of_none files kind name (no_class files name e)))
     by (Some k) e = at (slice_get (classes_of files) k) refl
       where
         at : (c : Option FileTree) → slice_get (classes_of files) k ≡ c
-            → option_map_or (λ row. row) (slice_get (next_rows files above.Interfaces rows) k) []
-            ≡ next_row files above.Interfaces rows name
+            → option_map_or (λ row. row) (slice_get (next_rows files kind rows) k) []
+            ≡ next_row files kind rows name
         at None g = absurd (no_item (classes_of files) k (position_within (is_named name) (classes_of files) k e) g)
         at (Some file) g =
-            ap (λ (o : Option (List Name)). option_map_or (λ row. row) o []) (get_map (λ (file : FileTree). next_row files above.Interfaces rows (name_of file)) (classes_of files) k file g)
-            ∙ ap (next_row files above.Interfaces rows) (name_at_place files name k file e g)
+            ap (λ (o : Option (List Name)). option_map_or (λ row. row) o []) (get_map (λ (file : FileTree). next_row files kind rows (name_of file)) (classes_of files) k file g)
+            ∙ ap (next_row files kind rows) (name_at_place files name k file e g)
 
-row_right : (files : Program) (rank : Name → ℕ) → Ranked files rank → (rows : List (List Name))
-    → next_rows files above.Interfaces rows ≡ rows → (n : ℕ) (name : Name) → rank name ≤ n
-    → row_of files rows name ≡ each_once (names_above (directly_above files above.Interfaces) n name)
-row_right files rank r rows same zero name p =
-    ap (λ l. row_of files l name) (sym same) ∙ row_next files rows name
-    ∙ ap (λ (l : List Name). each_once (flat_map (λ n. n ∷ row_of files rows n) l)) (no_interfaces files name (r.none name p))
-row_right files rank r rows same (suc n) name p =
-    ap (λ l. row_of files l name) (sym same) ∙ row_next files rows name
-    ∙ once_where (λ s. nat_le (rank name) (rank s)) (row_of files rows) (names_above (directly_above files above.Interfaces) n) [] (superinterfaces_of files name) (r.interfaces name)
-    (λ s low. let less : rank s < rank name = leb-false (rank name) (rank s) low in row_right files rank r rows same n s (omega arith))
+row_right : (files : Program) (rank : Name → ℕ) → Ranked files rank → (kind : declared_above.Above) (rows : List (List Name))
+    → next_rows files kind rows ≡ rows → (n : ℕ) (name : Name) → rank name ≤ n
+    → row_of files rows name ≡ each_once (names_above (directly_above files kind) n name)
+row_right files rank r kind rows same zero name p =
+    ap (λ l. row_of files l name) (sym same) ∙ row_next files kind rows name
+    ∙ ap (λ (l : List Name). each_once (flat_map (λ n. n ∷ row_of files rows n) l)) (next_of_none files kind name (r.none name p))
+row_right files rank r kind rows same (suc n) name p =
+    ap (λ l. row_of files l name) (sym same) ∙ row_next files kind rows name
+    ∙ once_where (λ s. nat_le (rank name) (rank s)) (row_of files rows) (names_above (directly_above files kind) n) [] (directly_above files kind name) (lower_above files rank r kind name)
+    (λ s low. let less : rank s < rank name = leb-false (rank name) (rank s) low in row_right files rank r kind rows same n s (omega arith))
 
--- they are the rows within as many steps as there are classes, and one more
-pub settled_rows : (files : Program) → HasRanks files → (rows : List (List Name)) → next_rows files above.Interfaces rows ≡ rows
-    → rows ≡ rows_of files above.Interfaces (suc (length (classes_of files)))
-settled_rows files h rows same =
+-- they are the rows within as many steps as there are classes but one, and within any more
+pub settled_rows : (files : Program) → HasRanks files → (kind : declared_above.Above) (n : ℕ) → length (classes_of files) ≤ suc n
+    → (rows : List (List Name)) → next_rows files kind rows ≡ rows → rows ≡ rows_of files kind n
+unfolding rows_of
+settled_rows files h kind n enough rows same =
     let r = ranked_by files h in
-    let n = length (classes_of files) in
     sym same
-    ∙ map_same (λ (file : FileTree). next_row files above.Interfaces rows (name_of file)) (λ (file : FileTree). next_row files above.Interfaces (rows_of files above.Interfaces n) (name_of file))
-    (λ file. once_inside (row_of files rows) (names_above (directly_above files above.Interfaces) n) (λ s. row_right files (rank_of files h.ranks) r rows same n s (r.few s)) [] (superinterfaces_of files (name_of file))
-    ∙ sym (once_inside (row_of files (rows_of files above.Interfaces n)) (names_above (directly_above files above.Interfaces) n) (row_is files above.Interfaces n) [] (superinterfaces_of files (name_of file)))) (classes_of files)
-    ∙ rows_step files above.Interfaces n
+    ∙ map_same (λ (file : FileTree). next_row files kind rows (name_of file)) (λ (file : FileTree). each_once (names_above (directly_above files kind) n (name_of file)))
+    (λ file. let few : rank_of files h.ranks (name_of file) < length (classes_of files) = r.few (name_of file) in
+    sym (row_next files kind rows (name_of file)) ∙ ap (λ l. row_of files l (name_of file)) same ∙ row_right files (rank_of files h.ranks) r kind rows same n (name_of file) (omega arith)) (classes_of files)

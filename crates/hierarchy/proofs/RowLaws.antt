@@ -66,7 +66,7 @@ pub name_eq_refl : (x : Name) → name_eq x x ≡ true
 name_eq_refl x = (bytes_eq-Decides x x).1 refl
 
 -- a name that was added is there
-added : (acc : List Name) (y : Name) → list_any (name_eq y) (with_name acc y) ≡ true
+pub added : (acc : List Name) (y : Name) → list_any (name_eq y) (with_name acc y) ≡ true
 added acc y = by (list_any (name_eq y) acc) refl
   where
     by : (b : Bool) → list_any (name_eq y) acc ≡ b → list_any (name_eq y) (cond b acc (acc ++ y ∷ [])) ≡ true
@@ -77,7 +77,7 @@ all_kept : (acc xs : List Name) (x : Name) → list_any (name_eq x) acc ≡ true
 all_kept acc [] x h = h
 all_kept acc (y ∷ xs) x h = all_kept (with_name acc y) xs x (kept acc x y h)
 
-all_added : (acc xs : List Name) (x : Name) → list_any (name_eq x) xs ≡ true → list_any (name_eq x) (with_names acc xs) ≡ true
+pub all_added : (acc xs : List Name) (x : Name) → list_any (name_eq x) xs ≡ true → list_any (name_eq x) (with_names acc xs) ≡ true
 all_added acc [] x h = absurd cc
 all_added acc (y ∷ xs) x h = ⊎_elim here (λ later. all_added (with_name acc y) xs x later) (or_cases (name_eq x y) (list_any (name_eq x) xs) h)
   where
@@ -114,12 +114,12 @@ once_inside f g same acc (x ∷ xs) =
 
 -- ---- rows
 
-next_of_none : (files : Program) (kind : declared_above.Above) (name : Name) → class_of files name ≡ None
+pub next_of_none : (files : Program) (kind : declared_above.Above) (name : Name) → class_of files name ≡ None
     → directly_above files kind name ≡ []
 next_of_none files above.Interfaces name e = rw e refl
 next_of_none files above.Supertypes name e = rw e refl
 
-above_none : (next : Name → List Name) (n : ℕ) (name : Name) → next name ≡ [] → names_above next n name ≡ []
+pub above_none : (next : Name → List Name) (n : ℕ) (name : Name) → next name ≡ [] → names_above next n name ≡ []
 above_none next zero name e = refl
 above_none next (suc n) name e = ap (λ l. flat_map (λ i. i ∷ names_above next n i) l) e
 

@@ -38,7 +38,7 @@ names_above next (suc n) class = flat_map (λ name. name ∷ names_above next n 
 -- ---- a row of names for each class, in the order of the classes
 
 -- the row of the class of a name; a name of no class has none
-abbrev pub row_of : Program → List (List Name) → Name → List Name
+abbrev pub row_of : {A : Type 0} → Program → List (List A) → Name → List A
 row_of files rows name = option_map_or (λ row. row) (option_and_then (slice_get rows) (place_of files name)) []
 
 -- for each class what is above it within so many steps, each name once

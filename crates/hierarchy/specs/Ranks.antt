@@ -1,6 +1,6 @@
 -- Ranks: a number for each class, greater than those of the classes directly above it. There are such numbers only where no
 -- class is above itself (JVMS 5.3.5).
-use Rattle.std.specs.Prelude.{◌≡◌, ℕ, ◌+◌, length, List, ◌||◌, Bool, false, nat_le, nat_lt, ◌==◌, slice_get}
+use Rattle.std.specs.Prelude.{◌≡◌, ℕ, ◌+◌, length, List, ◌||◌, Bool, false, nat_le, ◌==◌, slice_get}
 use Rattle.std.specs.Option.{option_and_then, option_map_or, option_to_list}
 use Rattle.std.specs.List.{list_any}
 use Rattle.model.specs.Names.{Name}
@@ -17,11 +17,11 @@ rank_of files ranks name = option_map_or (λ rank. rank) (option_and_then (slice
 abbrev pub is_late : Program → List ℕ → ℕ → Name → Bool
 is_late files ranks rank name = nat_le rank (rank_of files ranks name)
 
--- A class has no rank, or one above the number of classes, or what is directly above it has no smaller one.
+-- A class has no rank, or one that isn't below the number of classes, or what is directly above it has no smaller one.
 abbrev pub is_misranked : Program → List ℕ → FileTree → Bool
 is_misranked files ranks file =
     rank_of files ranks (name_of file) == 0
-    || (nat_lt (length (classes_of files)) (rank_of files ranks (name_of file))
+    || (nat_le (length (classes_of files)) (rank_of files ranks (name_of file))
     || (list_any (is_late files ranks (rank_of files ranks (name_of file))) (option_to_list (super_name_of file))
     || list_any (is_late files ranks (rank_of files ranks (name_of file))) (interface_names file)))
 

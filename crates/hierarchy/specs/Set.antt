@@ -11,6 +11,8 @@ use Rattle.model.specs.Names.{Name}
 use Rattle.model.specs.Classes.{Program, name_of, classes_of, class_of}
 use Rattle.hierarchy.specs.declared.lineage.Lineage.{Lineage}
 use Rattle.hierarchy.specs.Lineages.{HasLineages}
+use Rattle.hierarchy.specs.declared.member_keys.MemberKeys.{MemberKeys}
+use Rattle.hierarchy.specs.MemberKeys.{HasMemberKeys}
 
 abbrev pub trees_of : List ClassFile → List FileTree
 trees_of classes = map file_of classes
@@ -19,11 +21,12 @@ trees_of classes = map file_of classes
 unfoldable pub files_of : List FileTree → Program
 files_of trees = drop (length built_in_classes) trees
 
--- The trees are those of the built-in classes, and of files; the names are theirs, in this order; and the table is so of them.
-pub record Holds (trees : List FileTree) (names : List Name) (table : List Lineage) : Type 0 where
+-- The trees are those of the built-in classes, and of files; the names are theirs, in this order; and the tables are so of them.
+pub record Holds (trees : List FileTree) (names : List Name) (table : List Lineage) (keys : MemberKeys) : Type 0 where
   pub whole : classes_of (files_of trees) ≡ trees
   pub named : names ≡ map name_of trees
   pub lineages : HasLineages (files_of trees) table
+  pub keyed : HasMemberKeys (files_of trees) keys.texts keys.classes.items
 
 -- the class of the file at a place has the name of a built-in class, or of a file before it
 pub record IsAgain (files : Program) (place : ℕ) : Type 0 where

@@ -4,10 +4,23 @@ ghost use Rattle.std.specs.Prelude.{◌≡◌, ◌<◌, ◌-◌, length, Some, I
 ghost use Rattle.model.specs.Classes.{is_subclass};
 ghost use Rattle.model.specs.TypeJoin.{class_join};
 ghost use Rattle.hierarchy.specs.Places.{name_at};
+ghost use Rattle.hierarchy.specs.MembersAt.{superclass_place};
 ghost use Rattle.hierarchy.specs.Lineages.{depth_in, HasLineages, class_above, IsRaised, IsLevel};
 
 use crate::lineage::{Lineage, depth_in, skip_in, superclass_in};
 use crate::set::ClassSet;
+
+/// The place of the direct superclass of a class of the table.
+pub(crate) fn superclass_by(set: &ClassSet, table: &[Lineage], place: usize) -> Option<usize>
+    requires told { HasLineages set.now table.now }
+    requires within { place < length table.now }
+    ensures { result ≡ superclass_place set.now place }
+{
+    if depth_in(table, place) == 0 {
+        return None;
+    }
+    Some(superclass_in(table, place))
+}
 
 /// One of the superclasses of a class that has more than so many, that has no fewer: the one that its skip leads to, or else the
 /// direct superclass.

@@ -9,11 +9,13 @@ ghost use Rattle.model.specs.Hierarchy.{is_above, in_cycle, direct_supertypes};
 ghost use Rattle.model.specs.Classes.{classes_of, interface_names};
 ghost use Rattle.hierarchy.specs.declared.rows.Above.TheVariants as above;
 ghost use Rattle.hierarchy.specs.Above.{leads_to, rows_of};
+ghost use Rattle.hierarchy.specs.Numbers.{named_rows};
 
 use crate::components::{classes_below, ranks_with_cycles, ways_up};
-use crate::name_set::NameSet;
+use crate::name_table::NameTable;
 use crate::ranks::{is_reached, never_rise, rank_of, ranked_order};
-use crate::rows::{row_of, supertype_rows};
+use crate::row::Row;
+use crate::rows::{is_among, row_of, supertype_rows};
 use crate::set::{ClassSet, class_name, superclass_name};
 use class_tree::ClassFile;
 use std::alloc::{AllocError, Global};
@@ -22,38 +24,51 @@ use std::alloc::{AllocError, Global};
 const BUILT_IN: usize = 30;
 
 /// Whether a class has another one above it, by the rows of all that is above classes.
-fn has_above(set: &ClassSet, supertypes: &[NameSet], class: &[u8], other: &[u8]) -> bool
-    requires { supertypes.now ≡ rows_of set.now above.Supertypes (length (classes_of set.now) - 1) }
+fn has_above(
+    set: &ClassSet,
+    names: &NameTable,
+    supertypes: &[Row],
+    class: &[u8],
+    other: &[u8],
+) -> bool
+    requires { named_rows names.now supertypes.now ≡ rows_of set.now above.Supertypes (length (classes_of set.now) - 1) }
     ensures { result ≡ is_above set.now (length (classes_of set.now) - 1) class.now other.now }
 {
     match row_of(set, supertypes, class) {
-        Some(row) => row.contains(other),
+        Some(row) => is_among(names, row, other),
         None => false,
     }
 }
 
 /// Whether a class that is named is the other one, or has it above it.
-fn leads_to(set: &ClassSet, supertypes: &[NameSet], name: Option<&[u8]>, other: &[u8]) -> bool
-    requires { supertypes.now ≡ rows_of set.now above.Supertypes (length (classes_of set.now) - 1) }
+fn leads_to(
+    set: &ClassSet,
+    names: &NameTable,
+    supertypes: &[Row],
+    name: Option<&[u8]>,
+    other: &[u8],
+) -> bool
+    requires { named_rows names.now supertypes.now ≡ rows_of set.now above.Supertypes (length (classes_of set.now) - 1) }
     ensures { result ≡ list_any (leads_to set.now other.now) (option_to_list (option_map (λ t. t.now) name.entry)) }
 {
     match name {
-        Some(name) => name == other || has_above(set, supertypes, name, other),
+        Some(name) => name == other || has_above(set, names, supertypes, name, other),
         None => false,
     }
 }
 
 fn an_interface_leads_to(
     set: &ClassSet,
-    supertypes: &[NameSet],
+    names: &NameTable,
+    supertypes: &[Row],
     file: &ClassFile,
     other: &[u8],
 ) -> bool
-    requires { supertypes.now ≡ rows_of set.now above.Supertypes (length (classes_of set.now) - 1) }
+    requires { named_rows names.now supertypes.now ≡ rows_of set.now above.Supertypes (length (classes_of set.now) - 1) }
     ensures { result ≡ list_any (leads_to set.now other.now) (interface_names (file_of file.now)) }
 {
     for index in &file.interfaces {
-        if leads_to(set, supertypes, file.class_name(*index), other) {
+        if leads_to(set, names, supertypes, file.class_name(*index), other) {
             return true;
         }
     }
@@ -61,27 +76,27 @@ fn an_interface_leads_to(
 }
 
 /// Whether the class of a name is above itself.
-fn is_above_itself(set: &ClassSet, supertypes: &[NameSet], class: &[u8]) -> bool
-    requires { supertypes.now ≡ rows_of set.now above.Supertypes (length (classes_of set.now) - 1) }
+fn is_above_itself(set: &ClassSet, names: &NameTable, supertypes: &[Row], class: &[u8]) -> bool
+    requires { named_rows names.now supertypes.now ≡ rows_of set.now above.Supertypes (length (classes_of set.now) - 1) }
     ensures { result ≡ is_above set.now (length (classes_of set.now)) class.now class.now }
 {
     let Some(file) = set.class_of(class) else {
         return false;
     };
-    leads_to(set, supertypes, superclass_name(file), class)
-        || an_interface_leads_to(set, supertypes, file, class)
+    leads_to(set, names, supertypes, superclass_name(file), class)
+        || an_interface_leads_to(set, names, supertypes, file, class)
 }
 
 /// The number of the first file whose class is above itself, by the rows of all that is above classes.
-fn first_above_itself(set: &ClassSet, supertypes: &[NameSet]) -> Option<usize>
-    requires { supertypes.now ≡ rows_of set.now above.Supertypes (length (classes_of set.now) - 1) }
+fn first_above_itself(set: &ClassSet, names: &NameTable, supertypes: &[Row]) -> Option<usize>
+    requires { named_rows names.now supertypes.now ≡ rows_of set.now above.Supertypes (length (classes_of set.now) - 1) }
     ensures { result ≡ position (in_cycle set.now) set.now }
 {
     for number in 0..set.count().saturating_sub(BUILT_IN) {
         let Some(file) = set.class_at(BUILT_IN + number) else {
             return None;
         };
-        if is_above_itself(set, supertypes, class_name(file)) {
+        if is_above_itself(set, names, supertypes, class_name(file)) {
             return Some(number);
         }
     }
@@ -187,6 +202,7 @@ pub fn first_in_cycle(alloc: Global, set: &ClassSet) -> Result<Option<usize>, Al
     if let Some(number) = first_led_back(alloc, set)? {
         return Ok(Some(number));
     }
-    let supertypes = supertype_rows(alloc, set)?;
-    Ok(first_above_itself(set, &supertypes))
+    let names = NameTable::of_set(alloc, set)?;
+    let supertypes = supertype_rows(alloc, set, &names)?;
+    Ok(first_above_itself(set, &names, &supertypes))
 }

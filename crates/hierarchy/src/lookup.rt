@@ -8,7 +8,6 @@ ghost use Rattle.model.specs.Lookup.{method_in_class, first_found, select, any_m
 ghost use Rattle.hierarchy.specs.Places.{member_in, IsFieldAt, IsMethodAt};
 ghost use Rattle.hierarchy.specs.Wanted.{wants};
 
-use crate::declared::{field_place, method_place};
 use crate::place::MemberPlace;
 use crate::set::ClassSet;
 use class_tree::{Method, Reference};
@@ -37,7 +36,8 @@ fn has(flags: u16, flag: u16) -> bool
     flags / flag % 2 == 1
 }
 
-fn counts(wanted: Wanted, method: &Method) -> bool
+/// Whether a method counts in a look-up.
+pub(crate) fn counts(wanted: Wanted, method: &Method) -> bool
     ensures { result ≡ wants wanted (method_of method.now) }
 {
     match wanted {
@@ -59,25 +59,7 @@ impl ClassSet {
             ≡ method_in_class self.now (wants wanted) (reference_of method.entry) class.now }
         ensures place { IfSome result (IsMethodAt self.now (reference_of method.entry)) }
     {
-        let Some(place) = self.place_of(class) else {
-            return None;
-        };
-        let Some(file) = self.class_at(place) else {
-            return None;
-        };
-        let Some(member) = method_place(file, method.name, method.descriptor) else {
-            return None;
-        };
-        let Some(declared) = file.methods.get(member) else {
-            return None;
-        };
-        if !counts(wanted, declared) {
-            return None;
-        }
-        Some(MemberPlace {
-            class: place,
-            member,
-        })
+        self.sought(method).method_in(class, wanted)
     }
 
     /// The nearest declaration, from a class upwards, that counts.
@@ -91,15 +73,19 @@ impl ClassSet {
             ≡ first_found (method_in_class self.now (wants wanted) (reference_of method.entry)) (lineage self.now class.now) }
         ensures place { IfSome result (IsMethodAt self.now (reference_of method.entry)) }
     {
-        let mut class = class;
+        let Some(start) = self.place_of(class) else {
+            return None;
+        };
+        let sought = self.sought(method);
+        let mut place = start;
         for _step in 0..self.count() {
-            if let Some(found) = self.method_in(class, method, wanted) {
+            if let Some(found) = sought.method_at(place, wanted) {
                 return Some(found);
             }
-            let Some(next) = self.superclass_of(class) else {
+            let Some(next) = self.superclass_place(place) else {
                 return None;
             };
-            class = next;
+            place = next;
         }
         None
     }
@@ -138,18 +124,6 @@ impl ClassSet {
             ≡ field_in_class self.now (reference_of field.entry) class.now }
         ensures place { IfSome result (IsFieldAt self.now (reference_of field.entry)) }
     {
-        let Some(place) = self.place_of(class) else {
-            return None;
-        };
-        let Some(file) = self.class_at(place) else {
-            return None;
-        };
-        let Some(member) = field_place(file, field.name, field.descriptor) else {
-            return None;
-        };
-        Some(MemberPlace {
-            class: place,
-            member,
-        })
+        self.sought(field).field_in(class)
     }
 }

@@ -47,12 +47,12 @@ fn an_interface_is_late(set: &ClassSet, ranks: &[usize], rank: usize, file: &Cla
     false
 }
 
-/// Whether a class has no rank, or one above the number of classes, or one that isn't above that of each direct supertype.
+/// Whether a class has no rank, or one that isn't below the number of classes, or above that of each direct supertype.
 fn is_misranked(set: &ClassSet, ranks: &[usize], file: &ClassFile) -> bool
     ensures { result ≡ is_misranked set.now ranks.now (file_of file.now) }
 {
     let rank = rank_of(set, ranks, class_name(file));
-    if rank == 0 || set.count() < rank {
+    if rank == 0 || set.count() <= rank {
         return true;
     }
     is_late(set, ranks, rank, superclass_name(file)) || an_interface_is_late(set, ranks, rank, file)
@@ -112,13 +112,31 @@ pub(crate) fn never_rise(set: &ClassSet, ranks: &[usize]) -> bool
     true
 }
 
-/// The ranks of classes: their places in an order, counted from 1.
+/// The least rank that is above those of the direct supertypes of a class.
+fn least_rank(set: &ClassSet, ranks: &[usize], file: &ClassFile) -> usize {
+    let mut greatest = match superclass_name(file) {
+        Some(name) => rank_of(set, ranks, name),
+        None => 0,
+    };
+    for index in &file.interfaces {
+        if let Some(name) = file.class_name(*index) {
+            greatest = greatest.max(rank_of(set, ranks, name));
+        }
+    }
+    greatest.saturating_add(1)
+}
+
+/// The least ranks of classes, each by those of the classes before it in an order.
 fn ranks_by(alloc: Global, set: &ClassSet, order: &[usize]) -> Result<Vec<usize>, AllocError> {
     let mut ranks = Vec::new(alloc);
     ranks.resize(set.count(), 0)?;
-    for (before, place) in order.iter().enumerate() {
+    for place in order {
+        let Some(file) = set.class_at(*place) else {
+            return Ok(ranks);
+        };
+        let least = least_rank(set, &ranks, file);
         if let Some(rank) = ranks.get_mut(*place) {
-            *rank = before + 1;
+            *rank = least;
         }
     }
     Ok(ranks)

@@ -5,15 +5,19 @@ ghost use Rattle.model.specs.Classes.{classes_of, class_of, superclass_of, is_su
 ghost use Rattle.model.specs.TypeJoin.{class_join};
 ghost use Rattle.model.specs.Linkable.{stands, DuplicateClass, two_of_one_name};
 ghost use Rattle.model.specs.BuiltIn.{built_in_classes as classes_of_the_model};
+ghost use Rattle.constant_pool.specs.View.{reference_of};
 ghost use Rattle.class_tree.specs.View.{file_of};
 ghost use Rattle.hierarchy.specs.Set.{trees_of, files_of, IsRefused};
 ghost use Rattle.hierarchy.specs.Places.{place_of, class_at, name_at};
+ghost use Rattle.hierarchy.specs.MembersAt.{superclass_place};
 
-use crate::climb::{common_superclass, is_subclass_by};
+use crate::climb::{common_superclass, is_subclass_by, superclass_by};
 use crate::lineage::{Lineage, lineages};
+use crate::member_keys::{MemberKeys, member_keys, no_member_keys};
 use crate::refusal::SetRefusal;
-use class_tree::ClassFile;
+use crate::sought::Sought;
 use class_tree::builtin::built_in_classes;
+use class_tree::{ClassFile, Reference};
 use indexmap::IndexSet;
 use std::alloc::{AllocError, Global};
 use std::marker::Model;
@@ -26,6 +30,8 @@ pub struct ClassSet {
     names: IndexSet<Vec<u8>>,
     /// How each class stands below its superclasses. Empty where a superclass isn't found, or a class is above itself.
     lineages: Vec<Lineage>,
+    /// The members that the classes declare, by numbers of the texts that name and describe them.
+    member_keys: MemberKeys,
 }
 
 impl Model for ClassSet {
@@ -37,7 +43,7 @@ impl Model for ClassSet {
 
     ghost view = { λ s. files_of (trees_of s.classes.items) };
 
-    ghost invariant = { λ s. Holds (trees_of s.classes.items) (map (λ name. name.items) s.names.keys) s.lineages.items };
+    ghost invariant = { λ s. Holds (trees_of s.classes.items) (map (λ name. name.items) s.names.keys) s.lineages.items s.member_keys };
 }
 
 /// The name of the class that a file declares (JVMS 4.1, this_class).
@@ -79,7 +85,7 @@ fn names_of(
 }
 
 impl ClassSet {
-    /// The same set as `new`, with an empty table.
+    /// The same set as `new`, with empty tables.
     fn without_lineages(alloc: Global, files: Vec<ClassFile>) -> Result<ClassSet, SetRefusal>
         ensures set { IfOk result (λ set. set ≡ trees_of files.items) }
         ensures differ { OnOk result (stands (trees_of files.items) DuplicateClass ≡ false) }
@@ -94,6 +100,7 @@ impl ClassSet {
                 classes,
                 names,
                 lineages: Vec::new(alloc),
+                member_keys: no_member_keys(alloc),
             }),
             Err(refusal) => Err(refusal),
         }
@@ -109,6 +116,16 @@ impl ClassSet {
         Ok(whole)
     }
 
+    /// The same set, with the keys of its members.
+    fn with_member_keys(alloc: Global, set: ClassSet) -> Result<ClassSet, AllocError>
+        ensures { IfOk result (λ whole. whole ≡ set) }
+    {
+        let mut whole = set;
+        let keys = member_keys(alloc, &whole)?;
+        whole.member_keys = keys;
+        Ok(whole)
+    }
+
     /// The set of the built-in classes and those of files, unless two have one name.
     pub fn new(alloc: Global, files: Vec<ClassFile>) -> Result<ClassSet, SetRefusal>
         ensures set { IfOk result (λ set. set ≡ trees_of files.items) }
@@ -116,7 +133,8 @@ impl ClassSet {
         ensures refused { IfErr result (IsRefused (trees_of files.items)) }
     {
         let set = ClassSet::without_lineages(alloc, files)?;
-        let whole = ClassSet::with_lineages(alloc, set)?;
+        let ranked = ClassSet::with_lineages(alloc, set)?;
+        let whole = ClassSet::with_member_keys(alloc, ranked)?;
         Ok(whole)
     }
 
@@ -171,6 +189,30 @@ impl ClassSet {
         }
     }
 
+    /// The place of the direct superclass of the class at a place. None where it has none, or that isn't found.
+    pub(crate) fn superclass_place(&self, place: usize) -> Option<usize>
+        ensures { result ≡ superclass_place self.now place }
+    {
+        if place < self.lineages.len() {
+            return superclass_by(self, &self.lineages, place);
+        }
+        let Some(class) = self.class_at(place) else {
+            return None;
+        };
+        let Some(name) = superclass_name(class) else {
+            return None;
+        };
+        self.place_of(name)
+    }
+
+    /// A member that is sought in these classes.
+    pub(crate) fn sought<'a>(&'a self, member: Reference<'a>) -> Sought<'a>
+        ensures files { result.files ≡ self.now }
+        ensures member { result.member ≡ reference_of member.entry }
+    {
+        Sought::new(self, &self.member_keys, member)
+    }
+
     /// The first of the superclasses of a class, or that class, of which another class is a subclass, or which is that. Takes no
     /// memory, and a few steps more where the superclasses are twice as many. None, too, where a superclass isn't found or a
     /// class is above itself.
@@ -178,23 +220,6 @@ impl ClassSet {
         ensures { IfSome result (λ p. class_join self.now (name_at self.now c) (name_at self.now d) ≡ Some (name_at self.now p)) }
     {
         common_superclass(self, &self.lineages, c, d)
-    }
-
-    /// The same as `is_subclass`, step by step.
-    fn is_subclass_by_steps(&self, class: &[u8], superclass: &[u8]) -> bool
-        ensures { result ≡ is_subclass self.now class.now superclass.now }
-    {
-        let mut class = class;
-        for _step in 0..self.count() {
-            if class == superclass {
-                return true;
-            }
-            let Some(next) = self.superclass_of(class) else {
-                return false;
-            };
-            class = next;
-        }
-        class == superclass
     }
 
     /// Whether the class at a place is that at another, or a subclass of it (JVMS 2.4). Takes no memory.
@@ -215,7 +240,7 @@ impl ClassSet {
             return class == superclass;
         };
         let Some(above) = self.place_of(superclass) else {
-            return self.is_subclass_by_steps(class, superclass);
+            return self.is_below_absent(place, superclass);
         };
         self.is_subclass_at(place, above)
     }

@@ -1,4 +1,5 @@
 use Rattle.std.proofs.Common.{◌≡◌, ◌∙◌, ◌-◌, List, None, length, sym, ap}
+use Rattle.std.specs.Prelude.{option_map}
 use Rattle.std.specs.Option.{option_or}
 use Rattle.constant_pool.specs.View.{reference_of}
 use Rattle.model.specs.Names.{Name, Member}
@@ -6,8 +7,12 @@ use Rattle.model.specs.Classes.{Program, classes_of}
 use Rattle.model.specs.Lookup.{field_in_class, first_found, find_field}
 use Rattle.hierarchy.specs.declared.rows.Above.TheVariants as above
 use Rattle.hierarchy.specs.Above.{names_above, directly_above, row_of, rows_of}
+use Rattle.hierarchy.specs.Numbers.{names_of, named_rows}
+use Rattle.hierarchy.specs.Places.{member_in}
 use Rattle.hierarchy.proofs.RowLaws.{row_is}
 use Rattle.hierarchy.proofs.Walks.{found_once, find_field_is}
+use Rattle.hierarchy.proofs.NumberLaws.{named_row}
+use Rattle.hierarchy.proofs.PlaceLaws.{of_sought}
 use Rattle.hierarchy.proofs.fields.field_among_supertypes.Goals as goal
 
 -- where the class declares none, the field is one of what is above it
@@ -22,7 +27,15 @@ above_alone files m rows row none are is =
 
 pub returns-in-Some-row_of-clause-found : goal.returns-in-Some-row_of-clause-found
 returns-in-Some-row_of-clause-found c =
-    c.field_among.ensures.found ∙ above_alone c.args.set.now (reference_of c.args.field) c.args.supertypes.now c.in-Some-row_of.row.now c.in_default.ensures.found c.requires c.in-Some-row_of.ensures
+    let files = c.args.set.now in
+    let names = c.args.names.now in
+    let m = reference_of c.args.field in
+    of_sought (λ f n. option_map (λ p. member_in f n p) c.field_among.result ≡ first_found (field_in_class f n) (names_of names c.in-Some-row_of.row.now)) c.sought.result files m c.sought.ensures.files c.sought.ensures.member c.field_among.ensures.found
+    ∙ above_alone files m (named_rows names c.args.supertypes.now) (names_of names c.in-Some-row_of.row.now) c.in_default.ensures.found c.requires.rows (named_row files names c.args.supertypes.now c.in-Some-row_of.row.now m.class c.in-Some-row_of.ensures)
 
 pub returns-in-None-clause-found : goal.returns-in-None-clause-found
-returns-in-None-clause-found c = above_alone c.args.set.now (reference_of c.args.field) c.args.supertypes.now _ c.in_default.ensures.found c.requires c.in-None.ensures
+returns-in-None-clause-found c =
+    let files = c.args.set.now in
+    let names = c.args.names.now in
+    let m = reference_of c.args.field in
+    above_alone files m (named_rows names c.args.supertypes.now) _ c.in_default.ensures.found c.requires.rows (named_row files names c.args.supertypes.now _ m.class c.in-None.ensures)

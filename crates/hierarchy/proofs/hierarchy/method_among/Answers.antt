@@ -1,16 +1,20 @@
 use Rattle.std.proofs.Common.{sym}
-use Rattle.constant_pool.specs.View.{reference_of}
 use Rattle.model.specs.Lookup.{method_in_class, any_method, first_found}
 use Rattle.hierarchy.specs.Places.{member_in}
-use Rattle.hierarchy.proofs.Walks.{row_found, row_next}
+use Rattle.hierarchy.specs.Numbers.{names_of}
+use Rattle.hierarchy.proofs.NumberLaws.{number_found, number_next}
 use Rattle.hierarchy.proofs.hierarchy.method_among.Goals as goal
 
-pub returns-in-Some-method_in-clause-found : goal.returns-in-Some-method_in-clause-found
-returns-in-Some-method_in-clause-found c =
-    let found = method_in_class c.args.set.now any_method (reference_of c.args.method) in
-    row_found found c.args.row.now c.loop-place.place c.in-Some.name.now (member_in c.args.set.now (reference_of c.args.method) c.in-Some-method_in.found) (first_found found c.args.row.now) (sym c.in-Some.ensures) c.in-Some-method_in.ensures.found c.loop-place.invariant
+pub returns-in-Some-method_of-clause-found : goal.returns-in-Some-method_of-clause-found
+returns-in-Some-method_of-clause-found c =
+    let sought = c.args.sought.now in
+    let found = method_in_class sought.files any_method sought.member in
+    let names = c.args.names.now in
+    number_found found names c.args.row.now c.loop-place.place c.in-Some.number (member_in sought.files sought.member c.in-Some-method_of.found) (first_found found (names_of names c.args.row.now)) (sym c.in-Some.ensures) c.in-Some-method_of.ensures.found c.loop-place.invariant
 
 pub loop-place-preserved : goal.loop-place-preserved
 loop-place-preserved c =
-    let found = method_in_class c.args.set.now any_method (reference_of c.args.method) in
-    row_next found c.args.row.now c.loop-place.place c.in-Some.name.now (first_found found c.args.row.now) (sym c.in-Some.ensures) c.in_default-method_in.ensures.found c.loop-place.invariant
+    let sought = c.args.sought.now in
+    let found = method_in_class sought.files any_method sought.member in
+    let names = c.args.names.now in
+    number_next found names c.args.row.now c.loop-place.place c.in-Some.number (first_found found (names_of names c.args.row.now)) (sym c.in-Some.ensures) c.in_default-method_of.ensures.found c.loop-place.invariant

@@ -6,6 +6,7 @@ use Rattle.hierarchy.specs.Places.{name_at}
 use Rattle.hierarchy.proofs.SetLaws.{no_class}
 use Rattle.hierarchy.proofs.Climbing.{no_superclass}
 use Rattle.hierarchy.proofs.LineageLaws.{named_at}
+use Rattle.hierarchy.proofs.UpLaws.{stood_at}
 use Rattle.hierarchy.proofs.set.ClassSet.is_subclass.Goals as goal
 
 pub returns-in_default : goal.returns-in_default
@@ -14,6 +15,14 @@ returns-in_default c =
     let class = c.args.class.now in
     let none : superclass_of files class ≡ None = ap (λ (o : Option FileTree). option_and_then super_name_of o) (no_class files class (sym c.in_default.ensures.place)) in
     c.eq.ensures ∙ sym (no_superclass files class c.args.superclass.now none)
+
+pub is_below_absent-requires-clause-class : goal.is_below_absent-requires-clause-class
+is_below_absent-requires-clause-class c = stood_at c.args.self.now c.args.class.now c.in-Some.place (sym c.in-Some.ensures.place)
+
+pub returns-in_default-place_of : goal.returns-in_default-place_of
+returns-in_default-place_of c =
+    let files = c.args.self.now in
+    c.is_below_absent.ensures ∙ ap (λ n. is_subclass files n c.args.superclass.now) (named_at files c.args.class.now c.in-Some.place (sym c.in-Some.ensures.place))
 
 pub returns : goal.returns
 returns c =

@@ -7,4 +7,5 @@ invariant_of-whole c = record {
   whole = c.whole.invariant.whole;
   named = c.whole.invariant.named;
   lineages = subst (λ files. HasLineages files c.in_ok-lineages.lineages.items) (sym c.whole.view_is) c.in_ok-lineages.ensures;
+  keyed = c.whole.invariant.keyed;
 }

@@ -4,6 +4,7 @@ use Rattle.model.specs.Linkable.{two_of_one_name}
 use Rattle.class_tree.specs.declared.tree.ClassFile.{ClassFile}
 use Rattle.hierarchy.specs.Set.{trees_of, files_of, IsRefused}
 use Rattle.hierarchy.proofs.Adding.{new_trees, its_files, is_whole, all_differ}
+use Rattle.hierarchy.proofs.KeyLaws.{no_keys}
 use Rattle.hierarchy.proofs.set.ClassSet.without_lineages.Goals as goal
 
 -- the empty table has no place
@@ -22,6 +23,7 @@ invariant_of-result c =
       whole = is_whole c.append.new.self.items (trees_of c.args.files.items) all;
       named = c.in-Ok.ensures.named ∙ ap (λ (l : List ClassFile). map name_of (trees_of l)) c.deref.ensures.value;
       lineages = λ place l. absurd (none_within place c.new.result.items c.new.ensures.items l);
+      keyed = no_keys (files_of (trees_of c.append.new.self.items)) c.no_member_keys.result.texts c.no_member_keys.result.classes.items c.no_member_keys.ensures;
     }
 
 pub returns-in-Ok-clause-set : goal.returns-in-Ok-clause-set
