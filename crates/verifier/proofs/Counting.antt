@@ -6,15 +6,14 @@ use Rattle.std.specs.List.{sum_by}
 use Rattle.std.proofs.Math.Nat.{suc-mul}
 use Rattle.std.proofs.lemmas.Nat.{mul-le}
 use Rattle.std.proofs.lemmas.List.Sums.{sum_by-cons, sum_by-take-le}
-use Rattle.model.specs.Names.{Member}
 use Rattle.model.specs.Tree.{FileTree, MethodTree}
 use Rattle.model.specs.Classes.{Program, Body, classes_of}
 use Rattle.hierarchy.specs.Places.{class_at}
-use Rattle.types.specs.method_code.View.{shown_in, shown_at}
+use Rattle.types.specs.method_code.View.{shown_in}
 use Rattle.run_laws.specs.typing_search.Weights.{table_weight, marks_weight, places}
 use Rattle.link_conditions.specs.declared.refusal.why.Refusal.{Refusal}
 use Rattle.verifier.specs.Found.{Tables, work_left}
-use Rattle.verifier.specs.Steps.{Limits, AreLimits, most_turns, method_steps, shown_steps, class_steps, all_steps, steps_at, steps_of_class}
+use Rattle.verifier.specs.Steps.{Limits, AreLimits, most_turns, shown_steps, class_steps, all_steps, steps_at, steps_of_class}
 use Rattle.verifier.specs.Places.{RefusesPart}
 
 -- ---- turns

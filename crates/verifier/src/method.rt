@@ -13,19 +13,21 @@ ghost use Rattle.verifier.specs.Packed.{parts_of};
 ghost use Rattle.verifier.specs.Found.{tables_in, waiting_again, work_left, AreOver, IsSearch, HasTurned};
 ghost use Rattle.verifier.specs.Looks.{MayPass, AreLooks, HasLed, HasLedTo};
 ghost use Rattle.verifier.specs.flow.Leads.{targets_in};
+ghost use Rattle.verifier.specs.flow.Meanings.{AreMeanings};
 ghost use Rattle.verifier.specs.Near.{IsNear};
 ghost use Rattle.verifier.specs.Steps.{most_turns, method_steps, TakesAtMost, MayTakeMore};
 ghost use Rattle.verifier.specs.Verified.{OnUnverified, OnFault};
 
 use crate::fault::MethodFault;
 use crate::flow::{
-    Handler, Lead, all_leads, entry_frame, flow_at, handlers, has_handlers, leaves_at, targets_of,
+    Handler, Lead, Meanings, all_leads, entry_frame, flow_at, handlers, has_handlers, leaves_at,
+    targets_of,
 };
 use crate::found::{Edge, Found, Origin};
 use crate::look::Look;
 use crate::near::{Near, near_found};
 use crate::packed::PackedFrame;
-use crate::steps::{Steps, merged, steps_of_look, steps_of_turn};
+use crate::steps::{Steps, bytes_read, merged, steps_of_look, steps_of_turn};
 use opcodes::starts;
 use std::alloc::{AllocError, Global};
 use types::FrameType;
@@ -113,6 +115,23 @@ fn kept_targets(
     Ok(Some(targets))
 }
 
+/// Keeps the meanings of a method's instructions from now on, if looks are kept.
+fn keep_meanings(
+    alloc: Global,
+    method: &MethodCode<'_>,
+    found: &Found,
+    meanings: &mut Meanings,
+) -> Result<(), AllocError>
+    requires { AreMeanings method.now meanings.old }
+    ensures { OnOk result (AreMeanings method.now meanings.new) }
+{
+    if meanings.are_kept() || !found.keeps_looks() {
+        return Ok(());
+    }
+    meanings.keep_from_now(alloc, method.code.code.len())?;
+    Ok(())
+}
+
 /// Merges what the instruction at an offset leads to, as if it was not looked at before. Answers the offsets to which it leads,
 /// its handlers aside, if looks are kept.
 fn look_at(
@@ -120,6 +139,7 @@ fn look_at(
     method: &MethodCode<'_>,
     starts: &[bool],
     handlers: &[Handler],
+    meanings: &mut Meanings,
     found: &mut Found,
     offset: usize,
     frame: FrameType,
@@ -131,12 +151,16 @@ fn look_at(
     requires typed { slice_get found.old.types.items offset ≡ Some (Some (parts_of frame)) }
     requires search { IsSearch (files_of method.now) (member_of method.now) (body_of method.now)
         (waiting_again (tables_in (files_of method.now) found.old) offset) }
+    requires meanings { AreMeanings method.now meanings.old }
+    ensures meanings { OnOk result (AreMeanings method.now meanings.new) }
     ensures led { IfOk result (λ told. HasLedTo method.now handlers.now found.old offset told found.new) }
     ensures exact { IfErr result (λ fault. OnUnverified
         fault (HasNoTyping (files_of method.now) (member_of method.now) (body_of method.now))) }
 {
     let mut frame = frame;
-    match flow_at(alloc, method, handlers, offset, &mut frame) {
+    keep_meanings(alloc, method, found, meanings)?;
+    let read = bytes_read(method, meanings, offset);
+    match flow_at(alloc, method, handlers, meanings, offset, &mut frame) {
         Err(_) => Err(MethodFault::OutOfMemory),
         Ok(None) => Err(MethodFault::Unverified { offset }),
         Ok(Some(leads)) => {
@@ -145,7 +169,7 @@ fn look_at(
             let before = found.before(alloc, offset, &leads)?;
             let near = last_if_near(alloc, found, &before, offset, &leads)?;
             found.last = last_after(found.last, offset, &leads);
-            found.merged = steps_of_look(method, offset, leads.len());
+            found.merged = steps_of_look(method, leads.len(), read);
             let origin = Origin {
                 offset,
                 before,
@@ -166,6 +190,7 @@ fn turn(
     method: &MethodCode<'_>,
     starts: &[bool],
     handlers: &[Handler],
+    meanings: &mut Meanings,
     found: &mut Found,
     offset: usize,
 ) -> Result<(), MethodFault>
@@ -176,6 +201,8 @@ fn turn(
     requires search { IsSearch (files_of method.now) (member_of method.now) (body_of method.now)
         (waiting_again (tables_in (files_of method.now) found.old) offset) }
     requires looks { AreLooks method.now handlers.now found.old }
+    requires meanings { AreMeanings method.now meanings.old }
+    ensures meanings { OnOk result (AreMeanings method.now meanings.new) }
     ensures turned { OnOk result (HasTurned (files_of method.now) (member_of method.now) (body_of method.now)
         (tables_in (files_of method.now) found.old) (tables_in (files_of method.now) found.new)) }
     ensures looks { OnOk result (AreLooks method.now handlers.now found.new) }
@@ -195,7 +222,9 @@ fn turn(
         }
     }
     let before = packed.unpack(alloc)?;
-    match look_at(alloc, method, starts, handlers, found, offset, before) {
+    match look_at(
+        alloc, method, starts, handlers, meanings, found, offset, before,
+    ) {
         Ok(Some(targets)) => {
             found.settle(alloc, offset, targets);
             Ok(())
@@ -221,12 +250,21 @@ pub(crate) fn verify_method(
 {
     let starts = starts(alloc, &method.code().code)?;
     let handlers = handlers(alloc, method)?;
+    let mut meanings = Meanings::new(alloc);
     let mut found = match begin(alloc, method, &starts) {
         Ok(found) => found,
         Err(fault) => return Err(fault),
     };
     while let Some(offset) = found.waiting.take_lowest() {
-        if let Err(fault) = turn(alloc, method, &starts, &handlers, &mut found, offset) {
+        if let Err(fault) = turn(
+            alloc,
+            method,
+            &starts,
+            &handlers,
+            &mut meanings,
+            &mut found,
+            offset,
+        ) {
             return Err(fault);
         }
         if let Err(fault) = steps.take(steps_of_turn(method, found.merged)) {

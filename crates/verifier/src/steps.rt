@@ -7,6 +7,7 @@ ghost use Rattle.types.specs.method_code.View.{body_of};
 ghost use Rattle.verifier.specs.Steps.{most_a_turn};
 
 use crate::fault::MethodFault;
+use crate::flow::Meanings;
 use classfile::Reference;
 use model::Instr;
 use opcodes::decode_at;
@@ -72,7 +73,7 @@ fn member_bytes(member: Option<Reference<'_>>) -> usize {
 }
 
 /// How many bytes the texts have that the instruction at an offset names: a class, or a member with its descriptor. They are
-/// read and sought whenever it is looked at as a whole.
+/// read and sought for what it means.
 fn named_bytes(method: &MethodCode<'_>, offset: usize) -> usize {
     let file = method.file();
     let Some(instruction) = decode_at(&method.code().code, offset) else {
@@ -94,10 +95,18 @@ fn named_bytes(method: &MethodCode<'_>, offset: usize) -> usize {
     class.map_or(0, |name| name.len())
 }
 
+/// How many bytes of the texts that the instruction at an offset names are read, where such meanings are kept.
+pub(crate) fn bytes_read(method: &MethodCode<'_>, meanings: &Meanings, offset: usize) -> usize {
+    match meanings.at(offset) {
+        Some(_) => 0,
+        None => named_bytes(method, offset),
+    }
+}
+
 /// How many steps a look as a whole takes at an instruction that leads to so many offsets, beside what each turn takes: what
-/// it merges, and one for each byte of the texts that it names.
-pub(crate) fn steps_of_look(method: &MethodCode<'_>, offset: usize, leads: usize) -> u64 {
-    merged(leads, places(method)).saturating_add(named_bytes(method, offset) as u64)
+/// it merges, and one for each byte of texts that it reads.
+pub(crate) fn steps_of_look(method: &MethodCode<'_>, leads: usize, read: usize) -> u64 {
+    merged(leads, places(method)).saturating_add(read as u64)
 }
 
 /// How many steps a turn takes at most.

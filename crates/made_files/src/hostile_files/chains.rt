@@ -59,8 +59,45 @@ pub fn loop_up_a_chain(alloc: Global, number: u32) -> Result<Vec<Vec<u8>>, Alloc
     Ok(set.finish())
 }
 
-/// The same in a method of an object, where so many calls of a private method stand in the loop. Its descriptor names a class
-/// whose name is four times as many bytes long.
+/// The same in a method of an object, where so many calls of a method of its superclass stand in the loop, which the upmost of as
+/// many superclasses declares.
+pub fn calls_up_a_chain(alloc: Global, number: u32) -> Result<Vec<Vec<u8>>, AllocError> {
+    let mut set = Set::new(alloc);
+    let superclass = numbered(b'S', number.wrapping_sub(1));
+    let mut class = set.class(MAIN, &superclass)?;
+    let owner = class.pool.class(&superclass)?;
+    let name_and_type = class.pool.name_and_type(b"m", b"()V")?;
+    let called = class.pool.push(Constant::Method {
+        class: owner,
+        name_and_type,
+    })?;
+    let mut body = Body::new(alloc);
+    body.ops(&[ACONST_NULL])?;
+    body.of_local(ASTORE, 1)?;
+    let head = body.here();
+    for _ in 0..number {
+        body.of_local(ALOAD, 0)?;
+        body.op_short(INVOKESPECIAL, called)?;
+    }
+    join_at_head(alloc, &mut class, &mut body, head, number)?;
+    body.add_method(&mut class, PUBLIC, b"l", b"()V", 1, 2)?;
+    let mut idle = Body::new(alloc);
+    idle.ops(&[RETURN])?;
+    idle.add_main(&mut class, 0, 1)?;
+    set.add(class)?;
+    let mut upmost = set.class(&numbered(b'S', 0), OBJECT)?;
+    idle.add_method(&mut upmost, PUBLIC, b"m", b"()V", 0, 1)?;
+    set.add(upmost)?;
+    for place in 1..number {
+        let class = set.chained(b'S', place, OBJECT)?;
+        set.add(class)?;
+    }
+    set.add_chain(b'C', number, OBJECT)?;
+    Ok(set.finish())
+}
+
+/// The same, where the method that is called is a private one. Its descriptor names a class whose name is four times as many
+/// bytes long.
 pub fn descriptors_up_a_chain(alloc: Global, number: u32) -> Result<Vec<Vec<u8>>, AllocError> {
     let mut set = Set::new(alloc);
     let mut class = set.main_class()?;

@@ -1,7 +1,8 @@
 //! The shapes by their names.
 
 use crate::hostile_files::chains::{
-    catch_chain, descriptors_up_a_chain, interface_ladder, long_class_name, loop_up_a_chain,
+    calls_up_a_chain, catch_chain, descriptors_up_a_chain, interface_ladder, long_class_name,
+    loop_up_a_chain,
 };
 use crate::hostile_files::handlers::{
     alternating_handlers, early_handlers, handlers, raised_handlers,
@@ -17,8 +18,9 @@ use crate::hostile_files::variables::{deep_stack, slow_loop};
 use std::alloc::{AllocError, Global};
 
 /// Their names, in the order of the alphabet.
-pub const SHAPES: [&str; 20] = [
+pub const SHAPES: [&str; 21] = [
     "alternating-handlers",
+    "calls-up-a-chain",
     "catch-chain",
     "deep-stack",
     "descriptors-up-a-chain",
@@ -49,6 +51,7 @@ pub fn class_files(
 ) -> Result<Option<Vec<Vec<u8>>>, AllocError> {
     let files = match shape {
         "alternating-handlers" => alternating_handlers(alloc, number)?,
+        "calls-up-a-chain" => calls_up_a_chain(alloc, number)?,
         "catch-chain" => catch_chain(alloc, number)?,
         "deep-stack" => deep_stack(alloc, number)?,
         "descriptors-up-a-chain" => descriptors_up_a_chain(alloc, number)?,

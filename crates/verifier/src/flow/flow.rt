@@ -1,6 +1,6 @@
 //! Where the instruction at an offset leads.
 
-ghost use Rattle.std.specs.Prelude.{◌≡◌, ◌<◌, ◌^◌, map, option_map, Some, true, IfSome, IfOk, IsTrue};
+ghost use Rattle.std.specs.Prelude.{◌≡◌, ◌<◌, ◌^◌, map, option_map, Some, true, IfSome, OnOk, IfOk, IsTrue};
 ghost use Rattle.model.specs.InstructionStarts.{is_start};
 ghost use Rattle.model.specs.Sites.{Site as ModelSite, site_at};
 ghost use Rattle.model.specs.Typing.{flow};
@@ -10,10 +10,12 @@ ghost use Rattle.types.specs.method_code.View.{files_of, member_of, body_of};
 ghost use Rattle.types.specs.method_code.Site.{site_of};
 ghost use Rattle.verifier.specs.flow.Handlers.{AreHandlers};
 ghost use Rattle.verifier.specs.flow.Leads.{lead_in, LeadOn};
+ghost use Rattle.verifier.specs.flow.Meanings.{AreMeanings};
 ghost use Rattle.verifier.specs.flow.Untouched.{leaves};
 
 use crate::flow::handler::Handler;
 use crate::flow::lead::{Lead, add_handlers, leads_on};
+use crate::flow::meanings::Meanings;
 use crate::flow::stand::may_stand;
 use crate::flow::successors::successors;
 use crate::flow::untouched::leaves;
@@ -56,17 +58,20 @@ pub(crate) fn leaves_at(method: &MethodCode<'_>, offset: usize, locals: &[usize]
 /// there, or where it must not find this frame type (JVMS 4.10.1.9). The frame type becomes the one after the instruction,
 /// and with no answer it is any.
 ///
-/// The offset, in bytes from the code's start, is an instruction boundary, and the handlers are the method's own.
+/// The offset, in bytes from the code's start, is an instruction boundary, and handlers and meanings are the method's own.
 pub fn flow_at(
     alloc: Global,
     method: &MethodCode<'_>,
     handlers: &[Handler],
+    meanings: &mut Meanings,
     offset: usize,
     frame: &mut FrameType,
 ) -> Result<Option<Vec<Lead>>, AllocError>
     requires linked { IsLinked (files_of method.now) }
     requires handlers { AreHandlers method.now handlers.now }
     requires start { IsTrue (is_start (body_of method.now).code.code offset) }
+    requires meanings { AreMeanings method.now meanings.old }
+    ensures meanings { OnOk result (AreMeanings method.now meanings.new) }
     ensures flow { IfOk result (λ o. option_map (λ v. map (lead_in (files_of method.now) frame.old frame.new) v.items) o
         ≡ flow (files_of method.now) (member_of method.now) (body_of method.now) offset (frame_in (files_of method.now) frame.old)) }
     ensures handlers { IfOk result (λ o. IfSome o (λ v. LeadOn offset handlers.now v.items)) }
@@ -77,7 +82,7 @@ pub fn flow_at(
     if !may_stand(&site, frame) {
         return Ok(None);
     }
-    let found = successors(alloc, &site, frame)?;
+    let found = successors(alloc, &site, meanings, frame)?;
     let Some(targets) = found else {
         return Ok(None);
     };

@@ -1,4 +1,4 @@
-use Rattle.std.proofs.Common.{◌+◌, ◌*◌, ◌≤◌, sym, subst, arith}
+use Rattle.std.proofs.Common.{sym, subst, arith}
 use Rattle.std.proofs.lemmas.Nat.{mul-le}
 use Rattle.run_laws.specs.typing_search.Search.{HasNoTyping}
 use Rattle.run_laws.proofs.typing_search.Bounds.{bounded}
@@ -6,9 +6,11 @@ use Rattle.run_laws.proofs.typing_search.Linking.{ordered_from}
 use Rattle.types.specs.method_code.View.{files_of, member_of, body_of}
 use Rattle.verifier.specs.Found.{tables_in, work_left}
 use Rattle.verifier.specs.Looks.{AreLooks}
+use Rattle.verifier.specs.flow.Meanings.{AreMeanings}
 use Rattle.verifier.specs.Steps.{most_a_turn, most_turns, method_steps, MayTakeMore}
 use Rattle.verifier.specs.Verified.{OnFault}
 use Rattle.verifier.proofs.Entries.{waiting_within, on_fault}
+use Rattle.verifier.proofs.flow.Meant.{nothing_meant}
 use Rattle.verifier.proofs.Counting.{turn_taken, turn_missing}
 use Rattle.verifier.proofs.Turns.{again, less, ends}
 use Rattle.verifier.proofs.method.verify_method.Goals as goal
@@ -24,6 +26,7 @@ loop-offset-init c =
     record {
       search = c.in-Ok.ensures.search;
       looks = c.in-Ok.ensures.looks c.in_ok-handlers.handlers.items;
+      meanings = subst (AreMeanings m) (sym c.new-meanings.ensures) (nothing_meant m);
       taken = λ limits are.
           let limit = limits (member_of m) body in
           let work = mul-le (work_left files body limit (tables_in files c.in-Ok.found)) (most_a_turn body) (most_turns body limit) (most_a_turn body) (c.in-Ok.ensures.work limit (are (member_of m) body)) (omega arith) in
@@ -56,6 +59,7 @@ loop-offset-preserved c =
     record {
       search = c.in_default-turn.ensures.turned.search;
       looks = subst (λ hs. AreLooks m hs c.turn.new.found) c.deref-in-Some-2.ensures.value c.in_default-turn.ensures.looks;
+      meanings = c.in_default-turn.ensures.meanings;
       taken = λ limits are.
           let limit = limits (member_of m) body in
           let lighter = less files (ordered_from files c.requires.1.no_refusal) (member_of m) body (tables_in files c.loop-offset.found) c.take_lowest.new.self c.in-Some.offset c.in-Some.ensures.waits c.in-Some.ensures.taken_off limit (tables_in files c.turn.new.found) (c.in_default-turn.ensures.turned.lighter limit (are (member_of m) body)) in

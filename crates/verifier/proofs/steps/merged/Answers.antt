@@ -1,4 +1,4 @@
-use Rattle.std.proofs.Common.{suc, ◌≤◌, arith}
+use Rattle.std.proofs.Common.{suc, arith}
 use Rattle.std.proofs.lemmas.Nat.{mul-le}
 use Rattle.verifier.proofs.steps.merged.Goals as goal
 

@@ -2,6 +2,7 @@ use Rattle.std.proofs.Common.{◌≡◌, ◌++◌, map, option_map, Some, None, 
 use Rattle.model.specs.Operands.{values}
 use Rattle.model.specs.Meanings.{meaning_of}
 use Rattle.model.specs.InstructionStarts.{is_start}
+use Rattle.model.specs.Sites.{site_at}
 use Rattle.model.specs.Instruction.{instr_at}
 use Rattle.model.specs.Typing.{handlers_from, flow_at}
 use Rattle.types.specs.View.{frame_in}
@@ -10,6 +11,7 @@ use Rattle.types.specs.method_code.Linked.{IsLinked}
 use Rattle.types.specs.method_code.View.{files_of, member_of, body_of}
 use Rattle.types.specs.method_code.Site.{site_of}
 use Rattle.verifier.specs.flow.Leads.{lead_on, handler_leads}
+use Rattle.verifier.specs.flow.Meanings.{AreMeanings}
 use Rattle.verifier.specs.flow.Successors.{successors_by}
 use Rattle.verifier.proofs.flow.Refused.{not_refused}
 use Rattle.verifier.proofs.flow.Flowing.{flow_refused, flow_allowed, leads_in_all, site_said, none_through, some_through}
@@ -57,7 +59,7 @@ returns-in_default-found-clause-flow c =
     let files = files_of s.method in
     let t = frame_in files old in
     let allowed = flow_allowed files (site_of s) t (meaning_of values files (site_of s)) (sym c.may_stand.ensures ∙ c.if-not-may_stand.false) in
-    let none : successors_by files (site_of s) t (meaning_of values files (site_of s)) ≡ None = none_through _ _ _ c.in_ok-found.ensures c.in_default-found.is in
+    let none : successors_by files (site_of s) t (meaning_of values files (site_of s)) ≡ None = none_through _ _ _ c.in_ok-found.ensures.successors c.in_default-found.is in
     subst P same (sym (allowed ∙ ap (option_map (λ l. l ++ handlers_from files (body_of s.method).pool s.offset t (body_of s.method).code.exceptions)) none))
     ∙ ap (flow_at (files_of m) (frame_in (files_of m) old)) c.in-Some.ensures.value
 
@@ -77,7 +79,7 @@ returns-clause-flow c =
     let body = body_of s.method in
     let rest = map (λ to. (to, frame_in files new)) tos in
     let allowed = flow_allowed files (site_of s) t (meaning_of values files (site_of s)) (sym c.may_stand.ensures ∙ c.if-not-may_stand.false) in
-    let some : successors_by files (site_of s) t (meaning_of values files (site_of s)) ≡ Some rest = some_through _ _ _ c.in-Some-found.targets c.in_ok-found.ensures c.in-Some-found.is in
+    let some : successors_by files (site_of s) t (meaning_of values files (site_of s)) ≡ Some rest = some_through _ _ _ c.in-Some-found.targets c.in_ok-found.ensures.successors c.in-Some-found.is in
     let here = allowed ∙ ap (option_map (λ l. l ++ handlers_from files body.pool s.offset t body.code.exceptions)) some ∙ ap (λ n. Some (rest ++ handlers_from files body.pool n t body.code.exceptions)) said.0 in
     ap (λ l. Some l)
     (leads_in_all (files_of m) (body_of m).pool c.args.offset old new c.args.handlers.now (body_of m).code.exceptions tos _ _ _ c.requires.handlers.entries c.requires.handlers.caught
@@ -91,3 +93,23 @@ returns-clause-handlers c =
       targets = c.in-Some-found.targets.items;
       are = c.in_ok-add_handlers.ensures ∙ ap (λ l. l ++ handler_leads c.args.offset c.args.handlers.now) (c.in_ok-leads.ensures ∙ ap (map lead_on) c.deref.ensures);
     }
+
+pub successors-requires-clause-there : goal.successors-requires-clause-there
+successors-requires-clause-there c =
+    let m = c.args.method.now in
+    let s = c.in-Some.site in
+    let said = site_said (member_of m) (body_of m) c.args.offset (site_of s) c.in-Some.ensures.value in
+    subst (λ (x : MethodCode). site_at (member_of x) (body_of x) s.offset ≡ Some (site_of s)) (sym c.in-Some.ensures.method)
+    (subst (λ n. site_at (member_of m) (body_of m) n ≡ Some (site_of s)) (sym said.0) (sym c.in-Some.ensures.value))
+
+pub successors-requires-clause-meanings : goal.successors-requires-clause-meanings
+successors-requires-clause-meanings c =
+    subst (λ (x : MethodCode). AreMeanings x c.args.meanings.now) (sym c.in-Some.ensures.method) c.requires.meanings
+
+pub returns-in_default-found-clause-meanings : goal.returns-in_default-found-clause-meanings
+returns-in_default-found-clause-meanings c =
+    subst (λ (x : MethodCode). AreMeanings x c.successors.new.meanings) c.in-Some.ensures.method c.in_ok-found.ensures.meanings
+
+pub returns-clause-meanings : goal.returns-clause-meanings
+returns-clause-meanings c =
+    subst (λ (x : MethodCode). AreMeanings x c.successors.new.meanings) c.in-Some.ensures.method c.in_ok-found.ensures.meanings
