@@ -1,7 +1,7 @@
 //! Runs that are recorded, and their replays.
 
-use crate::cases::case::{RecordedRuns, Way};
 use crate::cases::outcome::write_outcome;
+use conformance_inputs::case_texts::{RecordedRuns, Way};
 use engines::Folder;
 use std::alloc::{AllocError, Global};
 use std::io::Write;

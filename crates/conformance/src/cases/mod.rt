@@ -1,16 +1,12 @@
 //! Cases: command lines of `jvm` over class files and schedules that stand in texts.
 
-mod case;
 mod case_folder;
-mod case_text;
-mod change;
 mod comparison;
 mod outcome;
-mod text_fault;
 
-use crate::cases::case_text::read_cases;
 use crate::cases::outcome::write_outcomes;
 use anyhow::{Context, Result, bail};
+use conformance_inputs::case_texts::{OtherFiles, read_cases};
 use engines::SystemFolder;
 use std::env::Args;
 use std::io::{BufWriter, Write};
@@ -18,6 +14,17 @@ use std::rt::Files;
 use std::sync::Wait;
 use std::thread::Threads;
 use std::{fs, io};
+
+/// The files of the system.
+struct SystemFiles<'a, R> {
+    rt: &'a R,
+}
+
+impl<R: Files + AllocGlobal> OtherFiles for SystemFiles<'_, R> {
+    fn bytes_of(&self, path: &str) -> Option<Vec<u8>> {
+        fs::read(self.rt, path).ok()
+    }
+}
 
 /// Runs the cases of each text that the words name. What each case writes, says and ends with goes to standard output.
 pub fn run_texts<R: Files + Print + AllocGlobal + Threads + Wait + Sync>(
@@ -50,10 +57,10 @@ fn run_cases<R: Files + Print + AllocGlobal + Threads + Wait + Sync, W: Write>(
     text: &str,
     output: &mut W,
 ) -> Result<()> {
-    let folder = SystemFolder::new(rt);
-    let text = match read_cases(rt.alloc(), &folder, path, text) {
+    let text = match read_cases(rt.alloc(), &SystemFiles { rt }, path, text) {
         Ok(text) => text,
         Err(fault) => bail!("{path} {fault}"),
     };
+    let folder = SystemFolder::new(rt);
     Ok(write_outcomes(rt, rt.alloc(), &folder, &text, output)?)
 }

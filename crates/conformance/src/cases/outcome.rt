@@ -1,9 +1,8 @@
 //! What comes of cases.
 
-use crate::cases::case::{CaseKind, CommandLine};
 use crate::cases::case_folder::{CaseFolder, Recorded};
-use crate::cases::case_text::CaseText;
 use crate::cases::comparison::write_comparison;
+use conformance_inputs::case_texts::{CaseKind, CaseText, CommandLine};
 use engines::{Counted, Folder, Open, Status, run, second_line};
 use indexmap::IndexMap;
 use std::alloc::Global;

@@ -1,6 +1,6 @@
 //! Bytes that are changed by chance.
 
-use random_programs::Random;
+use conformance_inputs::random_programs::Random;
 use std::alloc::{AllocError, Global};
 
 /// The bytes with a change, or more of them by chance: another byte, one more, one less, or no more than a front.

@@ -8,7 +8,7 @@
 use crate::trials::counts::Counts;
 use crate::trials::set_trial::SetTrial;
 use anyhow::Result;
-use random_programs::{NAMES, Random};
+use conformance_inputs::random_programs::{NAMES, Random};
 use std::alloc::Global;
 use std::sync::Wait;
 use std::thread::Threads;

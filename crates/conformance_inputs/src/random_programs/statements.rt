@@ -1,6 +1,6 @@
 //! Statements on ints.
 
-use crate::body::{BOX, Body, INTS};
+use crate::random_programs::body::{BOX, Body, INTS};
 use made_files::class_builder::opcode::{
     DUP, DUP_X1, DUP_X2, DUP2, DUP2_X1, DUP2_X2, GETSTATIC, GOTO, I2B, I2C, I2S, IADD, IAND, IDIV,
     IINC, ILOAD, IMUL, INEG, INVOKESTATIC, INVOKEVIRTUAL, IOR, IREM, ISHL, ISHR, ISTORE, ISUB,

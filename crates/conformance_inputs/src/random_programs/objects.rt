@@ -1,6 +1,6 @@
 //! Statements on objects and arrays.
 
-use crate::body::{ARRAY, BOX, Body, OBJECT, THREAD};
+use crate::random_programs::body::{ARRAY, BOX, Body, OBJECT, THREAD};
 use made_files::class_builder::opcode::{
     AALOAD, AASTORE, ACONST_NULL, ANEWARRAY, ARRAYLENGTH, ATHROW, BALOAD, BASTORE, CALOAD, CASTORE,
     CHECKCAST, DUP, GETFIELD, GETSTATIC, IALOAD, IASTORE, INSTANCEOF, INVOKEVIRTUAL, LDC_W,

@@ -1,6 +1,6 @@
 //! Blocks of statements: conditions, loops, synchronized blocks, and code with a handler.
 
-use crate::body::{BOX, Body, CAUGHT, COUNTERS, DEPTH, OBJECT, THREAD};
+use crate::random_programs::body::{BOX, Body, CAUGHT, COUNTERS, DEPTH, OBJECT, THREAD};
 use made_files::class_builder::Jump;
 use made_files::class_builder::opcode::{
     ATHROW, GOTO, ICONST_0, IF_ACMPEQ, IF_ICMPEQ, IFEQ, IFLE, IFNONNULL, IFNULL, IINC, ILOAD,

@@ -1,10 +1,10 @@
 //! Bytes in hexadecimal, and changes of bytes.
 
-use crate::cases::text_fault::LineFault;
+use crate::case_texts::text_fault::LineFault;
 use std::alloc::Global;
 
 /// Appends the bytes that the words spell, each of them two hexadecimal digits for each byte.
-pub fn push_hexadecimal(bytes: &mut Vec<u8>, words: &[&str]) -> Result<(), LineFault> {
+pub(crate) fn push_hexadecimal(bytes: &mut Vec<u8>, words: &[&str]) -> Result<(), LineFault> {
     for word in words {
         push_word(bytes, word.as_bytes())?;
     }
@@ -34,7 +34,7 @@ fn digit(letter: u8) -> Option<u8> {
 }
 
 /// Changes the bytes as the words say.
-pub fn change(alloc: Global, bytes: &mut Vec<u8>, words: &[&str]) -> Result<(), LineFault> {
+pub(crate) fn change(alloc: Global, bytes: &mut Vec<u8>, words: &[&str]) -> Result<(), LineFault> {
     match words {
         ["at", offset, digits @ ..] => replace(alloc, bytes, number(offset)?, digits),
         ["cut", length] => cut(bytes, number(length)?),

@@ -1,6 +1,5 @@
 //! Sets of class files that are made by chance, for a program that tries `jvm`: with threads, monitors, wait sets, exceptions and
 //! initialisers. The same numbers that are drawn make the same files.
-#![tactic(auto)]
 
 mod blocks;
 mod body;

@@ -1,10 +1,10 @@
 //! Sets of class files: A with `main` and static methods, B and C below it with fields and methods that C overrides, E to be
 //! thrown, the interface I that B implements, and T, a Thread. C is a Runnable.
 
-use crate::body::{
+use crate::random_programs::body::{
     ARRAY, BOX, Body, CAUGHT, COUNTERS, DEPTH, MAX_LOCALS, MAX_STACK, OBJECT, THREAD,
 };
-use crate::random::Random;
+use crate::random_programs::random::Random;
 use made_files::class_builder::opcode::{
     ACONST_NULL, ALOAD, ASTORE, ICONST_0, INVOKESPECIAL, ISTORE, NEWARRAY, PUTSTATIC,
 };

@@ -1,6 +1,6 @@
 //! Statements on threads and monitors.
 
-use crate::body::{Body, OBJECT, THREAD};
+use crate::random_programs::body::{Body, OBJECT, THREAD};
 use made_files::class_builder::opcode::{
     ACONST_NULL, DUP, GETSTATIC, INVOKESPECIAL, INVOKESTATIC, INVOKEVIRTUAL, MONITORENTER,
     MONITOREXIT, NEW, PUTSTATIC,

@@ -1,12 +1,11 @@
 //! The reading of a text of cases.
 
-use crate::cases::case::{Case, CaseKind, CommandLine, RecordedRuns, Way};
-use crate::cases::change::{change, push_hexadecimal};
-use crate::cases::text_fault::{LineFault, TextFault};
-use engines::Folder;
+use crate::case_texts::case::{Case, CaseKind, CommandLine, RecordedRuns, Way};
+use crate::case_texts::change::{change, push_hexadecimal};
+use crate::case_texts::other_files::OtherFiles;
+use crate::case_texts::text_fault::{LineFault, TextFault};
 use indexmap::IndexMap;
 use std::alloc::{AllocError, Global};
-use std::io::Read;
 use std::str;
 
 /// What a text gives: files by their names, the ways in which class files are run, and cases in order.
@@ -46,16 +45,16 @@ enum Section {
 }
 
 /// Reads a text, and the files of the texts that it names, which lie beside it. A file of which another is a changed copy
-/// may be one of the folder.
-pub fn read_cases<F: Folder>(
+/// may be one that the text doesn't give.
+pub fn read_cases<F: OtherFiles>(
     alloc: Global,
-    folder: &F,
+    others: &F,
     path: &str,
     text: &str,
 ) -> Result<CaseText, TextFault> {
-    let mut read = read_text(alloc, folder, text)?;
+    let mut read = read_text(alloc, others, text)?;
     for other in &read.others {
-        match take_files(alloc, folder, path, other.name.as_str(), &mut read.files) {
+        match take_files(alloc, others, path, other.name.as_str(), &mut read.files) {
             Ok(()) => {}
             Err(fault) => {
                 return Err(TextFault {
@@ -69,12 +68,12 @@ pub fn read_cases<F: Folder>(
 }
 
 /// Reads a text alone.
-fn read_text<F: Folder>(alloc: Global, folder: &F, text: &str) -> Result<CaseText, TextFault> {
+fn read_text<F: OtherFiles>(alloc: Global, others: &F, text: &str) -> Result<CaseText, TextFault> {
     let mut read = CaseText::new(alloc);
     let mut section = Section::None;
     for line in text.lines() {
         read.lines = read.lines.saturating_add(1);
-        match read.take_line(alloc, folder, section, line) {
+        match read.take_line(alloc, others, section, line) {
             Ok(next) => section = next,
             Err(fault) => {
                 return Err(TextFault {
@@ -88,9 +87,9 @@ fn read_text<F: Folder>(alloc: Global, folder: &F, text: &str) -> Result<CaseTex
 }
 
 /// Puts the files of another text, which lies beside one, to these. Files that have their names are replaced.
-fn take_files<F: Folder>(
+fn take_files<F: OtherFiles>(
     alloc: Global,
-    folder: &F,
+    others: &F,
     path: &str,
     name: &str,
     files: &mut IndexMap<String, Vec<u8>>,
@@ -99,11 +98,11 @@ fn take_files<F: Folder>(
         Some((parent, _)) => format!(in alloc; "{parent}/{name}")?,
         None => String::from_str(alloc, name)?,
     };
-    let bytes = bytes_of(alloc, folder, beside.as_str())?;
+    let bytes = bytes_of(others, beside.as_str())?;
     let Ok(text) = str::from_utf8(bytes.as_slice()) else {
         return Err(LineFault::OtherText);
     };
-    let Ok(other) = read_text(alloc, folder, text) else {
+    let Ok(other) = read_text(alloc, others, text) else {
         return Err(LineFault::OtherText);
     };
     for (name, bytes) in &other.files {
@@ -125,10 +124,10 @@ impl CaseText {
     }
 
     /// Takes one more line, and answers the section that it belongs to.
-    fn take_line<F: Folder>(
+    fn take_line<F: OtherFiles>(
         &mut self,
         alloc: Global,
-        folder: &F,
+        others: &F,
         section: Section,
         line: &str,
     ) -> Result<Section, LineFault> {
@@ -137,7 +136,7 @@ impl CaseText {
             return Ok(section);
         }
         if !line.starts_with(' ') {
-            return self.begin(alloc, folder, words.as_slice());
+            return self.begin(alloc, others, words.as_slice());
         }
         match section {
             Section::None => return Err(LineFault::Stray),
@@ -151,10 +150,10 @@ impl CaseText {
     }
 
     /// Begins the section that the words say.
-    fn begin<F: Folder>(
+    fn begin<F: OtherFiles>(
         &mut self,
         alloc: Global,
-        folder: &F,
+        others: &F,
         words: &[&str],
     ) -> Result<Section, LineFault> {
         match words {
@@ -163,7 +162,7 @@ impl CaseText {
                 Ok(Section::Bytes)
             }
             ["file", name, "from", other] => {
-                let bytes = self.copy_of(alloc, folder, other)?;
+                let bytes = self.copy_of(alloc, others, other)?;
                 self.give(alloc, name, bytes)?;
                 Ok(Section::Changes)
             }
@@ -218,16 +217,16 @@ impl CaseText {
         Ok(())
     }
 
-    /// The bytes of the file of this name: one of the text, or else of the folder.
-    fn copy_of<F: Folder>(
+    /// The bytes of the file of this name: one of the text, or else another one.
+    fn copy_of<F: OtherFiles>(
         &self,
         alloc: Global,
-        folder: &F,
+        others: &F,
         name: &str,
     ) -> Result<Vec<u8>, LineFault> {
         match self.files.get(name) {
             Some(bytes) => Ok(bytes.clone()?),
-            None => bytes_of(alloc, folder, name),
+            None => bytes_of(others, name),
         }
     }
 
@@ -326,14 +325,7 @@ fn beginning(alloc: Global, numbers: &[&str]) -> Result<String, AllocError> {
     Ok(text)
 }
 
-/// The bytes of a file of the folder.
-fn bytes_of<F: Folder>(alloc: Global, folder: &F, name: &str) -> Result<Vec<u8>, LineFault> {
-    let Ok(mut file) = folder.open(name) else {
-        return Err(LineFault::Unreadable);
-    };
-    let mut bytes = Vec::new(alloc);
-    match file.read_to_end(&mut bytes) {
-        Ok(_) => Ok(bytes),
-        Err(_) => Err(LineFault::Unreadable),
-    }
+/// The bytes of a file that the text doesn't give.
+fn bytes_of<F: OtherFiles>(others: &F, name: &str) -> Result<Vec<u8>, LineFault> {
+    others.bytes_of(name).ok_or(LineFault::Unreadable)
 }

@@ -1,7 +1,7 @@
 //! The body of a method: its code with what that names.
 
-use crate::blocks::Open;
-use crate::random::Random;
+use crate::random_programs::blocks::Open;
+use crate::random_programs::random::Random;
 use made_files::class_builder::opcode::{
     ALOAD, ASTORE, DUP, ILOAD, INVOKEINTERFACE, INVOKESPECIAL, ISTORE, NEW,
 };
