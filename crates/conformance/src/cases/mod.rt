@@ -16,6 +16,7 @@ use std::thread::Threads;
 use std::{fs, io};
 
 /// The files of the system.
+#[derive(Drop)]
 struct SystemFiles<'a, R> {
     rt: &'a R,
 }
