@@ -1,6 +1,6 @@
 -- Places that are noted, one after another.
 use Rattle.std.proofs.Common.{◌≡◌, ℕ, zero, suc, ◌<◌, ◌≤◌, ◌+◌, List, [], ◌∷◌, ◌++◌, length, map, take, get_or, Bool, true, false, ◌||◌, ◌==◌, Option, Some, None, refl, sym, ap, ◌∙◌, subst, arith, ⊎_elim}
-use Rattle.std.specs.Prelude.{slice_get, slice_set, slice_index_or, option_map, is_some, not}
+use Rattle.std.specs.Prelude.{slice_get, slice_set, slice_index_or, option_map, is_some, not, Result, Ok, Err, IfOk}
 use Rattle.std.specs.List.{filter}
 use Rattle.std.proofs.lemmas.Bool.{false≢true, or_parts, or_cases, eqb-true, eq-eqb, cases_eq}
 use Rattle.std.proofs.lemmas.List.{length-set, take_more}
@@ -192,6 +192,12 @@ set_same [] (y ∷ ys) k d l = absurd cc
 set_same (x ∷ xs) [] k d l = absurd cc
 set_same (x ∷ xs) (y ∷ ys) zero d l = refl
 set_same (x ∷ xs) (y ∷ ys) (suc k) d l = let m : length xs ≡ length ys = omega (arith, l) in set_same xs ys k d m
+
+-- all places are those of another
+pub all_hold : {E : Type 0} (locals : List ℕ) (of : Parts) (r : Result Parts E) → IfOk r (λ alone. alone.locals ≡ of.locals)
+    → IfOk r (λ only. AgreeAt locals only.locals of.locals)
+all_hold locals of (Ok alone) e = λ k f. ap (λ l. slice_get l k) e
+all_hold locals of (Err x) e = tt
 
 pub holds_more : (locals : List ℕ) (n d : ℕ) (xs ys next : List VerificationType) (u : VerificationType) → n < length locals → length xs ≡ length ys
     → AgreeAt (take n locals) xs ys → next ≡ slice_set xs (get_or locals n d) (slice_index_or ys (get_or locals n d) u) → AgreeAt (take (n + 1) locals) next ys

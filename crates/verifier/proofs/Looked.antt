@@ -1,5 +1,5 @@
 -- What is known of instructions stays so while frame types are merged.
-use Rattle.std.proofs.Common.{◌≡◌, ℕ, zero, suc, List, [], ◌∷◌, map, Bool, true, false, Option, Some, None, refl, sym, ap, ◌∙◌, subst, ⊎_elim}
+use Rattle.std.proofs.Common.{◌≡◌, ℕ, zero, suc, List, length, [], ◌∷◌, map, Bool, true, false, Option, Some, None, refl, sym, ap, ◌∙◌, subst, ⊎_elim}
 use Rattle.std.specs.Prelude.{replicate, slice_get, slice_set, option_map, Result, Ok, Err, IfOk, IfSome}
 use Rattle.std.specs.Global.{Vec}
 use Rattle.std.proofs.lemmas.Bool.{cases_eq}
@@ -272,6 +272,14 @@ differs_there offset there join types at (Ok None) d = tt
 differs_there offset there join types at (Ok (Some v)) d =
     λ other f. subst (λ p. PartsDiffer v.items p join) (same_Some there other (same_Some (Some there) (Some other) (sym at ∙ f))) d
 differs_there offset there join types at (Err e) d = tt
+
+pub differ_nowhere : (ks : List ℕ) (a b : Parts) → a ≡ b → PartsDiffer ks a b
+differ_nowhere ks a b e =
+    record {
+      locals = record { long = ap (λ (p : Parts). length p.locals) e; same = λ k f. ap (λ (p : Parts). slice_get p.locals k) e };
+      stack = ap (λ (p : Parts). p.stack) e;
+      constructed = ap (λ (p : Parts). p.constructed) e;
+    }
 
 -- ---- what is settled
 

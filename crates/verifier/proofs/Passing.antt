@@ -11,17 +11,17 @@ use Rattle.types.specs.method_code.View.{files_of, member_of, body_of}
 use Rattle.run_laws.specs.typing_search.Orders.{IsOrdered}
 use Rattle.run_laws.specs.typing_search.Search.{AreReached}
 use Rattle.run_laws.specs.typing_search.Tables.{entry_of, waiting_at}
-use Rattle.run_laws.proofs.typing_search.Searching.{reaches_up}
+use Rattle.run_laws.proofs.typing_search.Searching.{raised_self, reaches_up}
 use Rattle.verifier.specs.declared.flow.handler.Handler.{Handler}
 use Rattle.verifier.specs.declared.flow.lead.Lead.{Lead}
 use Rattle.verifier.specs.declared.found.Found.{Found}
 use Rattle.verifier.specs.declared.look.Look.{Look}
 use Rattle.verifier.specs.flow.Leads.{all_leads}
 use Rattle.verifier.specs.Agreeing.{AgreeAt, DifferIn, HaveMoved}
-use Rattle.verifier.specs.Changes.{fits, IsJoined}
+use Rattle.verifier.specs.Changes.{fits, PartsDiffer, IsJoined}
 use Rattle.verifier.specs.Looks.{offset_of, typing_in, MayPass, KeepsLooks, NotesAt, RaisesTo, RaisesAll, HasLed}
 use Rattle.verifier.specs.Packed.{Parts, parts_in}
-use Rattle.verifier.specs.Found.{tables_in, AreOver, MergesInto}
+use Rattle.verifier.specs.Found.{tables_in, one_lead, AreOver, MergesInto}
 use Rattle.verifier.proofs.Entries.{entry_written}
 use Rattle.verifier.proofs.Looked.{kept_noting}
 use Rattle.verifier.proofs.Merges as merges
@@ -77,6 +77,14 @@ module _ (m : MethodCode) (ordered : IsOrdered (files_of m)) where
               (still_below (files_of m) changed u t (parts_in (files_of m) there) (below u r) d (each_fits (files_of m) changed there frame t a fit)),
           λ hs are. are,
         )
+
+    -- a frame type that differs from the one there in what changed alone is merged by that
+    pub raises_whole : PartsDiffer changed there frame → (after : Found) → RaisesTo m before to frame changed after
+        → MergesInto m before (one_lead m to frame) after × KeepsLooks m before after
+    raises_whole differ after raises =
+        raises (parts_in (files_of m) there) (parts_in (files_of m) frame)
+        (raised_self (files_of m) (typing_in m before) to (parts_in (files_of m) there) (ap entry_of typed))
+        (differ_in (files_of m) changed there frame differ) (λ k e. refl)
 
     pub raises_join : (after : Found) (join : Parts) → list_all (fits (files_of m) there frame) changed ≡ false
         → IsJoined (files_of m) changed there frame join → after.types.items ≡ slice_set before.types.items to (Some join)

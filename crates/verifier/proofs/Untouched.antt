@@ -2,6 +2,7 @@
 use Rattle.std.proofs.Common.{◌≡◌, ℕ, ◌+◌, List, [], ◌∷◌, ◌++◌, length, map, take, drop, Bool, true, false, ◌&&◌, ◌||◌, not, cond, Option, Some, None, refl, sym, ap, ◌∙◌, subst, option_map}
 use Rattle.std.specs.Prelude.{slice_set, slice_index_or, nat_le}
 use Rattle.std.specs.List.{AllByRecursion, list_any}
+use Rattle.std.specs.Option.{option_map_or}
 use Rattle.std.proofs.lemmas.Bool.{false≢true, not-true}
 use Rattle.std.proofs.lemmas.Option.{same_Some}
 use Rattle.model.specs.declared.class_file.ExceptionEntry.{ExceptionEntry}
@@ -15,7 +16,7 @@ use Rattle.model.specs.declared.instr.Returned.TheVariants as returned
 use Rattle.model.specs.declared.instr.StackMove.{StackMove}
 use Rattle.model.specs.declared.instr.StackMove.TheVariants.{Pop, Pop2, Dup, DupX1, DupX2, Dup2, Dup2X1, Dup2X2, Swap}
 use Rattle.model.specs.declared.value.Value.{Value}
-use Rattle.model.specs.Names.{Member}
+use Rattle.model.specs.Names.{Member, name_eq, constructor_name}
 use Rattle.model.specs.Tree.{Entry}
 use Rattle.model.specs.Pool.{integers_of}
 use Rattle.model.specs.Classes.{Program, Body}
@@ -30,9 +31,9 @@ use Rattle.model.specs.Calls.{return_of}
 use Rattle.model.specs.Step.{covers}
 use Rattle.model.specs.TypeOrder.{FrameType}
 use Rattle.model.specs.Typing.{is_constructor, may_stand, constructs_this, marked, successors, handler_type, handlers_from, flow_by, flow_at, flow}
-use Rattle.run_laws.proofs.laws.Operations.{Operation, OfRow, GetSystemOut, GetStatic, PutStatic, GetField, PutField, Println, CallVirtual, CallConstructor, CallSpecial, CallStatic, CallInterface, Return, LoadClass, LoadString, New, NewArray, NewReferenceArray, ArrayLength, LoadElement, StoreElement, CheckCast, InstanceOf, Throw, MonitorEnter, MonitorExit, operation, OfMeaning, each_meaning}
+use Rattle.run_laws.proofs.laws.Operations.{Operation, NamedCall, OfRow, GetSystemOut, GetStatic, PutStatic, GetField, PutField, Println, CallVirtual, CallConstructor, CallSpecial, CallStatic, CallInterface, Return, LoadClass, LoadString, New, NewArray, NewReferenceArray, ArrayLength, LoadElement, StoreElement, CheckCast, InstanceOf, Throw, MonitorEnter, MonitorExit, operation, OfMeaning, each_meaning}
 use Rattle.run_laws.proofs.typing_search.Merging.{get_set_other}
-use Rattle.verifier.specs.flow.Untouched.{leaves}
+use Rattle.verifier.specs.flow.Untouched.{leaves, leaves_by}
 use Rattle.verifier.specs.Agreeing.{is_among, AgreeBut, AgreeAt, DifferIn, HaveMoved}
 use Rattle.verifier.proofs.Agreeing.{index_alike, but_set}
 
@@ -64,8 +65,8 @@ module _ (ks : List ℕ) where
   move_apart Dup2X2 next = record { reads = tt; writes = tt }
   move_apart Swap next = record { reads = tt; writes = tt }
 
-  module _ (integers : List (Option ℕ)) (code : List ℕ) (pc next : ℕ) (row : Row) where
-    row_apart : (i : Instr) → leaves i ks ≡ true → local_row integers code pc next i ≡ Some row → IsRowApart row
+  module _ (pool : List Entry) (integers : List (Option ℕ)) (code : List ℕ) (pc next : ℕ) (row : Row) where
+    row_apart : (i : Instr) → leaves_by pool i ks ≡ true → local_row integers code pc next i ≡ Some row → IsRowApart row
     row_apart instr.Nop h e = is_row _ row (record { reads = tt; writes = tt }) e
     row_apart instr.Null h e = is_row _ row (record { reads = tt; writes = tt }) e
     row_apart (instr.Const n) h e = is_row _ row (record { reads = tt; writes = tt }) e
@@ -174,7 +175,7 @@ module _ (ks : List ℕ) where
     rows_alike row n [] = tt
     rows_alike row n (to ∷ tos) = (row_alike row n to, rows_alike row n tos)
 
-    module _ (files : Program) (site : Site) (left : leaves site.instr ks ≡ true) where
+    module _ (files : Program) (site : Site) (left : leaves site ks ≡ true) where
       return_alike : (kind : Returned) → LeadsAlike (return_of values files site.method.descriptor kind)
       return_alike returned.Nothing = (tt, λ ops rest. tt)
       return_alike returned.Int = (tt, λ ops rest. tt)
@@ -195,12 +196,17 @@ module _ (ks : List ℕ) where
       store_alike array_kind.Short = (tt, next site.next [])
 
       -- an instruction that may change them all is not left
-      not_left : (i : Instr) → site.instr ≡ i → leaves i ks ≡ false → ⊥
-      not_left i e f = false≢true (sym f ∙ (ap (λ j. leaves j ks) (sym e) ∙ left))
+      not_left : (i : Instr) → site.instr ≡ i → leaves_by site.body.pool i ks ≡ false → ⊥
+      not_left i e f = false≢true (sym f ∙ (ap (λ j. leaves_by site.body.pool j ks) (sym e) ∙ left))
+
+      -- nor is a call of a constructor
+      constructs : (call : NamedCall site invocation.Special) → name_eq call.named.name constructor_name ≡ true
+          → leaves_by site.body.pool (instr.Invoke invocation.Special call.index) ks ≡ false
+      constructs call e = ap (λ o. not (option_map_or is_constructor o false)) call.names ∙ ap not e
 
       each_alike : (o : Operation files site) → LeadsAlike (operation values files site o)
       each_alike (OfRow row e) =
-          let n = row_apart (integers_of site.body.pool) site.body.code.code site.offset site.next row site.instr left e in
+          let n = row_apart site.body.pool (integers_of site.body.pool) site.body.code.code site.offset site.next row site.instr left e in
           (n.reads, λ ops rest. rows_alike row n (row.to ∷ row.others))
       each_alike (GetSystemOut index i) = (tt, λ ops rest. (kept site.next _, tt))
       each_alike (GetStatic f) = (tt, λ ops rest. (kept site.next _, tt))
@@ -209,7 +215,7 @@ module _ (ks : List ℕ) where
       each_alike (PutField f) = (tt, next site.next [])
       each_alike (Println call e) = (tt, next site.next [])
       each_alike (CallVirtual call e m) = (tt, λ ops rest. (kept site.next _, tt))
-      each_alike (CallConstructor call e passes) = absurd (not_left (instr.Invoke invocation.Special call.index) call.instruction refl)
+      each_alike (CallConstructor call e passes) = absurd (not_left (instr.Invoke invocation.Special call.index) call.instruction (constructs call e))
       each_alike (CallSpecial call e m) = (tt, λ ops rest. (kept site.next _, tt))
       each_alike (CallStatic index i m) = (tt, λ ops rest. (kept site.next _, tt))
       each_alike (CallInterface call m) = (tt, λ ops rest. (kept site.next _, tt))
@@ -307,12 +313,12 @@ module _ (ks : List ℕ) where
     by_meaning site None alike leads q = absurd cc
     by_meaning site (Some meaning) alike leads q = by_test site meaning alike leads (may_find site meaning a) refl q
 
-    by_site : (o : Option Site) → ((site : Site) → o ≡ Some site → leaves site.instr ks ≡ true) → (leads : List (ℕ × FrameType))
+    by_site : (o : Option Site) → ((site : Site) → o ≡ Some site → leaves site ks ≡ true) → (leads : List (ℕ × FrameType))
         → flow_at files a o ≡ Some leads → Moves leads (flow_at files b o)
     by_site None left leads q = absurd cc
     by_site (Some site) left leads q =
         by_meaning site (meaning_of values files site) (meaning_alike a.slots b.slots d.locals d.stack files site (left site refl)) leads q
 
-    pub flow_moves : (method : Member) (body : Body) (offset : ℕ) → ((site : Site) → site_at method body offset ≡ Some site → leaves site.instr ks ≡ true)
+    pub flow_moves : (method : Member) (body : Body) (offset : ℕ) → ((site : Site) → site_at method body offset ≡ Some site → leaves site ks ≡ true)
         → (leads : List (ℕ × FrameType)) → flow files method body offset a ≡ Some leads → Moves leads (flow files method body offset b)
     flow_moves method body offset left leads q = by_site (site_at method body offset) left leads q

@@ -29,7 +29,7 @@ typing_in m found = typing_of (tables_in (files_of m) found).types
 
 -- the instruction at an offset neither reads nor writes any of these local variables
 abbrev pub LeavesAt : MethodCode → ℕ → List ℕ → Type 0
-LeavesAt m offset locals = (site : Site) → site_at (member_of m) (body_of m) offset ≡ Some site → leaves site.instr locals ≡ true
+LeavesAt m offset locals = (site : Site) → site_at (member_of m) (body_of m) offset ≡ Some site → leaves site locals ≡ true
 
 -- ---- looks
 

@@ -214,6 +214,10 @@ impl Found {
             self.put(to, copy);
             return Ok(());
         };
+        if let Some(changed) = changes_between(alloc, there, frame)? {
+            self.raise(alloc, method, to, frame, &changed)?;
+            return Ok(());
+        }
         match merge_frames(alloc, method, there, frame) {
             Err(_) => Err(MethodFault::OutOfMemory),
             Ok(Raised::Clash) => Err(MethodFault::Unverified { offset: to }),

@@ -74,6 +74,9 @@ pub(crate) fn changes_between(
 ) -> Result<Option<Vec<usize>>, AllocError>
     ensures { IfOk result (λ o. IfSome o (λ v. PartsDiffer v.items from.now to.now)) }
 {
+    if from.is_same(to) {
+        return Ok(Some(Vec::new(alloc)));
+    }
     if !from.has_same_stack(to) {
         return Ok(None);
     }

@@ -11,6 +11,9 @@ use std::alloc::{AllocError, Global};
 use std::marker::Model;
 use types::{FrameType, VerificationType};
 
+/// So few local variables are copied with those that aren't asked for.
+const FEW_LOCALS: usize = 16;
+
 /// A frame type.
 #[derive(Drop)]
 pub(crate) struct PackedFrame {
@@ -97,10 +100,26 @@ impl PackedFrame {
         }
     }
 
+    /// A frame type with the same local variables, and an empty stack.
+    fn locals_alone(&self, alloc: Global) -> Result<PackedFrame, AllocError>
+        ensures { IfOk result (λ alone. alone.locals ≡ self.now.locals) }
+    {
+        let locals = self.locals.copy(alloc)?;
+        Ok(PackedFrame {
+            locals,
+            local_count: self.local_count,
+            stack: Vec::new(alloc),
+            constructed: false,
+        })
+    }
+
     /// A frame type with as many local variables, and what these hold.
     pub fn only(&self, alloc: Global, locals: &[usize]) -> Result<PackedFrame, AllocError>
         ensures { IfOk result (λ only. AgreeAt locals.now only.locals self.now.locals) }
     {
+        if self.local_count <= FEW_LOCALS {
+            return self.locals_alone(alloc);
+        }
         let mut only = PackedFrame::unusable(alloc, self.local_count)?;
         'locals: for local in locals {
             only.set_local(alloc, *local, self.local_at(*local))?;

@@ -31,9 +31,6 @@ pub(crate) fn merge_frames(
     requires { IsLinked (files_of method.now) }
     ensures { IfOk result (Raises (files_of method.now) there.now frame.now) }
 {
-    if frame.is_same(there) {
-        return Ok(Raised::Not);
-    }
     let there = there.unpack(alloc)?;
     let frame = frame.unpack(alloc)?;
     if is_frame_below(method.set(), &frame, &there) {

@@ -19,6 +19,9 @@ pub const MOST_STEPS: u64 = 2_000_000_000;
 /// What each turn of a search takes, whatever it merges.
 const TURN: u64 = 32;
 
+/// What a look as a whole takes beside that, whatever it merges: frame types are read and made for it.
+const LOOK: u64 = 64;
+
 /// How many steps a verification may still take.
 #[derive(Drop)]
 pub(crate) struct Steps {
@@ -104,9 +107,11 @@ pub(crate) fn bytes_read(method: &MethodCode<'_>, meanings: &Meanings, offset: u
 }
 
 /// How many steps a look as a whole takes at an instruction that leads to so many offsets, beside what each turn takes: what
-/// it merges, and one for each byte of texts that it reads.
+/// it merges, one for each byte of texts that it reads, and some more.
 pub(crate) fn steps_of_look(method: &MethodCode<'_>, leads: usize, read: usize) -> u64 {
-    merged(leads, places(method)).saturating_add(read as u64)
+    merged(leads, places(method))
+        .saturating_add(read as u64)
+        .saturating_add(LOOK)
 }
 
 /// How many steps a turn takes at most.

@@ -1,46 +1,9 @@
 //! The code of a method.
 
+use crate::class_builder::opcode::{GOTO_W, TABLESWITCH, WIDE};
 use crate::class_builder::{ClassBuilder, CodeParts};
 use model::ExceptionEntry;
 use std::alloc::{AllocError, Global};
-
-pub const NOP: u8 = 0x00;
-
-pub const ACONST_NULL: u8 = 0x01;
-
-pub const ICONST_0: u8 = 0x03;
-
-pub const ILOAD: u8 = 0x15;
-
-pub const ALOAD: u8 = 0x19;
-
-pub const ISTORE: u8 = 0x36;
-
-pub const ASTORE: u8 = 0x3a;
-
-pub const POP: u8 = 0x57;
-
-pub const DUP: u8 = 0x59;
-
-pub const TABLESWITCH: u8 = 0xaa;
-
-pub const RETURN: u8 = 0xb1;
-
-pub const GETSTATIC: u8 = 0xb2;
-
-pub const INVOKEVIRTUAL: u8 = 0xb6;
-
-pub const INVOKESPECIAL: u8 = 0xb7;
-
-pub const INVOKESTATIC: u8 = 0xb8;
-
-pub const ATHROW: u8 = 0xbf;
-
-pub const CHECKCAST: u8 = 0xc0;
-
-pub const WIDE: u8 = 0xc4;
-
-pub const GOTO_W: u8 = 0xc8;
 
 const PUBLIC_STATIC: u16 = 0x0009;
 

@@ -1,8 +1,7 @@
 //! Methods with many handlers and many local variables.
 
-use crate::hostile_files::body::{
-    ACONST_NULL, ASTORE, ATHROW, Body, ICONST_0, ISTORE, Places, RETURN, behind_switch,
-};
+use crate::class_builder::opcode::{ACONST_NULL, ASTORE, ATHROW, ICONST_0, ISTORE, RETURN};
+use crate::hostile_files::body::{Body, Places, behind_switch};
 use crate::hostile_files::set::Set;
 use std::alloc::{AllocError, Global};
 

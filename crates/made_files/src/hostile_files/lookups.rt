@@ -1,9 +1,10 @@
 //! Members that are found far from the class by which they are named.
 
-use crate::class_builder::{ClassBuilder, CodeParts};
-use crate::hostile_files::body::{
-    ACONST_NULL, Body, GETSTATIC, INVOKESTATIC, INVOKEVIRTUAL, POP, RETURN,
+use crate::class_builder::opcode::{
+    ACONST_NULL, GETSTATIC, INVOKESTATIC, INVOKEVIRTUAL, POP, RETURN,
 };
+use crate::class_builder::{ClassBuilder, CodeParts};
+use crate::hostile_files::body::Body;
 use crate::hostile_files::chains::long_name;
 use crate::hostile_files::names::{MAIN, OBJECT, numbered};
 use crate::hostile_files::set::Set;

@@ -1,7 +1,8 @@
 //! Classes with many members, and many references to them.
 
+use crate::class_builder::opcode::{ACONST_NULL, GETSTATIC, INVOKESTATIC, POP, RETURN};
 use crate::class_builder::{ClassBuilder, CodeParts};
-use crate::hostile_files::body::{ACONST_NULL, Body, GETSTATIC, INVOKESTATIC, POP, RETURN};
+use crate::hostile_files::body::Body;
 use crate::hostile_files::chains::long_name;
 use crate::hostile_files::names::{MAIN, OBJECT, numbered};
 use crate::hostile_files::set::Set;

@@ -5,6 +5,7 @@ mod body;
 mod chains;
 mod handlers;
 mod lookups;
+mod loops;
 mod members;
 mod names;
 mod set;

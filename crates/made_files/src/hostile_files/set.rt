@@ -1,7 +1,8 @@
 //! Sets of class files that grow.
 
 use crate::class_builder::ClassBuilder;
-use crate::hostile_files::body::{Body, RETURN};
+use crate::class_builder::opcode::RETURN;
+use crate::hostile_files::body::Body;
 use crate::hostile_files::names::{MAIN, OBJECT, numbered};
 use class_tree::Constant;
 use std::alloc::{AllocError, Global};

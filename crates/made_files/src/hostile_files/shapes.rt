@@ -1,15 +1,15 @@
 //! The shapes by their names.
 
-use crate::hostile_files::chains::{
-    calls_up_a_chain, catch_chain, descriptors_up_a_chain, interface_ladder, long_class_name,
-    loop_up_a_chain,
-};
+use crate::hostile_files::chains::{catch_chain, interface_ladder, long_class_name};
 use crate::hostile_files::handlers::{
     alternating_handlers, early_handlers, handlers, raised_handlers,
 };
 use crate::hostile_files::lookups::{
     inherited_fields, inherited_methods, long_method_name, methods_of_interfaces,
     methods_up_a_chain,
+};
+use crate::hostile_files::loops::{
+    calls_up_a_chain, descriptors_up_a_chain, loop_up_a_chain, many_loops, objects_up_a_chain,
 };
 use crate::hostile_files::members::{
     long_descriptor, overriding_methods, read_fields, redeclared_fields,
@@ -18,7 +18,7 @@ use crate::hostile_files::variables::{deep_stack, slow_loop};
 use std::alloc::{AllocError, Global};
 
 /// Their names, in the order of the alphabet.
-pub const SHAPES: [&str; 21] = [
+pub const SHAPES: [&str; 23] = [
     "alternating-handlers",
     "calls-up-a-chain",
     "catch-chain",
@@ -33,8 +33,10 @@ pub const SHAPES: [&str; 21] = [
     "long-descriptor",
     "long-method-name",
     "loop-up-a-chain",
+    "many-loops",
     "methods-of-interfaces",
     "methods-up-a-chain",
+    "objects-up-a-chain",
     "overriding-methods",
     "raised-handlers",
     "read-fields",
@@ -64,8 +66,10 @@ pub fn class_files(
         "long-descriptor" => long_descriptor(alloc, number)?,
         "long-method-name" => long_method_name(alloc, number)?,
         "loop-up-a-chain" => loop_up_a_chain(alloc, number)?,
+        "many-loops" => many_loops(alloc, number)?,
         "methods-of-interfaces" => methods_of_interfaces(alloc, number)?,
         "methods-up-a-chain" => methods_up_a_chain(alloc, number)?,
+        "objects-up-a-chain" => objects_up_a_chain(alloc, number)?,
         "overriding-methods" => overriding_methods(alloc, number)?,
         "raised-handlers" => raised_handlers(alloc, number)?,
         "read-fields" => read_fields(alloc, number)?,

@@ -1,8 +1,7 @@
 //! Methods with many local variables or a deep stack.
 
-use crate::hostile_files::body::{
-    ACONST_NULL, ALOAD, ASTORE, Body, CHECKCAST, DUP, ICONST_0, Places, RETURN, behind_switch,
-};
+use crate::class_builder::opcode::{ACONST_NULL, ALOAD, ASTORE, CHECKCAST, DUP, ICONST_0, RETURN};
+use crate::hostile_files::body::{Body, Places, behind_switch};
 use crate::hostile_files::names::{MAIN, OBJECT};
 use crate::hostile_files::set::Set;
 use std::alloc::{AllocError, Global};

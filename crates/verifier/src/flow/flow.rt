@@ -46,10 +46,10 @@ fn site_at<'a>(method: &MethodCode<'a>, offset: u16) -> Option<Site<'a>>
 pub(crate) fn leaves_at(method: &MethodCode<'_>, offset: usize, locals: &[usize]) -> bool
     requires start { IsTrue (is_start (body_of method.now).code.code offset) }
     ensures { IsTrue result → (site : ModelSite) → site_at (member_of method.now) (body_of method.now) offset ≡ Some site
-        → leaves site.instr locals.now ≡ true }
+        → leaves site locals.now ≡ true }
 {
     match site_at(method, offset as u16) {
-        Some(site) => leaves(site.instr, locals),
+        Some(site) => leaves(&site, locals),
         None => false,
     }
 }

@@ -167,8 +167,8 @@ fn finds_this(set: &ClassSet, wants: &Wants, frame: &FrameType) -> bool
     false
 }
 
-/// Whether an index names a constructor.
-fn names_constructor(site: &Site<'_>, index: u16) -> bool
+/// Whether an index of a site's class names a constructor.
+pub(crate) fn names_constructor(site: &Site<'_>, index: u16) -> bool
     ensures { result ≡ option_map_or is_constructor (method_at (body_of site.now.method).pool index) false }
 {
     match site.method.file.method_reference(index) {

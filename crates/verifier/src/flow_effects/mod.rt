@@ -4,3 +4,4 @@ mod application;
 mod lead;
 
 pub use lead::lead_on;
+pub(crate) use lead::names_constructor;

@@ -1,8 +1,6 @@
 use Rattle.std.proofs.Common.{◌∙◌, None, sym, ap}
 use Rattle.std.specs.Prelude.{Some}
 use Rattle.std.proofs.lemmas.Bool.{false≢true}
-use Rattle.model.specs.TypeOrder.{is_frame_below}
-use Rattle.run_laws.proofs.typing_search.Orders.{frame_self}
 use Rattle.types.specs.method_code.View.{files_of}
 use Rattle.verifier.specs.Packed.{parts_in}
 use Rattle.verifier.proofs.Linked.{has_superclasses}
@@ -11,12 +9,6 @@ use Rattle.verifier.proofs.raised.merge_frames.Goals as goal
 
 pub frame_join-requires : goal.frame_join-requires
 frame_join-requires c = has_superclasses (files_of c.args.method.now) _ c.set-2.ensures c.requires.1.no_refusal
-
-pub returns-then-is_same : goal.returns-then-is_same
-returns-then-is_same c =
-    let files = files_of c.args.method.now in
-    let there = parts_in files c.args.there.now in
-    ap (λ p. is_frame_below files (parts_in files p) there) (c.is_same.ensures c.if-is_same.true) ∙ frame_self files there
 
 pub returns-then-is_frame_below : goal.returns-then-is_frame_below
 returns-then-is_frame_below c =

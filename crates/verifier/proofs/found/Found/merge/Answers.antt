@@ -1,14 +1,18 @@
-use Rattle.std.proofs.Common.{◌≡◌, ◌∙◌, get_or, true, false, subst, refl, sym, ap, arith}
-use Rattle.std.specs.Prelude.{Some, slice_set}
+use Rattle.std.proofs.Common.{◌≡◌, ◌∙◌, ℕ, get_or, true, false, subst, refl, sym, ap, arith}
+use Rattle.std.specs.Global.{Vec}
+use Rattle.std.specs.Prelude.{IfSome, Some, slice_set}
 use Rattle.run_laws.specs.typing_search.Tables.{entry_of}
 use Rattle.run_laws.proofs.typing_search.Linking.{ordered_from}
 use Rattle.run_laws.proofs.typing_search.Merging.{clash_apart, clash_oversized}
 use Rattle.types.specs.method_code.View.{files_of, member_of, body_of}
 use Rattle.verifier.specs.Packed.{parts_in}
+use Rattle.verifier.specs.Changes.{PartsDiffer}
+use Rattle.verifier.specs.Looks.{RaisesTo}
 use Rattle.verifier.specs.Raised.{Raises}
 use Rattle.verifier.specs.Found.{tables_in}
 use Rattle.verifier.proofs.Entries.{start_within, read_at}
 use Rattle.verifier.proofs.Merges.{fits}
+use Rattle.verifier.proofs.Passing.{raises_whole}
 use Rattle.verifier.proofs.Puts.{there_at, first_put, joined_put}
 use Rattle.verifier.proofs.found.Found.merge.Goals as goal
 
@@ -92,3 +96,21 @@ returns-in_ok-put_join-in-Ok-To-clause-looks c =
     let at = there_at c.args.self.now.types.items c.args.edge.to _ _ within.0 c.index.ensures c.in-Some.is in
     let raised = subst (Raises files c.in-Some.there c.args.frame.now) c.in-Ok-To.field-0-is c.in-Ok-To.ensures in
     (joined_put m (ordered_from files c.requires.linked.1.no_refusal) c.args.self.now c.put_join.new.self c.requires.over c.args.edge.to c.args.frame.now c.in_ok-put_join-in-Ok-To.ensures.waiting c.in-Some.there c.in-Ok-To.join at raised.0 raised.1 c.in_ok-put_join-in-Ok-To.ensures.types c.in_ok-put_join-in-Ok-To.ensures.looks).1
+
+pub returns-in-Some-2-clause-merged : goal.returns-in-Some-2-clause-merged
+returns-in-Some-2-clause-merged c =
+    let m = c.args.method.now in
+    let within = start_within (files_of m) (body_of m) c.args.self.now c.args.starts.now c.args.edge.to _ c.requires.starts c.requires.over c.is_start.ensures c.if-not-is_start.false in
+    let at = there_at c.args.self.now.types.items c.args.edge.to _ _ within.0 c.index.ensures c.in-Some.is in
+    (raises_whole m (ordered_from (files_of m) c.requires.linked.1.no_refusal) c.args.self.now c.requires.over c.args.edge.to c.in-Some.there c.args.frame.now c.in-Some-2.changed.items at
+    (subst (λ o. IfSome o (λ (v : Vec ℕ). PartsDiffer v.items c.in-Some.there c.args.frame.now)) c.in-Some-2.is c.in_ok-changed.ensures) c.raise.new.self
+    (subst (λ l. RaisesTo m c.args.self.now c.args.edge.to c.args.frame.now l c.raise.new.self) c.deref.ensures.value c.in_ok-raise.ensures.raised)).0
+
+pub returns-in-Some-2-clause-looks : goal.returns-in-Some-2-clause-looks
+returns-in-Some-2-clause-looks c =
+    let m = c.args.method.now in
+    let within = start_within (files_of m) (body_of m) c.args.self.now c.args.starts.now c.args.edge.to _ c.requires.starts c.requires.over c.is_start.ensures c.if-not-is_start.false in
+    let at = there_at c.args.self.now.types.items c.args.edge.to _ _ within.0 c.index.ensures c.in-Some.is in
+    (raises_whole m (ordered_from (files_of m) c.requires.linked.1.no_refusal) c.args.self.now c.requires.over c.args.edge.to c.in-Some.there c.args.frame.now c.in-Some-2.changed.items at
+    (subst (λ o. IfSome o (λ (v : Vec ℕ). PartsDiffer v.items c.in-Some.there c.args.frame.now)) c.in-Some-2.is c.in_ok-changed.ensures) c.raise.new.self
+    (subst (λ l. RaisesTo m c.args.self.now c.args.edge.to c.args.frame.now l c.raise.new.self) c.deref.ensures.value c.in_ok-raise.ensures.raised)).1

@@ -2,7 +2,7 @@ use Rattle.std.proofs.Common.{◌∙◌, length, get_or, ap}
 use Rattle.std.specs.Prelude.{slice_set}
 use Rattle.std.proofs.lemmas.List.{length-set}
 use Rattle.types.specs.declared.verification_type.VerificationType.TheVariants as type
-use Rattle.verifier.proofs.Joining.{holds_more}
+use Rattle.verifier.proofs.Joining.{all_hold, holds_more}
 use Rattle.verifier.proofs.packed.PackedFrame.only.Goals as goal
 
 pub locals-preserved : goal.locals-preserved
@@ -14,3 +14,6 @@ locals-preserved c =
           c.locals.invariant.long c.locals.invariant.holds
           (c.in_ok-set_local.ensures.locals ∙ ap (λ t. slice_set c.locals.only.locals (get_or c.args.locals.now c.locals.local-index 0) t) c.local_at.ensures);
     }
+
+pub returns-then-self-le-FEW_LOCALS : goal.returns-then-self-le-FEW_LOCALS
+returns-then-self-le-FEW_LOCALS c = all_hold c.args.locals.now c.args.self.now c.locals_alone.result c.locals_alone.ensures
