@@ -14,6 +14,9 @@ use types::VerificationType;
 /// How many local variables may differ at most.
 const MOST_CHANGES: usize = 8;
 
+/// How many local variables are compared before all of them are written down.
+const FIRST: usize = 32;
+
 /// An instruction all of whose leads are merged, by its offset, and the local variables that have changed since it.
 #[derive(Drop)]
 pub(crate) struct Near {
@@ -44,6 +47,17 @@ fn places_between(
     Ok(Some(places))
 }
 
+/// Whether frame types differ in too many of their first local variables.
+fn differ_soon(from: &PackedFrame, to: &PackedFrame) -> bool {
+    let mut count = 0usize;
+    'first: for local in 0..FIRST {
+        if !is_same_type(from.local_at(local), to.local_at(local)) {
+            count = count.saturating_add(1);
+        }
+    }
+    count > MOST_CHANGES
+}
+
 /// In which local variables frame types differ, if in few.
 fn locals_between(
     alloc: Global,
@@ -60,6 +74,9 @@ fn locals_between(
         && let Some(after) = to.each_local()
     {
         return places_between(alloc, before, after);
+    }
+    if differ_soon(from, to) {
+        return Ok(None);
     }
     let before = from.locals(alloc)?;
     let after = to.locals(alloc)?;
