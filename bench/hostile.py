@@ -2,6 +2,7 @@
 """Makes a table of how long class files that are hard to link or to verify take, by the program `bench hostile`.
 
     hostile.py [--program PROGRAM] [NAME..]
+    hostile.py [--program PROGRAM] --largest [NAME..]
     hostile.py --told FILE
 
 PROGRAM is the built program `bench` [default: crates/bench/out/bench, which `rt run` leaves]. Each shape of files is run by
@@ -10,10 +11,15 @@ bytes, or they are refused. All names are those of shapes [default: all]. A line
 what was doubled, the bytes of the files, the seconds of processor time of linking and of verification, to which power of
 the bytes the time grew in the last doubling, and the peak memory of the process.
 
+With --largest there is as much of everything in the files of each shape as makes a megabyte, or as a method may have: it is
+doubled until there is more, and then sought between the last two. A line is the run with the most: what was sought, the bytes of
+the files, the seconds of processor time of the process, its peak memory, and what became of the files.
+
 With --told it makes the table of what such runs printed, for what `rt try` printed, for one.
 """
 
 import argparse
+import dataclasses
 import os
 import re
 import subprocess
@@ -26,11 +32,69 @@ LINE = re.compile(
     r"(?:, exponent (\d+) hundredths)?(?:, peak (\d+) kilobytes)?$"
 )
 
+# What a run prints that is told how much of everything there is.
+ONE = re.compile(r"[a-z-]+ (\d+): (\d+) bytes (.*)$", re.DOTALL)
+
+MEGABYTE = 1_000_000
+
+
+@dataclasses.dataclass
+class Ran:
+    """A run of a shape: how much of everything there was, the bytes, what was said of them, the seconds, the peak in bytes."""
+
+    number: int
+    size: int
+    said: str
+    seconds: float
+    peak: int
+
+    def fits(self):
+        """Whether the files are class files that link, and are no more than a megabyte."""
+        return self.size <= MEGABYTE and (self.said == "verified" or "TooLarge" in self.said)
+
+
+def run_of(program, name, number):
+    process = subprocess.Popen([program, "hostile", name, str(number)], stdout=subprocess.PIPE, text=True)
+    said = process.stdout.read()
+    _, status, usage = os.wait4(process.pid, 0)
+    process.returncode = os.waitstatus_to_exitcode(status)
+    found = ONE.match(said.strip())
+    if process.returncode or not found:
+        sys.exit(f"{name} {number}: status {process.returncode}: {said}")
+    return Ran(int(found[1]), int(found[2]), found[3].strip(), usage.ru_utime + usage.ru_stime, 1024 * usage.ru_maxrss)
+
+
+def largest(program, name):
+    """The run of a shape with the most of everything that fits, to an eighth."""
+    last, number = None, 8
+    while (ran := run_of(program, name, number)).fits():
+        last, number = ran, 2 * number
+    low, high = last.number, number
+    while high - low > max(1, low // 8):
+        ran = run_of(program, name, (low + high) // 2)
+        if ran.fits():
+            last, low = ran, ran.number
+        else:
+            high = ran.number
+    return last
+
+
+def print_largest(program, names):
+    print("| Shape | Of each | Bytes | Seconds | Peak | |")
+    print("|---|---|---|---|---|---|")
+    for name in names:
+        ran = largest(program, name)
+        what = "`TooLarge`" if "TooLarge" in ran.said else ""
+        print(f"| `{name}` | {ran.number:,} | {ran.size:,} | {ran.seconds:.1f} | {ran.peak / 2**20:.0f} MB | {what} |", flush=True)
+
+
+def names_of(program):
+    return subprocess.run([program, "hostile"], check=True, capture_output=True, text=True).stdout.split()
+
 
 def told_by(program, names):
     """What the program prints of each shape."""
-    names = names or subprocess.run([program, "hostile"], check=True, capture_output=True, text=True).stdout.split()
-    for name in names:
+    for name in names or names_of(program):
         ran = subprocess.run([program, "hostile", name], check=True, capture_output=True, text=True)
         yield from ran.stdout.splitlines()
 
@@ -45,9 +109,13 @@ def row(found):
 def main():
     parser = argparse.ArgumentParser(description=__doc__, formatter_class=argparse.RawDescriptionHelpFormatter)
     parser.add_argument("--program", default=os.path.join(ROOT, "crates/bench/out/bench"))
+    parser.add_argument("--largest", action="store_true")
     parser.add_argument("--told")
     parser.add_argument("names", nargs="*")
     options = parser.parse_args()
+    if options.largest:
+        print_largest(options.program, options.names or names_of(options.program))
+        return
     if options.told:
         with open(options.told) as file:
             lines = file.read().splitlines()
