@@ -11,9 +11,10 @@ bytes, or they are refused. All names are those of shapes [default: all]. A line
 what was doubled, the bytes of the files, the seconds of processor time of linking and of verification, to which power of
 the bytes the time grew in the last doubling, and the peak memory of the process.
 
-With --largest there is as much of everything in the files of each shape as makes a megabyte, or as a method may have: it is
-doubled until there is more, and then sought between the last two. A line is the run with the most: what was sought, the bytes of
-the files, the seconds of processor time of the process, its peak memory, and what became of the files.
+With --largest there is as much of everything in the files of each shape as makes a megabyte, or as a method may have: it
+is doubled until there is more, and then sought between the last two, to an eighth. A line is the run with the most: what
+was sought, the bytes of the files, the seconds of processor time of the process, its peak memory, and `TooLarge` where the
+files were refused for their steps.
 
 With --told it makes the table of what such runs printed, for what `rt try` printed, for one.
 """
