@@ -190,22 +190,14 @@ fn push_classes(
 fn plain_classes(alloc: Global) -> Result<Vec<ClassFile>, AllocError>
     ensures { IfOk result (λ v. map file_of v.items ≡ plain_classes) }
 {
-    let object = object_class(alloc)?;
-    let runnable = class_file(alloc, &RUNNABLE)?;
-    let thread = thread_class(alloc)?;
-    let string = class_file(alloc, &STRING)?;
-    let class = class_file(alloc, &CLASS)?;
-    let system = system_class(alloc)?;
-    let print_stream = class_file(alloc, &PRINT_STREAM)?;
-    let classes = vec![in alloc;
-        object,
-        runnable,
-        thread,
-        string,
-        class,
-        system,
-        print_stream,
-    ]?;
+    let mut classes = Vec::new(alloc);
+    classes.push(object_class(alloc)?)?;
+    classes.push(class_file(alloc, &RUNNABLE)?)?;
+    classes.push(thread_class(alloc)?)?;
+    classes.push(class_file(alloc, &STRING)?)?;
+    classes.push(class_file(alloc, &CLASS)?)?;
+    classes.push(system_class(alloc)?)?;
+    classes.push(class_file(alloc, &PRINT_STREAM)?)?;
     Ok(classes)
 }
 
