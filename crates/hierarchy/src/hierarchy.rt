@@ -14,16 +14,13 @@ ghost use Rattle.hierarchy.specs.Fields.{SuperinterfacesAreFlat};
 ghost use Rattle.hierarchy.specs.Numbers.{names_of, named_rows};
 ghost use Rattle.hierarchy.specs.Places.{place_of, member_in, IsFieldAt, IsMethodAt};
 
-use crate::fields::{
-    field_along_superclasses, field_among_supertypes, rows_for_fields, superinterfaces_are_flat,
-};
+use crate::fields::{field_along_superclasses, field_among_supertypes};
 use crate::lookup::Wanted;
 use crate::name_table::{NameTable, place_by};
+use crate::named_rows::NamedRows;
 use crate::place::MemberPlace;
-use crate::ranked_rows::ordered_interface_rows;
-use crate::ranks::ranked_order;
 use crate::row::Row;
-use crate::rows::{interface_rows, is_among, row_of, supertype_rows};
+use crate::rows::{is_among, row_of};
 use crate::set::ClassSet;
 use crate::sought::Sought;
 use class_tree::Reference;
@@ -122,43 +119,24 @@ fn row_with_superinterfaces<'a>(
 }
 
 impl Hierarchy {
-    /// The hierarchy of a set in which a class is above itself.
-    fn by_steps(alloc: Global, set: ClassSet) -> Result<Hierarchy, AllocError>
-        ensures { IfOk result (λ hierarchy. hierarchy ≡ set) }
-    {
-        let names = NameTable::of_set(alloc, &set)?;
-        let places = names.places(alloc, &set)?;
-        let interfaces = interface_rows(alloc, &set, &names)?;
-        let supertypes = supertype_rows(alloc, &set, &names)?;
-        Ok(Hierarchy {
-            set,
-            names,
-            places,
-            interfaces,
-            supertypes,
-            superinterfaces_are_flat: false,
-        })
-    }
-
     /// The hierarchy of a set of classes. This alone takes memory.
     pub fn new(alloc: Global, set: ClassSet) -> Result<Hierarchy, AllocError>
         ensures { IfOk result (λ hierarchy. hierarchy ≡ set) }
     {
-        let Some(order) = ranked_order(alloc, &set)? else {
-            return Hierarchy::by_steps(alloc, set);
-        };
-        let names = NameTable::of_set(alloc, &set)?;
-        let places = names.places(alloc, &set)?;
-        let interfaces = ordered_interface_rows(alloc, &set, &names, &order)?;
-        let are_flat = superinterfaces_are_flat(&set);
-        let supertypes = rows_for_fields(alloc, &set, &names, &order, &interfaces, are_flat)?;
+        let NamedRows {
+            names,
+            places,
+            interfaces,
+            supertypes,
+            superinterfaces_are_flat,
+        } = NamedRows::of_set(alloc, &set)?;
         Ok(Hierarchy {
             set,
             names,
             places,
             interfaces,
             supertypes,
-            superinterfaces_are_flat: are_flat,
+            superinterfaces_are_flat,
         })
     }
 

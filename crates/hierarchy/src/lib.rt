@@ -13,6 +13,7 @@ mod long_walks;
 mod lookup;
 mod member_keys;
 mod name_table;
+mod named_rows;
 mod number_set;
 mod order;
 mod place;

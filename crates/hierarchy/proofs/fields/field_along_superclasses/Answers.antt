@@ -1,5 +1,4 @@
-use Rattle.std.proofs.Common.{◌≡◌, ◌∙◌, ◌∷◌, [], ◌-◌, ◌<◌, List, Option, None, Some, length, refl, sym, ap, subst, arith}
-use Rattle.std.specs.Prelude.{option_map}
+use Rattle.std.proofs.Common.{◌≡◌, ◌∙◌, ◌∷◌, [], ◌-◌, ◌<◌, List, Option, None, Some, length, refl, sym, ap, subst}
 use Rattle.std.specs.Option.{option_or}
 use Rattle.std.specs.List.{flat_map}
 use Rattle.constant_pool.specs.View.{reference_of}

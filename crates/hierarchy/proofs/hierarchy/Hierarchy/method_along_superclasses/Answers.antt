@@ -1,5 +1,4 @@
 use Rattle.std.proofs.Common.{◌≡◌, ◌∙◌, ◌<◌, None, Some, length, sym, ap, subst}
-use Rattle.std.specs.Prelude.{option_map}
 use Rattle.constant_pool.specs.View.{reference_of}
 use Rattle.model.specs.Classes.{classes_of, superclass_of, interfaces_above, all_superinterfaces}
 use Rattle.model.specs.Lookup.{method_in_class, any_method, first_found}
