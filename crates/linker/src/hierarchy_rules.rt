@@ -67,6 +67,19 @@ fn check_rules(alloc: Global, set: &ClassSet) -> Result<(), Refusal>
     Ok(())
 }
 
+/// That no class is above itself, and that none breaks a rule: BadHierarchy.
+fn check_hierarchy(alloc: Global, set: &ClassSet) -> Result<(), Refusal>
+    requires { list_any (stands set.now) before_links ≡ false }
+    ensures passed { OnOk result (list_any (stands set.now) (earlier Unresolved) ≡ false) }
+    ensures refused { IfErr result (λ r. RefusesTrees set.now r.kind r.file r.cause) }
+{
+    let found = first_in_cycle(alloc, set)?;
+    if let Some(number) = found {
+        return Err(Refusal::of_file(RefusalKind::BadHierarchy, number));
+    }
+    check_rules(alloc, set)
+}
+
 /// A set with what is above each of its classes, where they are to one another as they have to be: BadHierarchy.
 pub(crate) fn hierarchy_of(alloc: Global, set: ClassSet) -> Result<Hierarchy, Refusal>
     requires { list_any (stands set) before_links ≡ false }
@@ -74,11 +87,7 @@ pub(crate) fn hierarchy_of(alloc: Global, set: ClassSet) -> Result<Hierarchy, Re
     ensures passed { OnOk result (list_any (stands set) (earlier Unresolved) ≡ false) }
     ensures refused { IfErr result (λ r. RefusesTrees set r.kind r.file r.cause) }
 {
-    let found = first_in_cycle(alloc, &set)?;
-    if let Some(number) = found {
-        return Err(Refusal::of_file(RefusalKind::BadHierarchy, number));
-    }
-    check_rules(alloc, &set)?;
+    check_hierarchy(alloc, &set)?;
     let hierarchy = Hierarchy::new(alloc, set)?;
     Ok(hierarchy)
 }

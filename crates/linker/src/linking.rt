@@ -1,8 +1,9 @@
 //! Linking: what set of classes files are, or why they are refused.
 
 ghost use Rattle.std.specs.Prelude.{◌≡◌, false, IfOk, IfErr, MatchResult, OnOk, map, vec_items};
+ghost use Rattle.std.specs.List.{list_any};
 ghost use Rattle.model.specs.Classes.{Program};
-ghost use Rattle.model.specs.Linkable.{IsLinkable, some_stands};
+ghost use Rattle.model.specs.Linkable.{IsLinkable, Unresolved, earlier, some_stands, stands};
 ghost use Rattle.hierarchy.specs.Set.{trees_of};
 ghost use Rattle.linker.specs.Linking.{MayRefuse, RefusesTrees};
 ghost use Rattle.link_conditions.specs.declared.refusal.why.RefusalKind.TheVariants as kinds;
@@ -18,6 +19,17 @@ use hierarchy::Hierarchy;
 use link_conditions::refusal::Refusal;
 use std::alloc::Global;
 
+/// That no condition stands of those that come behind what classes have to be to one another.
+fn check_links(alloc: Global, hierarchy: &Hierarchy) -> Result<(), Refusal>
+    requires { list_any (stands hierarchy.now) (earlier Unresolved) ≡ false }
+    ensures passed { OnOk result (some_stands hierarchy.now ≡ false) }
+    ensures refused { IfErr result (λ r. RefusesTrees hierarchy.now r.kind r.file r.cause) }
+{
+    check_names(alloc, hierarchy)?;
+    check_fields(alloc, hierarchy.set())?;
+    check_main(hierarchy.set())
+}
+
 /// The classes of class files, with what is above each of them.
 fn link_classes(alloc: Global, classes: Vec<ClassFile>) -> Result<Hierarchy, Refusal>
     ensures linked { IfOk result (λ hierarchy. hierarchy ≡ trees_of classes.items) }
@@ -27,9 +39,7 @@ fn link_classes(alloc: Global, classes: Vec<ClassFile>) -> Result<Hierarchy, Ref
     let set = class_set(alloc, classes)?;
     check_profile(alloc, &set)?;
     let hierarchy = hierarchy_of(alloc, set)?;
-    check_names(alloc, &hierarchy)?;
-    check_fields(alloc, hierarchy.set())?;
-    check_main(hierarchy.set())?;
+    check_links(alloc, &hierarchy)?;
     Ok(hierarchy)
 }
 

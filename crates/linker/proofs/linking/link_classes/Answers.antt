@@ -9,20 +9,8 @@ returns-in_err-check_profile-clause-refused c =
     let p = err_from_is_err_and c.from_residual-in_err-check_profile.result c.from_residual-in_err-check_profile.ensures.1 in
     rw (p.1, p.2) (subst (λ files. RefusesTrees files e.kind e.file e.cause) (c.in_ok-set.ensures.set) c.in_err-check_profile.ensures.refused)
 
-pub returns-in_err-check_names-clause-refused : goal.returns-in_err-check_names-clause-refused
-returns-in_err-check_names-clause-refused c =
-    let e = c.in_err-check_names.field-0.0 in
-    let p = err_from_is_err_and c.from_residual-in_err-check_names.result c.from_residual-in_err-check_names.ensures.1 in
-    rw (p.1, p.2) (subst (λ files. RefusesTrees files e.kind e.file e.cause) (c.in_ok-hierarchy.ensures.set ∙ c.in_ok-set.ensures.set) c.in_err-check_names.ensures.refused)
-
-pub returns-in_err-check_fields-clause-refused : goal.returns-in_err-check_fields-clause-refused
-returns-in_err-check_fields-clause-refused c =
-    let e = c.in_err-check_fields.field-0.0 in
-    let p = err_from_is_err_and c.from_residual-in_err-check_fields.result c.from_residual-in_err-check_fields.ensures.1 in
-    rw (p.1, p.2) (subst (λ files. RefusesTrees files e.kind e.file e.cause) (c.set-2.ensures ∙ c.in_ok-hierarchy.ensures.set ∙ c.in_ok-set.ensures.set) c.in_err-check_fields.ensures.refused)
-
-pub returns-in_err-check_main-clause-refused : goal.returns-in_err-check_main-clause-refused
-returns-in_err-check_main-clause-refused c =
-    let e = c.in_err-check_main.field-0.0 in
-    let p = err_from_is_err_and c.from_residual-in_err-check_main.result c.from_residual-in_err-check_main.ensures.1 in
-    rw (p.1, p.2) (subst (λ files. RefusesTrees files e.kind e.file e.cause) (c.set-3.ensures ∙ c.in_ok-hierarchy.ensures.set ∙ c.in_ok-set.ensures.set) c.in_err-check_main.ensures.refused)
+pub returns-in_err-check_links-clause-refused : goal.returns-in_err-check_links-clause-refused
+returns-in_err-check_links-clause-refused c =
+    let e = c.in_err-check_links.field-0.0 in
+    let p = err_from_is_err_and c.from_residual-in_err-check_links.result c.from_residual-in_err-check_links.ensures.1 in
+    rw (p.1, p.2) (subst (λ files. RefusesTrees files e.kind e.file e.cause) (c.in_ok-hierarchy.ensures.set ∙ c.in_ok-set.ensures.set) c.in_err-check_links.ensures.refused)

@@ -3,15 +3,15 @@ use Rattle.model.specs.Hierarchy.{in_cycle}
 use Rattle.hierarchy.proofs.Indices.{no_position}
 use Rattle.linker.proofs.Lists.{position_passes}
 use Rattle.linker.proofs.Stages.{cycle_refused}
-use Rattle.linker.proofs.hierarchy_rules.hierarchy_of.Goals as goal
+use Rattle.linker.proofs.hierarchy_rules.check_hierarchy.Goals as goal
 
 pub returns-in-Some-clause-refused : goal.returns-in-Some-clause-refused
 returns-in-Some-clause-refused c =
-    let trees = c.args.set in
+    let trees = c.args.set.now in
     let n = c.in-Some.number in
     let found = position_passes (in_cycle trees) trees n (sym c.in_ok-found.ensures ∙ c.in-Some.is) in
     cycle_refused trees found.0 n c.of_file.result.kind c.of_file.result.file c.of_file.result.cause c.requires found.1 found.2 c.of_file.ensures.kind c.of_file.ensures.file
 
 pub check_rules-requires-clause-acyclic : goal.check_rules-requires-clause-acyclic
 check_rules-requires-clause-acyclic c =
-    no_position (in_cycle c.args.set) c.args.set (sym c.in_ok-found.ensures ∙ c.in_default.is)
+    no_position (in_cycle c.args.set.now) c.args.set.now (sym c.in_ok-found.ensures ∙ c.in_default.is)
