@@ -48,12 +48,22 @@ pub fn replay_engine<S: Source, W: Sink>(
     Ok(status)
 }
 
-/// The text and the status of what the class files do under the schedule.
+/// The text and the status of what the class files do under the schedule. Lets go what was opened.
 fn replayed(alloc: Global, opened: Opened) -> Result<(Vec<u8>, Status), AllocError>
     ensures { IfOk result (λ told. (bytes : _) (options : _)
         → IsOpened bytes (map vec_items opened.files.items) options opened.verified
         (events_of opened.schedule) opened.limits
         → IsReplayed bytes (map vec_items opened.files.items) options told.0.items told.1) }
+{
+    replay_of(alloc, &opened)
+}
+
+/// The text and the status of what the class files that were opened do under their schedule.
+fn replay_of(alloc: Global, opened: &Opened) -> Result<(Vec<u8>, Status), AllocError>
+    ensures { IfOk result (λ told. (bytes : _) (options : _)
+        → IsOpened bytes (map vec_items opened.now.files.items) options opened.now.verified
+        (events_of opened.now.schedule) opened.now.limits
+        → IsReplayed bytes (map vec_items opened.now.files.items) options told.0.items told.1) }
 {
     let (report, end) = replay(alloc, &opened.verified, &opened.schedule, opened.limits)?;
     let text = text(alloc, &report, &end)?;

@@ -70,7 +70,7 @@ pub fn search_engine<P: Progress, S: Source, W: Sink, V: Sink>(
     Ok(searched.status)
 }
 
-/// Searches accepted class files, and makes what is to be written.
+/// Searches accepted class files, and makes what is to be written. Lets them go.
 fn searched<P: Progress>(
     alloc: Global,
     progress: &P,
@@ -85,8 +85,35 @@ fn searched<P: Progress>(
     ensures { IfOk result (λ searched. IsSearched (map vec_items files.now) limits.now wanted.now is_recorded
         searched.text.items (option_map vec_items searched.file) searched.status) }
 {
+    search_of(
+        alloc,
+        progress,
+        &verified,
+        files,
+        limits,
+        wanted,
+        most,
+        is_recorded,
+    )
+}
+
+/// Searches accepted class files, and makes what is to be written.
+fn search_of<P: Progress>(
+    alloc: Global,
+    progress: &P,
+    verified: &Verified,
+    files: &[Vec<u8>],
+    limits: &LimitOptions,
+    wanted: &Wanted,
+    most: u32,
+    is_recorded: bool,
+) -> Result<Outcome, AllocError>
+    requires { IsAccepted (map vec_items files.now) verified.now }
+    ensures { IfOk result (λ searched. IsSearched (map vec_items files.now) limits.now wanted.now is_recorded
+        searched.text.items (option_map vec_items searched.file) searched.status) }
+{
     let limits = limits.limits();
-    let program = verified_program(alloc, &verified)?;
+    let program = verified_program(alloc, verified)?;
     let classes = verified.linked().set();
     let searched = search_report(alloc, progress, classes, program, limits, wanted, most)?;
     let text = searched.text(alloc)?;

@@ -9,11 +9,13 @@ use crate::recording::limits_of;
 use crate::verification::accepted;
 use command_line::LimitOptions;
 use explanations::thread_explanations::explain_threads;
-use model::Source;
+use model::{Limits, Source};
 use program_runs::verified_programs::verified_program;
-use std::alloc::Global;
+use schedule::Schedule;
+use std::alloc::{AllocError, Global};
 use std::io;
 use std::io::Write;
+use verifier::Verified;
 
 /// The file that is to be recorded, if one is. Its bytes are kept, where they are wanted.
 #[derive(Drop)]
@@ -70,8 +72,18 @@ pub(crate) fn told_threads<T: Source, S: Source>(
     let files = read_class_files(alloc, files)?;
     let limits = limits_of(&recorded, files.as_slice(), limits)?;
     let verified = accepted(alloc, files.as_slice())?;
-    let program = verified_program(alloc, &verified)?;
-    Ok(explain_threads(alloc, verified.linked(), &program, &schedule, limits)?)
+    Ok(threads_after(alloc, &verified, &schedule, limits)?)
+}
+
+/// The same of these class files, which are accepted, with these limits.
+fn threads_after(
+    alloc: Global,
+    verified: &Verified,
+    schedule: &Schedule,
+    limits: Limits,
+) -> Result<Vec<u8>, AllocError> {
+    let program = verified_program(alloc, verified)?;
+    explain_threads(alloc, verified.linked(), &program, schedule, limits)
 }
 
 /// The same of the schedule that was recorded. Nothing, where none was kept.

@@ -50,7 +50,8 @@ pub fn trace_engine<S: Source, W: Sink>(
     Ok(status)
 }
 
-/// Runs what was opened, and writes the lines and the report. Answers its status.
+/// Runs what was opened, and writes the lines and the report. Answers its status. Lets go what was
+/// opened.
 fn traced<W: Sink>(
     alloc: Global,
     opened: Opened,
@@ -66,6 +67,27 @@ fn traced<W: Sink>(
         → IsOpened bytes (map vec_items opened.files.items) options opened.verified
         (events_of opened.schedule) opened.limits
         → TracesFront bytes (map vec_items opened.files.items) options window.entry (W.contents output.old) (W.contents output.new)) }
+    ensures counted { Counts result (W.failures output.old) (W.failures output.new) }
+{
+    trace_of(alloc, &opened, window, output)
+}
+
+/// Runs these class files under their schedule, and writes the lines and the report. Answers its status.
+fn trace_of<W: Sink>(
+    alloc: Global,
+    opened: &Opened,
+    window: Window<'_>,
+    output: &mut W,
+) -> Result<Status, DeviceFault>
+    ensures traced { IfOk result (λ status. (bytes : _) (options : _)
+        → IsOpened bytes (map vec_items opened.now.files.items) options opened.now.verified
+        (events_of opened.now.schedule) opened.now.limits
+        → (text : _) × IsTraced bytes (map vec_items opened.now.files.items) options window.entry text status
+        × Appends (W.contents output.old) (W.contents output.new) text) }
+    ensures part { OnErr result ((bytes : _) (options : _)
+        → IsOpened bytes (map vec_items opened.now.files.items) options opened.now.verified
+        (events_of opened.now.schedule) opened.now.limits
+        → TracesFront bytes (map vec_items opened.now.files.items) options window.entry (W.contents output.old) (W.contents output.new)) }
     ensures counted { Counts result (W.failures output.old) (W.failures output.new) }
 {
     let (report, end) = trace(

@@ -5,20 +5,20 @@ use Rattle.model.specs.Classes.{Program}
 use Rattle.machine.specs.Machines.{IsProgramOf}
 use Rattle.search.specs.search_reports.Answers.{Answers}
 use Rattle.engines.proofs.RunLemmas.{few_files}
-use Rattle.engines.proofs.searching.searched.Goals as goal
+use Rattle.engines.proofs.searching.search_of.Goals as goal
 
 pub search_report-requires : goal.search_report-requires
 search_report-requires g c =
     subst (λ (t : Program). IsProgramOf t (arc_value c.in_ok-program.program)) (sym (c.set-classes.ensures.same ∙ c.linked.ensures.same)) c.in_ok-program.ensures
 
 pub found_file-requires : goal.found_file-requires
-found_file-requires g c = omega (arith, few_files (map vec_items c.args.files.now) c.args.verified c.requires, length-map c.args.files.now vec_items)
+found_file-requires g c = omega (arith, few_files (map vec_items c.args.files.now) c.args.verified.now c.requires, length-map c.args.files.now vec_items)
 
 pub returns : goal.returns
 returns g c =
     let found = c.in_ok-searched.searched in
     record {
-      trees = c.args.verified;
+      trees = c.args.verified.now;
       accepted = c.requires;
       limits = c.limits-limits.result;
       chosen = c.limits-limits.ensures;

@@ -6,18 +6,18 @@ use Rattle.model.specs.Schedule.{events_of}
 use Rattle.engines.specs.Traces.{IsTraced}
 use Rattle.engines.specs.declared.status.Status.{Status}
 use Rattle.engines.proofs.TraceLemmas.{all_written, lines_alone, report_fails}
-use Rattle.engines.proofs.tracing.traced.Goals as goal
+use Rattle.engines.proofs.tracing.trace_of.Goals as goal
 
 pub returns-in_err-report-clause-part : goal.returns-in_err-report-clause-part
 returns-in_err-report-clause-part g c =
     let p = err_from_is_err_and c.from_residual.result c.from_residual.ensures.1 in
-    let given = c.args.opened in
+    let given = c.args.opened.now in
     rw p.1 (λ bytes options opened. inl (record { trees = given.verified; events = events_of given.schedule; limits = given.limits; opened = opened; lines = c.in_err-report.ensures.part }))
 
 pub returns-in_err-text-clause-part : goal.returns-in_err-text-clause-part
 returns-in_err-text-clause-part g c =
     let p = err_from_is_err_and c.from_residual-in_err-text.result c.from_residual-in_err-text.ensures.1 in
-    let given = c.args.opened in
+    let given = c.args.opened.now in
     let contents = g.W.Sink.contents in
     rw p.1
     (λ bytes options opened.
@@ -27,7 +27,7 @@ returns-in_err-text-clause-part g c =
 pub returns-in_err-write_all-clause-part : goal.returns-in_err-write_all-clause-part
 returns-in_err-write_all-clause-part g c =
     let p = err_from_is_err_and c.from_residual-in_err-write_all.result c.from_residual-in_err-write_all.ensures.1 in
-    let given = c.args.opened in
+    let given = c.args.opened.now in
     let contents = g.W.Sink.contents in
     let front = subst (AppendsFront (contents c.trace.new.output) (contents c.write_all.new.self)) (c.as_slice.ensures.value ∙ c.in_ok-text.ensures) c.in_err-write_all.ensures.part in
     rw p.1
@@ -37,7 +37,7 @@ returns-in_err-write_all-clause-part g c =
 
 pub returns-clause-traced : goal.returns-clause-traced
 returns-clause-traced g c =
-    let given = c.args.opened in
+    let given = c.args.opened.now in
     let contents = g.W.Sink.contents in
     let written = subst (Appends (contents c.trace.new.output) (contents c.write_all.new.self)) (c.as_slice.ensures.value ∙ c.in_ok-text.ensures) c.in_ok-write_all.ensures.written in
     λ bytes options opened.
