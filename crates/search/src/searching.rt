@@ -3,6 +3,7 @@
 ghost use Rattle.std.specs.Prelude.{◌<◌, [], length, IfOk};
 ghost use Rattle.std.specs.Arc.{arc_value};
 ghost use Rattle.machine.specs.Machines.{IsProgramOf};
+ghost use Rattle.search.specs.Machines.{TellsOutcome};
 ghost use Rattle.search.specs.Verdicts.{Says};
 ghost use Rattle.search.specs.Visits.{HasVisited, Visits, ListsOr};
 
@@ -14,6 +15,7 @@ use crate::run_outcomes::{Outcome, Outcomes, Wanted};
 use crate::states::States;
 use hierarchy::ClassSet;
 use linked_code::LinkedProgram;
+use machine::Machine;
 use model::Limits;
 use run_laws::searches::searches_are_complete;
 use schedule::Schedule;
@@ -67,6 +69,21 @@ fn is_found(
     Ok(false)
 }
 
+/// The same of the outcome of the state in which a machine is.
+fn is_found_at(
+    alloc: Global,
+    classes: &ClassSet,
+    wanted: &Wanted,
+    outcomes: &mut Outcomes,
+    machine: &Machine,
+) -> Result<bool, AllocError>
+    ensures { IfOk result (λ found. (outcome : _) × TellsOutcome classes.now machine.now outcome
+        × ListsOr wanted.now outcome found outcomes.old outcomes.new) }
+{
+    let outcome = outcome_of(alloc, classes, machine)?;
+    is_found(alloc, wanted, outcomes, outcome)
+}
+
 /// Visits the state of a number, all below which have been visited. The classes are those of the files.
 fn visit_state(
     alloc: Global,
@@ -83,8 +100,7 @@ fn visit_state(
 {
     met_states_are_kept();
     let machine = states.machine(number)?;
-    let outcome = outcome_of(alloc, classes, &machine)?;
-    if is_found(alloc, wanted, outcomes, outcome)? {
+    if is_found_at(alloc, classes, wanted, outcomes, &machine)? {
         return Ok(Visit::Found(states.schedule(number)?));
     }
     if expand(alloc, states, number, machine, most)? {

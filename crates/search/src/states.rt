@@ -52,6 +52,33 @@ impl Model for States {
     ghost invariant = { λ s. IsOfAccepted (arc_value s.program) × (s.index ≤ length s.tree) };
 }
 
+/// The hash of the opening state.
+fn opening_hash(
+    alloc: Global,
+    program: &Arc<LinkedProgram>,
+    limits: Limits,
+) -> Result<u64, AllocError>
+    requires { IsOfAccepted (arc_value program.now) }
+{
+    let machine = opened(alloc, Arc::try_clone(program)?, limits)?;
+    Ok(hash_of(machine.shared()))
+}
+
+/// The opening state alone, by its hash.
+fn first_index(
+    alloc: Global,
+    program: &Arc<LinkedProgram>,
+    limits: Limits,
+) -> Result<StateIndex, AllocError>
+    requires { IsOfAccepted (arc_value program.now) }
+    ensures { IfOk result (λ index. index ≡ 1) }
+{
+    let hash = opening_hash(alloc, program, limits)?;
+    let mut index = StateIndex::new(alloc)?;
+    index.push(hash)?;
+    Ok(index)
+}
+
 impl States {
     /// The opening state alone. The only error is a want of memory.
     pub(crate) fn new(
@@ -62,9 +89,7 @@ impl States {
         requires { IsOfAccepted (arc_value program) }
         ensures { IfOk result (λ s. s ≡ one_state (arc_value program) limits) }
     {
-        let machine = opened(alloc, Arc::try_clone(&program)?, limits)?;
-        let mut index = StateIndex::new(alloc)?;
-        index.push(hash_of(machine.shared()))?;
+        let index = first_index(alloc, &program, limits)?;
         Ok(States {
             alloc,
             program,
