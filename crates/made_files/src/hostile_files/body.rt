@@ -1,6 +1,6 @@
 //! The code of a method.
 
-use crate::class_builder::opcode::{GOTO_W, TABLESWITCH, WIDE};
+use crate::class_builder::opcode::{GOTO_W, RETURN, TABLESWITCH, WIDE};
 use crate::class_builder::{ClassBuilder, CodeParts};
 use model::ExceptionEntry;
 use std::alloc::{AllocError, Global};
@@ -40,6 +40,13 @@ impl Body {
             bytes: Vec::new(alloc),
             exceptions: Vec::new(alloc),
         }
+    }
+
+    /// Code that does nothing.
+    pub fn idle(alloc: Global) -> Result<Body, AllocError> {
+        let mut body = Body::new(alloc);
+        body.ops(&[RETURN])?;
+        Ok(body)
     }
 
     /// The offset of the next instruction.

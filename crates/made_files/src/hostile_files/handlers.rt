@@ -25,6 +25,22 @@ fn change_local(body: &mut Body, local: u32) -> Result<(), AllocError> {
     body.of_local(ASTORE, local)
 }
 
+/// Puts an int or null into each of so many local variables.
+fn set_locals(body: &mut Body, number: u32) -> Result<(), AllocError> {
+    for local in 0..number {
+        set_local(body, local)?;
+    }
+    Ok(())
+}
+
+/// Puts the other of both into each.
+fn change_locals(body: &mut Body, number: u32) -> Result<(), AllocError> {
+    for local in 0..number {
+        change_local(body, local)?;
+    }
+    Ok(())
+}
+
 /// So many handlers at an offset, each of a byte.
 fn add_handlers(body: &mut Body, number: u32) -> Result<u32, AllocError> {
     let first = body.here();
@@ -47,106 +63,112 @@ fn protect_by_all(
     Ok(())
 }
 
-fn with_main(
-    alloc: Global,
-    body: &Body,
-    max_stack: u32,
-    max_locals: u32,
-) -> Result<Vec<Vec<u8>>, AllocError> {
-    let mut set = Set::new(alloc);
-    let mut class = set.main_class()?;
-    body.add_main(&mut class, max_stack, max_locals)?;
-    set.add(class)?;
-    Ok(set.finish())
+/// Ends the code by a return, with so many handlers behind it over what stands before it from an offset on.
+fn end_protected(body: &mut Body, start: u32, number: u32) -> Result<(), AllocError> {
+    let end = body.here();
+    body.ops(&[RETURN])?;
+    let first = add_handlers(body, number)?;
+    protect_by_all(body, start, end, first, number)
+}
+
+fn handlers_code(body: &mut Body, number: u32) -> Result<(), AllocError> {
+    set_locals(body, number)?;
+    end_protected(body, 0, number)
 }
 
 /// So many handlers over as many stores into as many local variables, which held nothing before.
 pub fn handlers(alloc: Global, number: u32) -> Result<Vec<Vec<u8>>, AllocError> {
-    let mut body = Body::new(alloc);
-    for local in 0..number {
-        set_local(&mut body, local)?;
-    }
-    let end = body.here();
-    body.ops(&[RETURN])?;
-    let first = add_handlers(&mut body, number)?;
-    protect_by_all(&mut body, 0, end, first, number)?;
-    with_main(alloc, &body, 1, number.max(1))
+    let mut set = Set::new(alloc);
+    let mut main = set.main()?;
+    handlers_code(&mut main.body, number)?;
+    set.add_main(main, 1, number.max(1))?;
+    Ok(set.finish())
+}
+
+fn raised_code(body: &mut Body, number: u32) -> Result<(), AllocError> {
+    set_locals(body, number)?;
+    let start = body.here();
+    change_locals(body, number)?;
+    end_protected(body, start, number)
 }
 
 /// The same over stores that change the type of each local variable, so that each raises the frame types of all handlers.
 pub fn raised_handlers(alloc: Global, number: u32) -> Result<Vec<Vec<u8>>, AllocError> {
-    let mut body = Body::new(alloc);
-    for local in 0..number {
-        set_local(&mut body, local)?;
-    }
+    let mut set = Set::new(alloc);
+    let mut main = set.main()?;
+    raised_code(&mut main.body, number)?;
+    set.add_main(main, 1, number.max(1))?;
+    Ok(set.finish())
+}
+
+fn early_code(body: &mut Body, number: u32) -> Result<(), AllocError> {
+    body.go_to(number.wrapping_add(5))?;
+    let first = add_handlers(body, number)?;
+    set_locals(body, number)?;
     let start = body.here();
-    for local in 0..number {
-        change_local(&mut body, local)?;
-    }
+    change_locals(body, number)?;
     let end = body.here();
     body.ops(&[RETURN])?;
-    let first = add_handlers(&mut body, number)?;
-    protect_by_all(&mut body, start, end, first, number)?;
-    with_main(alloc, &body, 1, number.max(1))
+    protect_by_all(body, start, end, first, number)
 }
 
 /// The same with the handlers before the stores, so that each is looked at again as often as it is raised.
 pub fn early_handlers(alloc: Global, number: u32) -> Result<Vec<Vec<u8>>, AllocError> {
-    let mut body = Body::new(alloc);
-    body.go_to(number.wrapping_add(5))?;
-    let first = add_handlers(&mut body, number)?;
-    for local in 0..number {
-        set_local(&mut body, local)?;
-    }
-    let start = body.here();
-    for local in 0..number {
-        change_local(&mut body, local)?;
-    }
-    let end = body.here();
-    body.ops(&[RETURN])?;
-    protect_by_all(&mut body, start, end, first, number)?;
-    with_main(alloc, &body, 1, number.max(1))
+    let mut set = Set::new(alloc);
+    let mut main = set.main()?;
+    early_code(&mut main.body, number)?;
+    set.add_main(main, 1, number.max(1))?;
+    Ok(set.finish())
 }
 
 /// How many bytes a store and a jump behind it have.
 const PLACE: u32 = 10;
 
-/// So many handlers over as many places, where two frame types that differ in as many local variables stand by turns. A
-/// switch leads to each second place; its default changes all local variables, and leads to the others by another switch.
-pub fn alternating_handlers(alloc: Global, number: u32) -> Result<Vec<Vec<u8>>, AllocError> {
-    let mut body = Body::new(alloc);
-    for local in 0..number {
-        set_local(&mut body, local)?;
+/// How many bytes are between two places where the same frame type stands.
+const DISTANCE: u32 = PLACE * 2;
+
+/// The places where one of two frame types stands, so many from an offset on.
+fn each_second(first: u32, number: u32) -> Places {
+    Places {
+        first,
+        distance: DISTANCE,
+        number,
     }
+}
+
+/// For each of so many local variables, a store and one of the other type, each with a jump behind it to an offset.
+fn store_by_turns(body: &mut Body, end: u32, number: u32) -> Result<(), AllocError> {
+    for local in 0..number {
+        set_local(body, local)?;
+        body.go_to(end)?;
+        change_local(body, local)?;
+        body.go_to(end)?;
+    }
+    Ok(())
+}
+
+fn alternating_code(body: &mut Body, number: u32) -> Result<(), AllocError> {
+    set_locals(body, number)?;
     body.ops(&[ICONST_0])?;
     let other = behind_switch(body.here(), number);
     let second_at = other.wrapping_add(number.wrapping_mul(5)).wrapping_add(1);
     let start = behind_switch(second_at, number);
-    let distance = PLACE * 2;
-    let end = start.wrapping_add(number.wrapping_mul(distance));
-    let firsts = Places {
-        first: start,
-        distance,
-        number,
-    };
-    let seconds = Places {
-        first: start.wrapping_add(PLACE),
-        ..firsts
-    };
-    body.switch(other, firsts)?;
-    for local in 0..number {
-        change_local(&mut body, local)?;
-    }
+    body.switch(other, each_second(start, number))?;
+    change_locals(body, number)?;
     body.ops(&[ICONST_0])?;
-    body.switch(seconds.first, seconds)?;
-    for local in 0..number {
-        set_local(&mut body, local)?;
-        body.go_to(end)?;
-        change_local(&mut body, local)?;
-        body.go_to(end)?;
-    }
-    body.ops(&[RETURN])?;
-    let first = add_handlers(&mut body, number)?;
-    protect_by_all(&mut body, start, end, first, number)?;
-    with_main(alloc, &body, 1, number.max(1))
+    let second = start.wrapping_add(PLACE);
+    body.switch(second, each_second(second, number))?;
+    let end = start.wrapping_add(number.wrapping_mul(DISTANCE));
+    store_by_turns(body, end, number)?;
+    end_protected(body, start, number)
+}
+
+/// So many handlers over as many places, where two frame types that differ in as many local variables stand by turns. A
+/// switch leads to each second place; its default changes all local variables, and leads to the others by another switch.
+pub fn alternating_handlers(alloc: Global, number: u32) -> Result<Vec<Vec<u8>>, AllocError> {
+    let mut set = Set::new(alloc);
+    let mut main = set.main()?;
+    alternating_code(&mut main.body, number)?;
+    set.add_main(main, 1, number.max(1))?;
+    Ok(set.finish())
 }

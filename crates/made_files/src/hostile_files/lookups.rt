@@ -1,21 +1,18 @@
 //! Members that are found far from the class by which they are named.
 
-use crate::class_builder::opcode::{
-    ACONST_NULL, GETSTATIC, INVOKESTATIC, INVOKEVIRTUAL, POP, RETURN,
-};
-use crate::class_builder::{ClassBuilder, CodeParts};
+use crate::class_builder::ClassBuilder;
+use crate::class_builder::opcode::{ACONST_NULL, INVOKESTATIC, INVOKEVIRTUAL, RETURN};
 use crate::hostile_files::body::Body;
 use crate::hostile_files::chains::long_name;
+use crate::hostile_files::members::{add_getters, add_main_with_reads};
 use crate::hostile_files::names::{MAIN, OBJECT, numbered};
-use crate::hostile_files::set::Set;
+use crate::hostile_files::set::{Main, Set, method_of};
 use class_tree::Constant;
 use std::alloc::{AllocError, Global};
 
 const INTERFACE: u16 = 0x0601;
 
 const ABSTRACT_CLASS: u16 = 0x0421;
-
-const PUBLIC: u16 = 0x0001;
 
 const PUBLIC_ABSTRACT: u16 = 0x0401;
 
@@ -27,69 +24,70 @@ fn last(number: u32) -> u32 {
 }
 
 /// A call, without arguments or result, of a method of a class by a receiver that is null.
-fn call_of_null(
-    body: &mut Body,
-    class: &mut ClassBuilder,
-    owner: u16,
-    name: &[u8],
-) -> Result<(), AllocError> {
-    let name_and_type = class.pool.name_and_type(name, b"()V")?;
-    let index = class.pool.push(Constant::Method {
+fn call_of_null(main: &mut Main, owner: u16, name: &[u8]) -> Result<(), AllocError> {
+    let name_and_type = main.class.pool.name_and_type(name, b"()V")?;
+    let index = main.class.pool.push(Constant::Method {
         class: owner,
         name_and_type,
     })?;
-    body.ops(&[ACONST_NULL])?;
-    body.op_short(INVOKEVIRTUAL, index)
+    main.body.ops(&[ACONST_NULL])?;
+    main.body.op_short(INVOKEVIRTUAL, index)
 }
 
-/// The class with `main`, which calls so many methods by way of a class.
-fn main_with_calls(set: &Set, owner: &[u8], number: u32) -> Result<ClassBuilder, AllocError> {
-    let mut class = set.main_class()?;
-    let mut body = Body::new(set.alloc);
-    let owner = class.pool.class(owner)?;
+fn calls_of_null(main: &mut Main, owner: &[u8], number: u32) -> Result<(), AllocError> {
+    let owner = main.class.pool.class(owner)?;
     for place in 0..number {
-        call_of_null(&mut body, &mut class, owner, &numbered(b'm', place))?;
+        call_of_null(main, owner, &numbered(b'm', place))?;
     }
-    body.ops(&[RETURN])?;
-    body.add_main(&mut class, 1, 1)?;
-    Ok(class)
+    main.body.ops(&[RETURN])
 }
 
-fn add_abstract_methods(class: &mut ClassBuilder, number: u32) -> Result<(), AllocError> {
+/// Adds the class with `main`, which calls so many methods by way of a class.
+fn add_main_with_calls(set: &mut Set, owner: &[u8], number: u32) -> Result<(), AllocError> {
+    let mut main = set.main()?;
+    calls_of_null(&mut main, owner, number)?;
+    set.add_main(main, 1, 1)
+}
+
+/// The upmost interface of a chain, with so many methods.
+fn interface_of_methods(alloc: Global, number: u32) -> Result<ClassBuilder, AllocError> {
+    let mut upmost = ClassBuilder::new(alloc, INTERFACE, &numbered(b'I', 0), OBJECT)?;
     for place in 0..number {
-        class.add_method(PUBLIC_ABSTRACT, &numbered(b'm', place), b"()V", None)?;
+        upmost.add_method(PUBLIC_ABSTRACT, &numbered(b'm', place), b"()V", None)?;
     }
-    Ok(())
+    Ok(upmost)
+}
+
+/// An interface of a chain that is below another.
+fn chained_interface(alloc: Global, place: u32) -> Result<ClassBuilder, AllocError> {
+    let mut interface = ClassBuilder::new(alloc, INTERFACE, &numbered(b'I', place), OBJECT)?;
+    interface.add_interface(&numbered(b'I', last(place)))?;
+    Ok(interface)
 }
 
 /// Adds so many interfaces, each below the one before. The first one is given.
 fn add_interfaces(set: &mut Set, first: ClassBuilder, number: u32) -> Result<(), AllocError> {
     set.add(first)?;
     for place in 1..number {
-        let mut interface = ClassBuilder::new(
-            set.alloc,
-            INTERFACE,
-            &numbered(b'I', place),
-            OBJECT,
-        )?;
-        interface.add_interface(&numbered(b'I', last(place)))?;
+        let interface = chained_interface(set.alloc, place)?;
         set.add(interface)?;
     }
     Ok(())
 }
 
+/// An abstract class of a chain, which implements the last of so many interfaces.
+fn implementing_class(alloc: Global, place: u32, number: u32) -> Result<ClassBuilder, AllocError> {
+    let above = numbered(b'C', last(place));
+    let superclass = if place == 0 { OBJECT } else { &above };
+    let mut class = ClassBuilder::new(alloc, ABSTRACT_CLASS, &numbered(b'C', place), superclass)?;
+    class.add_interface(&numbered(b'I', last(number)))?;
+    Ok(class)
+}
+
 /// Adds so many abstract classes, each below the one before, and each of which implements the last of so many interfaces.
 fn add_implementing_classes(set: &mut Set, number: u32) -> Result<(), AllocError> {
     for place in 0..number {
-        let name = numbered(b'C', place);
-        let mut class = match place {
-            0 => ClassBuilder::new(set.alloc, ABSTRACT_CLASS, &name, OBJECT)?,
-            _ => {
-                let superclass = numbered(b'C', last(place));
-                ClassBuilder::new(set.alloc, ABSTRACT_CLASS, &name, &superclass)?
-            }
-        };
-        class.add_interface(&numbered(b'I', last(number)))?;
+        let class = implementing_class(set.alloc, place, number)?;
         set.add(class)?;
     }
     Ok(())
@@ -99,36 +97,27 @@ fn add_implementing_classes(set: &mut Set, number: u32) -> Result<(), AllocError
 /// interface has as many methods, which are called by way of the lowest class.
 pub fn inherited_methods(alloc: Global, number: u32) -> Result<Vec<Vec<u8>>, AllocError> {
     let mut set = Set::new(alloc);
-    let main = main_with_calls(&set, &numbered(b'C', last(number)), number)?;
-    set.add(main)?;
-    let mut upmost = ClassBuilder::new(alloc, INTERFACE, &numbered(b'I', 0), OBJECT)?;
-    add_abstract_methods(&mut upmost, number)?;
+    add_main_with_calls(&mut set, &numbered(b'C', last(number)), number)?;
+    let upmost = interface_of_methods(alloc, number)?;
     add_interfaces(&mut set, upmost, number)?;
     add_implementing_classes(&mut set, number)?;
     Ok(set.finish())
 }
 
+/// The upmost interface of a chain, with so many static fields.
+fn interface_of_fields(alloc: Global, number: u32) -> Result<ClassBuilder, AllocError> {
+    let mut upmost = ClassBuilder::new(alloc, INTERFACE, &numbered(b'I', 0), OBJECT)?;
+    for place in 0..number {
+        upmost.add_field(PUBLIC_STATIC_FINAL, &numbered(b'g', place), b"I")?;
+    }
+    Ok(upmost)
+}
+
 /// The same with static fields in the place of methods.
 pub fn inherited_fields(alloc: Global, number: u32) -> Result<Vec<Vec<u8>>, AllocError> {
     let mut set = Set::new(alloc);
-    let mut class = set.main_class()?;
-    let mut body = Body::new(alloc);
-    let owner = class.pool.class(&numbered(b'C', last(number)))?;
-    let mut upmost = ClassBuilder::new(alloc, INTERFACE, &numbered(b'I', 0), OBJECT)?;
-    for place in 0..number {
-        let name = numbered(b'g', place);
-        let name_and_type = class.pool.name_and_type(&name, b"I")?;
-        let index = class.pool.push(Constant::Field {
-            class: owner,
-            name_and_type,
-        })?;
-        body.op_short(GETSTATIC, index)?;
-        body.ops(&[POP])?;
-        upmost.add_field(PUBLIC_STATIC_FINAL, &name, b"I")?;
-    }
-    body.ops(&[RETURN])?;
-    body.add_main(&mut class, 1, 1)?;
-    set.add(class)?;
+    add_main_with_reads(&mut set, &numbered(b'C', last(number)), number)?;
+    let upmost = interface_of_fields(alloc, number)?;
     add_interfaces(&mut set, upmost, number)?;
     add_implementing_classes(&mut set, number)?;
     Ok(set.finish())
@@ -137,39 +126,42 @@ pub fn inherited_fields(alloc: Global, number: u32) -> Result<Vec<Vec<u8>>, Allo
 /// So many classes below each other. The upmost one has as many methods, which are called by way of the lowest one.
 pub fn methods_up_a_chain(alloc: Global, number: u32) -> Result<Vec<Vec<u8>>, AllocError> {
     let mut set = Set::new(alloc);
-    let main = main_with_calls(&set, &numbered(b'C', last(number)), number)?;
-    set.add(main)?;
+    add_main_with_calls(&mut set, &numbered(b'C', last(number)), number)?;
     for place in 0..number {
         let mut class = set.chained(b'C', place, OBJECT)?;
         if place == 0 {
-            let parts = CodeParts {
-                max_stack: 0,
-                max_locals: 1,
-                bytes: &[RETURN],
-                exceptions: &[],
-            };
-            for method in 0..number {
-                class.add_method(PUBLIC, &numbered(b'm', method), b"()V", Some(parts))?;
-            }
+            add_getters(&mut class, number)?;
         }
         set.add(class)?;
     }
     Ok(set.finish())
 }
 
+/// An abstract class that implements so many interfaces.
+fn class_of_interfaces(alloc: Global, number: u32) -> Result<ClassBuilder, AllocError> {
+    let mut class = ClassBuilder::new(alloc, ABSTRACT_CLASS, b"C", OBJECT)?;
+    for place in 0..number {
+        class.add_interface(&numbered(b'I', place))?;
+    }
+    Ok(class)
+}
+
+/// An interface with a method.
+fn interface_of_one(alloc: Global, place: u32) -> Result<ClassBuilder, AllocError> {
+    let mut interface = ClassBuilder::new(alloc, INTERFACE, &numbered(b'I', place), OBJECT)?;
+    interface.add_method(PUBLIC_ABSTRACT, &numbered(b'm', place), b"()V", None)?;
+    Ok(interface)
+}
+
 /// An abstract class that implements so many interfaces, each of which has a method; all are called by way of the class.
 pub fn methods_of_interfaces(alloc: Global, number: u32) -> Result<Vec<Vec<u8>>, AllocError> {
     let mut set = Set::new(alloc);
-    let main = main_with_calls(&set, b"C", number)?;
-    set.add(main)?;
-    let mut class = ClassBuilder::new(alloc, ABSTRACT_CLASS, b"C", OBJECT)?;
+    add_main_with_calls(&mut set, b"C", number)?;
     for place in 0..number {
-        let name = numbered(b'I', place);
-        class.add_interface(&name)?;
-        let mut interface = ClassBuilder::new(alloc, INTERFACE, &name, OBJECT)?;
-        interface.add_method(PUBLIC_ABSTRACT, &numbered(b'm', place), b"()V", None)?;
+        let interface = interface_of_one(alloc, place)?;
         set.add(interface)?;
     }
+    let class = class_of_interfaces(alloc, number)?;
     set.add(class)?;
     Ok(set.finish())
 }
@@ -187,28 +179,40 @@ fn descriptor_of_three(alloc: Global, number: u32) -> Result<Vec<u8>, AllocError
     Ok(descriptor)
 }
 
+/// Adds a static method that does nothing, and a call of it with nulls.
+fn call_with_nulls(
+    main: &mut Main,
+    idle: &Body,
+    name: &[u8],
+    descriptor: &[u8],
+) -> Result<(), AllocError> {
+    idle.add_to(&mut main.class, name, descriptor, 0, 3)?;
+    let index = method_of(&mut main.class, MAIN, name, descriptor)?;
+    main.body.ops(&[ACONST_NULL, ACONST_NULL, ACONST_NULL])?;
+    main.body.op_short(INVOKESTATIC, index)
+}
+
+/// Adds so many static methods of a name, each with a call.
+fn calls_with_nulls(
+    main: &mut Main,
+    alloc: Global,
+    name: &[u8],
+    number: u32,
+) -> Result<(), AllocError> {
+    let idle = Body::idle(alloc)?;
+    for place in 0..number {
+        let descriptor = descriptor_of_three(alloc, place)?;
+        call_with_nulls(main, &idle, name, &descriptor)?;
+    }
+    main.body.ops(&[RETURN])
+}
+
 /// So many static methods of one name, which is four times as many bytes long, each called with nulls.
 pub fn long_method_name(alloc: Global, number: u32) -> Result<Vec<Vec<u8>>, AllocError> {
     let mut set = Set::new(alloc);
-    let mut class = set.main_class()?;
-    let mut body = Body::new(alloc);
-    let mut called = Body::new(alloc);
-    called.ops(&[RETURN])?;
-    let owner = class.pool.class(MAIN)?;
     let name = long_name(alloc, number.wrapping_mul(4))?;
-    for place in 0..number {
-        let descriptor = descriptor_of_three(alloc, place)?;
-        called.add_to(&mut class, &name, &descriptor, 0, 3)?;
-        let name_and_type = class.pool.name_and_type(&name, &descriptor)?;
-        let index = class.pool.push(Constant::Method {
-            class: owner,
-            name_and_type,
-        })?;
-        body.ops(&[ACONST_NULL, ACONST_NULL, ACONST_NULL])?;
-        body.op_short(INVOKESTATIC, index)?;
-    }
-    body.ops(&[RETURN])?;
-    body.add_main(&mut class, 3, 1)?;
-    set.add(class)?;
+    let mut main = set.main()?;
+    calls_with_nulls(&mut main, alloc, &name, number)?;
+    set.add_main(main, 3, 1)?;
     Ok(set.finish())
 }

@@ -3,9 +3,9 @@
 use crate::class_builder::opcode::{ACONST_NULL, GETSTATIC, INVOKESTATIC, POP, RETURN};
 use crate::class_builder::{ClassBuilder, CodeParts};
 use crate::hostile_files::body::Body;
-use crate::hostile_files::chains::long_name;
+use crate::hostile_files::chains::{long_name, taking};
 use crate::hostile_files::names::{MAIN, OBJECT, numbered};
-use crate::hostile_files::set::Set;
+use crate::hostile_files::set::{Main, Set};
 use class_tree::Constant;
 use std::alloc::{AllocError, Global};
 
@@ -13,7 +13,8 @@ const PUBLIC: u16 = 0x0001;
 
 const PUBLIC_STATIC: u16 = 0x0009;
 
-fn add_getters(class: &mut ClassBuilder, number: u32) -> Result<(), AllocError> {
+/// Adds so many methods that do nothing.
+pub fn add_getters(class: &mut ClassBuilder, number: u32) -> Result<(), AllocError> {
     let parts = CodeParts {
         max_stack: 0,
         max_locals: 1,
@@ -29,7 +30,8 @@ fn add_getters(class: &mut ClassBuilder, number: u32) -> Result<(), AllocError> 
 /// So many classes below each other, with as many methods each, which override those of the class above.
 pub fn overriding_methods(alloc: Global, number: u32) -> Result<Vec<Vec<u8>>, AllocError> {
     let mut set = Set::new(alloc);
-    set.add_idle_main()?;
+    let main = set.idle_main()?;
+    set.add(main)?;
     for place in 0..number {
         let mut class = set.chained(b'C', place, OBJECT)?;
         add_getters(&mut class, number)?;
@@ -39,89 +41,106 @@ pub fn overriding_methods(alloc: Global, number: u32) -> Result<Vec<Vec<u8>>, Al
 }
 
 /// A static field of a class, read by an instruction.
-fn read_field(
-    body: &mut Body,
-    class: &mut ClassBuilder,
-    owner: u16,
-    place: u32,
-) -> Result<(), AllocError> {
-    let name_and_type = class.pool.name_and_type(&numbered(b'g', place), b"I")?;
-    let index = class.pool.push(Constant::Field {
+fn read_field(main: &mut Main, owner: u16, place: u32) -> Result<(), AllocError> {
+    let name_and_type = main.class.pool.name_and_type(&numbered(b'g', place), b"I")?;
+    let index = main.class.pool.push(Constant::Field {
         class: owner,
         name_and_type,
     })?;
-    body.op_short(GETSTATIC, index)?;
-    body.ops(&[POP])
+    main.body.op_short(GETSTATIC, index)?;
+    main.body.ops(&[POP])
+}
+
+fn reads_of(main: &mut Main, owner: &[u8], number: u32) -> Result<(), AllocError> {
+    let owner = main.class.pool.class(owner)?;
+    for place in 0..number {
+        read_field(main, owner, place)?;
+    }
+    main.body.ops(&[RETURN])
+}
+
+/// Adds the class with `main`, which reads so many static fields by way of a class.
+pub fn add_main_with_reads(set: &mut Set, owner: &[u8], number: u32) -> Result<(), AllocError> {
+    let mut main = set.main()?;
+    reads_of(&mut main, owner, number)?;
+    set.add_main(main, 1, 1)
+}
+
+/// A class of a chain, with so many fields, and in the upmost one as many others.
+fn redeclaring_class(set: &Set, place: u32, number: u32) -> Result<ClassBuilder, AllocError> {
+    let mut class = set.chained(b'C', place, OBJECT)?;
+    for field in 0..number {
+        class.add_field(PUBLIC_STATIC, &numbered(b'f', field), b"I")?;
+        if place == 0 {
+            class.add_field(PUBLIC_STATIC, &numbered(b'g', field), b"I")?;
+        }
+    }
+    Ok(class)
 }
 
 /// So many classes below each other, with as many fields each, of the same names, and as many others in the upmost one,
 /// each of which is read by way of the lowest one.
 pub fn redeclared_fields(alloc: Global, number: u32) -> Result<Vec<Vec<u8>>, AllocError> {
     let mut set = Set::new(alloc);
-    let mut class = set.main_class()?;
-    let mut body = Body::new(alloc);
-    let lowest = class.pool.class(&numbered(b'C', number.wrapping_sub(1)))?;
+    add_main_with_reads(&mut set, &numbered(b'C', number.wrapping_sub(1)), number)?;
     for place in 0..number {
-        read_field(&mut body, &mut class, lowest, place)?;
-    }
-    body.ops(&[RETURN])?;
-    body.add_main(&mut class, 1, 1)?;
-    set.add(class)?;
-    for place in 0..number {
-        let mut class = set.chained(b'C', place, OBJECT)?;
-        for field in 0..number {
-            class.add_field(PUBLIC_STATIC, &numbered(b'f', field), b"I")?;
-            if place == 0 {
-                class.add_field(PUBLIC_STATIC, &numbered(b'g', field), b"I")?;
-            }
-        }
+        let class = redeclaring_class(&set, place, number)?;
         set.add(class)?;
     }
     Ok(set.finish())
 }
 
+/// So many fields of the class itself, each of which is read.
+fn own_fields(main: &mut Main, number: u32) -> Result<(), AllocError> {
+    let owner = main.class.pool.class(MAIN)?;
+    for place in 0..number {
+        main.class
+            .add_field(PUBLIC_STATIC, &numbered(b'g', place), b"I")?;
+        read_field(main, owner, place)?;
+    }
+    main.body.ops(&[RETURN])
+}
+
 /// A class with so many fields, each of which is read.
 pub fn read_fields(alloc: Global, number: u32) -> Result<Vec<Vec<u8>>, AllocError> {
     let mut set = Set::new(alloc);
-    let mut class = set.main_class()?;
-    let mut body = Body::new(alloc);
-    let owner = class.pool.class(MAIN)?;
-    for place in 0..number {
-        class.add_field(PUBLIC_STATIC, &numbered(b'g', place), b"I")?;
-        read_field(&mut body, &mut class, owner, place)?;
-    }
-    body.ops(&[RETURN])?;
-    body.add_main(&mut class, 1, 1)?;
-    set.add(class)?;
+    let mut main = set.main()?;
+    own_fields(&mut main, number)?;
+    set.add_main(main, 1, 1)?;
     Ok(set.finish())
+}
+
+/// So many calls, each by a constant of its own, of a static method with a descriptor.
+fn calls_of(main: &mut Main, descriptor: &[u8], number: u32) -> Result<(), AllocError> {
+    let owner = main.class.pool.class(MAIN)?;
+    let name_and_type = main.class.pool.name_and_type(b"m", descriptor)?;
+    for _ in 0..number {
+        let index = main.class.pool.push(Constant::Method {
+            class: owner,
+            name_and_type,
+        })?;
+        main.body.ops(&[ACONST_NULL])?;
+        main.body.op_short(INVOKESTATIC, index)?;
+    }
+    main.body.ops(&[RETURN])
+}
+
+/// The class with `main`, which calls a method with a parameter of the class of a name, and with that method.
+fn main_with_descriptor(set: &Set, name: &[u8], number: u32) -> Result<ClassBuilder, AllocError> {
+    let descriptor = taking(set.alloc, name)?;
+    let mut main = set.main()?;
+    calls_of(&mut main, &descriptor, number)?;
+    let mut class = main.finish(1, 1)?;
+    Body::idle(set.alloc)?.add_to(&mut class, b"m", &descriptor, 0, 1)?;
+    Ok(class)
 }
 
 /// A method with a descriptor of some so many bytes, the name of a class, which is called as many times.
 pub fn long_descriptor(alloc: Global, number: u32) -> Result<Vec<Vec<u8>>, AllocError> {
     let mut set = Set::new(alloc);
-    let mut class = set.main_class()?;
-    let mut body = Body::new(alloc);
     let name = long_name(alloc, number)?;
-    let mut descriptor = Vec::from_slice(alloc, b"(L")?;
-    descriptor.extend_from_slice(&name)?;
-    descriptor.extend_from_slice(b";)V")?;
-    let owner = class.pool.class(MAIN)?;
-    let name_and_type = class.pool.name_and_type(b"m", &descriptor)?;
-    for _ in 0..number {
-        let index = class.pool.push(Constant::Method {
-            class: owner,
-            name_and_type,
-        })?;
-        body.ops(&[ACONST_NULL])?;
-        body.op_short(INVOKESTATIC, index)?;
-    }
-    body.ops(&[RETURN])?;
-    body.add_main(&mut class, 1, 1)?;
-    let mut called = Body::new(alloc);
-    called.ops(&[RETURN])?;
-    called.add_to(&mut class, b"m", &descriptor, 0, 1)?;
+    let class = main_with_descriptor(&set, &name, number)?;
     set.add(class)?;
-    let named = set.class(&name, OBJECT)?;
-    set.add(named)?;
+    set.add_empty(&name)?;
     Ok(set.finish())
 }

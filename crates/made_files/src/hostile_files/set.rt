@@ -1,7 +1,6 @@
 //! Sets of class files that grow.
 
 use crate::class_builder::ClassBuilder;
-use crate::class_builder::opcode::RETURN;
 use crate::hostile_files::body::Body;
 use crate::hostile_files::names::{MAIN, OBJECT, numbered};
 use class_tree::Constant;
@@ -15,6 +14,23 @@ pub const PUBLIC_CLASS: u16 = 0x0021;
 pub struct Set {
     pub alloc: Global,
     files: Vec<Vec<u8>>,
+}
+
+/// The class with `main`, still without it, and the code of `main`, while both grow.
+#[derive(Drop)]
+pub struct Main {
+    pub class: ClassBuilder,
+    pub body: Body,
+}
+
+impl Main {
+    /// The class with `main`, which has so much room on the stack and so many local variables.
+    pub fn finish(self, max_stack: u32, max_locals: u32) -> Result<ClassBuilder, AllocError> {
+        let Main { class, body } = self;
+        let mut class = class;
+        body.add_main(&mut class, max_stack, max_locals)?;
+        Ok(class)
+    }
 }
 
 impl Set {
@@ -34,17 +50,41 @@ impl Set {
         self.class(MAIN, OBJECT)
     }
 
+    /// The same, with the code of `main`, of which there is nothing yet.
+    pub fn main(&self) -> Result<Main, AllocError> {
+        let class = self.main_class()?;
+        Ok(Main {
+            class,
+            body: Body::new(self.alloc),
+        })
+    }
+
+    /// The class with a `main` that does nothing.
+    pub fn idle_main(&self) -> Result<ClassBuilder, AllocError> {
+        let mut class = self.main_class()?;
+        Body::idle(self.alloc)?.add_main(&mut class, 0, 1)?;
+        Ok(class)
+    }
+
     pub fn add(&mut self, class: ClassBuilder) -> Result<(), AllocError> {
         let bytes = class.bytes()?;
         Ok(self.files.push(bytes)?)
     }
 
-    /// Adds a class whose `main` does nothing.
-    pub fn add_idle_main(&mut self) -> Result<(), AllocError> {
-        let mut class = self.main_class()?;
-        let mut body = Body::new(self.alloc);
-        body.ops(&[RETURN])?;
-        body.add_main(&mut class, 0, 1)?;
+    /// Adds the class with its `main`, which has so much room on the stack and so many local variables.
+    pub fn add_main(
+        &mut self,
+        main: Main,
+        max_stack: u32,
+        max_locals: u32,
+    ) -> Result<(), AllocError> {
+        let class = main.finish(max_stack, max_locals)?;
+        self.add(class)
+    }
+
+    /// Adds an empty class.
+    pub fn add_empty(&mut self, name: &[u8]) -> Result<(), AllocError> {
+        let class = self.class(name, OBJECT)?;
         self.add(class)
     }
 
@@ -86,4 +126,19 @@ pub fn new_class(class: &mut ClassBuilder, alloc: Global, name: &[u8]) -> Result
     let text = Vec::from_slice(alloc, name)?;
     let name = class.pool.push(Constant::Utf8(text))?;
     class.pool.push(Constant::Class { name })
+}
+
+/// The Methodref of a method of a class.
+pub fn method_of(
+    class: &mut ClassBuilder,
+    owner: &[u8],
+    name: &[u8],
+    descriptor: &[u8],
+) -> Result<u16, AllocError> {
+    let owner = class.pool.class(owner)?;
+    let name_and_type = class.pool.name_and_type(name, descriptor)?;
+    class.pool.push(Constant::Method {
+        class: owner,
+        name_and_type,
+    })
 }
