@@ -83,6 +83,21 @@ impl ClassBuilder {
         Ok(self.fields.push(field)?)
     }
 
+    /// The attributes of a method, which has a Code where one is given.
+    fn attributes_of(
+        &mut self,
+        code: Option<CodeParts<'_>>,
+    ) -> Result<Vec<MethodAttribute>, AllocError> {
+        let alloc = self.pool.alloc();
+        let mut attributes = Vec::new(alloc);
+        if let Some(parts) = code {
+            let name = self.pool.text(b"Code")?;
+            let code = code_of(alloc, parts)?;
+            attributes.push(MethodAttribute::Code { name, code })?;
+        }
+        Ok(attributes)
+    }
+
     /// Adds a method, with a Code where one is given.
     pub fn add_method(
         &mut self,
@@ -91,13 +106,7 @@ impl ClassBuilder {
         descriptor: &[u8],
         code: Option<CodeParts<'_>>,
     ) -> Result<(), AllocError> {
-        let alloc = self.pool.alloc();
-        let mut attributes = Vec::new(alloc);
-        if let Some(parts) = code {
-            let name = self.pool.text(b"Code")?;
-            let code = code_of(alloc, parts)?;
-            attributes.push(MethodAttribute::Code { name, code })?;
-        }
+        let attributes = self.attributes_of(code)?;
         let method = Method {
             flags,
             name: self.pool.text(name)?,

@@ -45,13 +45,18 @@ impl Body {
     /// Code that does nothing.
     pub fn idle(alloc: Global) -> Result<Body, AllocError> {
         let mut body = Body::new(alloc);
-        body.ops(&[RETURN])?;
+        body.op(RETURN)?;
         Ok(body)
     }
 
     /// The offset of the next instruction.
     pub fn here(&self) -> u32 {
         (self.bytes.len() % 65_536) as u32
+    }
+
+    /// An instruction without operands, or a byte behind one.
+    pub fn op(&mut self, opcode: u8) -> Result<(), AllocError> {
+        Ok(self.bytes.push(opcode)?)
     }
 
     /// Instructions without operands.
@@ -78,16 +83,16 @@ impl Body {
     /// A jump to an offset.
     pub fn go_to(&mut self, target: u32) -> Result<(), AllocError> {
         let by = target.wrapping_sub(self.here());
-        self.ops(&[GOTO_W])?;
+        self.op(GOTO_W)?;
         self.word(by)
     }
 
     /// A switch, which leads to the places, and else to the default.
     pub fn switch(&mut self, default: u32, places: Places) -> Result<(), AllocError> {
         let at = self.here();
-        self.ops(&[TABLESWITCH])?;
+        self.op(TABLESWITCH)?;
         for _ in 0..padding_at(at) {
-            self.ops(&[0])?;
+            self.op(0)?;
         }
         self.word(default.wrapping_sub(at))?;
         self.word(0)?;

@@ -22,7 +22,7 @@ fn catch_all(main: &mut Main, alloc: Global, number: u32) -> Result<(), AllocErr
 
 fn catch_code(main: &mut Main, alloc: Global, number: u32) -> Result<(), AllocError> {
     for _ in 0..number {
-        main.body.ops(&[NOP])?;
+        main.body.op(NOP)?;
     }
     main.body.ops(&[RETURN, ATHROW])?;
     catch_all(main, alloc, number)
@@ -95,11 +95,11 @@ fn casts_to(main: &mut Main, name: &[u8], number: u32) -> Result<(), AllocError>
     let text = main.class.pool.text(name)?;
     for _ in 0..number {
         let index = main.class.pool.push(Constant::Class { name: text })?;
-        main.body.ops(&[ACONST_NULL])?;
+        main.body.op(ACONST_NULL)?;
         main.body.op_short(CHECKCAST, index)?;
-        main.body.ops(&[POP])?;
+        main.body.op(POP)?;
     }
-    main.body.ops(&[RETURN])
+    main.body.op(RETURN)
 }
 
 /// A class with a name of so many bytes, named by as many constants, and as many casts of null to it.

@@ -5,38 +5,21 @@ use crate::hostile_files::body::{Body, Places, behind_switch};
 use crate::hostile_files::set::Set;
 use std::alloc::{AllocError, Global};
 
-/// Puts an int or null into a local variable, in turn.
-fn set_local(body: &mut Body, local: u32) -> Result<(), AllocError> {
-    if local % 2 == 0 {
-        body.ops(&[ICONST_0])?;
-        return body.of_local(ISTORE, local);
-    }
-    body.ops(&[ACONST_NULL])?;
-    body.of_local(ASTORE, local)
+/// Puts an int into a local variable whose number has this parity, and null into another.
+fn set_local(body: &mut Body, local: u32, parity: u32) -> Result<(), AllocError> {
+    let (constant, store) = if local % 2 == parity {
+        (ICONST_0, ISTORE)
+    } else {
+        (ACONST_NULL, ASTORE)
+    };
+    body.op(constant)?;
+    body.of_local(store, local)
 }
 
-/// Puts the other of both into it.
-fn change_local(body: &mut Body, local: u32) -> Result<(), AllocError> {
-    if local % 2 == 1 {
-        body.ops(&[ICONST_0])?;
-        return body.of_local(ISTORE, local);
-    }
-    body.ops(&[ACONST_NULL])?;
-    body.of_local(ASTORE, local)
-}
-
-/// Puts an int or null into each of so many local variables.
-fn set_locals(body: &mut Body, number: u32) -> Result<(), AllocError> {
+/// Puts an int into each of so many local variables whose number has this parity, and null into the others.
+fn set_locals(body: &mut Body, number: u32, parity: u32) -> Result<(), AllocError> {
     for local in 0..number {
-        set_local(body, local)?;
-    }
-    Ok(())
-}
-
-/// Puts the other of both into each.
-fn change_locals(body: &mut Body, number: u32) -> Result<(), AllocError> {
-    for local in 0..number {
-        change_local(body, local)?;
+        set_local(body, local, parity)?;
     }
     Ok(())
 }
@@ -45,7 +28,7 @@ fn change_locals(body: &mut Body, number: u32) -> Result<(), AllocError> {
 fn add_handlers(body: &mut Body, number: u32) -> Result<u32, AllocError> {
     let first = body.here();
     for _ in 0..number {
-        body.ops(&[ATHROW])?;
+        body.op(ATHROW)?;
     }
     Ok(first)
 }
@@ -66,13 +49,13 @@ fn protect_by_all(
 /// Ends the code by a return, with so many handlers behind it over what stands before it from an offset on.
 fn end_protected(body: &mut Body, start: u32, number: u32) -> Result<(), AllocError> {
     let end = body.here();
-    body.ops(&[RETURN])?;
+    body.op(RETURN)?;
     let first = add_handlers(body, number)?;
     protect_by_all(body, start, end, first, number)
 }
 
 fn handlers_code(body: &mut Body, number: u32) -> Result<(), AllocError> {
-    set_locals(body, number)?;
+    set_locals(body, number, 0)?;
     end_protected(body, 0, number)
 }
 
@@ -86,9 +69,9 @@ pub fn handlers(alloc: Global, number: u32) -> Result<Vec<Vec<u8>>, AllocError> 
 }
 
 fn raised_code(body: &mut Body, number: u32) -> Result<(), AllocError> {
-    set_locals(body, number)?;
+    set_locals(body, number, 0)?;
     let start = body.here();
-    change_locals(body, number)?;
+    set_locals(body, number, 1)?;
     end_protected(body, start, number)
 }
 
@@ -104,11 +87,11 @@ pub fn raised_handlers(alloc: Global, number: u32) -> Result<Vec<Vec<u8>>, Alloc
 fn early_code(body: &mut Body, number: u32) -> Result<(), AllocError> {
     body.go_to(number.wrapping_add(5))?;
     let first = add_handlers(body, number)?;
-    set_locals(body, number)?;
+    set_locals(body, number, 0)?;
     let start = body.here();
-    change_locals(body, number)?;
+    set_locals(body, number, 1)?;
     let end = body.here();
-    body.ops(&[RETURN])?;
+    body.op(RETURN)?;
     protect_by_all(body, start, end, first, number)
 }
 
@@ -139,23 +122,23 @@ fn each_second(first: u32, number: u32) -> Places {
 /// For each of so many local variables, a store and one of the other type, each with a jump behind it to an offset.
 fn store_by_turns(body: &mut Body, end: u32, number: u32) -> Result<(), AllocError> {
     for local in 0..number {
-        set_local(body, local)?;
+        set_local(body, local, 0)?;
         body.go_to(end)?;
-        change_local(body, local)?;
+        set_local(body, local, 1)?;
         body.go_to(end)?;
     }
     Ok(())
 }
 
 fn alternating_code(body: &mut Body, number: u32) -> Result<(), AllocError> {
-    set_locals(body, number)?;
-    body.ops(&[ICONST_0])?;
+    set_locals(body, number, 0)?;
+    body.op(ICONST_0)?;
     let other = behind_switch(body.here(), number);
     let second_at = other.wrapping_add(number.wrapping_mul(5)).wrapping_add(1);
     let start = behind_switch(second_at, number);
     body.switch(other, each_second(start, number))?;
-    change_locals(body, number)?;
-    body.ops(&[ICONST_0])?;
+    set_locals(body, number, 1)?;
+    body.op(ICONST_0)?;
     let second = start.wrapping_add(PLACE);
     body.switch(second, each_second(second, number))?;
     let end = start.wrapping_add(number.wrapping_mul(DISTANCE));

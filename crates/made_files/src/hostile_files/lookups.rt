@@ -30,7 +30,7 @@ fn call_of_null(main: &mut Main, owner: u16, name: &[u8]) -> Result<(), AllocErr
         class: owner,
         name_and_type,
     })?;
-    main.body.ops(&[ACONST_NULL])?;
+    main.body.op(ACONST_NULL)?;
     main.body.op_short(INVOKEVIRTUAL, index)
 }
 
@@ -39,7 +39,7 @@ fn calls_of_null(main: &mut Main, owner: &[u8], number: u32) -> Result<(), Alloc
     for place in 0..number {
         call_of_null(main, owner, &numbered(b'm', place))?;
     }
-    main.body.ops(&[RETURN])
+    main.body.op(RETURN)
 }
 
 /// Adds the class with `main`, which calls so many methods by way of a class.
@@ -204,7 +204,7 @@ fn calls_with_nulls(
         let descriptor = descriptor_of_three(alloc, place)?;
         call_with_nulls(main, &idle, name, &descriptor)?;
     }
-    main.body.ops(&[RETURN])
+    main.body.op(RETURN)
 }
 
 /// So many static methods of one name, which is four times as many bytes long, each called with nulls.

@@ -28,7 +28,7 @@ impl Loop {
     /// With null in local variable 1 before it.
     fn new(alloc: Global) -> Result<Loop, AllocError> {
         let mut body = Body::new(alloc);
-        body.ops(&[ACONST_NULL])?;
+        body.op(ACONST_NULL)?;
         body.of_local(ASTORE, 1)?;
         let head = body.here();
         Ok(Loop { body, head })
@@ -36,7 +36,7 @@ impl Loop {
 
     /// Puts null as a class of the pool into local variable 1, and goes to the head of the loop.
     fn go_on_with(&mut self, class: u16) -> Result<(), AllocError> {
-        self.body.ops(&[ACONST_NULL])?;
+        self.body.op(ACONST_NULL)?;
         self.body.op_short(CHECKCAST, class)?;
         self.body.of_local(ASTORE, 1)?;
         self.body.go_to(self.head)
@@ -50,7 +50,7 @@ impl Loop {
         class: &mut ClassBuilder,
         number: u32,
     ) -> Result<(), AllocError> {
-        self.body.ops(&[ICONST_0])?;
+        self.body.op(ICONST_0)?;
         let first = behind_switch(self.body.here(), number);
         let places = Places {
             first,
@@ -88,7 +88,7 @@ pub fn loop_up_a_chain(alloc: Global, number: u32) -> Result<Vec<Vec<u8>>, Alloc
 fn make_objects(body: &mut Body, made: u16, number: u32) -> Result<(), AllocError> {
     for _ in 0..number {
         body.op_short(NEW, made)?;
-        body.ops(&[POP])?;
+        body.op(POP)?;
     }
     Ok(())
 }
@@ -192,7 +192,7 @@ pub fn calls_up_a_chain(alloc: Global, number: u32) -> Result<Vec<Vec<u8>>, Allo
 fn call_often_with_null(body: &mut Body, called: u16, number: u32) -> Result<(), AllocError> {
     for _ in 0..number {
         body.of_local(ALOAD, 0)?;
-        body.ops(&[ACONST_NULL])?;
+        body.op(ACONST_NULL)?;
         body.op_short(INVOKESPECIAL, called)?;
     }
     Ok(())

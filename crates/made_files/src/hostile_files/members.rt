@@ -48,7 +48,7 @@ fn read_field(main: &mut Main, owner: u16, place: u32) -> Result<(), AllocError>
         name_and_type,
     })?;
     main.body.op_short(GETSTATIC, index)?;
-    main.body.ops(&[POP])
+    main.body.op(POP)
 }
 
 fn reads_of(main: &mut Main, owner: &[u8], number: u32) -> Result<(), AllocError> {
@@ -56,7 +56,7 @@ fn reads_of(main: &mut Main, owner: &[u8], number: u32) -> Result<(), AllocError
     for place in 0..number {
         read_field(main, owner, place)?;
     }
-    main.body.ops(&[RETURN])
+    main.body.op(RETURN)
 }
 
 /// Adds the class with `main`, which reads so many static fields by way of a class.
@@ -98,7 +98,7 @@ fn own_fields(main: &mut Main, number: u32) -> Result<(), AllocError> {
             .add_field(PUBLIC_STATIC, &numbered(b'g', place), b"I")?;
         read_field(main, owner, place)?;
     }
-    main.body.ops(&[RETURN])
+    main.body.op(RETURN)
 }
 
 /// A class with so many fields, each of which is read.
@@ -119,10 +119,10 @@ fn calls_of(main: &mut Main, descriptor: &[u8], number: u32) -> Result<(), Alloc
             class: owner,
             name_and_type,
         })?;
-        main.body.ops(&[ACONST_NULL])?;
+        main.body.op(ACONST_NULL)?;
         main.body.op_short(INVOKESTATIC, index)?;
     }
-    main.body.ops(&[RETURN])
+    main.body.op(RETURN)
 }
 
 /// The class with `main`, which calls a method with a parameter of the class of a name, and with that method.

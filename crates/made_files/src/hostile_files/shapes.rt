@@ -44,6 +44,77 @@ pub const SHAPES: [&str; 23] = [
     "slow-loop",
 ];
 
+/// Those of a shape of one method, which has many local variables, handlers or operands.
+fn with_variables(
+    alloc: Global,
+    shape: &str,
+    number: u32,
+) -> Result<Option<Vec<Vec<u8>>>, AllocError> {
+    let files = match shape {
+        "alternating-handlers" => alternating_handlers(alloc, number),
+        "deep-stack" => deep_stack(alloc, number),
+        "early-handlers" => early_handlers(alloc, number),
+        "handlers" => handlers(alloc, number),
+        "raised-handlers" => raised_handlers(alloc, number),
+        "slow-loop" => slow_loop(alloc, number),
+        _ => return Ok(None),
+    };
+    Ok(Some(files?))
+}
+
+/// Those of a shape of a chain of classes or a ladder of interfaces, or of loops up one.
+fn with_chains(
+    alloc: Global,
+    shape: &str,
+    number: u32,
+) -> Result<Option<Vec<Vec<u8>>>, AllocError> {
+    let files = match shape {
+        "calls-up-a-chain" => calls_up_a_chain(alloc, number),
+        "catch-chain" => catch_chain(alloc, number),
+        "descriptors-up-a-chain" => descriptors_up_a_chain(alloc, number),
+        "interface-ladder" => interface_ladder(alloc, number),
+        "loop-up-a-chain" => loop_up_a_chain(alloc, number),
+        "many-loops" => many_loops(alloc, number),
+        "objects-up-a-chain" => objects_up_a_chain(alloc, number),
+        _ => return Ok(None),
+    };
+    Ok(Some(files?))
+}
+
+/// Those of a shape of members that are found far from where they are named.
+fn with_lookups(
+    alloc: Global,
+    shape: &str,
+    number: u32,
+) -> Result<Option<Vec<Vec<u8>>>, AllocError> {
+    let files = match shape {
+        "inherited-fields" => inherited_fields(alloc, number),
+        "inherited-methods" => inherited_methods(alloc, number),
+        "methods-of-interfaces" => methods_of_interfaces(alloc, number),
+        "methods-up-a-chain" => methods_up_a_chain(alloc, number),
+        "redeclared-fields" => redeclared_fields(alloc, number),
+        _ => return Ok(None),
+    };
+    Ok(Some(files?))
+}
+
+/// Those of a shape of many members, or of long names.
+fn with_members(
+    alloc: Global,
+    shape: &str,
+    number: u32,
+) -> Result<Option<Vec<Vec<u8>>>, AllocError> {
+    let files = match shape {
+        "long-class-name" => long_class_name(alloc, number),
+        "long-descriptor" => long_descriptor(alloc, number),
+        "long-method-name" => long_method_name(alloc, number),
+        "overriding-methods" => overriding_methods(alloc, number),
+        "read-fields" => read_fields(alloc, number),
+        _ => return Ok(None),
+    };
+    Ok(Some(files?))
+}
+
 /// The class files of a shape, that with `main` first, in which there is so much of each kind; `None` where no shape has this
 /// name. The number is 1 at least. Where it is too large, they are no class files.
 pub fn class_files(
@@ -51,31 +122,14 @@ pub fn class_files(
     shape: &str,
     number: u32,
 ) -> Result<Option<Vec<Vec<u8>>>, AllocError> {
-    let files = match shape {
-        "alternating-handlers" => alternating_handlers(alloc, number)?,
-        "calls-up-a-chain" => calls_up_a_chain(alloc, number)?,
-        "catch-chain" => catch_chain(alloc, number)?,
-        "deep-stack" => deep_stack(alloc, number)?,
-        "descriptors-up-a-chain" => descriptors_up_a_chain(alloc, number)?,
-        "early-handlers" => early_handlers(alloc, number)?,
-        "handlers" => handlers(alloc, number)?,
-        "inherited-fields" => inherited_fields(alloc, number)?,
-        "inherited-methods" => inherited_methods(alloc, number)?,
-        "interface-ladder" => interface_ladder(alloc, number)?,
-        "long-class-name" => long_class_name(alloc, number)?,
-        "long-descriptor" => long_descriptor(alloc, number)?,
-        "long-method-name" => long_method_name(alloc, number)?,
-        "loop-up-a-chain" => loop_up_a_chain(alloc, number)?,
-        "many-loops" => many_loops(alloc, number)?,
-        "methods-of-interfaces" => methods_of_interfaces(alloc, number)?,
-        "methods-up-a-chain" => methods_up_a_chain(alloc, number)?,
-        "objects-up-a-chain" => objects_up_a_chain(alloc, number)?,
-        "overriding-methods" => overriding_methods(alloc, number)?,
-        "raised-handlers" => raised_handlers(alloc, number)?,
-        "read-fields" => read_fields(alloc, number)?,
-        "redeclared-fields" => redeclared_fields(alloc, number)?,
-        "slow-loop" => slow_loop(alloc, number)?,
-        _ => return Ok(None),
-    };
-    Ok(Some(files))
+    if let Some(files) = with_variables(alloc, shape, number)? {
+        return Ok(Some(files));
+    }
+    if let Some(files) = with_chains(alloc, shape, number)? {
+        return Ok(Some(files));
+    }
+    if let Some(files) = with_lookups(alloc, shape, number)? {
+        return Ok(Some(files));
+    }
+    with_members(alloc, shape, number)
 }

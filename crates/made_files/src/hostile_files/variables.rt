@@ -8,7 +8,7 @@ use std::alloc::{AllocError, Global};
 
 /// Null as a class of the pool, put onto the stack.
 fn null_as(body: &mut Body, class: u16) -> Result<(), AllocError> {
-    body.ops(&[ACONST_NULL])?;
+    body.op(ACONST_NULL)?;
     body.op_short(CHECKCAST, class)
 }
 
@@ -16,7 +16,7 @@ fn null_as(body: &mut Body, class: u16) -> Result<(), AllocError> {
 fn set_all(body: &mut Body, class: u16, number: u32) -> Result<(), AllocError> {
     null_as(body, class)?;
     for local in 0..number {
-        body.ops(&[DUP])?;
+        body.op(DUP)?;
         body.of_local(ASTORE, local)?;
     }
     body.of_local(ASTORE, number)
@@ -61,14 +61,14 @@ fn push_by_turns(body: &mut Body, number: u32) -> Result<(), AllocError> {
         } else {
             ACONST_NULL
         };
-        body.ops(&[opcode])?;
+        body.op(opcode)?;
     }
     Ok(())
 }
 
 fn deep_stack_code(body: &mut Body, number: u32) -> Result<(), AllocError> {
     push_by_turns(body, number)?;
-    body.ops(&[ICONST_0])?;
+    body.op(ICONST_0)?;
     let first = behind_switch(body.here(), number);
     let places = Places {
         first,
@@ -80,7 +80,7 @@ fn deep_stack_code(body: &mut Body, number: u32) -> Result<(), AllocError> {
     for _ in 0..number {
         body.go_to(end)?;
     }
-    body.ops(&[RETURN])
+    body.op(RETURN)
 }
 
 /// So many operands on the stack, of two types by turns, where a switch leads to as many places, all of which go on at one.
