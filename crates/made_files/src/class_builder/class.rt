@@ -83,21 +83,6 @@ impl ClassBuilder {
         Ok(self.fields.push(field)?)
     }
 
-    /// The attributes of a method, which has a Code where one is given.
-    fn attributes_of(
-        &mut self,
-        code: Option<CodeParts<'_>>,
-    ) -> Result<Vec<MethodAttribute>, AllocError> {
-        let alloc = self.pool.alloc();
-        let mut attributes = Vec::new(alloc);
-        if let Some(parts) = code {
-            let name = self.pool.text(b"Code")?;
-            let code = code_of(alloc, parts)?;
-            attributes.push(MethodAttribute::Code { name, code })?;
-        }
-        Ok(attributes)
-    }
-
     /// Adds a method, with a Code where one is given.
     pub fn add_method(
         &mut self,
@@ -106,7 +91,13 @@ impl ClassBuilder {
         descriptor: &[u8],
         code: Option<CodeParts<'_>>,
     ) -> Result<(), AllocError> {
-        let attributes = self.attributes_of(code)?;
+        let alloc = self.pool.alloc();
+        let mut attributes = Vec::new(alloc);
+        if let Some(parts) = code {
+            let name = self.pool.text(b"Code")?;
+            let code = code_of(alloc, parts)?;
+            attributes.push(MethodAttribute::Code { name, code })?;
+        }
         let method = Method {
             flags,
             name: self.pool.text(name)?,

@@ -20,6 +20,7 @@ fn catch_all(main: &mut Main, alloc: Global, number: u32) -> Result<(), AllocErr
     Ok(())
 }
 
+/// So many instructions, with as many handlers over all of them.
 fn catch_code(main: &mut Main, alloc: Global, number: u32) -> Result<(), AllocError> {
     for _ in 0..number {
         main.body.op(NOP)?;
@@ -54,6 +55,7 @@ fn rung(alloc: Global, letter: u8, place: u32) -> Result<ClassBuilder, AllocErro
     Ok(class)
 }
 
+/// Adds both sides of a rung.
 fn add_rung(set: &mut Set, place: u32) -> Result<(), AllocError> {
     let left = rung(set.alloc, b'L', place)?;
     set.add(left)?;

@@ -54,6 +54,7 @@ fn end_protected(body: &mut Body, start: u32, number: u32) -> Result<(), AllocEr
     protect_by_all(body, start, end, first, number)
 }
 
+/// So many stores, with handlers over them.
 fn handlers_code(body: &mut Body, number: u32) -> Result<(), AllocError> {
     set_locals(body, number, 0)?;
     end_protected(body, 0, number)
@@ -68,6 +69,7 @@ pub fn handlers(alloc: Global, number: u32) -> Result<Vec<Vec<u8>>, AllocError> 
     Ok(set.finish())
 }
 
+/// So many stores and as many that change the types, with handlers over these.
 fn raised_code(body: &mut Body, number: u32) -> Result<(), AllocError> {
     set_locals(body, number, 0)?;
     let start = body.here();
@@ -84,6 +86,7 @@ pub fn raised_handlers(alloc: Global, number: u32) -> Result<Vec<Vec<u8>>, Alloc
     Ok(set.finish())
 }
 
+/// The same, with the handlers first.
 fn early_code(body: &mut Body, number: u32) -> Result<(), AllocError> {
     body.go_to(number.wrapping_add(5))?;
     let first = add_handlers(body, number)?;
@@ -130,6 +133,7 @@ fn store_by_turns(body: &mut Body, end: u32, number: u32) -> Result<(), AllocErr
     Ok(())
 }
 
+/// Both switches, and the places to which they lead.
 fn alternating_code(body: &mut Body, number: u32) -> Result<(), AllocError> {
     set_locals(body, number, 0)?;
     body.op(ICONST_0)?;

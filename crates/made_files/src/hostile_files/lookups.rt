@@ -7,7 +7,6 @@ use crate::hostile_files::chains::long_name;
 use crate::hostile_files::members::{add_getters, add_main_with_reads};
 use crate::hostile_files::names::{MAIN, OBJECT, numbered};
 use crate::hostile_files::set::{Main, Set, method_of};
-use class_tree::Constant;
 use std::alloc::{AllocError, Global};
 
 const INTERFACE: u16 = 0x0601;
@@ -24,18 +23,14 @@ fn last(number: u32) -> u32 {
 }
 
 /// A call, without arguments or result, of a method of a class by a receiver that is null.
-fn call_of_null(main: &mut Main, owner: u16, name: &[u8]) -> Result<(), AllocError> {
-    let name_and_type = main.class.pool.name_and_type(name, b"()V")?;
-    let index = main.class.pool.push(Constant::Method {
-        class: owner,
-        name_and_type,
-    })?;
+fn call_of_null(main: &mut Main, owner: &[u8], name: &[u8]) -> Result<(), AllocError> {
+    let index = method_of(&mut main.class, owner, name, b"()V")?;
     main.body.op(ACONST_NULL)?;
     main.body.op_short(INVOKEVIRTUAL, index)
 }
 
+/// So many calls of methods of a class.
 fn calls_of_null(main: &mut Main, owner: &[u8], number: u32) -> Result<(), AllocError> {
-    let owner = main.class.pool.class(owner)?;
     for place in 0..number {
         call_of_null(main, owner, &numbered(b'm', place))?;
     }
@@ -166,15 +161,20 @@ pub fn methods_of_interfaces(alloc: Global, number: u32) -> Result<Vec<Vec<u8>>,
     Ok(set.finish())
 }
 
+/// Adds the descriptor of an array of ints with one dimension more than so many.
+fn add_array(descriptor: &mut Vec<u8>, dimensions: u32) -> Result<(), AllocError> {
+    for _ in 0..dimensions {
+        descriptor.push(b'[')?;
+    }
+    descriptor.extend_from_slice(b"[I")
+}
+
 /// The descriptor of a method of three arrays of ints, another one for each number below 13,824.
 fn descriptor_of_three(alloc: Global, number: u32) -> Result<Vec<u8>, AllocError> {
     let mut descriptor = Vec::from_slice(alloc, b"(")?;
-    for dimensions in [number % 24, number / 24 % 24, number / 576 % 24] {
-        for _ in 0..dimensions.wrapping_add(1) {
-            descriptor.push(b'[')?;
-        }
-        descriptor.push(b'I')?;
-    }
+    add_array(&mut descriptor, number % 24)?;
+    add_array(&mut descriptor, number / 24 % 24)?;
+    add_array(&mut descriptor, number / 576 % 24)?;
     descriptor.extend_from_slice(b")V")?;
     Ok(descriptor)
 }

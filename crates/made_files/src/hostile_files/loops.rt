@@ -139,10 +139,16 @@ pub fn many_loops(alloc: Global, number: u32) -> Result<Vec<Vec<u8>>, AllocError
     Ok(set.finish())
 }
 
-/// So many calls of a method of this object.
-fn call_often(body: &mut Body, called: u16, number: u32) -> Result<(), AllocError> {
+/// So many calls of a method of this object, with arguments that instructions push.
+fn call_often(
+    body: &mut Body,
+    called: u16,
+    arguments: &[u8],
+    number: u32,
+) -> Result<(), AllocError> {
     for _ in 0..number {
         body.of_local(ALOAD, 0)?;
+        body.ops(arguments)?;
         body.op_short(INVOKESPECIAL, called)?;
     }
     Ok(())
@@ -157,7 +163,7 @@ fn add_calls(
 ) -> Result<(), AllocError> {
     let called = method_of(class, superclass, b"m", b"()V")?;
     let mut calls = Loop::new(alloc)?;
-    call_often(&mut calls.body, called, number)?;
+    call_often(&mut calls.body, called, b"", number)?;
     calls.finish(alloc, class, number)?;
     calls.body.add_method(class, PUBLIC, b"l", b"()V", 1, 2)
 }
@@ -188,16 +194,6 @@ pub fn calls_up_a_chain(alloc: Global, number: u32) -> Result<Vec<Vec<u8>>, Allo
     Ok(set.finish())
 }
 
-/// The same with an argument, which is null.
-fn call_often_with_null(body: &mut Body, called: u16, number: u32) -> Result<(), AllocError> {
-    for _ in 0..number {
-        body.of_local(ALOAD, 0)?;
-        body.op(ACONST_NULL)?;
-        body.op_short(INVOKESPECIAL, called)?;
-    }
-    Ok(())
-}
-
 /// A private method with a descriptor, and a method that calls it so many times in a loop.
 fn add_private_calls(
     class: &mut ClassBuilder,
@@ -207,7 +203,7 @@ fn add_private_calls(
 ) -> Result<(), AllocError> {
     let called = method_of(class, MAIN, b"m", descriptor)?;
     let mut calls = Loop::new(alloc)?;
-    call_often_with_null(&mut calls.body, called, number)?;
+    call_often(&mut calls.body, called, &[ACONST_NULL], number)?;
     calls.finish(alloc, class, number)?;
     calls.body.add_method(class, PUBLIC, b"l", b"()V", 2, 2)?;
     Body::idle(alloc)?.add_method(class, PRIVATE, b"m", descriptor, 0, 2)

@@ -51,6 +51,7 @@ fn read_field(main: &mut Main, owner: u16, place: u32) -> Result<(), AllocError>
     main.body.op(POP)
 }
 
+/// So many reads of static fields of a class.
 fn reads_of(main: &mut Main, owner: &[u8], number: u32) -> Result<(), AllocError> {
     let owner = main.class.pool.class(owner)?;
     for place in 0..number {

@@ -32,6 +32,7 @@ fn move_up(body: &mut Body, number: u32) -> Result<(), AllocError> {
     Ok(())
 }
 
+/// The loop, and what stands before it.
 fn slow_loop_code(main: &mut Main, number: u32) -> Result<(), AllocError> {
     let own = main.class.pool.class(MAIN)?;
     let object = main.class.pool.class(OBJECT)?;
@@ -66,6 +67,7 @@ fn push_by_turns(body: &mut Body, number: u32) -> Result<(), AllocError> {
     Ok(())
 }
 
+/// The operands, the switch, and the places to which it leads.
 fn deep_stack_code(body: &mut Body, number: u32) -> Result<(), AllocError> {
     push_by_turns(body, number)?;
     body.op(ICONST_0)?;
