@@ -162,6 +162,22 @@ impl Body<'_> {
     }
 }
 
+/// Writes the code of a method with so many statements.
+fn write_code(body: &mut Body<'_>, wanted: Wanted, statements: u32) -> Result<(), AllocError> {
+    let is_main = wanted.name == b"main".as_slice();
+    if is_main && !body.random.is_one_in(8) {
+        body.set_shared()?;
+    }
+    prologue(body, wanted.kind)?;
+    if is_main {
+        for _ in 0..body.random.below(4) {
+            body.start()?;
+        }
+    }
+    body.statements(statements)?;
+    body.leave()
+}
+
 /// The code of a method.
 fn code_of(
     alloc: Global,
@@ -172,18 +188,7 @@ fn code_of(
     let returns_int = wanted.descriptor.ends_with(b"I");
     let statements = random.below(wanted.most.max(1));
     let mut body = Body::new(alloc, &mut class.pool, random, returns_int);
-    let is_main = wanted.name == b"main".as_slice();
-    if is_main && !body.random.is_one_in(8) {
-        body.set_shared()?;
-    }
-    prologue(&mut body, wanted.kind)?;
-    if is_main {
-        for _ in 0..body.random.below(4) {
-            body.start()?;
-        }
-    }
-    body.statements(statements)?;
-    body.leave()?;
+    write_code(&mut body, wanted, statements)?;
     Ok(body.code)
 }
 
@@ -209,6 +214,13 @@ fn add(
     class.add_method(flags, wanted.name, wanted.descriptor, Some(parts))
 }
 
+/// Writes the code of a constructor that calls that of the superclass.
+fn write_constructor(body: &mut Body<'_>, superclass: &[u8]) -> Result<(), AllocError> {
+    body.load(0)?;
+    body.method(INVOKESPECIAL, superclass, b"<init>", b"()V")?;
+    body.leave()
+}
+
 /// The code of a constructor that calls that of the superclass.
 fn constructor_of(
     alloc: Global,
@@ -217,9 +229,7 @@ fn constructor_of(
     superclass: &[u8],
 ) -> Result<CodeBuilder, AllocError> {
     let mut body = Body::new(alloc, &mut class.pool, random, false);
-    body.load(0)?;
-    body.method(INVOKESPECIAL, superclass, b"<init>", b"()V")?;
-    body.leave()?;
+    write_constructor(&mut body, superclass)?;
     Ok(body.code)
 }
 
@@ -261,14 +271,53 @@ fn main_class(alloc: Global, random: &mut Random) -> Result<Vec<u8>, AllocError>
         (b"ints", b"[I"),
         (b"last", b"LT;"),
     ];
-    for (name, descriptor) in fields {
-        class.add_field(STATIC, name, descriptor)?;
-    }
+    add_fields(&mut class, STATIC, &fields)?;
     for wanted in [MAIN, OF_INT, OF_BOX] {
         add(alloc, &mut class, random, wanted)?;
     }
     add_initialiser(alloc, &mut class, random)?;
     class.bytes()
+}
+
+/// Adds fields with these names and descriptors.
+fn add_fields(
+    class: &mut ClassBuilder,
+    flags: u16,
+    fields: &[(&[u8], &[u8])],
+) -> Result<(), AllocError> {
+    for (name, descriptor) in fields {
+        class.add_field(flags, name, descriptor)?;
+    }
+    Ok(())
+}
+
+/// Adds the methods of B.
+fn add_box_methods(
+    alloc: Global,
+    class: &mut ClassBuilder,
+    random: &mut Random,
+) -> Result<(), AllocError> {
+    add_constructor(alloc, class, random, b"java/lang/Object")?;
+    for wanted in [GET, PUT] {
+        add(alloc, class, random, wanted)?;
+    }
+    add_initialiser(alloc, class, random)
+}
+
+/// Adds the methods of C: some of them by chance.
+fn add_lower_methods(
+    alloc: Global,
+    class: &mut ClassBuilder,
+    random: &mut Random,
+) -> Result<(), AllocError> {
+    add_constructor(alloc, class, random, b"B")?;
+    for wanted in [GET, PUT] {
+        if random.is_one_in(2) {
+            add(alloc, class, random, wanted)?;
+        }
+    }
+    add(alloc, class, random, RUN)?;
+    add_initialiser(alloc, class, random)
 }
 
 fn box_class(alloc: Global, random: &mut Random) -> Result<Vec<u8>, AllocError> {
@@ -281,14 +330,8 @@ fn box_class(alloc: Global, random: &mut Random) -> Result<Vec<u8>, AllocError> 
         (b"small", b"B"),
         (b"next", b"LB;"),
     ];
-    for (name, descriptor) in fields {
-        class.add_field(PUBLIC, name, descriptor)?;
-    }
-    add_constructor(alloc, &mut class, random, b"java/lang/Object")?;
-    for wanted in [GET, PUT] {
-        add(alloc, &mut class, random, wanted)?;
-    }
-    add_initialiser(alloc, &mut class, random)?;
+    add_fields(&mut class, PUBLIC, &fields)?;
+    add_box_methods(alloc, &mut class, random)?;
     class.bytes()
 }
 
@@ -296,14 +339,7 @@ fn lower_class(alloc: Global, random: &mut Random) -> Result<Vec<u8>, AllocError
     let mut class = ClassBuilder::new(alloc, PUBLIC_CLASS, b"C", b"B")?;
     class.add_interface(b"java/lang/Runnable")?;
     class.add_field(STATIC, b"s", b"I")?;
-    add_constructor(alloc, &mut class, random, b"B")?;
-    for wanted in [GET, PUT] {
-        if random.is_one_in(2) {
-            add(alloc, &mut class, random, wanted)?;
-        }
-    }
-    add(alloc, &mut class, random, RUN)?;
-    add_initialiser(alloc, &mut class, random)?;
+    add_lower_methods(alloc, &mut class, random)?;
     class.bytes()
 }
 
@@ -333,14 +369,24 @@ fn thread_class(alloc: Global, random: &mut Random) -> Result<Vec<u8>, AllocErro
     class.bytes()
 }
 
-/// A set of class files, in the order of their names.
-pub fn class_files(alloc: Global, random: &mut Random) -> Result<Vec<Vec<u8>>, AllocError> {
-    let mut files = Vec::new(alloc);
+/// Appends the class files of a set, in the order of their names.
+fn push_class_files(
+    files: &mut Vec<Vec<u8>>,
+    alloc: Global,
+    random: &mut Random,
+) -> Result<(), AllocError> {
     files.push(main_class(alloc, random)?)?;
     files.push(box_class(alloc, random)?)?;
     files.push(lower_class(alloc, random)?)?;
     files.push(exception_class(alloc, random)?)?;
     files.push(interface(alloc)?)?;
     files.push(thread_class(alloc, random)?)?;
+    Ok(())
+}
+
+/// A set of class files, in the order of their names.
+pub fn class_files(alloc: Global, random: &mut Random) -> Result<Vec<Vec<u8>>, AllocError> {
+    let mut files = Vec::new(alloc);
+    push_class_files(&mut files, alloc, random)?;
     Ok(files)
 }
