@@ -316,7 +316,7 @@ impl Words<'_, '_, '_, '_> {
         told: Told,
     ) -> Result<(), AllocError> {
         let mut link = "";
-        if told.deed != Deed::Nothing {
+        if !matches!(told.deed, Deed::Nothing) {
             self.deed(text, before, told.deed)?;
             link = ", ";
         }

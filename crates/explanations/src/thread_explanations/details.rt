@@ -99,6 +99,47 @@ fn thread_lines(
     Ok(threads)
 }
 
+/// What is told of threads of which this is known.
+fn details_by(alloc: Global, facts: Facts<'_>) -> Result<Details, AllocError> {
+    let threads = thread_lines(alloc, facts, facts.ends)?;
+    let deadlocks = deadlock_lines(alloc, facts.threads, facts.ends)?;
+    Ok(Details { threads, deadlocks })
+}
+
+/// What is told of threads that share this, of which this is known, and that stand so.
+fn details_in<'a>(
+    alloc: Global,
+    linked: &'a Linked,
+    program: &'a Arc<LinkedProgram>,
+    shared: &'a Shared,
+    threads: &'a [ThreadFacts],
+    ends: &'a [EndState],
+) -> Result<Details, AllocError> {
+    let names = ProgramNames::new(alloc, linked, program)?;
+    let facts = Facts {
+        alloc,
+        names: &names,
+        shared,
+        threads,
+        ends,
+    };
+    details_by(alloc, facts)
+}
+
+/// What the threads share after the events of the schedule.
+fn shared_after(
+    alloc: Global,
+    program: &Arc<LinkedProgram>,
+    schedule: &Schedule,
+    limits: Limits,
+) -> Result<Shared, AllocError>
+    requires { IsOfAccepted (arc_value program.now) }
+{
+    let mut machine = Machine::open(alloc, Arc::try_clone(program)?, limits)?;
+    let _ = run_schedule(&mut machine, schedule);
+    Ok(machine.into_shared())
+}
+
 /// What is told of threads that stand so after the events of the schedule, for which these are done again.
 pub(crate) fn details_of(
     alloc: Global,
@@ -110,21 +151,8 @@ pub(crate) fn details_of(
 ) -> Result<Details, AllocError>
     requires { IsOfAccepted (arc_value program.now) }
 {
-    let mut machine = Machine::open(alloc, Arc::try_clone(program)?, limits)?;
-    let _ = run_schedule(&mut machine, schedule);
-    let names = ProgramNames::new(alloc, linked, program)?;
-    let mut shared = machine.into_shared();
+    let mut shared = shared_after(alloc, program, schedule, limits)?;
     let throws = throws_of(alloc, program, schedule, limits, &shared)?;
     let threads = facts_of(alloc, &mut shared, program, ends, throws)?;
-    let facts = Facts {
-        alloc,
-        names: &names,
-        shared: &shared,
-        threads: &threads,
-        ends,
-    };
-    Ok(Details {
-        threads: thread_lines(alloc, facts, ends)?,
-        deadlocks: deadlock_lines(alloc, &threads, ends)?,
-    })
+    details_in(alloc, linked, program, &shared, &threads, ends)
 }

@@ -11,7 +11,7 @@ pub struct Entries {
 
 /// What an event did, beside an exception that it throws and the end of its thread. Objects are named by their references, classes
 /// and methods by their numbers; a word is an int by its bits, or 0 for null and else a reference and one.
-#[derive(Clone, Copy, Debug, PartialEq, Eq)]
+#[derive(Clone, Copy)]
 pub enum Deed {
     /// No more than its instruction says, or nothing.
     Nothing,

@@ -13,7 +13,7 @@ use machine_state::Shared;
 use model::Event;
 
 /// What an event of a thread did.
-#[derive(Clone, Copy, Debug)]
+#[derive(Clone, Copy)]
 pub struct Told {
     pub deed: Deed,
     /// The exception that is pending since.
