@@ -4,6 +4,7 @@ ghost use Rattle.std.specs.Prelude.{[], IfOk, OnErr};
 ghost use Rattle.std.specs.Io.KnownBytes.{Appends};
 ghost use Rattle.model.specs.Devices.{Counts};
 ghost use Rattle.model.specs.Schedule.{events_of};
+ghost use Rattle.machine.specs.machine_replay.Shown.{IsOpened};
 ghost use Rattle.program_runs.specs.traced_runs.Telling.{HasToldBy, StopsShortBy};
 ghost use Rattle.program_runs.specs.traced_runs.Traces.{IsTrace, WritesFront};
 
@@ -72,6 +73,35 @@ fn events<W: Sink>(
     Ok(done)
 }
 
+/// Does what `trace` does by a machine that was opened of these class files, with its limits.
+fn trace_opened<W: Sink>(
+    alloc: Global,
+    verified: &Verified,
+    machine: &mut Machine,
+    schedule: &Schedule,
+    window: Window<'_>,
+    output: &mut W,
+) -> Result<(Report, End), DeviceFault>
+    requires { IsOpened verified.now machine.old.limits machine.old }
+    ensures traced { IfOk result (λ r. (text : _)
+        × IsTrace verified.now (events_of schedule.now) machine.old.limits window.entry r.0 r.1 text
+        × Appends (W.contents output.old) (W.contents output.new) text) }
+    ensures part { OnErr result (WritesFront verified.now (events_of schedule.now) machine.old.limits
+        window.entry (W.contents output.old) (W.contents output.new)) }
+    ensures counted { Counts result (W.failures output.old) (W.failures output.new) }
+{
+    reports_of_words();
+    no_event_is_wrong();
+    let program = Arc::try_clone(machine.program())?;
+    let names = ProgramNames::new(alloc, verified.linked(), &program)?;
+    let telling = Telling {
+        names: &names,
+        window,
+    };
+    let (done, why) = events(alloc, machine, telling, schedule, output)?;
+    Ok(report_after(alloc, machine, verified.linked().set(), done, why)?)
+}
+
 /// Does the events of a schedule over verified class files, as far as they go, under the limits of the run (JVMS 2.5, 2.6, 5.5, chapter
 /// 6; JLS 17), and writes a line for each that is to be told. Returns the report of those that were done, and why no more were.
 ///
@@ -90,15 +120,6 @@ pub fn trace<W: Sink>(
         window.entry (W.contents output.old) (W.contents output.new)) }
     ensures counted { Counts result (W.failures output.old) (W.failures output.new) }
 {
-    reports_of_words();
-    no_event_is_wrong();
     let mut machine = open_machine(alloc, verified, limits)?;
-    let program = Arc::try_clone(machine.program())?;
-    let names = ProgramNames::new(alloc, verified.linked(), &program)?;
-    let telling = Telling {
-        names: &names,
-        window,
-    };
-    let (done, why) = events(alloc, &mut machine, telling, schedule, output)?;
-    Ok(report_after(alloc, &machine, verified.linked().set(), done, why)?)
+    trace_opened(alloc, verified, &mut machine, schedule, window, output)
 }
