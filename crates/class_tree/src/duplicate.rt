@@ -59,7 +59,7 @@ impl Member for Method {
 
 /// The first indices that have the texts of a member's name and of its descriptor. Two members of one name and one
 /// descriptor have the same.
-#[derive(Clone, Copy, Debug, PartialEq, Eq, Hash)]
+#[derive(Clone, Copy, PartialEq, Eq, Hash)]
 struct Firsts {
     name: usize,
     descriptor: usize,

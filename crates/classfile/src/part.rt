@@ -11,7 +11,7 @@ use constant_pool::reading::{Reader, Stop};
 use std::alloc::Global;
 
 /// To what a table belongs.
-#[derive(Clone, Copy, Debug, PartialEq, Eq)]
+#[derive(Clone, Copy)]
 pub(crate) enum Owner {
     Class,
     StaticField,

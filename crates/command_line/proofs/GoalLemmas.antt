@@ -1,7 +1,6 @@
 -- The words of outcomes that are to be found.
-use Rattle.std.proofs.Common.{◌≡◌, ℕ, zero, suc, ◌<◌, List, [], ◌∷◌, ◌++◌, length, get_or, codes, string_bytes, Option, Some, None, Result, Ok, Err, Bor, refl, sym, ap, subst, ◌∙◌, arith, lit<}
+use Rattle.std.proofs.Common.{◌≡◌, ℕ, zero, suc, ◌<◌, List, [], ◌∷◌, ◌++◌, length, get_or, codes, string_bytes, Option, Some, None, Result, Ok, Err, Bor, sym, subst, ◌∙◌, arith, lit<}
 use Rattle.std.specs.Prelude.{IfOk}
-use Rattle.std.specs.Option.{MatchOption}
 use Rattle.std.proofs.lemmas.Str.Pattern.{IsSplitOnceResult, split_parts, split_after}
 use Rattle.clap.specs.Words.{Text}
 use Rattle.command_line.specs.CommandLine.{IsGoal, NamesGoal, NamesGoalWith, goal_word}

@@ -5,7 +5,7 @@ ghost use Rattle.std.specs.Prelude.{◌≡◌, ◌≤◌, ◌↔◌, IsTrue, unw
 use model::Limits;
 
 /// A subcommand with the values of its options.
-#[derive(Debug, Drop, PartialEq, Eq)]
+#[derive(Drop)]
 pub enum Command {
     Run(Run),
     Replay(Replay),
@@ -26,7 +26,7 @@ const USUAL_STATES: u32 = 10_000_000;
 const USUAL_MEMORY: u32 = 1_000_000_000;
 
 /// `jvm run`: class files are run by workers, and what comes of it is reported.
-#[derive(Debug, Drop, PartialEq, Eq)]
+#[derive(Drop)]
 pub struct Run {
     pub options: RunOptions,
     /// The path of the file that the schedule of the run is written to, if any.
@@ -39,7 +39,7 @@ pub struct Run {
 }
 
 /// How class files are run: the numbers that are asked for, each in its range, and `None` for the usual one.
-#[derive(Clone, Copy, Debug, PartialEq, Eq)]
+#[derive(Clone, Copy)]
 pub struct RunOptions {
     /// How many workers there are.
     pub workers: Option<u32>,
@@ -91,7 +91,7 @@ impl RunOptions {
 }
 
 /// `jvm replay`: class files are run under a schedule, and what comes of it is reported.
-#[derive(Debug, Drop, PartialEq, Eq)]
+#[derive(Drop)]
 pub struct Replay {
     /// The path of the schedule file.
     pub schedule: String,
@@ -105,7 +105,7 @@ pub struct Replay {
 }
 
 /// `jvm trace`: class files are run under a schedule, and the run is told event by event.
-#[derive(Debug, Drop, PartialEq, Eq)]
+#[derive(Drop)]
 pub struct Trace {
     /// The path of the schedule file.
     pub schedule: String,
@@ -126,7 +126,7 @@ pub struct Trace {
 }
 
 /// How a trace tells each event.
-#[derive(Clone, Copy, Debug, PartialEq, Eq)]
+#[derive(Clone, Copy)]
 pub enum TraceForm {
     /// In words.
     Plain,
@@ -137,7 +137,7 @@ pub enum TraceForm {
 }
 
 /// `jvm search`: all schedules of class files are searched, and what comes of it is reported.
-#[derive(Debug, Drop, PartialEq, Eq)]
+#[derive(Drop)]
 pub struct Search {
     /// The outcome that is to be found, and `None` where all are asked for.
     pub goal: Option<Goal>,
@@ -155,7 +155,7 @@ pub struct Search {
 }
 
 /// Which outcome of a run a search is to find.
-#[derive(Debug, Drop, PartialEq, Eq)]
+#[derive(Drop)]
 pub enum Goal {
     /// No thread may go on, and one hasn't ended.
     Deadlock,
@@ -184,7 +184,7 @@ impl Search {
 }
 
 /// How a run goes on where a schedule ends.
-#[derive(Debug, Drop, PartialEq, Eq)]
+#[derive(Drop)]
 pub struct ThenRun {
     /// How many events there may be, those of the schedule included, and `None` for the usual number.
     pub budget: Option<u32>,
@@ -202,7 +202,7 @@ impl ThenRun {
 }
 
 /// `jvm verify`: class files are linked and verified, and nothing is run.
-#[derive(Debug, Drop, PartialEq, Eq)]
+#[derive(Drop)]
 pub struct Verify {
     /// The paths of the class files, and of folders of them. The first file holds the class that has to have a `main`.
     pub files: Vec<String>,
@@ -213,7 +213,7 @@ pub struct Verify {
 }
 
 /// `jvm disasm`: the listings of class files are written.
-#[derive(Debug, Drop, PartialEq, Eq)]
+#[derive(Drop)]
 pub struct Disasm {
     /// The paths of the class files, and of folders of them.
     pub files: Vec<String>,
@@ -225,7 +225,7 @@ pub struct Disasm {
 
 /// `jvm schedule`: a schedule is printed as text, or with `--write` a schedule file is made of the text on standard
 /// input.
-#[derive(Debug, Drop, PartialEq, Eq)]
+#[derive(Drop)]
 pub struct Schedule {
     /// The path of the schedule file.
     pub file: String,
@@ -236,7 +236,7 @@ pub struct Schedule {
 }
 
 /// The limits that are asked for, each in its range, and `None` for the usual one.
-#[derive(Clone, Copy, Debug, PartialEq, Eq)]
+#[derive(Clone, Copy)]
 pub struct LimitOptions {
     pub objects: Option<u32>,
     pub cells: Option<u32>,

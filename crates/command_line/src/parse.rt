@@ -1,8 +1,8 @@
 //! The reading of the command line.
 
-ghost use Rattle.std.specs.Prelude.{◌≡◌, ◌⊎◌, false, Some, codes, map, string_bytes, IfOk, IfErr};
+ghost use Rattle.std.specs.Prelude.{◌≡◌, ◌⊎◌, List, false, Some, codes, map, string_bytes, IfOk, IfErr};
 ghost use Rattle.std.specs.Option.{option_map};
-ghost use Rattle.clap.specs.Words.{HasMatchesOf, all_of, first_of, found_of, kind_of, rows_of};
+ghost use Rattle.clap.specs.Words.{HasMatchesOf, all_of, first_of, found_of, kind_of, rows_of, Text};
 ghost use Rattle.clap.specs.declared.error.kind.ErrorKind.TheVariants.{UnknownArgument as unknown_argument};
 ghost use Rattle.command_line.specs.CommandLine.{AreDisasmValues, AreLimitNumbers, AreRunNumbers, AreRunValues, AreScheduleValues, AreSearchValues, AreTraceValues, AreValues, AreVerifyValues, Asks, Fails, IsGoal, IsThenRun, IsTraceForm, Refuses, Spells, is_set as is_true, jvm, usage_of};
 
@@ -28,6 +28,14 @@ pub fn command(alloc: Global, words: &[String]) -> Result<options::Command, Usag
     ensures refused { IfErr result (Fails (map string_bytes words.now)) }
 {
     let matches = parsed(alloc, words)?;
+    command_of(alloc, &matches)
+}
+
+/// The command that the words spell of which these are the matches.
+fn command_of(alloc: Global, matches: &ArgMatches<'_>) -> Result<options::Command, Usage>
+    ensures spelled { (words : List Text) → HasMatchesOf jvm words matches.now → IfOk result (Spells words) }
+    ensures refused { (words : List Text) → HasMatchesOf jvm words matches.now → IfErr result (Fails words) }
+{
     if let Some(run) = matches.subcommand_matches("run") {
         return Ok(options::Command::Run(run_of(alloc, run)?));
     }

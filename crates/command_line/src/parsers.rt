@@ -1,9 +1,9 @@
 //! The parsers of the command line.
 
 ghost use Rattle.std.specs.Prelude.{◌≡◌, false, IfOk, IfErr};
-ghost use Rattle.clap.specs.Words.{app_of, kind_of, new_app, rule_of};
+ghost use Rattle.clap.specs.Words.{App, app_of, kind_of, new_app, rule_of, with_subcommand};
 ghost use Rattle.clap.specs.declared.error.kind.ErrorKind.TheVariants.{OutOfMemory as no_memory};
-ghost use Rattle.command_line.specs.CommandLine.{IsLocal, class_files, flag, goal_option, jvm, jvm_disasm, jvm_replay, jvm_run, jvm_schedule, jvm_search, jvm_trace, jvm_verify, one_file, path_option, record_option, with_files as over_files, with_limits as limited};
+ghost use Rattle.command_line.specs.CommandLine.{IsLocal, class_files, flag, goal_option, jvm, jvm_disasm, jvm_replay, jvm_run, jvm_schedule, jvm_search, jvm_trace, jvm_verify, one_file, path_option, record_option, schedule_option, with_files as over_files, with_limits as limited};
 
 use crate::help::{
     ABOUT, AFTER, DISASM_PAGE, FILES_HELP, LISTED_HELP, REPLAY_PAGE, RUN_PAGE, SCHEDULE_PAGE,
@@ -25,15 +25,29 @@ pub(crate) fn program<'a>(alloc: Global) -> Result<clap::Command<'a>, clap::Erro
         .about(ABOUT)
         .version(VERSION)
         .after_help(AFTER)
-        .subcommand_required(true)
-        .subcommand(run_parser(alloc)?)?
-        .subcommand(replay_parser(alloc)?)?
-        .subcommand(trace_parser(alloc)?)?
-        .subcommand(search_parser(alloc)?)?
-        .subcommand(verify_parser(alloc)?)?
-        .subcommand(disasm_parser(alloc)?)?
-        .subcommand(schedule_parser(alloc)?)?;
+        .subcommand_required(true);
+    let program = with_parser(program, run_parser(alloc))?;
+    let program = with_parser(program, replay_parser(alloc))?;
+    let program = with_parser(program, trace_parser(alloc))?;
+    let program = with_parser(program, search_parser(alloc))?;
+    let program = with_parser(program, verify_parser(alloc))?;
+    let program = with_parser(program, disasm_parser(alloc))?;
+    let program = with_parser(program, schedule_parser(alloc))?;
     Ok(program)
+}
+
+/// The command with a subcommand, if there was memory for its parser.
+fn with_parser<'a>(
+    command: clap::Command<'a>,
+    parser: Result<clap::Command<'a>, AllocError>,
+) -> Result<clap::Command<'a>, AllocError>
+    ensures { (app : App) → IfOk parser.entry (λ p. (app_of p ≡ app) × IsLocal p)
+        → IfOk result (λ whole. app_of whole ≡ with_subcommand (app_of command.entry) app.top) }
+{
+    match parser {
+        Ok(parser) => command.subcommand(parser),
+        Err(error) => Err(error),
+    }
 }
 
 /// A subcommand by its name, with what it does in a line, and the page that its help ends with.
@@ -70,20 +84,18 @@ fn run_parser<'a>(alloc: Global) -> Result<clap::Command<'a>, AllocError>
 fn replay_parser<'a>(alloc: Global) -> Result<clap::Command<'a>, AllocError>
     ensures { IfOk result (λ replay. (app_of replay ≡ jvm_replay) × IsLocal replay) }
 {
-    let schedule = path_argument(alloc, "schedule", "The schedule file, or its text");
-    let then_run = flag_argument(
-        alloc,
-        "then-run",
-        "Goes on where the schedule ends: the threads take turns",
-    );
     let replay = titled(
         alloc,
         "replay",
         "Runs class files under the schedule of a file, and may go on behind it",
         REPLAY_PAGE,
     )
-    .arg(schedule.required(true))?
-    .arg(then_run)?
+    .arg(schedule_argument(alloc))?
+    .arg(flag_argument(
+        alloc,
+        "then-run",
+        "Goes on where the schedule ends: the threads take turns",
+    ))?
     .arg(BUDGET.argument(alloc))?
     .arg(record_argument(alloc))?;
     with_files(
@@ -96,27 +108,23 @@ fn replay_parser<'a>(alloc: Global) -> Result<clap::Command<'a>, AllocError>
 fn trace_parser<'a>(alloc: Global) -> Result<clap::Command<'a>, AllocError>
     ensures { IfOk result (λ trace. (app_of trace ≡ jvm_trace) × IsLocal trace) }
 {
-    let schedule = path_argument(alloc, "schedule", "The schedule file, or its text");
-    let columns = flag_argument(alloc, "columns", "Gives each thread a column of its own");
-    let json = flag_argument(alloc, "json", "Tells each event as an object of JSON");
-    let summary = flag_argument(
-        alloc,
-        "summary",
-        "Tells a run of local instructions in one line",
-    );
     let trace = titled(
         alloc,
         "trace",
         "Runs class files under the schedule of a file, and tells the run event by event",
         TRACE_PAGE,
     )
-    .arg(schedule.required(true))?
+    .arg(schedule_argument(alloc))?
     .arg(FROM.argument(alloc))?
     .arg(TO.argument(alloc))?
     .arg(ONLY.list_argument(alloc))?
-    .arg(columns)?
-    .arg(json)?
-    .arg(summary)?;
+    .arg(flag_argument(alloc, "columns", "Gives each thread a column of its own"))?
+    .arg(flag_argument(alloc, "json", "Tells each event as an object of JSON"))?
+    .arg(flag_argument(
+        alloc,
+        "summary",
+        "Tells a run of local instructions in one line",
+    ))?;
     with_files(
         alloc,
         with_limits(alloc, trace)?,
@@ -186,6 +194,14 @@ fn schedule_parser<'a>(alloc: Global) -> Result<clap::Command<'a>, AllocError>
     )
     .arg(write)?;
     with_files(alloc, schedule, file_argument(alloc, "The schedule file"))
+}
+
+/// The file of the schedule, which has to be there.
+fn schedule_argument<'a>(alloc: Global) -> Arg<'a>
+    ensures rule { rule_of result ≡ schedule_option }
+    ensures local { result.global ≡ false }
+{
+    path_argument(alloc, "schedule", "The schedule file, or its text").required(true)
 }
 
 /// The file that a schedule is written to.

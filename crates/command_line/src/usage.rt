@@ -13,7 +13,7 @@ use std::num::ParseIntError;
 const MORE: &str = "For more information, try '--help'.";
 
 /// Why there is no command.
-#[derive(Debug, Drop)]
+#[derive(Drop)]
 pub enum Usage {
     /// The words are no command. Its text is for the user.
     Parser(clap::Error),

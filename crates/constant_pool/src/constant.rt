@@ -8,7 +8,7 @@ ghost use Rattle.constant_pool.specs.Checking.{saturated};
 use std::alloc::AllocError;
 
 /// An entry of the constant pool (JVMS 4.4).
-#[derive(Debug, Drop)]
+#[derive(Drop)]
 pub enum Constant {
     Utf8(Vec<u8>),
     /// By its 32 bits.

@@ -14,7 +14,7 @@ use std::collections::BTreeMap;
 use std::marker::Model;
 
 /// A pool, and for each index the first that has the same text. Contracts see the entries of the pool.
-#[derive(Debug, Drop)]
+#[derive(Drop)]
 pub struct FirstIndices<'a> {
     pool: &'a Pool,
     firsts: Vec<usize>,

@@ -10,7 +10,7 @@ use crate::descriptors::{is_class_name, is_unqualified_name, method_slots, parse
 use crate::name::is_name_of_method;
 
 /// What a text is: which names (JVMS 4.2) and which descriptors (JVMS 4.3).
-#[derive(Clone, Copy, Debug, PartialEq, Eq)]
+#[derive(Clone, Copy)]
 pub struct TextKind {
     /// An unqualified name, as a field has.
     pub is_unqualified: bool,

@@ -10,7 +10,7 @@ use crate::constant::Constant;
 use crate::pool::Pool;
 
 /// A name and a descriptor.
-#[derive(Clone, Copy, Debug, PartialEq, Eq, Hash)]
+#[derive(Clone, Copy, PartialEq, Eq, Hash)]
 pub struct NameAndDescriptor<'a> {
     pub name: &'a [u8],
     pub descriptor: &'a [u8],
@@ -18,7 +18,7 @@ pub struct NameAndDescriptor<'a> {
 
 /// A field or a method, by the name of the class in which it is sought, its own name and its descriptor
 /// (JVMS 4.4.2).
-#[derive(Clone, Copy, Debug)]
+#[derive(Clone, Copy)]
 pub struct Reference<'a> {
     pub class: &'a [u8],
     pub name: &'a [u8],

@@ -11,7 +11,7 @@ use std::alloc::AllocError;
 use std::marker::Model;
 
 /// A constant pool. The index 1 names the first of its entries, and a `Long` or a `Double` takes two places.
-#[derive(Debug, Drop)]
+#[derive(Drop)]
 pub struct Pool {
     constants: Vec<Constant>,
 }

@@ -13,7 +13,7 @@ use std::alloc::{AllocError, Global};
 use std::marker::Model;
 
 /// A pool, and what the text of each index is. Contracts see the entries of the pool.
-#[derive(Debug, Drop)]
+#[derive(Drop)]
 pub struct Texts<'a> {
     pool: &'a Pool,
     kinds: Vec<TextKind>,

@@ -10,7 +10,7 @@ use std::io;
 use std::io::Write;
 
 /// Why words have no status.
-#[derive(Debug, Drop)]
+#[derive(Drop)]
 pub enum Complaint {
     /// The words are no command.
     Usage(Usage),

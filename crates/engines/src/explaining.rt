@@ -24,10 +24,22 @@ pub fn second_line<F: Folder>(
         return None;
     };
     let command = command(alloc, words).ok()?;
-    if !is_wanted && !asks(&command) {
-        return None;
+    if is_wanted || asks(&command) {
+        told_line(alloc, folder, &command, fault, output)
+    } else {
+        None
     }
-    let line = line_of(alloc, folder, &command, fault, output).ok()??;
+}
+
+/// What is known of a fault of a command, with two spaces before it and its end.
+fn told_line<F: Folder>(
+    alloc: Global,
+    folder: &F,
+    command: &Command,
+    fault: &Fault,
+    output: Option<ErrorKind>,
+) -> Option<Vec<u8>> {
+    let line = line_of(alloc, folder, command, fault, output).ok()??;
     indented(alloc, line.as_slice()).ok()
 }
 

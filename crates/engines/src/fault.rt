@@ -14,7 +14,7 @@ use std::io;
 use std::io::{ErrorKind, Write};
 
 /// Why an engine has no status.
-#[derive(Debug, Drop)]
+#[derive(Drop)]
 pub enum Fault {
     /// A reader or a writer failed.
     Device,

@@ -10,7 +10,7 @@ use command_line::Usage;
 use model::{End, EndState, Report};
 use search::search_reports::Answer;
 
-#[derive(Clone, Copy, Debug, PartialEq, Eq)]
+#[derive(Clone, Copy)]
 pub enum Status {
     /// No thread can go on, and all have ended, none with an exception. Of what runs nothing: it is done.
     Returned,

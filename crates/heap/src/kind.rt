@@ -4,7 +4,7 @@ ghost use Rattle.std.specs.Prelude.{◌≡◌};
 ghost use Rattle.heap.specs.Elements.{kept, stored};
 
 /// What the elements of an array are that have fewer than 32 bits.
-#[derive(Clone, Copy, Debug, PartialEq, Eq)]
+#[derive(Clone, Copy, PartialEq, Eq)]
 pub enum NarrowKind {
     Boolean,
     Char,
@@ -14,7 +14,7 @@ pub enum NarrowKind {
 
 /// What an object is: an instance of a class, or an array. Classes, and the types of arrays of references, have the
 /// numbers that the caller gives them.
-#[derive(Clone, Copy, Debug, PartialEq, Eq)]
+#[derive(Clone, Copy, PartialEq, Eq)]
 pub enum ObjectKind {
     Instance { class: u32 },
     Ints,

@@ -10,7 +10,7 @@ use std::alloc::AllocError;
 use std::mem::size_of;
 
 /// An object: what it is, and which of the cells is its first. Its others follow, up to the first of the next object.
-#[derive(Clone, Copy, Debug, PartialEq, Eq)]
+#[derive(Clone, Copy)]
 pub struct Entry {
     pub kind: ObjectKind,
     pub start: usize,

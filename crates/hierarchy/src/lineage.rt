@@ -10,7 +10,7 @@ use class_tree::ClassFile;
 use std::alloc::{AllocError, Global};
 
 /// How a class stands below its superclasses.
-#[derive(Clone, Copy, Debug)]
+#[derive(Clone, Copy)]
 pub(crate) struct Lineage {
     /// How many there are.
     pub(crate) depth: usize,

@@ -20,7 +20,7 @@ const PRIVATE: u16 = 0x0002;
 const STATIC: u16 = 0x0008;
 
 /// Which methods count in a look-up.
-#[derive(Clone, Copy, Debug)]
+#[derive(Clone, Copy)]
 pub(crate) enum Wanted {
     Any,
     /// An instance method that is not private.

@@ -59,7 +59,7 @@ impl MemberTexts {
 }
 
 /// The numbers of the name and of the descriptor of a member. None of a text that isn't there, or has no number.
-#[derive(Clone, Copy, Debug)]
+#[derive(Clone, Copy)]
 pub(crate) struct MemberKey {
     pub(crate) name: Option<usize>,
     pub(crate) descriptor: Option<usize>,

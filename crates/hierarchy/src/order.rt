@@ -4,7 +4,7 @@ use crate::set::{ClassSet, superclass_name};
 use std::alloc::{AllocError, Global};
 
 /// What is still to be done on the way through the classes.
-#[derive(Clone, Copy, Debug)]
+#[derive(Clone, Copy)]
 enum Step {
     /// To come to the class at a place, unless it was come to.
     Enter(usize),

@@ -8,7 +8,7 @@ ghost use Rattle.hierarchy.specs.Types.{primitive_of, innermost_of, type_of};
 use crate::hierarchy::Hierarchy;
 
 /// A primitive type of which there are arrays here.
-#[derive(Clone, Copy, Debug)]
+#[derive(Clone, Copy)]
 pub enum Primitive {
     Boolean,
     Char,
@@ -18,7 +18,7 @@ pub enum Primitive {
 }
 
 /// A reference type that is no array of references.
-#[derive(Clone, Copy, Debug)]
+#[derive(Clone, Copy)]
 pub enum Innermost<'a> {
     /// A class or an interface, by its name.
     Class(&'a [u8]),
@@ -27,7 +27,7 @@ pub enum Innermost<'a> {
 }
 
 /// A reference type: so many arrays of references, one in the other, around an innermost type.
-#[derive(Clone, Copy, Debug)]
+#[derive(Clone, Copy)]
 pub struct ReferenceType<'a> {
     pub arrays: usize,
     pub innermost: Innermost<'a>,

@@ -6,7 +6,7 @@ ghost use Rattle.hierarchy.specs.declared.refusal.SetRefusal.TheVariants as refu
 use std::alloc::{AllocError, AllocFailed};
 
 /// Why files are no set of classes.
-#[derive(Clone, Copy, Debug, PartialEq, Eq)]
+#[derive(Clone, Copy)]
 pub enum SetRefusal {
     /// The class of this file has the name of a built-in class, or of a file before it (JVMS 5.3). Files are counted
     /// from 0.

@@ -19,7 +19,7 @@ use class_tree::ClassFile;
 use std::alloc::{AllocError, Global};
 
 /// What stands directly above a class.
-#[derive(Clone, Copy, Debug)]
+#[derive(Clone, Copy)]
 pub(crate) enum Above {
     /// Its direct superinterfaces.
     Interfaces,

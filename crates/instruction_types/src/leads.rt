@@ -3,7 +3,7 @@
 use types::VerificationType;
 
 /// Where an instruction that is not local leads, as a rule over the types before it (JVMS 4.10.1.9).
-#[derive(Clone, Copy, Debug, PartialEq, Eq)]
+#[derive(Clone, Copy)]
 pub enum Leads {
     /// To no instruction: a return, or an exception.
     Nowhere,

@@ -11,14 +11,14 @@ use smallvec::SmallVec;
 use std::alloc::Global;
 
 /// What an instruction that is not local wants, and where it leads.
-#[derive(Debug, Drop)]
+#[derive(Drop)]
 pub struct Meaning {
     pub wants: Wants,
     pub leads: Leads,
 }
 
 /// Why there is no meaning of an instruction.
-#[derive(Clone, Copy, Debug, PartialEq, Eq)]
+#[derive(Clone, Copy)]
 pub enum NoMeaning {
     /// The instruction is local, or its operand does not name what it is to name.
     Unnamed,

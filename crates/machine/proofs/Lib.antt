@@ -2,3 +2,4 @@ pub mod Turning
 pub mod Repeating
 pub mod Lent
 pub mod Advancing
+mod Copied

@@ -18,7 +18,7 @@ use std::marker::Model;
 use std::sync::Arc;
 
 /// Why an event was not done once more.
-#[derive(Clone, Copy, Debug, PartialEq, Eq)]
+#[derive(Clone, Copy)]
 pub enum Stopped {
     /// It was done as often as was asked for.
     Most,

@@ -1,7 +1,7 @@
 //! What instructions and events answer.
 
 /// An exception that the machine makes itself (JVMS 2.10).
-#[derive(Clone, Copy, Debug, PartialEq, Eq)]
+#[derive(Clone, Copy)]
 pub enum MachineException {
     NullPointer,
     Arithmetic,
@@ -20,7 +20,7 @@ pub enum MachineException {
 }
 
 /// What an instruction came to. Only where it is done has it changed something.
-#[derive(Clone, Copy, Debug, PartialEq, Eq)]
+#[derive(Clone, Copy)]
 pub enum Effect {
     Done,
     /// It raises an exception that the machine makes.
@@ -34,7 +34,7 @@ pub enum Effect {
 }
 
 /// What an event came to. One that is not enabled has changed nothing.
-#[derive(Clone, Copy, Debug, PartialEq, Eq)]
+#[derive(Clone, Copy)]
 pub enum Answer {
     Done,
     NotEnabled,

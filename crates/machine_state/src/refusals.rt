@@ -10,7 +10,7 @@ use model::RunCause;
 use std::alloc::AllocError;
 
 /// Why an enabled event is refused: a limit, or a want of memory. Nothing has changed then.
-#[derive(Clone, Copy, Debug, PartialEq, Eq)]
+#[derive(Clone, Copy)]
 pub enum Refusal {
     /// As many objects as may be were made since the opening.
     Objects,

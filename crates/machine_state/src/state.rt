@@ -5,7 +5,7 @@ use heap::java_threads::Threads;
 use linked_code::thread_stacks::ThreadStack;
 
 /// How far the initialisation of a class is (JVMS 5.5).
-#[derive(Clone, Copy, Debug, PartialEq, Eq)]
+#[derive(Clone, Copy, PartialEq, Eq)]
 pub enum ClassStatus {
     NotInitialised,
     /// By the thread of a number.

@@ -3,7 +3,7 @@
 /// An entry of the exception table of a method's code (JVMS 4.7.3): the handler at the offset `handler` takes what
 /// is thrown from the offset `start` on and before the offset `end`, if it is of the class that the entry
 /// `catch_type` of the constant pool names, or whatever it is where `catch_type` is 0.
-#[derive(Clone, Copy, Debug, PartialEq, Eq)]
+#[derive(Clone, Copy)]
 pub struct ExceptionEntry {
     pub start: u16,
     pub end: u16,

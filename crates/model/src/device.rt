@@ -9,7 +9,7 @@ ghost use Rattle.model.specs.Devices.{Counts, LosesFront, AppendsFront};
 use std::alloc::{AllocError, AllocFailed, Global};
 
 /// Why a device didn't do what it was asked for.
-#[derive(Clone, Copy, Debug, PartialEq, Eq)]
+#[derive(Clone, Copy, PartialEq, Eq)]
 pub enum DeviceFault {
     /// It failed, and counted that.
     Device,

@@ -1,14 +1,14 @@
 //! Instructions (JVMS chapter 6), by families.
 
 /// Of which kind a local variable is that an instruction loads or stores.
-#[derive(Clone, Copy, Debug, PartialEq, Eq)]
+#[derive(Clone, Copy)]
 pub enum Kind {
     Int,
     Reference,
 }
 
 /// An array by what it holds. `baload` and `bastore` take arrays of booleans and of bytes.
-#[derive(Clone, Copy, Debug, PartialEq, Eq)]
+#[derive(Clone, Copy)]
 pub enum ArrayKind {
     Int,
     Reference,
@@ -18,7 +18,7 @@ pub enum ArrayKind {
 }
 
 /// What is computed from two ints.
-#[derive(Clone, Copy, Debug, PartialEq, Eq)]
+#[derive(Clone, Copy)]
 pub enum Arithmetic {
     Add,
     Subtract,
@@ -34,7 +34,7 @@ pub enum Arithmetic {
 }
 
 /// To what an int is narrowed.
-#[derive(Clone, Copy, Debug, PartialEq, Eq)]
+#[derive(Clone, Copy)]
 pub enum Conversion {
     ToByte,
     ToChar,
@@ -42,7 +42,7 @@ pub enum Conversion {
 }
 
 /// How two ints are compared, the second from the top with the top.
-#[derive(Clone, Copy, Debug, PartialEq, Eq)]
+#[derive(Clone, Copy)]
 pub enum Comparison {
     Equal,
     NotEqual,
@@ -53,7 +53,7 @@ pub enum Comparison {
 }
 
 /// What moves words of the operand stack, whatever they are.
-#[derive(Clone, Copy, Debug, PartialEq, Eq)]
+#[derive(Clone, Copy)]
 pub enum StackMove {
     Pop,
     Pop2,
@@ -67,14 +67,14 @@ pub enum StackMove {
 }
 
 /// What a return instruction returns.
-#[derive(Clone, Copy, Debug, PartialEq, Eq)]
+#[derive(Clone, Copy)]
 pub enum Returned {
     Nothing,
     Int,
     Reference,
 }
 
-#[derive(Clone, Copy, Debug, PartialEq, Eq)]
+#[derive(Clone, Copy)]
 pub enum FieldAccess {
     GetStatic,
     PutStatic,
@@ -82,7 +82,7 @@ pub enum FieldAccess {
     PutField,
 }
 
-#[derive(Clone, Copy, Debug, PartialEq, Eq)]
+#[derive(Clone, Copy)]
 pub enum Invocation {
     Virtual,
     Special,
@@ -93,7 +93,7 @@ pub enum Invocation {
 /// `iload 0` and `wide iload 0` are one. An index is one of the constant pool. A jump is counted from the offset
 /// of the opcode. The jumps of a `tableswitch`, and the pairs of a `lookupswitch`, stay in the code, from the
 /// offset `at` on.
-#[derive(Clone, Copy, Debug, PartialEq, Eq)]
+#[derive(Clone, Copy)]
 pub enum Instr {
     Nop,
     /// `aconst_null`.

@@ -6,7 +6,7 @@ ghost use Rattle.model.specs.LimitRanges.{AreLimits};
 /// What a run may use: the objects that it makes, their cells (instance fields and array elements), the
 /// monitors that have waiters or many entries, the threads that are started, the main thread included, and the
 /// method frames of one thread.
-#[derive(Clone, Copy, Debug, PartialEq, Eq)]
+#[derive(Clone, Copy)]
 pub struct Limits {
     pub objects: u32,
     pub cells: u32,

@@ -1,7 +1,7 @@
 //! Answers of monitors.
 
 /// What the monitor of an object answers to a thread (JLS 17.1, 17.2).
-#[derive(Clone, Copy, Debug, PartialEq, Eq)]
+#[derive(Clone, Copy, PartialEq, Eq)]
 pub enum MonitorAnswer {
     Done,
     /// Another thread owns the monitor.

@@ -1,7 +1,7 @@
 //! What a run showed.
 
 /// How a thread stands when the run has ended.
-#[derive(Debug, Drop, PartialEq, Eq)]
+#[derive(Drop, PartialEq, Eq)]
 pub enum EndState {
     /// It returned.
     Ended,
@@ -21,7 +21,7 @@ pub enum EndState {
 
 /// The numbers that were printed, in order, the state of each thread by its number, and how many events were
 /// done.
-#[derive(Debug, Drop, PartialEq, Eq)]
+#[derive(Drop, PartialEq, Eq)]
 pub struct Report {
     pub printed: Vec<i32>,
     pub threads: Vec<EndState>,

@@ -2,7 +2,7 @@
 
 /// What a local variable, a place of an operand stack, a field or an element holds (JVMS 2.6.1, 2.6.2), with
 /// its kind. A `long` or a `double` never stands here.
-#[derive(Clone, Copy, Debug, Default, PartialEq, Eq)]
+#[derive(Clone, Copy, Default)]
 pub enum Value {
     /// A local variable to which nothing was written.
     #[default]

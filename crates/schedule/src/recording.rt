@@ -8,7 +8,7 @@ use std::marker::Model;
 
 /// The limits of the run that recorded a schedule, and the lengths in bytes of its class files, in their order. They are
 /// at most 4,294,967,295 files.
-#[derive(Debug, Drop)]
+#[derive(Drop)]
 pub struct Recording {
     limits: Limits,
     lengths: Vec<u64>,

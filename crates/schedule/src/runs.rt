@@ -8,7 +8,7 @@ use std::marker::Model;
 
 /// A list of events, kept as at most 4,294,967,295 entries that each stand for so many equal events. It is never
 /// unrolled.
-#[derive(Debug, Drop)]
+#[derive(Drop)]
 pub struct Schedule {
     entries: Vec<ScheduleEntry>,
 }

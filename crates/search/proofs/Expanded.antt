@@ -1,5 +1,5 @@
 -- The states to which events lead from a state, as far as a loop has come.
-use Rattle.std.proofs.Common.{◌≡◌, ℕ, ◌+◌, ◌<◌, ◌≤◌, length, Bool, true, false, ◌⊎◌, inl, inr, nat_le, Option, Some, None, Result, Ok, Err, refl, sym, ap, subst, ◌∙◌, below_none, below_more, arith}
+use Rattle.std.proofs.Common.{◌≡◌, ℕ, ◌+◌, ◌<◌, ◌≤◌, length, Bool, true, false, ◌⊎◌, inl, inr, nat_le, Result, Ok, Err, refl, sym, ap, subst, ◌∙◌, below_none, below_more, arith}
 use Rattle.std.specs.Prelude.{IfOk}
 use Rattle.std.proofs.lemmas.Bool.Decides.{leb_tells}
 use Rattle.model.specs.declared.event.Event.{Event}
@@ -12,8 +12,8 @@ use Rattle.machine.specs.Machines.{MachineOf}
 use Rattle.machine.specs.schedule_runs.Done.{HasDone}
 use Rattle.search.specs.met_states.Met.{IsNextMet, AreHigherPicksLeft, AreOtherThreadsLeft, AreMetStatesKept}
 use Rattle.search.specs.Machines.{GoesBy}
-use Rattle.search.specs.States.{StatesOf, IsInState, IsMetFrom, AreMetByThread, AreMetByThreads, AreAllMet, Grows, GrowsTo, GrowsAgain}
-use Rattle.search.proofs.Growth.{stays, further, earlier, still_met, gave_up, went_on}
+use Rattle.search.specs.States.{StatesOf, IsInState, IsMetFrom, AreMetByThread, AreMetByThreads, AreAllMet, Grows, GrowsTo}
+use Rattle.search.proofs.Growth.{stays, further, earlier, still_met, still_there, gave_up, went_on}
 use Rattle.search.proofs.Shown.{run_of}
 
 -- so it is of each below a number
@@ -33,10 +33,16 @@ module _ (P : StatesOf → ℕ → Type 0) where
         each = below_more (P new) i (λ k lt. keeps k more.grows (so_far.each k lt)) (more.then refl);
       }
 
-  pub goes_further_if : (old mid new : StatesOf) (i : ℕ) → ((k : ℕ) → Grows mid new → P mid k → P new k) → HasGrown P old mid i
-      → (went_on : Bool) → GrowsTo (λ s. P s i) mid new went_on → went_on ≡ true
-      → HasGrown P old new (i + 1)
-  goes_further_if old mid new i keeps so_far went_on more e = goes_further old mid new i keeps so_far (subst (GrowsTo (λ s. P s i) mid new) e more)
+  -- a machine is in the state of a number again
+  pub goes_again : (number : ℕ) (old mid new : StatesOf) (i : ℕ) (m : MachineOf) → ((k : ℕ) → Grows mid new → P mid k → P new k) → HasGrown P old mid i
+      → (went : Bool) → GrowsTo (λ s. P s i × IsInState s number m) mid new went → went ≡ true
+      → HasGrown P old new (i + 1) × IsInState new number m
+  goes_again number old mid new i m keeps so_far went more e =
+      let both = more.then e in
+      (goes_further old mid new i keeps so_far (went_on (λ s. P s i) mid new more.grows both.0), both.1)
+
+  pub gives_up : (Q : StatesOf → Type 0) (old mid new : StatesOf) (i : ℕ) → HasGrown P old mid i → Grows mid new → GrowsTo Q old new false
+  gives_up Q old mid new i so_far more = gave_up Q old new (further old mid new so_far.grows more)
 
 -- ---- picks
 
@@ -86,18 +92,17 @@ same_state s number event m then there goes events is =
     }
 
 pub thread_met : AreHigherPicksLeft → (number thread i : ℕ) (old new : StatesOf) (m then : MachineOf) → HasGrown (IsPickMet number thread) old new i → IsInState new number m
-    → GoesBy (Ok answer.NotEnabled) (event_at thread i) m then → GrowsAgain (λ s. AreMetByThread s number thread) number old new (Some then)
+    → GoesBy (Ok answer.NotEnabled) (event_at thread i) m then → GrowsTo (λ s. AreMetByThread s number thread × IsInState s number then) old new true
 thread_met higher number thread i old new m then so_far there goes =
     let grown = all_picks higher number thread i old new m then so_far there goes in
-    (grown.grows, grown.then refl, same_state new number (event_at thread i) m then there goes)
+    went_on (λ s. AreMetByThread s number thread × IsInState s number then) old new grown.grows (grown.then refl, same_state new number (event_at thread i) m then there goes)
 
--- a pick is met once its entry has been added
-pub pick_met : AreMetStatesKept → (number thread i : ℕ) (entry : ScheduleEntry) (old mid new : StatesOf) → number < length mid.schedules → entry.event ≡ event_at thread i
-    → HasGrown (IsPickMet number thread) old mid i → (went_on : Bool) → GrowsTo (λ s. IsMetFrom s number entry.event) mid new went_on → went_on ≡ true
-    → HasGrown (IsPickMet number thread) old new (i + 1)
-pick_met kept number thread i entry old mid new lt is so_far went_on more e =
-    goes_further_if (IsPickMet number thread) old mid new i (pick_kept kept number thread mid new lt) so_far went_on
-    (subst (λ x. GrowsTo (λ s. IsMetFrom s number x) mid new went_on) is more) e
+-- a machine that did an event, and the local ones behind it; and one that is in the state from which the event led
+pub met_again : (number : ℕ) (event : Event) (entry : ScheduleEntry) (old new : StatesOf) (m : MachineOf) → entry.event ≡ event → IsInState old number m → number < length old.schedules
+    → (went : Bool) → GrowsTo (λ s. IsMetFrom s number entry.event) old new went
+    → GrowsTo (λ s. IsMetFrom s number event × IsInState s number m) old new went
+met_again number event entry old new m is there lt went more =
+    record { grows = more.grows; then = λ e. (subst (λ x. IsMetFrom new number x) is (more.then e), still_there old new more.grows number lt m there) }
 
 -- ---- threads
 
@@ -107,19 +112,6 @@ IsThreadMet number s thread = AreMetByThread s number thread
 pub thread_kept : AreMetStatesKept → (number : ℕ) (mid new : StatesOf) → number < length mid.schedules → (k : ℕ) → Grows mid new
     → IsThreadMet number mid k → IsThreadMet number new k
 thread_kept kept number mid new lt k grows met pick = still_met mid new grows number lt kept (event_at k pick) (met pick)
-
-pub next_thread : AreMetStatesKept → (number i : ℕ) (old mid new : StatesOf) → number < length mid.schedules → HasGrown (IsThreadMet number) old mid i → (o : Option MachineOf) (m : MachineOf)
-    → GrowsAgain (λ s. AreMetByThread s number i) number mid new o → o ≡ Some m → HasGrown (IsThreadMet number) old new (i + 1) × IsInState new number m
-next_thread kept number i old mid new lt so_far o m again e =
-    let there = subst (GrowsAgain (λ s. AreMetByThread s number i) number mid new) e again in (
-      goes_further (IsThreadMet number) old mid new i (thread_kept kept number mid new lt) so_far (went_on (λ s. IsThreadMet number s i) mid new there.0 there.1),
-      there.2,
-    )
-
-pub no_thread : (number threads i : ℕ) (old mid new : StatesOf) → HasGrown (IsThreadMet number) old mid i → (o : Option MachineOf) → GrowsAgain (λ s. AreMetByThread s number i) number mid new o → o ≡ None
-    → GrowsTo (λ s. AreMetByThreads s number threads) old new false
-no_thread number threads i old mid new so_far o again e =
-    gave_up (λ s. AreMetByThreads s number threads) old new (further old mid new so_far.grows (subst (GrowsAgain (λ s. AreMetByThread s number i) number mid new) e again))
 
 pub all_threads : (number threads at : ℕ) (old new : StatesOf) → at ≡ threads → HasGrown (IsThreadMet number) old new at
     → GrowsTo (λ s. AreMetByThreads s number threads) old new true

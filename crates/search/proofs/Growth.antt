@@ -7,9 +7,11 @@ use Rattle.model.specs.declared.event.ScheduleEntry.{ScheduleEntry}
 use Rattle.model.specs.declared.limits.Limits.{Limits}
 use Rattle.run_laws.specs.interleavings.Ends.{Has}
 use Rattle.machine_state.specs.Shown.{IsProgram}
+use Rattle.machine.specs.Machines.{MachineOf}
 use Rattle.search.specs.local_runs.Local.{AreLocalAfter}
 use Rattle.search.specs.met_states.Met.{IsNextMet, AreListed, AreNewStatesMet, AreMetStatesKept}
-use Rattle.search.specs.States.{StatesOf, IsSchedule, IsMetFrom, Grows, GrowsTo, IsLocalFrom, IsPushed}
+use Rattle.search.specs.Machines.{IsAt}
+use Rattle.search.specs.States.{StatesOf, IsSchedule, IsInState, IsMetFrom, Grows, GrowsTo, IsLocalFrom, IsPushed}
 
 pub stays : (s : StatesOf) → Grows s s
 stays s = record { program = refl; limits_are = refl; kept = λ number events is. is }
@@ -32,6 +34,10 @@ module _ (old new : StatesOf) (grows : Grows old new) (number : ℕ) (lt : numbe
   -- what its schedule is, it was
   pub earlier : (events : List Event) → IsSchedule new number events → IsSchedule old number events
   earlier events is = there ∙ ap Some (same_Some (get_or old.schedules number []) events (sym (grows.kept number _ there) ∙ is))
+
+  pub still_there : (m : MachineOf) → IsInState old number m → IsInState new number m
+  still_there m there events is =
+      subst (λ p. IsAt p new.limits events m) (sym grows.program) (subst (λ l. IsAt old.program l events m) (sym grows.limits_are) (there events (earlier events is)))
 
   listed : AreListed old.schedules new.schedules
   listed schedule h = (h.0, grows.kept h.0 schedule h.1)

@@ -20,7 +20,7 @@ use Rattle.search.specs.run_outcomes.Outcomes.{told_by, IsWanted, IsAdded}
 use Rattle.search.specs.Machines.{IsAt, TellsOutcome}
 use Rattle.search.specs.States.{StatesOf, IsSchedule, IsInState, AreAllMet, GrowsTo}
 use Rattle.search.specs.Verdicts.{IsFound}
-use Rattle.search.specs.Visits.{AreListed, HasVisited, ListsOr}
+use Rattle.search.specs.Visits.{AreListed, HasVisited, ListsAt, ListsOr}
 use Rattle.search.proofs.Growth.{earlier, still_met}
 
 -- ---- a machine that has done the events of a run
@@ -90,11 +90,6 @@ module _ (trees : Program) (limits : Limits) (want : Wanted) (s : StatesOf) (out
       → IsSchedule s number events → IsFound trees limits want events
   found None new tells lists events is = absurd (true≢false lists.0)
   found (Some o) new tells lists events is = found_at events is o tells lists
-
-  pub found_if : (o : Option TheOutcome) (new : List Outcome) (is_found : Bool) → TellsOutcome trees m o
-      → ListsOr want o is_found outcomes new → is_found ≡ true
-      → (events : List Event) → IsSchedule s number events → IsFound trees limits want events
-  found_if o new is_found tells lists e = found o new tells (subst (λ b. ListsOr want o b outcomes new) e lists)
 
   -- its outcome, if there is one, is listed
   module _ (new : List Outcome) where
@@ -180,9 +175,17 @@ module _ (trees : Program) (limits : Limits) (want : Wanted) (s : StatesOf) (out
             let inside : k < length s.schedules = omega (arith, before, lt) in
             now.listed k events state before (earlier s s_new grown.grows k inside events is) r quiet
 
-    pub visited_if : AreMetStatesKept → (o : Option TheOutcome) (is_found : Bool) → TellsOutcome trees m o
-        → ListsOr want o is_found outcomes new → is_found ≡ false
-        → (s_new : StatesOf) (went_on : Bool) → GrowsTo (λ x. AreAllMet x number) s s_new went_on → went_on ≡ true
-        → HasVisited trees limits want s_new new (suc number)
-    visited_if kept o is_found tells lists e s_new went_on grown went =
-        visited_too kept o tells (subst (λ b. ListsOr want o b outcomes new) e lists) s_new (subst (GrowsTo (λ x. AreAllMet x number) s s_new) went grown)
+module _ (trees : Program) (limits : Limits) (want : Wanted) (s : StatesOf) (outcomes new : List Outcome) (number : ℕ)
+    (visited : HasVisited trees limits want s outcomes number) (lt : number < length s.schedules) where
+  pub found_if : (answer : Option MachineOf) → ListsAt trees want s number answer outcomes new → answer ≡ None
+      → (events : List Event) → IsSchedule s number events → IsFound trees limits want events
+  found_if answer lists e =
+      let at = subst (λ a. ListsAt trees want s number a outcomes new) e lists in
+      found trees limits want s outcomes number visited lt at.0 at.2 at.1 new at.3 at.4
+
+  pub visited_if : AreMetStatesKept → (answer : Option MachineOf) (m : MachineOf) → ListsAt trees want s number answer outcomes new → answer ≡ Some m
+      → (s_new : StatesOf) (went_on : Bool) → GrowsTo (λ x. AreAllMet x number) s s_new went_on → went_on ≡ true
+      → HasVisited trees limits want s_new new (suc number)
+  visited_if kept answer m lists e s_new went_on grown went =
+      let at = subst (λ a. ListsAt trees want s number a outcomes new) e lists in
+      visited_too trees limits want s outcomes number visited lt m at.1 new kept at.0 at.2 at.3 s_new (subst (GrowsTo (λ x. AreAllMet x number) s s_new) went grown)

@@ -1,5 +1,5 @@
 -- The states that a search has met, each by a schedule that leads there (own).
-use Rattle.std.specs.Prelude.{◌≡◌, ◌<◌, ℕ, suc, List, [], ◌∷◌, ◌++◌, Option, Some, None, Bool, IsTrue, replicate, slice_get}
+use Rattle.std.specs.Prelude.{◌≡◌, ◌<◌, ℕ, suc, List, [], ◌∷◌, ◌++◌, Option, Some, Bool, IsTrue, Ok, replicate, slice_get}
 use Rattle.model.specs.declared.event.Event.{Event}
 use Rattle.model.specs.declared.event.ScheduleEntry.{ScheduleEntry}
 use Rattle.model.specs.declared.limits.Limits.{Limits}
@@ -7,11 +7,12 @@ use Rattle.model.specs.Accepted.{IsAccepted}
 use Rattle.model.specs.Classes.{Program}
 use Rattle.run_laws.specs.interleavings.Ends.{Has}
 use Rattle.linked_code.specs.declared.program.LinkedProgram.{LinkedProgram}
+use Rattle.machine_state.specs.declared.answers.Answer.TheVariants.{Done}
 use Rattle.machine_state.specs.Shown.{IsProgram}
 use Rattle.machine.specs.Machines.{MachineOf}
 use Rattle.search.specs.local_runs.Local.{AreLocalAfter}
 use Rattle.search.specs.met_states.Met.{IsNextMet}
-use Rattle.search.specs.Machines.{IsAt}
+use Rattle.search.specs.Machines.{IsAt, GoesBy}
 
 -- a program, the limits of its runs, and the schedules by their numbers
 pub record StatesOf : Type 0 where
@@ -58,10 +59,9 @@ pub record GrowsTo (P : StatesOf → Type 0) (old new : StatesOf) (went_on : Boo
   pub grows : Grows old new
   pub then : IsTrue went_on → P new
 
--- it has grown; and unless it gave up, this is so, and the machine is in the state of this number
-abbrev pub GrowsAgain : (P : StatesOf → Type 0) (number : ℕ) (old new : StatesOf) → Option MachineOf → Type 0
-GrowsAgain P number old new None = Grows old new
-GrowsAgain P number old new (Some m) = Grows old new × P new × IsInState new number m
+-- the machine has done the event in the state of this number
+abbrev pub HasGoneFrom : StatesOf → (number : ℕ) → Event → MachineOf → Type 0
+HasGoneFrom s number event m = (before : MachineOf) × IsInState s number before × GoesBy (Ok Done) event before m
 
 -- ---- an event with those behind it
 

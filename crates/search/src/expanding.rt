@@ -1,7 +1,7 @@
 //! The states to which events lead from a state.
 
 ghost use Rattle.std.specs.Prelude.{◌<◌, length, IfOk};
-ghost use Rattle.search.specs.States.{IsInState, AreMetByThread, AreMetByThreads, AreAllMet, GrowsTo, GrowsAgain};
+ghost use Rattle.search.specs.States.{IsInState, HasGoneFrom, IsMetFrom, AreMetByThread, AreMetByThreads, AreAllMet, GrowsTo};
 
 use crate::machines::{go_on, go_past};
 use crate::met_states::{higher_picks_are_left, met_states_are_kept, other_threads_are_left};
@@ -10,40 +10,58 @@ use machine::Machine;
 use machine_state::Answer;
 use model::Event;
 use std::alloc::{AllocError, Global};
+use std::mem;
 
-/// Adds the states to which the events of a thread lead from a state, in which this machine is. Answers a machine in that state, or none
-/// where it gives up: there would be more states than so many, an event is refused, or each of the first 65,535 picks is enabled. The only
-/// error is a want of memory.
+/// Adds the state to which an event led from a state, and takes the machine that did the event back to that one. Answers false where there
+/// would be more states than so many. The only error is a want of memory.
+fn meet(
+    alloc: Global,
+    states: &mut States,
+    number: u32,
+    event: Event,
+    machine: &mut Machine,
+    most: u32,
+) -> Result<bool, AllocError>
+    requires number { number < length states.old.schedules }
+    requires has_gone { HasGoneFrom states.old number event machine.old }
+    ensures { IfOk result (GrowsTo (λ s. IsMetFrom s number event × IsInState s number machine.new) states.old states.new) }
+{
+    let entry = go_past(alloc, machine, event)?;
+    let again = states.machine(number)?;
+    let after = mem::replace(machine, again);
+    states.add(number, entry, after, most)
+}
+
+/// Adds the states to which the events of a thread lead from a state, in which this machine is, and is again at the end. Answers false where
+/// it gives up: there would be more states than so many, an event is refused, or each of the first 65,535 picks is enabled. The only error
+/// is a want of memory.
 fn expand_thread(
     alloc: Global,
     states: &mut States,
     number: u32,
     thread: u16,
-    machine: Machine,
+    machine: &mut Machine,
     most: u32,
-) -> Result<Option<Machine>, AllocError>
+) -> Result<bool, AllocError>
     requires number { number < length states.old.schedules }
-    requires is_in { IsInState states.old number machine }
-    ensures { IfOk result (GrowsAgain (λ s. AreMetByThread s number thread) number states.old states.new) }
+    requires is_in { IsInState states.old number machine.old }
+    ensures { IfOk result (GrowsTo (λ s. AreMetByThread s number thread × IsInState s number machine.new) states.old states.new) }
 {
     higher_picks_are_left();
     met_states_are_kept();
-    let mut machine = machine;
     'picks: for pick in 0..u16::MAX {
         let event = Event { thread, pick };
-        match go_on(&mut machine, event) {
+        match go_on(machine, event) {
             Ok(Answer::Done) => {
-                let entry = go_past(alloc, &mut machine, event)?;
-                if !states.add(number, entry, machine, most)? {
-                    return Ok(None);
+                if !meet(alloc, states, number, event, machine, most)? {
+                    return Ok(false);
                 }
-                machine = states.machine(number)?;
             }
-            Ok(Answer::NotEnabled) => return Ok(Some(machine)),
-            Err(_) => return Ok(None),
+            Ok(Answer::NotEnabled) => return Ok(true),
+            Err(_) => return Ok(false),
         }
     }
-    Ok(None)
+    Ok(false)
 }
 
 /// Adds the states to which the events of the first threads lead from a state, in which this machine is, of so many threads. Answers false
@@ -53,19 +71,17 @@ fn expand_threads(
     states: &mut States,
     number: u32,
     threads: u16,
-    machine: Machine,
+    machine: &mut Machine,
     most: u32,
 ) -> Result<bool, AllocError>
     requires number { number < length states.old.schedules }
-    requires is_in { IsInState states.old number machine }
+    requires is_in { IsInState states.old number machine.old }
     ensures { IfOk result (GrowsTo (λ s. AreMetByThreads s number threads) states.old states.new) }
 {
     met_states_are_kept();
-    let mut machine = machine;
     'threads: for thread in 0..threads {
-        match expand_thread(alloc, states, number, thread, machine, most)? {
-            Some(again) => machine = again,
-            None => return Ok(false),
+        if !expand_thread(alloc, states, number, thread, machine, most)? {
+            return Ok(false);
         }
     }
     Ok(true)
@@ -84,6 +100,7 @@ pub(crate) fn expand(
     ensures { IfOk result (GrowsTo (λ s. AreAllMet s number) states.old states.new) }
 {
     other_threads_are_left();
+    let mut machine = machine;
     let threads = machine.shared().threads.len() as u16;
-    expand_threads(alloc, states, number, threads, machine, most)
+    expand_threads(alloc, states, number, threads, &mut machine, most)
 }

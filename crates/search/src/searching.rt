@@ -5,7 +5,7 @@ ghost use Rattle.std.specs.Arc.{arc_value};
 ghost use Rattle.machine.specs.Machines.{IsProgramOf};
 ghost use Rattle.search.specs.Machines.{TellsOutcome};
 ghost use Rattle.search.specs.Verdicts.{Says};
-ghost use Rattle.search.specs.Visits.{HasVisited, Visits, ListsOr};
+ghost use Rattle.search.specs.Visits.{HasVisited, Visits, ListsAt, ListsOr};
 
 use crate::expanding::expand;
 use crate::machines::outcome_of;
@@ -84,6 +84,26 @@ fn is_found_at(
     is_found(alloc, wanted, outcomes, outcome)
 }
 
+/// Lists the outcome of a state, if there is one. Answers a machine in that state, or none where the outcome is wanted.
+fn listed_at(
+    alloc: Global,
+    classes: &ClassSet,
+    wanted: &Wanted,
+    states: &States,
+    outcomes: &mut Outcomes,
+    number: u32,
+) -> Result<Option<Machine>, AllocError>
+    requires { number < length states.now.schedules }
+    ensures { IfOk result (λ found. ListsAt classes.now wanted.now states.now number found outcomes.old outcomes.new) }
+{
+    let machine = states.machine(number)?;
+    if is_found_at(alloc, classes, wanted, outcomes, &machine)? {
+        Ok(None)
+    } else {
+        Ok(Some(machine))
+    }
+}
+
 /// Visits the state of a number, all below which have been visited. The classes are those of the files.
 fn visit_state(
     alloc: Global,
@@ -99,10 +119,9 @@ fn visit_state(
     ensures { IfOk result (λ v. Visits classes.now states.old.limits wanted.now number v states.new outcomes.new) }
 {
     met_states_are_kept();
-    let machine = states.machine(number)?;
-    if is_found_at(alloc, classes, wanted, outcomes, &machine)? {
+    let Some(machine) = listed_at(alloc, classes, wanted, states, outcomes, number)? else {
         return Ok(Visit::Found(states.schedule(number)?));
-    }
+    };
     if expand(alloc, states, number, machine, most)? {
         Ok(Visit::Visited)
     } else {

@@ -16,7 +16,7 @@ use std::alloc::AllocError;
 
 /// What a line is of that tells a run of local instructions of one thread at once: its first event, where the thread stood before
 /// that, the offset at which it stood before the last one, and how many events there are.
-#[derive(Clone, Copy, Debug)]
+#[derive(Clone, Copy)]
 pub struct Fold {
     pub first: Line,
     pub from: FrameBefore,

@@ -1,7 +1,7 @@
 //! The forms of a trace.
 
 /// How an event is told: a line in each form.
-#[derive(Clone, Copy, Debug, PartialEq, Eq)]
+#[derive(Clone, Copy)]
 pub enum Form {
     /// In words, with a space between two parts.
     Plain,

@@ -9,7 +9,7 @@ use crate::numbers::{push_number, push_words};
 use std::alloc::AllocError;
 
 /// A UTF-16 code unit, and how many bytes spell it.
-#[derive(Clone, Copy, Debug)]
+#[derive(Clone, Copy)]
 struct Unit {
     value: u16,
     size: usize,

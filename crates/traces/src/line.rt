@@ -19,7 +19,7 @@ use std::alloc::AllocError;
 use types::method_code::MethodCode;
 
 /// What a line is of: an event that was done, by its number, counted from 0; and the form of the line.
-#[derive(Clone, Copy, Debug, PartialEq, Eq)]
+#[derive(Clone, Copy)]
 pub struct Line {
     pub number: u64,
     pub event: Event,

@@ -44,7 +44,7 @@ pub(crate) fn push_head(text: &mut Vec<u8>, line: Line) -> Result<(), AllocError
 }
 
 /// What tells a part of a line from the one before it: a mark before it, or its key in an object.
-#[derive(Clone, Copy, Debug)]
+#[derive(Clone, Copy)]
 pub(crate) struct Part {
     pub(crate) mark: &'static str,
     pub(crate) key: &'static str,

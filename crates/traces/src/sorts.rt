@@ -4,7 +4,7 @@ use classfile::ClassFile;
 use model::{ArrayKind, FieldAccess, Instr, Invocation, Kind, Returned};
 
 /// What a word stands for.
-#[derive(Clone, Copy, Debug, PartialEq, Eq)]
+#[derive(Clone, Copy)]
 pub(crate) enum Sort {
     Int,
     Boolean,

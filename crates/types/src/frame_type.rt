@@ -3,7 +3,7 @@
 use crate::verification_type::VerificationType;
 
 /// The types of a frame's local variables and operand stack (JVMS 4.10.1.4).
-#[derive(Debug, Drop)]
+#[derive(Drop)]
 pub struct FrameType {
     pub locals: Vec<VerificationType>,
     /// The top comes last.

@@ -3,7 +3,7 @@
 use crate::reference_type::ReferenceType;
 
 /// The type of a local variable or of a place of the operand stack (JVMS 4.10.1.2).
-#[derive(Clone, Copy, Debug, PartialEq, Eq)]
+#[derive(Clone, Copy, PartialEq, Eq)]
 pub enum VerificationType {
     /// Of a local variable alone.
     Unusable,

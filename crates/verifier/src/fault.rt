@@ -6,7 +6,7 @@ ghost use Rattle.verifier.specs.declared.fault.MethodFault.TheVariants as faults
 use std::alloc::AllocError;
 
 /// Why a method is not verified.
-#[derive(Clone, Copy, Debug, PartialEq, Eq)]
+#[derive(Clone, Copy)]
 pub(crate) enum MethodFault {
     /// The instruction at this offset must not find what is found there; or frame types can't be merged there, or the code
     /// runs off its end behind it (JVMS 4.10.2.2).

@@ -11,7 +11,7 @@ use crate::{ClassFile, Constant, Method, Pool};
 use std::alloc::{AllocError, Global};
 
 /// A member: its access flags, its name and its descriptor.
-#[derive(Clone, Copy, Debug)]
+#[derive(Clone, Copy)]
 pub(crate) struct Declared {
     pub(crate) flags: u16,
     pub(crate) name: &'static [u8],
@@ -19,7 +19,7 @@ pub(crate) struct Declared {
 }
 
 /// A class that has no interfaces and no fields, and whose methods have no code.
-#[derive(Clone, Copy, Debug)]
+#[derive(Clone, Copy)]
 pub(crate) struct Outline {
     pub(crate) flags: u16,
     pub(crate) name: &'static [u8],

@@ -16,7 +16,7 @@ use constant_pool::descriptors::{Element, Field, Method, method_slots, parse_fie
 use std::alloc::{AllocError, Global};
 
 /// What a text says as the descriptor of a field or of a method. A text that is none says nothing.
-#[derive(Clone, Copy, Debug)]
+#[derive(Clone, Copy)]
 pub(crate) struct Described {
     /// It names a type that is left out.
     pub leaves_out: bool,

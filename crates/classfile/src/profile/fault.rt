@@ -1,14 +1,14 @@
 //! What is wrong with a class file, and where.
 
 /// Why a class file is refused: it is outside of the profile, or it is malformed, with the cause Code.
-#[derive(Clone, Copy, Debug, PartialEq, Eq)]
+#[derive(Clone, Copy)]
 pub enum Flaw {
     OutsideProfile,
     MalformedCode,
 }
 
 /// A field of an entry of an exception table (JVMS 4.7.3).
-#[derive(Clone, Copy, Debug, PartialEq, Eq)]
+#[derive(Clone, Copy)]
 pub enum ExceptionField {
     StartPc,
     EndPc,
@@ -16,7 +16,7 @@ pub enum ExceptionField {
 }
 
 /// A place in a method.
-#[derive(Clone, Copy, Debug, PartialEq, Eq)]
+#[derive(Clone, Copy)]
 pub enum Spot {
     /// Its descriptor or its flags.
     Declaration,
@@ -29,21 +29,21 @@ pub enum Spot {
 }
 
 /// A place in a class file. Fields and methods count from 0.
-#[derive(Clone, Copy, Debug, PartialEq, Eq)]
+#[derive(Clone, Copy)]
 pub enum Place {
     Field { field: usize },
     Method { method: usize, spot: Spot },
 }
 
 /// What is wrong, and where.
-#[derive(Clone, Copy, Debug, PartialEq, Eq)]
+#[derive(Clone, Copy)]
 pub struct Fault {
     pub flaw: Flaw,
     pub place: Place,
 }
 
 /// What is wrong with a method, and where in it.
-#[derive(Clone, Copy, Debug, PartialEq, Eq)]
+#[derive(Clone, Copy)]
 pub(crate) struct MethodFault {
     pub flaw: Flaw,
     pub spot: Spot,

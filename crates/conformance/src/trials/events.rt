@@ -42,7 +42,7 @@ fn parts(report: &Outcome) -> Option<ReportParts<'_>> {
 }
 
 /// What comes of an event.
-#[derive(Clone, Copy, PartialEq, Eq)]
+#[derive(Clone, Copy)]
 enum Fate {
     Done,
     NotEnabled,

@@ -86,6 +86,25 @@ fn read_text<F: OtherFiles>(alloc: Global, others: &F, text: &str) -> Result<Cas
     Ok(read)
 }
 
+/// The path of a text of this name that lies beside one.
+fn path_beside(alloc: Global, path: &str, name: &str) -> Result<String, AllocError> {
+    match path.rsplit_once('/') {
+        Some((parent, _)) => format!(in alloc; "{parent}/{name}"),
+        None => String::from_str(alloc, name),
+    }
+}
+
+/// Puts copies of files to these.
+fn put_copies(
+    files: &mut IndexMap<String, Vec<u8>>,
+    others: &IndexMap<String, Vec<u8>>,
+) -> Result<(), LineFault> {
+    for (name, bytes) in others {
+        files.insert(name.clone()?, bytes.clone()?)?;
+    }
+    Ok(())
+}
+
 /// Puts the files of another text, which lies beside one, to these. Files that have their names are replaced.
 fn take_files<F: OtherFiles>(
     alloc: Global,
@@ -94,10 +113,7 @@ fn take_files<F: OtherFiles>(
     name: &str,
     files: &mut IndexMap<String, Vec<u8>>,
 ) -> Result<(), LineFault> {
-    let beside = match path.rsplit_once('/') {
-        Some((parent, _)) => format!(in alloc; "{parent}/{name}")?,
-        None => String::from_str(alloc, name)?,
-    };
+    let beside = path_beside(alloc, path, name)?;
     let bytes = bytes_of(others, beside.as_str())?;
     let Ok(text) = str::from_utf8(bytes.as_slice()) else {
         return Err(LineFault::OtherText);
@@ -105,10 +121,7 @@ fn take_files<F: OtherFiles>(
     let Ok(other) = read_text(alloc, others, text) else {
         return Err(LineFault::OtherText);
     };
-    for (name, bytes) in &other.files {
-        files.insert(name.clone()?, bytes.clone()?)?;
-    }
-    Ok(())
+    put_copies(files, &other.files)
 }
 
 impl CaseText {
@@ -133,20 +146,26 @@ impl CaseText {
     ) -> Result<Section, LineFault> {
         let words: Vec<&str> = line.split_whitespace().collect(alloc)?;
         if words.is_empty() || line.starts_with('#') {
-            return Ok(section);
+            Ok(section)
+        } else if line.starts_with(' ') {
+            self.add(alloc, section, words.as_slice())?;
+            Ok(section)
+        } else {
+            self.begin(alloc, others, words.as_slice())
         }
-        if !line.starts_with(' ') {
-            return self.begin(alloc, others, words.as_slice());
-        }
+    }
+
+    /// Adds the words of an indented line to its section.
+    fn add(&mut self, alloc: Global, section: Section, words: &[&str]) -> Result<(), LineFault> {
         match section {
             Section::None => return Err(LineFault::Stray),
-            Section::Bytes => push_hexadecimal(self.last_file()?, words.as_slice())?,
-            Section::Lines => push_line(self.last_file()?, words.as_slice())?,
-            Section::Changes => change(alloc, self.last_file()?, words.as_slice())?,
-            Section::Ways => self.add_way(alloc, words.as_slice())?,
-            Section::Case => self.say(alloc, words.as_slice())?,
+            Section::Bytes => push_hexadecimal(self.last_file()?, words)?,
+            Section::Lines => push_line(self.last_file()?, words)?,
+            Section::Changes => change(alloc, self.last_file()?, words)?,
+            Section::Ways => self.add_way(alloc, words)?,
+            Section::Case => self.say(alloc, words)?,
         }
-        Ok(section)
+        Ok(())
     }
 
     /// Begins the section that the words say.

@@ -28,7 +28,7 @@ const ABSTRACT_METHOD: u16 = 0x0401;
 const PUBLIC_CLASS: u16 = 0x0021;
 
 /// How a method is called.
-#[derive(Clone, Copy, PartialEq, Eq)]
+#[derive(Clone, Copy)]
 enum Kind {
     /// `main`, and `run`.
     Entry,

@@ -8,7 +8,7 @@ ghost use Rattle.constant_pool.specs.descriptors.View.{Gives, element_of, field_
 use crate::descriptors::name::is_class_name;
 
 /// What is no array. An object has a class name, as `java/lang/String`.
-#[derive(Clone, Copy, Debug)]
+#[derive(Clone, Copy)]
 pub enum Element<'a> {
     Byte,
     Char,
@@ -22,7 +22,7 @@ pub enum Element<'a> {
 }
 
 /// An array of so many dimensions, or the element where there are none.
-#[derive(Clone, Copy, Debug)]
+#[derive(Clone, Copy)]
 pub struct Field<'a> {
     pub dimensions: u8,
     pub element: Element<'a>,

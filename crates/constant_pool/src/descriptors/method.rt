@@ -12,7 +12,7 @@ use std::alloc::{AllocError, Global};
 use std::marker::Model;
 
 /// The types of the parameters, and that of what is returned, unless it is void. Contracts see a `MethodType`.
-#[derive(Debug, Drop)]
+#[derive(Drop)]
 pub struct Method<'a> {
     parameters: Vec<Field<'a>>,
     returns: Option<Field<'a>>,

@@ -65,14 +65,14 @@ impl fmt::Display for Cause {
 }
 
 /// What is wrong, and the offset in bytes where the faulty field begins.
-#[derive(Clone, Copy, Debug, PartialEq, Eq)]
+#[derive(Clone, Copy)]
 pub struct Malformed {
     pub cause: Cause,
     pub offset: usize,
 }
 
 /// Why a field could not be read.
-#[derive(Debug, Drop)]
+#[derive(Drop)]
 pub enum Stop {
     Memory,
     Fault(Malformed),

@@ -3,7 +3,7 @@
 use crate::refusal_explanations::instruction::say_instruction;
 use crate::refusal_explanations::line::Line;
 use crate::refusal_explanations::method::code_of;
-use classfile::{Cause, decode};
+use classfile::{Cause, ClassFile, decode};
 use std::alloc::{AllocError, Global};
 
 /// The two bytes from an offset on as a number.
@@ -46,15 +46,20 @@ fn say_version(line: &mut Line, bytes: &[u8]) -> Result<(), AllocError> {
 
 /// Adds the instruction at an offset of the file, and its method.
 fn say_code(line: &mut Line, alloc: Global, bytes: &[u8], offset: usize) -> Result<(), AllocError> {
-    let Ok(file) = decode(alloc, bytes) else {
-        return Ok(());
-    };
+    match decode(alloc, bytes) {
+        Ok(file) => say_code_of(line, &file, offset),
+        Err(_) => Ok(()),
+    }
+}
+
+/// Adds the instruction at an offset of the bytes of a class file, if that is within the code of a method.
+fn say_code_of(line: &mut Line, file: &ClassFile, offset: usize) -> Result<(), AllocError> {
     for (number, method) in file.methods.iter().enumerate() {
         let begin = file.code_offset(number).saturating_add(8);
         if let Some(code) = code_of(method) {
             if begin <= offset && offset - begin < code.code.len() {
                 line.say(": ")?;
-                say_instruction(line, &file, &code.code, offset - begin)?;
+                say_instruction(line, file, &code.code, offset - begin)?;
                 line.say(" at offset ")?;
                 line.number(offset - begin)?;
                 line.say(" of ")?;

@@ -15,7 +15,7 @@ use traces::class_object_of;
 const MAIN_THREAD: u16 = 0;
 
 /// For what a thread waits. Objects and classes are given by their numbers.
-#[derive(Clone, Copy, Debug, PartialEq, Eq)]
+#[derive(Clone, Copy)]
 pub(crate) enum Awaited {
     Nothing,
     /// That no other thread owns the monitor of an object.

@@ -56,6 +56,23 @@ fn taken_stack(
     }
 }
 
+/// What is known of a thread. Its stack is empty then.
+fn facts_at(
+    alloc: Global,
+    shared: &mut Shared,
+    program: &LinkedProgram,
+    thread: usize,
+    awaited: Awaited,
+    thrown: Option<Thrown>,
+) -> Result<ThreadFacts, AllocError> {
+    Ok(ThreadFacts {
+        awaited,
+        waits_for: awaited.thread(shared, program),
+        stack: taken_stack(alloc, &mut shared.stacks, thread)?,
+        thrown,
+    })
+}
+
 /// What is known of each thread. Their stacks are empty then.
 fn facts_of(
     alloc: Global,
@@ -69,15 +86,11 @@ fn facts_of(
     let mut facts = Vec::new(alloc);
     for (thread, awaited) in awaited.iter().enumerate() {
         let thrown = throws.next();
-        facts.push(ThreadFacts {
-            awaited: *awaited,
-            waits_for: awaited.thread(shared, program),
-            stack: taken_stack(alloc, &mut shared.stacks, thread)?,
-            thrown: match ends.get(thread) {
-                Some(EndState::Threw(_)) => thrown,
-                _ => None,
-            },
-        })?;
+        let thrown = match ends.get(thread) {
+            Some(EndState::Threw(_)) => thrown,
+            _ => None,
+        };
+        facts.push(facts_at(alloc, shared, program, thread, *awaited, thrown)?)?;
     }
     Ok(facts)
 }

@@ -38,7 +38,7 @@ fn follow_entry(
         }
     }
     let (_, why) = machine.repeat(entry.event, entry.repeat);
-    Ok(why == Stopped::Most)
+    Ok(matches!(why, Stopped::Most))
 }
 
 /// Does the events of a schedule, as far as they go, and looks at those of watched threads.

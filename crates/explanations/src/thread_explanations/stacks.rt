@@ -7,7 +7,7 @@ use std::alloc::{AllocError, Global};
 pub(crate) const MOST_FRAMES: usize = 32;
 
 /// Where a frame stands: the number of its method, and its place in the method's linked code.
-#[derive(Clone, Copy, Debug)]
+#[derive(Clone, Copy)]
 pub(crate) struct FramePlace {
     pub(crate) method: u32,
     pub(crate) place: usize,

@@ -60,22 +60,20 @@ fn causes_of(alloc: Global, watches: &[Watch]) -> Result<Vec<Watch>, AllocError>
 }
 
 /// Does the events of the schedule once more, and looks at those that the watches are for. Does none where no watch is for one.
-fn watched(
+fn watch(
     alloc: Global,
     program: &Arc<LinkedProgram>,
     schedule: &Schedule,
     limits: Limits,
-    watches: Vec<Watch>,
-) -> Result<Vec<Watch>, AllocError>
+    watches: &mut [Watch],
+) -> Result<(), AllocError>
     requires { IsOfAccepted (arc_value program.now) }
 {
     if !watches.iter().any(|watch| watch.is_seeking()) {
-        return Ok(watches);
+        return Ok(());
     }
-    let mut watches = watches;
     let mut machine = Machine::open(alloc, Arc::try_clone(program)?, limits)?;
-    follow(alloc, &mut machine, schedule, &mut watches)?;
-    Ok(watches)
+    follow(alloc, &mut machine, schedule, watches)
 }
 
 /// The throw that a watch has seen, with the cause that another one has seen.
@@ -111,6 +109,20 @@ fn stack_of(throw: Option<Throw>) -> Option<StackPlaces> {
     }
 }
 
+/// What each watch has seen, with what the one for its cause has seen.
+fn all_thrown(
+    alloc: Global,
+    watches: Vec<Watch>,
+    causes: Vec<Watch>,
+) -> Result<Vec<Thrown>, AllocError> {
+    let mut causes = causes.into_iter();
+    let mut throws = Vec::new(alloc);
+    for watch in watches {
+        throws.push(thrown_by(watch, causes.next()))?;
+    }
+    Ok(throws)
+}
+
 /// Of each thread, by its number, from where the exception was thrown that ended it. Where there is one, the run is done once more for
 /// it, and once again where one of them has a cause.
 pub(crate) fn throws_of(
@@ -122,14 +134,9 @@ pub(crate) fn throws_of(
 ) -> Result<Vec<Thrown>, AllocError>
     requires { IsOfAccepted (arc_value program.now) }
 {
-    let sought = watches_of(alloc, shared)?;
-    let watches = watched(alloc, program, schedule, limits, sought)?;
-    let sought = causes_of(alloc, &watches)?;
-    let causes = watched(alloc, program, schedule, limits, sought)?;
-    let mut causes = causes.into_iter();
-    let mut throws = Vec::new(alloc);
-    for watch in watches {
-        throws.push(thrown_by(watch, causes.next()))?;
-    }
-    Ok(throws)
+    let mut watches = watches_of(alloc, shared)?;
+    watch(alloc, program, schedule, limits, &mut watches)?;
+    let mut causes = causes_of(alloc, &watches)?;
+    watch(alloc, program, schedule, limits, &mut causes)?;
+    all_thrown(alloc, watches, causes)
 }

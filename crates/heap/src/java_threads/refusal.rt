@@ -3,7 +3,7 @@
 use std::alloc::AllocError;
 
 /// Why a thread was not added to the table. Nothing has changed then.
-#[derive(Clone, Copy, Debug, PartialEq, Eq)]
+#[derive(Clone, Copy, PartialEq, Eq)]
 pub enum Refusal {
     /// As many threads have been started as may be.
     Threads,

@@ -1,14 +1,14 @@
 //! What a thread is about.
 
 /// Why a thread left a wait set (JLS 17.2).
-#[derive(Clone, Copy, Debug, PartialEq, Eq)]
+#[derive(Clone, Copy, PartialEq, Eq)]
 pub enum WakeCause {
     Notified,
     Interrupted,
 }
 
 /// What a thread is about. Objects and exceptions are named by their references.
-#[derive(Clone, Copy, Debug, PartialEq, Eq)]
+#[derive(Clone, Copy, PartialEq, Eq)]
 pub enum ThreadStatus {
     Running,
     /// It is in the wait set of an object, whose monitor it had entered so many times.

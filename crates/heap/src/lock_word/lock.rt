@@ -1,7 +1,7 @@
 //! What a lock says, and what it answers.
 
 /// The lock of an object (JLS 17.1).
-#[derive(Clone, Copy, Debug, PartialEq, Eq)]
+#[derive(Clone, Copy, PartialEq, Eq)]
 pub enum Lock {
     /// No thread owns it.
     Unlocked,
@@ -12,7 +12,7 @@ pub enum Lock {
 }
 
 /// What a lock answers to a thread that is to enter.
-#[derive(Clone, Copy, Debug, PartialEq, Eq)]
+#[derive(Clone, Copy, PartialEq, Eq)]
 pub enum TryEnter {
     Entered,
     /// Another thread owns the lock.
@@ -24,7 +24,7 @@ pub enum TryEnter {
 }
 
 /// What a lock answers to a thread that is to leave once.
-#[derive(Clone, Copy, Debug, PartialEq, Eq)]
+#[derive(Clone, Copy, PartialEq, Eq)]
 pub enum TryExit {
     Left,
     NotOwner,

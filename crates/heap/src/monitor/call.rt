@@ -7,7 +7,7 @@ use crate::monitor::refusal::Refusal;
 use model::MonitorAnswer;
 
 /// A call of `Monitors`, by the object and the thread that it names.
-#[derive(Clone, Copy, Debug, PartialEq, Eq)]
+#[derive(Clone, Copy)]
 pub enum Call {
     Enter {
         object: u32,

@@ -3,7 +3,7 @@
 use std::alloc::AllocError;
 
 /// Why a call of `Monitors` was not done. Nothing has changed then.
-#[derive(Clone, Copy, Debug, PartialEq, Eq)]
+#[derive(Clone, Copy, PartialEq, Eq)]
 pub enum Refusal {
     /// The lock would become fat, and as many are as may be.
     Monitors,

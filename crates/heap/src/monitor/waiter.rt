@@ -3,7 +3,7 @@
 use std::marker::Model;
 
 /// A thread in a wait set, with the count of its entries (JLS 17.2.1).
-#[derive(Clone, Copy, Debug)]
+#[derive(Clone, Copy)]
 pub struct Waiter {
     pub thread: u16,
     pub count: u32,

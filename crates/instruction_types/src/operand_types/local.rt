@@ -31,7 +31,7 @@ pub struct InstructionSite<'a> {
 }
 
 /// What a local instruction makes of a frame type.
-#[derive(Debug, Drop)]
+#[derive(Drop)]
 pub enum LocalFlow {
     /// The instruction is not local.
     NotLocal,

@@ -9,7 +9,7 @@ use types::ReferenceType;
 
 /// What an instruction wants of a local variable or of a place of the operand stack (JVMS 4.10.1.2). A class is the place
 /// that it has in the set of classes.
-#[derive(Clone, Copy, Debug, Default, PartialEq, Eq)]
+#[derive(Clone, Copy, Default)]
 pub enum Want {
     /// Any word of the stack.
     #[default]
@@ -30,14 +30,14 @@ pub enum Want {
 }
 
 /// A local variable that an instruction reads, by its number.
-#[derive(Clone, Copy, Debug, PartialEq, Eq)]
+#[derive(Clone, Copy)]
 pub struct LocalRead {
     pub local: u16,
     pub want: Want,
 }
 
 /// What an instruction wants.
-#[derive(Debug, Drop)]
+#[derive(Drop)]
 pub struct Wants {
     /// Whether it may stand there at all.
     pub allowed: bool,

@@ -1,7 +1,7 @@
 //! Where a class file breaks a rule.
 
 /// A place in a class file. Methods, and the entries of an exception table, count from 0.
-#[derive(Clone, Copy, Debug, PartialEq, Eq)]
+#[derive(Clone, Copy)]
 pub enum RulePlace {
     /// What it says of the class itself: its flags, its superclass, its superinterfaces.
     Class,

@@ -18,7 +18,7 @@ const STATIC: u16 = 0x0008;
 const TOO_MANY: usize = 65_536;
 
 /// Some steps up from a class: where they lead, and how many instance fields the classes declare that they leave.
-#[derive(Clone, Copy, Debug)]
+#[derive(Clone, Copy)]
 pub(crate) struct Climb {
     pub next: Option<usize>,
     pub fields: usize,

@@ -11,7 +11,7 @@ use std::io::Write;
 use std::{fmt, io};
 
 /// What is wrong with class files. Its number is that of its place, counted from 1.
-#[derive(Clone, Copy, Debug, PartialEq, Eq)]
+#[derive(Clone, Copy)]
 pub enum RefusalKind {
     /// A file is no class file, or the code of a method is none.
     Malformed = 1,
@@ -57,7 +57,7 @@ impl fmt::Display for RefusalKind {
 /// Why class files are refused, and where: the number of the file, counted from 0; the name of the method with its
 /// descriptor behind it, as the bytes that the class file has; and an offset, which counts from the start of the code
 /// where a method is named, else from that of the file. Only what is malformed has a cause.
-#[derive(Debug, Drop, PartialEq, Eq)]
+#[derive(Drop)]
 pub struct Refusal {
     pub kind: RefusalKind,
     pub file: Option<usize>,

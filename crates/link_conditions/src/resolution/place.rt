@@ -5,7 +5,7 @@ ghost use Rattle.link_conditions.specs.resolution.Unresolved.{place_in};
 
 /// A place in a class file at which a name is not found as it is wanted. Fields, methods and exception entries count from
 /// 0.
-#[derive(Clone, Copy, Debug, PartialEq, Eq)]
+#[derive(Clone, Copy)]
 pub enum UnresolvedPlace {
     /// The superclass, or one of the superinterfaces.
     Class,
@@ -20,7 +20,7 @@ pub enum UnresolvedPlace {
 }
 
 /// A place in a method.
-#[derive(Clone, Copy, Debug)]
+#[derive(Clone, Copy)]
 pub(crate) enum Spot {
     Declaration,
     Instruction { pc: usize },

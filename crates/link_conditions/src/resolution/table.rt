@@ -16,7 +16,7 @@ use model::{FieldAccess, Invocation};
 use std::alloc::{AllocError, Global};
 
 /// Which instructions are unresolved if they name an entry: what they want is not found there.
-#[derive(Clone, Copy, Debug)]
+#[derive(Clone, Copy)]
 pub(crate) struct Row {
     /// `ldc` of a Class, `anewarray`, `checkcast` and `instanceof`.
     pub class: bool,

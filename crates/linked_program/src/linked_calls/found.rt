@@ -2,7 +2,7 @@
 
 /// What an `invokestatic`, an `invokevirtual` or an `invokeinterface` calls, and how many parameters that has. A `call` is
 /// the place among the calls for which a method is selected.
-#[derive(Clone, Copy, Debug, PartialEq, Eq)]
+#[derive(Clone, Copy)]
 pub(crate) enum FoundCall {
     /// PrintStream.println(int).
     Println,

@@ -11,7 +11,7 @@ use classfile::Reference;
 use linked_code::BuiltInMethod;
 
 /// A method of a built-in class that has no code.
-#[derive(Clone, Copy, Debug)]
+#[derive(Clone, Copy)]
 struct Declared {
     class: &'static [u8],
     name: &'static [u8],

@@ -3,7 +3,7 @@
 use linked_code::BuiltInMethod;
 
 /// What a call of a method runs.
-#[derive(Clone, Copy, Debug, PartialEq, Eq)]
+#[derive(Clone, Copy)]
 pub enum MethodKind {
     Abstract,
     BuiltIn(BuiltInMethod),
@@ -12,7 +12,7 @@ pub enum MethodKind {
 }
 
 /// What a run needs of a method but for its code.
-#[derive(Clone, Copy, Debug, PartialEq, Eq)]
+#[derive(Clone, Copy)]
 pub struct MethodRow {
     /// The number of the class that declares it.
     pub class: u16,

@@ -10,7 +10,7 @@ use hierarchy::ClassSet;
 use std::alloc::{AllocError, Global};
 
 /// The superclass of a class by its place, and how many instance fields the class itself declares.
-#[derive(Clone, Copy, Debug)]
+#[derive(Clone, Copy)]
 pub(crate) struct Shape {
     pub superclass: Option<usize>,
     pub fields: usize,

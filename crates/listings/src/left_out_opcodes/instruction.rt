@@ -6,7 +6,7 @@ use crate::left_out_opcodes::mnemonics::mnemonic;
 const WIDE: u8 = 0xc4;
 
 /// What an instruction has behind its opcode.
-#[derive(Clone, Copy, Debug, PartialEq, Eq)]
+#[derive(Clone, Copy)]
 pub enum Operands {
     /// Nothing.
     None,
@@ -21,7 +21,7 @@ pub enum Operands {
 }
 
 /// An instruction that this machine leaves out.
-#[derive(Clone, Copy, Debug, PartialEq, Eq)]
+#[derive(Clone, Copy)]
 pub struct LeftOut {
     /// The opcode, behind `wide` that of the instruction which it widens.
     pub opcode: u8,

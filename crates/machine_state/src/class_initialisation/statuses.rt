@@ -12,7 +12,7 @@ use crate::{ClassStatus, Shared};
 const BUILT_IN: usize = 30;
 
 /// How a thread finds a class that must be initialised.
-#[derive(Clone, Copy, Debug, PartialEq, Eq)]
+#[derive(Clone, Copy)]
 pub enum ClassLook {
     /// It is initialised, or the thread itself is at it.
     Ready,

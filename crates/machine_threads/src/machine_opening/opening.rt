@@ -48,12 +48,12 @@ pub fn opening_state(
     ensures { IfOk result (Opens program.now limits) }
 {
     Ok(Shared {
-        heap: opening_heap(alloc, program, limits)?,
         statics: opening_statics(alloc, program)?,
         statuses: opening_statuses(alloc, program)?,
         ready: opening_ready(alloc, program)?,
         threads: Threads::new(alloc, limits.threads, MAIN_THREAD)?,
         printed: Vec::new(alloc),
         stacks: opening_stacks(alloc)?,
+        heap: opening_heap(alloc, program, limits)?,
     })
 }

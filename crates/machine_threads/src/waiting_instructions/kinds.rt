@@ -1,7 +1,7 @@
 //! The ways in which a thread stands.
 
 /// How a thread stands.
-#[derive(Clone, Copy, Debug, PartialEq, Eq)]
+#[derive(Clone, Copy)]
 pub enum Standing {
     Ended,
     /// It ended with an exception of the class of this number.

@@ -21,7 +21,7 @@ const PRIVATE: u16 = 0x0002;
 const STATIC: u16 = 0x0008;
 
 /// A name and a descriptor in the class at a place. Both are given by the number of the first method that has them.
-#[derive(Clone, Copy, Debug, PartialEq, Eq, Hash)]
+#[derive(Clone, Copy, PartialEq, Eq, Hash)]
 pub(crate) struct Declaration {
     pub class: usize,
     pub name: usize,

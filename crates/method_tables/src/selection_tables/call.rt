@@ -1,7 +1,7 @@
 //! Calls that select a method by the class of their receiver.
 
 /// Which instruction a call is.
-#[derive(Clone, Copy, Debug, PartialEq, Eq)]
+#[derive(Clone, Copy)]
 pub enum CallKind {
     /// `invokevirtual`
     Virtual,
@@ -10,7 +10,7 @@ pub enum CallKind {
 }
 
 /// A call of a method that was found for what a constant pool names (JVMS 5.4.3.3, 5.4.3.4).
-#[derive(Clone, Copy, Debug, PartialEq, Eq)]
+#[derive(Clone, Copy)]
 pub struct NamedCall {
     pub kind: CallKind,
     /// The number of the class that is named.
@@ -20,7 +20,7 @@ pub struct NamedCall {
 }
 
 /// By what a call finds the method that it runs.
-#[derive(Clone, Copy, Debug, PartialEq, Eq)]
+#[derive(Clone, Copy, PartialEq, Eq)]
 pub enum CallTarget {
     /// The place in the row of the receiver's class, for `invokevirtual`.
     Place(u32),

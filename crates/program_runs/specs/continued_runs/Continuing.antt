@@ -1,5 +1,5 @@
 -- A run that goes on where a schedule ends (own; JVMS 2.6; JLS 17).
-use Rattle.std.specs.Prelude.{◌≡◌, ◌⊎◌, ◌++◌, ℕ, List, [], Some, length}
+use Rattle.std.specs.Prelude.{◌≡◌, ◌⊎◌, ◌++◌, ℕ, List, [], Option, Some, None, length}
 use Rattle.model.specs.declared.event.Event.{Event}
 use Rattle.model.specs.declared.limits.Limits.{Limits}
 use Rattle.model.specs.Classes.{Program}
@@ -13,6 +13,7 @@ use Rattle.machine.specs.machine_replay.Replays.{IsReplay}
 use Rattle.machine.specs.schedule_runs.Done.{EndsBy}
 use Rattle.program_runs.specs.worlds.Records.{IsRecordOf}
 use Rattle.program_runs.specs.continued_runs.Turns.{AreInTurn}
+use Rattle.program_runs.specs.declared.worlds.records.Recorded.{Recorded}
 use Rattle.program_runs.specs.declared.continued_runs.run.Continued.{Continued}
 use Rattle.program_runs.specs.declared.continued_runs.run.Continued.TheVariants as continued
 
@@ -36,6 +37,11 @@ pub record IsStuck (trees : Program) (schedule : List Event) (limits : Limits) :
   pub why : Stopped
   pub some_left : why ≡ stopped.Most → ⊥
   pub stops : EndsBy why trees (bounds_of limits) state front left
+
+-- a record of such a run, or none where the schedule can't be followed
+abbrev pub IsWholeOr : Program → (schedule : List Event) → Limits → (budget : ℕ) → Option Recorded → Type 0
+IsWholeOr trees schedule limits budget (Some r) = IsRecordOf trees limits budget r × Continues trees schedule limits.frames budget (events_of r.schedule)
+IsWholeOr trees schedule limits budget None = IsStuck trees schedule limits
 
 abbrev pub GoesOn : Program → (schedule : List Event) → Limits → (budget : ℕ) → Continued → Type 0
 GoesOn trees schedule limits budget (continued.Whole r) = IsRecordOf trees limits budget r × Continues trees schedule limits.frames budget (events_of r.schedule)

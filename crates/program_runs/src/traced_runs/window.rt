@@ -8,7 +8,7 @@ use traces::Form;
 
 /// The events that are told: those with a number from `from` to `to`, counted from 0, of the threads of a list, or of all; and the
 /// form of their lines.
-#[derive(Clone, Copy, Debug, PartialEq, Eq)]
+#[derive(Clone, Copy)]
 pub struct Window<'a> {
     pub from: u64,
     pub to: u64,

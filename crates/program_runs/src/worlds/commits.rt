@@ -17,7 +17,7 @@ pub struct ThreadBurst {
 }
 
 /// What became of a burst.
-#[derive(Clone, Copy, Debug, PartialEq, Eq)]
+#[derive(Clone, Copy, Debug)]
 pub enum Commit {
     /// Its steps are events of the world now.
     Committed,

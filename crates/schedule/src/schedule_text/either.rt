@@ -11,7 +11,7 @@ use crate::{Recording, Schedule, ScheduleFault, read_schedule};
 use std::alloc::Global;
 
 /// Why bytes are no schedule.
-#[derive(Clone, Copy, Debug, PartialEq, Eq)]
+#[derive(Clone, Copy)]
 pub enum EitherFault {
     /// They are read as a schedule file, and are none.
     File(ScheduleFault),

@@ -8,7 +8,7 @@ use std::fmt;
 
 /// What is wrong with the text of a schedule, and in which line, counted from 1; or that there was no memory for what
 /// it spells.
-#[derive(Clone, Copy, Debug, PartialEq, Eq)]
+#[derive(Clone, Copy, Debug)]
 pub enum TextFault {
     /// A word is no entry.
     Entry(u64),

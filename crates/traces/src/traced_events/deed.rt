@@ -3,7 +3,7 @@
 use heap::java_threads::WakeCause;
 
 /// The monitor of an object, and how often its owner has entered it.
-#[derive(Clone, Copy, Debug, PartialEq, Eq)]
+#[derive(Clone, Copy)]
 pub struct Entries {
     pub object: u32,
     pub count: u32,

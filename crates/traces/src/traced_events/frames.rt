@@ -13,7 +13,7 @@ use machine_state::method_selection::method_at;
 const NO_OFFSET: u16 = 65535;
 
 /// Where the frame on top of a thread stands.
-#[derive(Clone, Copy, Debug)]
+#[derive(Clone, Copy)]
 pub struct FrameBefore {
     /// The number of its method.
     pub method: u32,

@@ -5,7 +5,7 @@ use linked_code::thread_stacks::{Phase, ThreadStack, Top};
 use machine_state::Shared;
 
 /// By which rule the event of a thread goes (JVMS 2.6, 2.10, 5.2, 5.5; JLS 17).
-#[derive(Clone, Copy, Debug, PartialEq, Eq)]
+#[derive(Clone, Copy)]
 pub enum Rule {
     /// It waits or has ended: no event of it is enabled.
     NoEvent,

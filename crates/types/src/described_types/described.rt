@@ -20,7 +20,7 @@ use hierarchy::ClassSet;
 use std::alloc::{AllocError, Global};
 
 /// The types that a method takes and gives.
-#[derive(Debug, Drop)]
+#[derive(Drop)]
 pub struct MethodTypes {
     /// From left to right.
     pub parameters: Vec<VerificationType>,

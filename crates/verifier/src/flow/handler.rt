@@ -18,7 +18,7 @@ use types::described_types::named_type;
 use types::method_code::MethodCode;
 
 /// An entry of a method's exception table, and the type of what it catches.
-#[derive(Clone, Copy, Debug)]
+#[derive(Clone, Copy)]
 pub struct Handler {
     pub entry: ExceptionEntry,
     pub caught: VerificationType,

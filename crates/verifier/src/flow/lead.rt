@@ -8,7 +8,7 @@ use std::alloc::{AllocError, Global};
 
 /// An offset to which an instruction leads, in bytes from the code's start. The frame type there is the one after the
 /// instruction; at a handler it is the one before it, with what is caught alone on the operand stack.
-#[derive(Clone, Copy, Debug)]
+#[derive(Clone, Copy)]
 pub struct Lead {
     pub offset: usize,
     /// The handler, where the lead is to one.

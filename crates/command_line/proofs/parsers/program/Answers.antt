@@ -1,7 +1,7 @@
-use Rattle.std.proofs.Common.{◌≡◌, ◌∙◌, ap, ap₂, codes, true}
+use Rattle.std.proofs.Common.{◌≡◌, ◌∙◌, ap, codes, true}
 use Rattle.clap.specs.Simple.{app_of_fields}
 use Rattle.clap.specs.Words.{App, app_of, new_app, with_subcommand}
-use Rattle.command_line.specs.CommandLine.{with_version}
+use Rattle.command_line.specs.CommandLine.{jvm_disasm, jvm_replay, jvm_run, jvm_schedule, jvm_search, jvm_trace, jvm_verify, with_version}
 use Rattle.command_line.proofs.parsers.program.Goals as goal
 
 pub returns-clause-app : goal.returns-clause-app
@@ -9,19 +9,12 @@ returns-clause-app c =
     let new = ap app_of_fields c.about.ensures ∙ c.new.ensures.app in
     let versioned = ap app_of_fields c.version.ensures ∙ ap {A = App} (λ app. record app { top = record app.top { has_version = true } }) new in
     let helped = ap app_of_fields c.after_help.ensures ∙ versioned in
-    let base : app_of c.subcommand_required.result ≡ record (new_app (codes "jvm")) { top = with_version (new_app (codes "jvm")).top } =
-    ap app_of_fields c.subcommand_required.ensures ∙ ap {A = App} (λ app. record app { top = record app.top { subcommand_required = true } }) helped in
-    let run = c.in_ok-run_parser.ensures in
-    let replay = c.in_ok-replay_parser.ensures in
-    let trace = c.in_ok-trace_parser.ensures in
-    let search = c.in_ok-search_parser.ensures in
-    let verify = c.in_ok-verify_parser.ensures in
-    let disasm = c.in_ok-disasm_parser.ensures in
-    let schedule = c.in_ok-schedule_parser.ensures in
-    let one = c.in_ok-subcommand.ensures.shape run.1 ∙ ap₂ with_subcommand base (ap (λ app. app.top) run.0) in
-    let two = c.in_ok-subcommand-2.ensures.shape replay.1 ∙ ap₂ with_subcommand one (ap (λ app. app.top) replay.0) in
-    let three = c.in_ok-subcommand-3.ensures.shape trace.1 ∙ ap₂ with_subcommand two (ap (λ app. app.top) trace.0) in
-    let four = c.in_ok-subcommand-4.ensures.shape search.1 ∙ ap₂ with_subcommand three (ap (λ app. app.top) search.0) in
-    let five = c.in_ok-subcommand-5.ensures.shape verify.1 ∙ ap₂ with_subcommand four (ap (λ app. app.top) verify.0) in
-    let six = c.in_ok-subcommand-6.ensures.shape disasm.1 ∙ ap₂ with_subcommand five (ap (λ app. app.top) disasm.0) in
-    c.in_ok-program.ensures.shape schedule.1 ∙ ap₂ with_subcommand six (ap (λ app. app.top) schedule.0)
+    let base : app_of c.subcommand_required-program.result ≡ record (new_app (codes "jvm")) { top = with_version (new_app (codes "jvm")).top } =
+    ap app_of_fields c.subcommand_required-program.ensures ∙ ap {A = App} (λ app. record app { top = record app.top { subcommand_required = true } }) helped in
+    let one = c.in_ok-program.ensures jvm_run c.run_parser.ensures ∙ ap (λ app. with_subcommand app jvm_run.top) base in
+    let two = c.in_ok-program-2.ensures jvm_replay c.replay_parser.ensures ∙ ap (λ app. with_subcommand app jvm_replay.top) one in
+    let three = c.in_ok-program-3.ensures jvm_trace c.trace_parser.ensures ∙ ap (λ app. with_subcommand app jvm_trace.top) two in
+    let four = c.in_ok-program-4.ensures jvm_search c.search_parser.ensures ∙ ap (λ app. with_subcommand app jvm_search.top) three in
+    let five = c.in_ok-program-5.ensures jvm_verify c.verify_parser.ensures ∙ ap (λ app. with_subcommand app jvm_verify.top) four in
+    let six = c.in_ok-program-6.ensures jvm_disasm c.disasm_parser.ensures ∙ ap (λ app. with_subcommand app jvm_disasm.top) five in
+    c.in_ok-program-7.ensures jvm_schedule c.schedule_parser.ensures ∙ ap (λ app. with_subcommand app jvm_schedule.top) six

@@ -1,18 +1,15 @@
-use Rattle.std.proofs.Common.{◌≡◌, ◌∙◌, ap, ap₂, codes, true, false}
+use Rattle.std.proofs.Common.{◌∙◌, ap, ap₂, codes}
 use Rattle.std.proofs.lemmas.Result.{IfOk-weaker}
-use Rattle.clap.specs.Words.{Rule, new_app, rule_of}
-use Rattle.command_line.specs.CommandLine.{schedule_option, with_files, with_limits}
+use Rattle.clap.specs.Words.{new_app}
+use Rattle.command_line.specs.CommandLine.{with_files, with_limits}
 use Rattle.command_line.proofs.ParserLemmas.{IsParser, with_argument}
 use Rattle.command_line.proofs.parsers.replay_parser.Goals as goal
 
 pub returns : goal.returns
 returns c =
-    let schedule_is : rule_of c.required.result ≡ schedule_option =
-    ap rule_of c.required.ensures ∙ ap {A = Rule} (λ rule. record rule { required = true }) c.path_argument-schedule.ensures.rule in
-    let schedule_local : c.required.result.global ≡ false = ap (λ argument. argument.global) c.required.ensures ∙ c.path_argument-schedule.ensures.local in
     let new : IsParser c.titled.result (new_app (codes "replay")) = (c.titled.ensures.app, c.titled.ensures.local) in
-    let schedule = with_argument _ _ _ _ _ new schedule_is schedule_local c.in_ok-arg.ensures in
-    let then_run = with_argument _ _ _ _ _ schedule c.flag_argument-then_run.ensures.rule c.flag_argument-then_run.ensures.local c.in_ok-arg-2.ensures in
+    let schedule = with_argument _ _ _ _ _ new c.schedule_argument.ensures.rule c.schedule_argument.ensures.local c.in_ok-arg.ensures in
+    let then_run = with_argument _ _ _ _ _ schedule c.flag_argument.ensures.rule c.flag_argument.ensures.local c.in_ok-arg-2.ensures in
     let budget = with_argument _ _ _ _ _ then_run c.argument.ensures.rule c.argument.ensures.local c.in_ok-arg-3.ensures in
     let recording = with_argument _ _ _ _ _ budget c.record_argument.ensures.rule c.record_argument.ensures.local c.in_ok-replay.ensures in
     let limited = c.in_ok-with_limits.ensures.app ∙ ap with_limits recording.0 in

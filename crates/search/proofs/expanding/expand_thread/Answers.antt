@@ -1,26 +1,19 @@
 use Rattle.std.proofs.Common.{◌∙◌, ap, subst, rules, tests, Ok}
 use Rattle.search.specs.Machines.{GoesBy}
-use Rattle.search.proofs.Expanded.{event_at, thread_met, pick_met}
-use Rattle.search.proofs.Growth.{within, further}
-use Rattle.search.proofs.Schedules.{past_after, past_local}
+use Rattle.search.specs.States.{AreMetByThread, IsInState}
+use Rattle.search.proofs.Expanded.{IsPickMet, event_at, pick_kept, goes_again, gives_up, thread_met}
+use Rattle.search.proofs.Growth.{within, stays}
 use Rattle.search.proofs.expanding.expand_thread.Goals as goal
 
-pub add-requires-clause-number : goal.add-requires-clause-number
-add-requires-clause-number c = within c.args.states.now c.picks.states c.picks.invariant.0.grows c.args.number c.requires.number
+pub meet-requires-clause-number : goal.meet-requires-clause-number
+meet-requires-clause-number c = within c.args.states.now c.picks.states c.picks.invariant.0.grows c.args.number c.requires.number
 
-pub add-requires-clause-local : goal.add-requires-clause-local
-add-requires-clause-local c =
-    past_local c.picks.states c.args.number (event_at c.args.thread c.picks.pick) c.in_ok-entry-in-Ok-Done.entry c.picks.machine c.go_on.new.machine c.go_past.new.machine c.picks.invariant.1
-    (subst (λ r. GoesBy r (event_at c.args.thread c.picks.pick) c.picks.machine c.go_on.new.machine) (c.in-Ok-Done.is ∙ ap Ok c.in-Ok-Done.field-0-is) c.go_on.ensures) c.in_ok-entry-in-Ok-Done.ensures
-
-pub add-requires-clause-is_after : goal.add-requires-clause-is_after
-add-requires-clause-is_after c =
-    past_after c.picks.states c.args.number (event_at c.args.thread c.picks.pick) c.in_ok-entry-in-Ok-Done.entry c.picks.machine c.go_on.new.machine c.go_past.new.machine c.picks.invariant.1
-    (subst (λ r. GoesBy r (event_at c.args.thread c.picks.pick) c.picks.machine c.go_on.new.machine) (c.in-Ok-Done.is ∙ ap Ok c.in-Ok-Done.field-0-is) c.go_on.ensures) c.in_ok-entry-in-Ok-Done.ensures
-
-pub machine-requires : goal.machine-requires
-machine-requires c =
-    within c.args.states.now c.add.new.self (further c.args.states.now c.picks.states c.add.new.self c.picks.invariant.0.grows c.in_ok-add-in-Ok-Done.ensures.grows) c.args.number c.requires.number
+pub meet-requires-clause-has_gone : goal.meet-requires-clause-has_gone
+meet-requires-clause-has_gone c = (
+  c.picks.machine,
+  c.picks.invariant.1,
+  subst (λ r. GoesBy r (event_at c.args.thread c.picks.pick) c.picks.machine c.go_on.new.machine) (c.in-Ok-Done.is ∙ ap Ok c.in-Ok-Done.field-0-is) c.go_on.ensures,
+)
 
 pub returns-in-Ok-NotEnabled : goal.returns-in-Ok-NotEnabled
 returns-in-Ok-NotEnabled c =
@@ -28,12 +21,19 @@ returns-in-Ok-NotEnabled c =
     (subst (λ r. GoesBy r (event_at c.args.thread c.picks.pick) c.picks.machine c.go_on.new.machine) (c.in-Ok-NotEnabled.is ∙ ap Ok c.in-Ok-NotEnabled.field-0-is) c.go_on.ensures)
 
 pub picks-preserved : goal.picks-preserved
-picks-preserved c = (
-  pick_met c.met_states_are_kept.ensures.holds c.args.number c.args.thread c.picks.pick c.in_ok-entry-in-Ok-Done.entry c.args.states.now c.picks.states c.add.new.self
-      (within c.args.states.now c.picks.states c.picks.invariant.0.grows c.args.number c.requires.number)
-      c.in_ok-entry-in-Ok-Done.ensures.event_is c.picks.invariant.0 c.in_ok-add-in-Ok-Done.field-0 c.in_ok-add-in-Ok-Done.ensures (search (rules, tests)),
-  c.in_ok-machine-in-Ok-Done.ensures,
-)
+picks-preserved c =
+    goes_again (IsPickMet c.args.number c.args.thread) c.args.number c.args.states.now c.picks.states c.meet.new.states c.picks.pick c.meet.new.machine
+    (pick_kept c.met_states_are_kept.ensures.holds c.args.number c.args.thread c.picks.states c.meet.new.states (within c.args.states.now c.picks.states c.picks.invariant.0.grows c.args.number c.requires.number))
+    c.picks.invariant.0 c.in_ok-meet-in-Ok-Done.field-0 c.in_ok-meet-in-Ok-Done.ensures (search (rules, tests))
 
 pub returns-then-not-branch : goal.returns-then-not-branch
-returns-then-not-branch c = further c.args.states.now c.picks.states c.add.new.self c.picks.invariant.0.grows c.in_ok-add-in-Ok-Done.ensures.grows
+returns-then-not-branch c =
+    gives_up (IsPickMet c.args.number c.args.thread) (λ s. AreMetByThread s c.args.number c.args.thread × IsInState s c.args.number c.meet.new.machine) c.args.states.now c.picks.states c.meet.new.states c.picks.pick c.picks.invariant.0 c.in_ok-meet-in-Ok-Done.ensures.grows
+
+pub returns-in-Err : goal.returns-in-Err
+returns-in-Err c =
+    gives_up (IsPickMet c.args.number c.args.thread) (λ s. AreMetByThread s c.args.number c.args.thread × IsInState s c.args.number c.go_on.new.machine) c.args.states.now c.picks.states c.picks.states c.picks.pick c.picks.invariant.0 (stays c.picks.states)
+
+pub returns : goal.returns
+returns c =
+    gives_up (IsPickMet c.args.number c.args.thread) (λ s. AreMetByThread s c.args.number c.args.thread × IsInState s c.args.number c.picks.machine) c.args.states.now c.picks.states c.picks.states c.picks.pick c.picks.invariant.0 (stays c.picks.states)

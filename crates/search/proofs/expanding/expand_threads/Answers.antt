@@ -1,5 +1,6 @@
-use Rattle.std.proofs.Common.{arith}
-use Rattle.search.proofs.Expanded.{no_thread, next_thread, all_threads}
+use Rattle.std.proofs.Common.{arith, rules, tests}
+use Rattle.search.specs.States.{AreMetByThreads}
+use Rattle.search.proofs.Expanded.{IsThreadMet, thread_kept, goes_again, gives_up, all_threads}
 use Rattle.search.proofs.Growth.{within}
 use Rattle.search.proofs.expanding.expand_threads.Goals as goal
 
@@ -8,14 +9,13 @@ expand_thread-requires-clause-number c = within c.args.states.now c.threads.stat
 
 pub threads-preserved : goal.threads-preserved
 threads-preserved c =
-    next_thread c.met_states_are_kept.ensures.holds c.args.number c.threads.thread c.args.states.now c.threads.states c.expand_thread.new.states
-    (within c.args.states.now c.threads.states c.threads.invariant.0.grows c.args.number c.requires.number) c.threads.invariant.0 c.in_ok-again.field-0 c.in-Some.again c.in_ok-again.ensures
-    c.in-Some.is
+    goes_again (IsThreadMet c.args.number) c.args.number c.args.states.now c.threads.states c.expand_thread.new.states c.threads.thread c.expand_thread.new.machine
+    (thread_kept c.met_states_are_kept.ensures.holds c.args.number c.threads.states c.expand_thread.new.states (within c.args.states.now c.threads.states c.threads.invariant.0.grows c.args.number c.requires.number))
+    c.threads.invariant.0 c.in_ok-expand_thread.field-0 c.in_ok-expand_thread.ensures (search (rules, tests))
 
-pub returns-in-None : goal.returns-in-None
-returns-in-None c =
-    no_thread c.args.number c.args.threads c.threads.thread c.args.states.now c.threads.states c.expand_thread.new.states c.threads.invariant.0 c.in_ok-again.field-0 c.in_ok-again.ensures
-    c.in-None.is
+pub returns-then-not-branch : goal.returns-then-not-branch
+returns-then-not-branch c =
+    gives_up (IsThreadMet c.args.number) (λ s. AreMetByThreads s c.args.number c.args.threads) c.args.states.now c.threads.states c.expand_thread.new.states c.threads.thread c.threads.invariant.0 c.in_ok-expand_thread.ensures.grows
 
 pub returns : goal.returns
 returns c = all_threads c.args.number c.args.threads c.threads.thread c.args.states.now c.threads.states (omega arith) c.threads.invariant.0

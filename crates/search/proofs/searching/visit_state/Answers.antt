@@ -3,13 +3,12 @@ use Rattle.model.specs.Schedule.{events_of}
 use Rattle.search.proofs.Visits.{found_if, visited_if}
 use Rattle.search.proofs.searching.visit_state.Goals as goal
 
+pub returns-in_default : goal.returns-in_default
+returns-in_default c =
+    found_if c.args.classes.now c.args.states.now.limits c.args.wanted.now c.args.states.now c.args.outcomes.now c.listed_at.new.outcomes c.args.number c.requires.visited c.requires.number
+    c.in_ok-machine.field-0 c.in_ok-machine.ensures (search (rules, tests)) (events_of c.in_ok-schedule.field-0) c.in_ok-schedule.ensures
+
 pub returns-then-branch : goal.returns-then-branch
 returns-then-branch c =
-    found_if c.args.classes.now c.args.states.now.limits c.args.wanted.now c.args.states.now c.args.outcomes.now c.args.number c.requires.visited c.requires.number c.in_ok-machine.machine c.in_ok-machine.ensures
-    c.in_ok-is_found_at.ensures.0 c.is_found_at.new.outcomes c.in_ok-is_found_at.field-0 c.in_ok-is_found_at.ensures.1 c.in_ok-is_found_at.ensures.2 (search (rules, tests)) (events_of c.in_ok-schedule.field-0) c.in_ok-schedule.ensures
-
-pub returns-then-branch-2 : goal.returns-then-branch-2
-returns-then-branch-2 c =
-    visited_if c.args.classes.now c.args.states.now.limits c.args.wanted.now c.args.states.now c.args.outcomes.now c.args.number c.requires.visited c.requires.number c.in_ok-machine.machine c.in_ok-machine.ensures
-    c.is_found_at.new.outcomes c.met_states_are_kept.ensures.holds c.in_ok-is_found_at.ensures.0 c.in_ok-is_found_at.field-0 c.in_ok-is_found_at.ensures.1 c.in_ok-is_found_at.ensures.2 (search (rules, tests)) c.expand.new.states
-    c.in_ok-expand.field-0 c.in_ok-expand.ensures (search (rules, tests))
+    visited_if c.args.classes.now c.args.states.now.limits c.args.wanted.now c.args.states.now c.args.outcomes.now c.listed_at.new.outcomes c.args.number c.requires.visited c.requires.number
+    c.met_states_are_kept.ensures.holds c.in_ok-machine.field-0 c.in-Some.machine c.in_ok-machine.ensures c.in-Some.is c.expand.new.states c.in_ok-expand.field-0 c.in_ok-expand.ensures (search (rules, tests))

@@ -1,4 +1,4 @@
-use Rattle.std.proofs.Common.{◌≡◌, ap, map, subst, sym, vec_items, Some, None, ◌∙◌}
+use Rattle.std.proofs.Common.{ap, map, subst, sym, vec_items, Some, None, ◌∙◌}
 use Rattle.std.proofs.lemmas.Result.{err_from_is_err_and}
 use Rattle.command_line.specs.CommandLine.{AreNumbers, AreNumerals}
 use Rattle.command_line.proofs.CommandLineLemmas.{first_is, no_list, refuses_more}

@@ -1,24 +1,16 @@
-use Rattle.std.proofs.Common.{subst}
+use Rattle.std.proofs.Common.{Some, None, subst}
 use Rattle.std.specs.Arc.{arc_value}
 use Rattle.model.specs.Classes.{Program}
 use Rattle.model.specs.Schedule.{events_of}
 use Rattle.machine.specs.machine_replay.Replays.{IsReplay}
-use Rattle.program_runs.specs.worlds.Worlds.{IsNew}
-use Rattle.program_runs.proofs.continued_runs.Continuing.{stuck, whole_of}
+use Rattle.program_runs.specs.continued_runs.Continuing.{IsWholeOr}
 use Rattle.program_runs.proofs.continued_runs.run.run_on.Goals as goal
 
-pub returns-in-Most : goal.returns-in-Most
-returns-in-Most c =
-    whole_of (arc_value c.args.verified) c.args.limits c.args.budget c.in_ok-world.world
-    (subst (λ (t : Program). IsNew t c.args.limits c.args.budget c.in_ok-world.world) c.in_ok-try_clone.ensures c.in_ok-world.ensures)
-    (events_of c.args.schedule.now) c.in_ok-follow.field-0 c.in-Most.is c.follow.new.world c.in_ok-follow.ensures c.take_turns.new.world c.take_turns.ensures c.in_ok-into_recorded.field-0
-    c.in_ok-into_recorded.ensures.of c.in_ok-into_recorded.ensures.keeps
+pub returns-in-Some : goal.returns-in-Some
+returns-in-Some c = subst (IsWholeOr (arc_value c.args.verified) (events_of c.args.schedule.now) c.args.limits c.args.budget) c.in-Some.is c.in_ok-goes_on.ensures
 
 pub returns : goal.returns
-returns c =
-    let is_new : IsNew (arc_value c.args.verified) c.args.limits c.args.budget c.in_ok-world.world =
-    subst (λ (t : Program). IsNew t c.args.limits c.args.budget c.in_ok-world.world) c.in_ok-try_clone.ensures c.in_ok-world.ensures
-    in (
-      subst (λ (t : Program). IsReplay t (events_of c.args.schedule.now) c.args.limits c.in_ok-report.report c.in_ok-report.end) c.deref.ensures c.in_ok-report.ensures,
-      stuck (arc_value c.args.verified) c.args.limits c.args.budget c.in_ok-world.world is_new (events_of c.args.schedule.now) c.in_ok-follow.field-0 c.follow.new.world c.in_ok-follow.ensures c.in_default.not-Most,
-    )
+returns c = (
+  subst (λ (t : Program). IsReplay t (events_of c.args.schedule.now) c.args.limits c.in_ok-report.report c.in_ok-report.end) c.deref.ensures c.in_ok-report.ensures,
+  subst (IsWholeOr (arc_value c.args.verified) (events_of c.args.schedule.now) c.args.limits c.args.budget) c.in-None.is c.in_ok-goes_on.ensures,
+)
