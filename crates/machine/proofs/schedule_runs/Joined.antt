@@ -1,5 +1,5 @@
 -- Fronts of schedules, one behind the other.
-use Rattle.std.proofs.Common.{◌≡◌, ◌+◌, ◌<◌, drop-cons, ℕ, suc, List, [], ◌∷◌, ◌++◌, drop, take, get_or, flat_map, replicate, length, length-append, refl, sym, ap, subst, ◌∙◌, arith}
+use Rattle.std.proofs.Common.{◌≡◌, ◌+◌, ◌<◌, drop-cons, ℕ, suc, List, [], ◌∷◌, ◌++◌, drop, take, get_or, replicate, length, length-append, refl, sym, ap, subst, ◌∙◌, arith}
 use Rattle.std.proofs.lemmas.List.Concat.{flat_map-append}
 use Rattle.std.proofs.lemmas.List.{append-nil, append_assoc, take_more, take-append-drop}
 use Rattle.model.specs.declared.event.Event.{Event}
@@ -10,7 +10,7 @@ use Rattle.model.specs.Schedule.{events_of}
 use Rattle.machine.specs.declared.machine.Stopped.{Stopped}
 use Rattle.machine.specs.declared.machine.Stopped.TheVariants as stopped
 use Rattle.machine.specs.Machines.{MachineOf}
-use Rattle.machine.specs.schedule_runs.Done.{HasDone, OfNext, EndsBy, HasGone, GoesThrough}
+use Rattle.machine.specs.schedule_runs.Done.{HasDone, OfNext, EndsBy, GoesThrough}
 
 -- so far all events were done
 pub record IsPassed (schedule : List Event) (n : ℕ) (old new : MachineOf) : Type 0 where

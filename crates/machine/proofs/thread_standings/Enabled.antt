@@ -16,7 +16,7 @@ use Rattle.model.specs.Outcomes.{Cost, StackOverflow, IllegalMonitorState}
 use Rattle.model.specs.Frames.{frame_count}
 use Rattle.model.specs.Report as report
 use Rattle.model.specs.Report.{ThreadEnd}
-use Rattle.model.specs.State.{FrameOf, Invocation, Initialisation, Super, End, Erroneous, Phase, Monitor, StackOf, StackEntryOf, StateOf, WakeCause, Notified, Interrupted, Running, WorldOf}
+use Rattle.model.specs.State.{FrameOf, Invocation, Initialisation, Super, End, Erroneous, Monitor, StackOf, StackEntryOf, StateOf, WakeCause, Notified, Interrupted, Running, WorldOf}
 use Rattle.model.specs.Worlds.{is_done, may_enter, entry_cost, with_entry, with_exit, with_monitors, with_status, is_owner}
 use Rattle.model.specs.Step as step
 use Rattle.model.specs.Step.{SteppedOf, NotEnabled, WrongKind, Next, PartOf, part, is_enabled_by, settled, with_part, enabled_if, needing, needing_class, entering, pushed, leaving, unwound, failed, handler_in, initialiser_event, before, initialisation_event, pending_event, after_wait, relock_event, thread_event, thread_at}

@@ -2,7 +2,7 @@
 use Rattle.std.proofs.Common.{◌≡◌, ◌<◌, ℕ, zero, suc, List, [], ◌∷◌, Option, Some, None, Bool, true, false, if◌then◌else◌, length, refl, sym, ap, subst, ◌∙◌}
 use Rattle.std.specs.Prelude.{slice_get, slice_index_or}
 use Rattle.std.specs.Option.{option_map_or}
-use Rattle.std.proofs.lemmas.Option.{slice_get-get_or, slice_get_within, get_or_from_slice_get}
+use Rattle.std.proofs.lemmas.Option.{slice_get-get_or, slice_get_within}
 use Rattle.model.specs.declared.instr.Instr.{Instr}
 use Rattle.model.specs.declared.instr.Instr.TheVariants as instr
 use Rattle.model.specs.Classes.{Program, Body, body_of}
@@ -16,7 +16,6 @@ use Rattle.model.specs.Report.{ThreadEnd}
 use Rattle.model.specs.Sites.{MeaningOf, Site, site_at}
 use Rattle.model.specs.State as model
 use Rattle.model.specs.State.{FrameOf, StackOf, StateOf, Thread, ThreadStatus, WorldOf}
-use Rattle.model.specs.Worlds.{no_thread}
 use Rattle.model.specs.Step as step
 use Rattle.model.specs.Step.{is_enabled_by, ops_of, thread_at, thread_event}
 use Rattle.run_laws.proofs.typed_threads.Threads.{tables_counted}
@@ -27,7 +26,7 @@ use Rattle.linked_code.specs.thread_stacks.Stacks.{ShownEntry}
 use Rattle.machine_state.specs.declared.state.Shared.{Shared}
 use Rattle.machine_state.specs.Shown.{IsProgram, IsLent}
 use Rattle.machine_state.specs.state_events.Whole.{ShowsStacks, IsShown}
-use Rattle.machine_state.proofs.state_events.Places.{IsOwn, own_at}
+use Rattle.machine_state.proofs.state_events.Places.{own_at}
 use Rattle.machine.specs.thread_standings.Parts.{StandsThere, is_runnable_standing}
 use Rattle.machine.specs.thread_standings.Standings.{StandsSo}
 use Rattle.machine.proofs.thread_standings.Enabled.{may_is}

@@ -1,12 +1,12 @@
 -- How a thread of a state stands, by its status.
-use Rattle.std.proofs.Common.{◌≡◌, ◌<◌, ◌≤◌, ℕ, zero, suc, List, [], ◌∷◌, Option, Some, None, Bool, true, false, if◌then◌else◌, length, slice_index_or, refl, sym, ap, subst, ◌∙◌}
+use Rattle.std.proofs.Common.{◌≡◌, ◌<◌, ℕ, List, [], Option, Some, None, Bool, if◌then◌else◌, slice_index_or, refl, sym, ap, subst, ◌∙◌}
 use Rattle.std.specs.Prelude.{slice_get, option_map}
 use Rattle.std.specs.Option.{option_map_or}
 use Rattle.std.proofs.lemmas.Option.{same_Some, slice_get-get_or, slice_get_within, get_or_from_slice_get}
 use Rattle.model.specs.Names.{Name, java_lang_throwable}
-use Rattle.model.specs.Classes.{Program, body_of}
+use Rattle.model.specs.Classes.{Program}
 use Rattle.model.specs.LimitStands.{Bounds}
-use Rattle.model.specs.Meaning.{ended_by, class_name_in, waiting_at}
+use Rattle.model.specs.Meaning.{ended_by, class_name_in}
 use Rattle.model.specs.Operands.{words}
 use Rattle.model.specs.ReferenceTypes.{ClassType}
 use Rattle.model.specs.Report as report
@@ -14,13 +14,13 @@ use Rattle.model.specs.Report.{ThreadEnd}
 use Rattle.model.specs.State as model
 use Rattle.model.specs.State.{ObjectOf, Instance, Primitives, References, type_of, StackOf, StateOf, Thread, ThreadStatus, WorldOf}
 use Rattle.model.specs.Worlds.{no_object, no_thread}
-use Rattle.model.specs.Step.{is_enabled_by, stepped, thread_at, thread_event}
+use Rattle.model.specs.Step.{is_enabled_by, thread_at, thread_event}
 use Rattle.run_laws.proofs.laws.Lists.{get_map}
 use Rattle.heap.specs.declared.kind.ObjectKind.{ObjectKind}
 use Rattle.heap.specs.Heap.{Object, kind_of}
 use Rattle.run_laws.specs.typed_threads.Objects.{IsInstance}
 use Rattle.run_laws.proofs.typed_threads.Threads.{tables_counted}
-use Rattle.run_laws.specs.word_reports.Reports.{may_step_of, held_end_of, thread_end_of}
+use Rattle.run_laws.specs.word_reports.Reports.{held_end_of, thread_end_of}
 use Rattle.linked_code.specs.declared.program.LinkedProgram.{LinkedProgram}
 use Rattle.linked_code.specs.declared.types.LinkedType.{LinkedType}
 use Rattle.linked_code.specs.Numbers.{IsClassAt}
@@ -32,9 +32,8 @@ use Rattle.machine_state.proofs.shown_objects.Objects.{shown_at}
 use Rattle.machine_state.specs.method_selection.Receivers.{IsReceiverClass}
 use Rattle.machine_state.specs.declared.state.Shared.{Shared}
 use Rattle.machine_state.specs.Shown.{IsLent}
-use Rattle.machine.specs.thread_standings.Parts.{end_by, end_of}
+use Rattle.machine.specs.thread_standings.Parts.{end_of}
 use Rattle.machine.proofs.thread_standings.Enabled.{may_is}
-use Rattle.machine_threads.specs.declared.waiting_instructions.kinds.Standing.{Standing}
 use Rattle.machine_threads.specs.declared.waiting_instructions.kinds.Standing.TheVariants as standing
 use Rattle.machine_threads.specs.waiting_instructions.Waits.{IsEnd}
 

@@ -1,5 +1,5 @@
 -- How a thread stands that runs, by what is on top of its stack.
-use Rattle.std.proofs.Common.{◌≡◌, ◌==◌, ℕ, List, [], ◌∷◌, Option, Some, None, true, false, length, refl, sym, ap, subst, ◌∙◌}
+use Rattle.std.proofs.Common.{◌≡◌, ◌==◌, ℕ, List, [], ◌∷◌, Option, Some, None, true, false, length, sym, ap, subst, ◌∙◌}
 use Rattle.std.proofs.Math.Dec.{eqb-suc-zero}
 use Rattle.std.proofs.lemmas.Bool.{true≢false}
 use Rattle.model.specs.ReferenceTypes.{ReferenceType}
@@ -15,14 +15,13 @@ use Rattle.run_laws.specs.word_reports.Reports.{held_end_of}
 use Rattle.linked_code.specs.declared.program.LinkedProgram.{LinkedProgram}
 use Rattle.linked_code.specs.Numbers.{IsClassAt}
 use Rattle.machine_state.specs.linked_frames.Frames.{event_of}
-use Rattle.run_laws.specs.word_operands.Operands.{IsOnTop}
 use Rattle.linked_code.specs.declared.thread_stacks.entry.Phase.{Phase}
 use Rattle.linked_code.specs.declared.thread_stacks.stack.Top.TheVariants as top
 use Rattle.linked_code.specs.thread_stacks.Stacks.{ShownEntry, Invocation, Initialisation, top_of}
 use Rattle.machine_state.specs.shown_stacks.Shown.{ShowsStack, phase_of}
 use Rattle.machine_state.specs.declared.state.Shared.{Shared}
-use Rattle.machine_state.specs.Shown.{IsProgram, IsLent}
-use Rattle.machine.specs.thread_standings.Parts.{end_by, StandsEmpty, StandsBeginning, StandsInitialising, StandsAtFrame, StandsPending, StandsGoing, StandsRunning}
+use Rattle.machine_state.specs.Shown.{IsLent}
+use Rattle.machine.specs.thread_standings.Parts.{end_by, StandsBeginning, StandsInitialising, StandsAtFrame, StandsPending, StandsGoing, StandsRunning}
 use Rattle.machine.proofs.thread_standings.Enabled.{ends_on, pending_enabled}
 use Rattle.machine_threads.specs.declared.waiting_instructions.kinds.Standing.{Standing}
 use Rattle.machine_threads.specs.declared.waiting_instructions.kinds.Standing.TheVariants as standing

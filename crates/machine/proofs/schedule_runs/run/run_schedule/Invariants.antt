@@ -1,4 +1,4 @@
-use Rattle.std.proofs.Common.{◌≡◌, ◌*◌, ◌≤◌, take}
+use Rattle.std.proofs.Common.{◌*◌, ◌≤◌, take}
 use Rattle.model.specs.Schedule.{events_of}
 use Rattle.machine.proofs.schedule_runs.Joined.{IsPassed}
 use Rattle.machine.proofs.schedule_runs.run.run_schedule.Given as goal
