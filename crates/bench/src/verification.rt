@@ -5,7 +5,7 @@
 use crate::arguments::files;
 use crate::telling::{tell_refusal, tell_time};
 use anyhow::{Context, Error, Result};
-use classfile::{Method, MethodAttribute};
+use classfile::Method;
 use hierarchy::ClassSet;
 use link_conditions::refusal::Refusal;
 use linker::{Linked, link};
@@ -17,12 +17,10 @@ use verifier::{MOST_STEPS, verify_within};
 
 /// How many bytes of code a method has.
 fn code_length(method: &Method) -> u64 {
-    for attribute in &method.attributes {
-        if let MethodAttribute::Code { code, .. } = attribute {
-            return code.code.len() as u64;
-        }
+    match method.code() {
+        Some(code) => code.code.len() as u64,
+        None => 0,
     }
-    0
 }
 
 /// How many bytes of code the methods of all classes have, those of the built-in classes too.

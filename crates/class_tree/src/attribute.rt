@@ -10,6 +10,7 @@ ghost use Rattle.class_tree.specs.View.{field_part_of, field_of, method_part_of,
 ghost use Rattle.constant_pool.specs.Checking.{Checks};
 ghost use Rattle.constant_pool.specs.View.{entry_of};
 
+use crate::access_flags::{ABSTRACT, NATIVE};
 use crate::check::{Checked, check_each, require};
 use crate::spelled::Spelled;
 use crate::tree::{ClassFile, Field, FieldAttribute, Method, MethodAttribute};
@@ -23,7 +24,7 @@ pub(crate) struct Attributes;
 fn has_code(flags: u16) -> bool
     ensures { result ≡ has_code flags }
 {
-    flags / 0x0100 % 2 == 0 && flags / 0x0400 % 2 == 0
+    flags / NATIVE % 2 == 0 && flags / ABSTRACT % 2 == 0
 }
 
 impl MethodAttribute {

@@ -8,6 +8,7 @@ ghost use Rattle.model.specs.Conditions.{is_field_described, slots_fit, is_metho
 ghost use Rattle.class_tree.specs.View.{field_of, method_of, file_of};
 ghost use Rattle.constant_pool.specs.Checking.{Checks};
 
+use crate::access_flags::STATIC;
 use crate::check::{Checked, check_each, require};
 use crate::place::first_field;
 use crate::tree::{ClassFile, Field, Method};
@@ -37,7 +38,7 @@ fn slots_fit(flags: u16, slots: Option<u8>) -> bool
     ensures { result ≡ slots_fit flags slots }
 {
     match slots {
-        Some(slots) => flags / 8 % 2 == 1 || slots < 255,
+        Some(slots) => flags / STATIC % 2 == 1 || slots < 255,
         None => false,
     }
 }

@@ -9,7 +9,7 @@ pub mod source_lines;
 
 pub use class_tree::{
     Attribute, ClassFile, Code, Constant, Field, FieldAttribute, Method, MethodAttribute,
-    NameAndDescriptor, Pool, Reference, encode,
+    NameAndDescriptor, Pool, Reference, access_flags, class_name, encode, superclass_name,
 };
 pub use constant_pool::reading::{Cause, Malformed};
 pub use file::decode;

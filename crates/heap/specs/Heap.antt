@@ -4,7 +4,7 @@ use Rattle.model.specs.Monitors.{unlocked}
 use Rattle.model.specs.declared.monitor_answer.MonitorAnswer.{MonitorAnswer}
 use Rattle.heap.specs.monitor.Locks.{Locks, Answers}
 use Rattle.heap.specs.declared.monitor.call.Call.{Call}
-use Rattle.heap.specs.declared.monitor.refusal.Refusal.{Refusal}
+use Rattle.heap.specs.declared.monitor.refusal.MonitorRefusal.{MonitorRefusal}
 use Rattle.heap.specs.declared.kind.ObjectKind.{ObjectKind}
 use Rattle.heap.specs.declared.refusal.AllocRefusal.{AllocRefusal}
 use Rattle.heap.specs.declared.refusal.AllocRefusal.TheVariants.{Objects, Cells, Memory}
@@ -113,6 +113,6 @@ put_element objects reference index word =
 -- ---- monitors
 
 -- the monitors answer, and the rest of the heap stays
-pub record HandsOn (result : Result MonitorAnswer Refusal) (call : Call) (old new : Heap) : Type 0 where
+pub record HandsOn (result : Result MonitorAnswer MonitorRefusal) (call : Call) (old new : Heap) : Type 0 where
   pub answers : Answers result call old.locks new.locks
   pub rest : new ≡ record old { locks = new.locks }

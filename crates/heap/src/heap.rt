@@ -7,7 +7,7 @@ ghost use Rattle.heap.specs.Heap.{made, cells_made, Allocates, IsOpened, words_a
 
 use crate::kind::{NarrowKind, ObjectKind};
 use crate::layout::{self, Entry};
-use crate::monitor::{Call, MonitorCalls, Monitors, Refusal, Waiter};
+use crate::monitor::{Call, MonitorCalls, MonitorRefusal, Monitors, Waiter};
 use crate::refusal::AllocRefusal;
 use model::{Limits, MonitorAnswer};
 use std::alloc::{AllocError, Global};
@@ -260,7 +260,7 @@ impl Heap {
     }
 
     /// The thread enters the monitor of an object once, where it has no owner or is the thread's (JLS 17.1).
-    pub fn enter(&mut self, object: u32, thread: u16) -> Result<MonitorAnswer, Refusal>
+    pub fn enter(&mut self, object: u32, thread: u16) -> Result<MonitorAnswer, MonitorRefusal>
         requires { IsAllowed (Call.Enter object thread) self.old.locks }
         ensures { HandsOn result (Call.Enter object thread) self.old self.new }
     {
@@ -276,7 +276,7 @@ impl Heap {
     }
 
     /// The thread joins the wait set with its entries, and the monitor has no owner, if the thread is the owner (JLS 17.2.1).
-    pub fn wait(&mut self, object: u32, thread: u16) -> Result<MonitorAnswer, Refusal>
+    pub fn wait(&mut self, object: u32, thread: u16) -> Result<MonitorAnswer, MonitorRefusal>
         requires { IsAllowed (Call.Wait object thread) self.old.locks }
         ensures { HandsOn result (Call.Wait object thread) self.old self.new }
     {

@@ -6,7 +6,8 @@ ghost use Rattle.model.specs.Names.{name_eq};
 ghost use Rattle.model.specs.Classes.{super_name_of, is_subclass};
 ghost use Rattle.hierarchy.specs.Places.{class_at, place_of, name_at};
 
-use crate::set::{ClassSet, superclass_name};
+use crate::set::ClassSet;
+use class_tree::superclass_name;
 
 impl ClassSet {
     /// Whether the class at a place names this direct superclass.

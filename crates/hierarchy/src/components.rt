@@ -2,7 +2,8 @@
 //! what rests on that is checked.
 
 use crate::order::{is_first_visit, supertypes_first};
-use crate::set::{ClassSet, superclass_name};
+use crate::set::ClassSet;
+use class_tree::superclass_name;
 use std::alloc::{AllocError, Global};
 
 /// Writes down that a class stands directly below the class of a name.

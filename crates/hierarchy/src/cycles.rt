@@ -16,12 +16,10 @@ use crate::name_table::NameTable;
 use crate::ranks::{is_reached, never_rise, rank_of, ranked_order};
 use crate::row::Row;
 use crate::rows::{is_among, row_of, supertype_rows};
-use crate::set::{ClassSet, class_name, superclass_name};
-use class_tree::ClassFile;
+use crate::set::ClassSet;
+use class_tree::{ClassFile, class_name, superclass_name};
+use model::BUILT_IN_CLASSES;
 use std::alloc::{AllocError, Global};
-
-/// How many classes are built in. The first file stands behind them.
-const BUILT_IN: usize = 30;
 
 /// Whether a class has another one above it, by the rows of all that is above classes.
 fn has_above(
@@ -92,8 +90,8 @@ fn first_above_itself(set: &ClassSet, names: &NameTable, supertypes: &[Row]) -> 
     requires { named_rows names.now supertypes.now ≡ rows_of set.now above.Supertypes (length (classes_of set.now) - 1) }
     ensures { result ≡ position (in_cycle set.now) set.now }
 {
-    for number in 0..set.count().saturating_sub(BUILT_IN) {
-        let Some(file) = set.class_at(BUILT_IN + number) else {
+    for number in 0..set.count().saturating_sub(BUILT_IN_CLASSES) {
+        let Some(file) = set.class_at(BUILT_IN_CLASSES + number) else {
             return None;
         };
         if is_above_itself(set, names, supertypes, class_name(file)) {
@@ -171,8 +169,8 @@ fn first_led_back(alloc: Global, set: &ClassSet) -> Result<Option<usize>, AllocE
     if !never_rise(set, ranks) {
         return Ok(None);
     }
-    for number in 0..set.count().saturating_sub(BUILT_IN) {
-        let place = BUILT_IN + number;
+    for number in 0..set.count().saturating_sub(BUILT_IN_CLASSES) {
+        let place = BUILT_IN_CLASSES + number;
         let Some(file) = set.class_at(place) else {
             return Ok(None);
         };

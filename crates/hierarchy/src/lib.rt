@@ -29,6 +29,6 @@ mod sought;
 pub use cycles::first_in_cycle;
 pub use hierarchy::Hierarchy;
 pub use place::MemberPlace;
-pub use reference_type::{Innermost, Primitive, ReferenceType};
+pub use reference_type::{Innermost, ReferenceType};
 pub use refusal::SetRefusal;
 pub use set::ClassSet;

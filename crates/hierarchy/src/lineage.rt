@@ -5,8 +5,8 @@ ghost use Rattle.class_tree.specs.View.{file_of};
 ghost use Rattle.hierarchy.specs.Lineages.{depth_in, superclass_in, skip_in, stands_at, is_root, is_skip, is_directly_below, has_lineage, HasLineages};
 
 use crate::order::supertypes_first;
-use crate::set::{ClassSet, class_name, superclass_name};
-use class_tree::ClassFile;
+use crate::set::ClassSet;
+use class_tree::{ClassFile, class_name, superclass_name};
 use std::alloc::{AllocError, Global};
 
 /// How a class stands below its superclasses.

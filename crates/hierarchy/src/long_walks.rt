@@ -2,8 +2,8 @@
 
 use crate::row::Row;
 use crate::rows::row_of;
-use crate::set::{ClassSet, class_name, superclass_name};
-use class_tree::ClassFile;
+use crate::set::ClassSet;
+use class_tree::{ClassFile, class_name, superclass_name};
 use std::alloc::{AllocError, Global};
 
 /// How many names a walk from the superclass of a class passes.

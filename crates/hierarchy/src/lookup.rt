@@ -1,6 +1,6 @@
 //! The members that classes declare, and which method a call runs (JVMS 6.5).
 
-ghost use Rattle.std.specs.Prelude.{◌≡◌, ◌/◌, ◌%◌, ◌<◌, ◌==◌, option_map, IfSome};
+ghost use Rattle.std.specs.Prelude.{◌≡◌, option_map, IfSome};
 ghost use Rattle.constant_pool.specs.View.{reference_of};
 ghost use Rattle.class_tree.specs.View.{method_of};
 ghost use Rattle.model.specs.Classes.{lineage};
@@ -10,14 +10,8 @@ ghost use Rattle.hierarchy.specs.Wanted.{wants};
 
 use crate::place::MemberPlace;
 use crate::set::ClassSet;
+use class_tree::access_flags::{PRIVATE, PUBLIC, STATIC, has};
 use class_tree::{Method, Reference};
-
-/// ACC_PUBLIC, ACC_PRIVATE and ACC_STATIC (JVMS table 4.6-A).
-const PUBLIC: u16 = 0x0001;
-
-const PRIVATE: u16 = 0x0002;
-
-const STATIC: u16 = 0x0008;
 
 /// Which methods count in a look-up.
 #[derive(Clone, Copy)]
@@ -27,13 +21,6 @@ pub(crate) enum Wanted {
     Selectable,
     /// A public instance method.
     PublicInstance,
-}
-
-fn has(flags: u16, flag: u16) -> bool
-    requires { 0 < flag }
-    ensures { result ≡ (flags / flag % 2 == 1) }
-{
-    flags / flag % 2 == 1
 }
 
 /// Whether a method counts in a look-up.

@@ -10,8 +10,8 @@ ghost use Rattle.hierarchy.specs.Above.{with_name, with_names};
 ghost use Rattle.hierarchy.specs.Numbers.{AreApart, HasNames, direct_names, place_by};
 ghost use Rattle.hierarchy.specs.Places.{place_of};
 
-use crate::set::{ClassSet, class_name, superclass_name};
-use class_tree::ClassFile;
+use crate::set::ClassSet;
+use class_tree::{ClassFile, class_name, superclass_name};
 use indexmap::IndexSet;
 use std::alloc::{AllocError, Global};
 use std::marker::Model;

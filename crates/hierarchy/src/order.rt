@@ -1,6 +1,7 @@
 //! An order of the classes of a set, in which each class comes after those above it.
 
-use crate::set::{ClassSet, superclass_name};
+use crate::set::ClassSet;
+use class_tree::superclass_name;
 use std::alloc::{AllocError, Global};
 
 /// What is still to be done on the way through the classes.

@@ -11,7 +11,8 @@ use crate::name_table::NameTable;
 use crate::number_set::NumberSet;
 use crate::row::Row;
 use crate::rows::{Above, empty_rows, interface_rows, row_above, supertype_rows};
-use crate::set::{ClassSet, class_name};
+use crate::set::ClassSet;
+use class_tree::class_name;
 use std::alloc::{AllocError, Global};
 
 /// Rows made one after the other by those that are made. The order only spares time: nothing is proved of these rows,

@@ -8,8 +8,8 @@ ghost use Rattle.model.specs.Classes.{classes_of, interface_names};
 ghost use Rattle.hierarchy.specs.Ranks.{rank_of, is_late, is_misranked, HasRanks, is_reached, rises, NeverRise};
 
 use crate::order::supertypes_first;
-use crate::set::{ClassSet, class_name, superclass_name};
-use class_tree::ClassFile;
+use crate::set::ClassSet;
+use class_tree::{ClassFile, class_name, superclass_name};
 use std::alloc::{AllocError, Global};
 
 /// The rank of the class of a name.

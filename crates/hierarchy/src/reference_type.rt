@@ -2,20 +2,11 @@
 
 ghost use Rattle.std.specs.Prelude.{◌≡◌};
 ghost use Rattle.model.specs.Names.{name_eq, java_lang_object};
-ghost use Rattle.model.specs.ReferenceTypes.{is_subtype, primitive_number};
-ghost use Rattle.hierarchy.specs.Types.{primitive_of, innermost_of, type_of};
+ghost use Rattle.model.specs.ReferenceTypes.{is_subtype};
+ghost use Rattle.hierarchy.specs.Types.{innermost_of, type_of};
 
 use crate::hierarchy::Hierarchy;
-
-/// A primitive type of which there are arrays here.
-#[derive(Clone, Copy)]
-pub enum Primitive {
-    Boolean,
-    Char,
-    Byte,
-    Short,
-    Int,
-}
+use model::Primitive;
 
 /// A reference type that is no array of references.
 #[derive(Clone, Copy)]
@@ -31,18 +22,6 @@ pub enum Innermost<'a> {
 pub struct ReferenceType<'a> {
     pub arrays: usize,
     pub innermost: Innermost<'a>,
-}
-
-fn number(primitive: Primitive) -> u8
-    ensures { result ≡ primitive_number (primitive_of primitive) }
-{
-    match primitive {
-        Primitive::Boolean => 0,
-        Primitive::Char => 1,
-        Primitive::Byte => 2,
-        Primitive::Short => 3,
-        Primitive::Int => 4,
-    }
 }
 
 fn is_object(name: &[u8]) -> bool
@@ -62,7 +41,7 @@ impl Hierarchy {
             },
             Innermost::PrimitiveArray(a) => match t {
                 Innermost::Class(d) => is_object(d),
-                Innermost::PrimitiveArray(b) => number(a) == number(b),
+                Innermost::PrimitiveArray(b) => a.number() == b.number(),
             },
         }
     }

@@ -14,8 +14,8 @@ ghost use Rattle.hierarchy.specs.Numbers.{names_of, named_rows, HasAll, HasNames
 use crate::name_table::NameTable;
 use crate::number_set::NumberSet;
 use crate::row::Row;
-use crate::set::{ClassSet, class_name, superclass_name};
-use class_tree::ClassFile;
+use crate::set::ClassSet;
+use class_tree::{ClassFile, class_name, superclass_name};
 use std::alloc::{AllocError, Global};
 
 /// What stands directly above a class.

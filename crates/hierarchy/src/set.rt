@@ -1,7 +1,7 @@
 //! The classes of a program, by their names.
 
-ghost use Rattle.std.specs.Prelude.{◌≡◌, length, map, false, Some, option_map, IfOk, IfErr, IfSome, OnOk};
-ghost use Rattle.model.specs.Classes.{classes_of, class_of, superclass_of, is_subclass, is_interface, name_of, super_name_of};
+ghost use Rattle.std.specs.Prelude.{◌≡◌, ◌+◌, ◌<◌, ◌^◌, length, map, false, slice_get, Some, option_map, IfOk, IfErr, IfSome, OnOk};
+ghost use Rattle.model.specs.Classes.{classes_of, class_of, superclass_of, is_subclass, is_interface, name_of};
 ghost use Rattle.model.specs.TypeJoin.{class_join};
 ghost use Rattle.model.specs.Linkable.{stands, DuplicateClass, two_of_one_name};
 ghost use Rattle.model.specs.BuiltIn.{built_in_classes as classes_of_the_model};
@@ -17,8 +17,9 @@ use crate::member_keys::{MemberKeys, member_keys, no_member_keys};
 use crate::refusal::SetRefusal;
 use crate::sought::Sought;
 use class_tree::builtin::built_in_classes;
-use class_tree::{ClassFile, Reference};
+use class_tree::{ClassFile, Reference, class_name, superclass_name};
 use indexmap::IndexSet;
+use model::BUILT_IN_CLASSES;
 use std::alloc::{AllocError, Global};
 use std::marker::Model;
 
@@ -44,20 +45,6 @@ impl Model for ClassSet {
     ghost view = { λ s. files_of (trees_of s.classes.items) };
 
     ghost invariant = { λ s. Holds (trees_of s.classes.items) (map (λ name. name.items) s.names.keys) s.lineages.items s.member_keys };
-}
-
-/// The name of the class that a file declares (JVMS 4.1, this_class).
-pub fn class_name(file: &ClassFile) -> &[u8]
-    ensures { result.now ≡ name_of (file_of file.now) }
-{
-    file.class_name(file.this_class).unwrap_or(b"")
-}
-
-/// The name of its direct superclass (JVMS 4.1, super_class).
-pub fn superclass_name(file: &ClassFile) -> Option<&[u8]>
-    ensures { option_map (λ t. t.now) result ≡ super_name_of (file_of file.now) }
-{
-    file.class_name(file.super_class)
 }
 
 /// The names of classes, of which the first, so many as `built_in`, are the built-in ones.
@@ -150,6 +137,24 @@ impl ClassSet {
         ensures { option_map (λ c. file_of c.now) result ≡ class_at self.now place }
     {
         self.classes.get(place)
+    }
+
+    /// How many files there are.
+    pub fn file_count(&self) -> usize
+        ensures count { result ≡ length self.now }
+        ensures fits { result + BUILT_IN_CLASSES < 2 ^ 64 }
+    {
+        self.count().saturating_sub(BUILT_IN_CLASSES)
+    }
+
+    /// The class of the file of a number. Files are counted from 0.
+    pub fn file_at(&self, number: usize) -> Option<&ClassFile>
+        ensures { option_map (λ c. file_of c.now) result ≡ slice_get self.now number }
+    {
+        if number >= self.file_count() {
+            return None;
+        }
+        self.class_at(BUILT_IN_CLASSES + number)
     }
 
     /// The place of the class of a name.
@@ -250,7 +255,7 @@ impl ClassSet {
         ensures { result ≡ is_interface self.now name.now }
     {
         match self.class_of(name) {
-            Some(class) => class.flags / 0x0200 % 2 == 1,
+            Some(class) => class.is_interface(),
             None => false,
         }
     }

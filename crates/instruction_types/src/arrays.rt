@@ -11,9 +11,9 @@ use crate::leads::Leads;
 use crate::meaning::{Meaning, NoMeaning, popping};
 use crate::operand_types::Want;
 use crate::want::{ANY_OBJECT, REFERENCES};
-use model::ArrayKind;
+use model::{ArrayKind, Primitive};
 use std::alloc::Global;
-use types::{Element, Primitive, ReferenceType, VerificationType};
+use types::{Element, ReferenceType, VerificationType};
 
 const INTS: Want = Want::AReference(ReferenceType {
     dimensions: 0,

@@ -21,7 +21,7 @@ use crate::calls::PRINT_STREAM;
 use crate::leads::Leads;
 use crate::meaning::{Meaning, NoMeaning, popping};
 use crate::operand_types::Want;
-use crate::places::{is_field_of_kind, name_at, place_of};
+use crate::places::{is_field_of_kind, place_of};
 use crate::want::{class_type, object_at, object_of, want_for};
 use classfile::Reference;
 use hierarchy::{ClassSet, Hierarchy, MemberPlace};
@@ -57,7 +57,7 @@ fn owner(set: &ClassSet, field: Reference<'_>, found: MemberPlace) -> Option<Wan
     let Some(class) = place_of(set, field.class) else {
         return None;
     };
-    if field.class == name_at(set, found.class) {
+    if field.class == set.name_at(found.class) {
         return Some(Want::AnOwner { class });
     }
     Some(object_at(set, class))

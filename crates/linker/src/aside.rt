@@ -8,8 +8,7 @@ ghost use Rattle.model.specs.Classes.{Program};
 ghost use Rattle.classfile.specs.profile.Faults.{TellsClassAside};
 ghost use Rattle.linker.specs.Aside.{names_other_class, other_classes, names_method_aside, methods_aside};
 
-use crate::place::class_name;
-use classfile::{ClassFile, Constant};
+use classfile::{ClassFile, Constant, class_name};
 use hierarchy::ClassSet;
 use std::alloc::{AllocError, Global};
 

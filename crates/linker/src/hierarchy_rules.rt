@@ -7,7 +7,7 @@ ghost use Rattle.model.specs.Linkable.{stands, before_links, earlier, DuplicateC
 ghost use Rattle.classfile.specs.View.{file_of};
 ghost use Rattle.linker.specs.Linking.{RefusesTrees, RefusesFor};
 
-use crate::place::{file_at, file_count, method_text};
+use crate::place::method_text;
 use classfile::ClassFile;
 use hierarchy::{ClassSet, Hierarchy, first_in_cycle};
 use link_conditions::class_rules::{RulePlace, first_broken_rule};
@@ -58,8 +58,8 @@ fn check_rules(alloc: Global, set: &ClassSet) -> Result<(), Refusal>
     ensures passed { OnOk result (list_any (stands set.now) (earlier Unresolved) ≡ false) }
     ensures refused { IfErr result (λ r. RefusesTrees set.now r.kind r.file r.cause) }
 {
-    for number in 0..file_count(set) {
-        let Some(file) = file_at(set, number) else {
+    for number in 0..set.file_count() {
+        let Some(file) = set.file_at(number) else {
             return Ok(());
         };
         check_file(alloc, set, number, file)?;

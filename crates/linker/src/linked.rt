@@ -3,7 +3,6 @@
 ghost use Rattle.std.specs.Prelude.{◌≡◌, length};
 ghost use Rattle.linker.specs.Linking.{IsLinked};
 
-use crate::place::file_count;
 use hierarchy::{ClassSet, Hierarchy};
 use std::marker::Model;
 
@@ -52,6 +51,6 @@ impl Linked {
     pub fn file_count(&self) -> usize
         ensures { result ≡ length self.now }
     {
-        file_count(self.hierarchy.set())
+        self.hierarchy.set().file_count()
     }
 }

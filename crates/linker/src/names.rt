@@ -7,7 +7,7 @@ ghost use Rattle.model.specs.Linkable.{stands, earlier, DuplicateClass, Unresolv
 ghost use Rattle.classfile.specs.View.{file_of};
 ghost use Rattle.linker.specs.Linking.{RefusesTrees, RefusesFor};
 
-use crate::place::{file_at, file_count, method_text};
+use crate::place::method_text;
 use classfile::ClassFile;
 use hierarchy::Hierarchy;
 use link_conditions::refusal::{Refusal, RefusalKind};
@@ -79,8 +79,8 @@ pub(crate) fn check_names(alloc: Global, hierarchy: &Hierarchy) -> Result<(), Re
     ensures refused { IfErr result (λ r. RefusesTrees hierarchy.now r.kind r.file r.cause) }
 {
     let set = hierarchy.set();
-    for number in 0..file_count(set) {
-        let Some(file) = file_at(set, number) else {
+    for number in 0..set.file_count() {
+        let Some(file) = set.file_at(number) else {
             return Ok(());
         };
         check_file(alloc, hierarchy, number, file)?;

@@ -9,7 +9,7 @@ ghost use Rattle.classfile.specs.View.{file_of};
 ghost use Rattle.linker.specs.Linking.{RefusesTrees, WalkRefuses, IsFaultRefusal};
 
 use crate::aside::class_aside;
-use crate::place::{file_at, file_count, method_text};
+use crate::place::method_text;
 use classfile::ClassFile;
 use classfile::profile::{Fault, Flaw, Place, Spot, first_fault};
 use constant_pool::reading::Cause;
@@ -83,8 +83,8 @@ pub(crate) fn check_profile(alloc: Global, set: &ClassSet) -> Result<(), Refusal
     ensures passed { OnOk result (list_any (stands set.now) before_links ≡ false) }
     ensures refused { IfErr result (λ r. RefusesTrees set.now r.kind r.file r.cause) }
 {
-    for number in 0..file_count(set) {
-        let Some(file) = file_at(set, number) else {
+    for number in 0..set.file_count() {
+        let Some(file) = set.file_at(number) else {
             return Ok(());
         };
         check_file(alloc, set, number, file)?;

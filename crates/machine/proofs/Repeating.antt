@@ -6,7 +6,7 @@ use Rattle.model.specs.LimitStands.{bounds_of, inflated_by}
 use Rattle.model.specs.State.{StateOf}
 use Rattle.machine_state.specs.declared.answers.Answer.{Answer}
 use Rattle.machine_state.specs.declared.answers.Answer.TheVariants as answer
-use Rattle.machine_state.specs.declared.refusals.Refusal.{Refusal}
+use Rattle.machine_state.specs.declared.refusals.EventRefusal.{EventRefusal}
 use Rattle.machine_state.specs.declared.state.Shared.{Shared}
 use Rattle.machine.specs.declared.machine.Stopped.TheVariants as stopped
 use Rattle.machine.specs.Machines.{MachineOf, Shows, Steps, IsRepeated, HasRepeated, Repeats}
@@ -35,10 +35,10 @@ begins event m =
 
 module _ (event : Event) (n : ℕ) (old between new : MachineOf) (so_far : IsSoFar event n old between) where
   -- the answer to the next event, of the machine as it is
-  turns : (result : Result Answer Refusal) → Steps result event between new → Steps result event (with_shared old between.shared) new
+  turns : (result : Result Answer EventRefusal) → Steps result event between new → Steps result event (with_shared old between.shared) new
   turns result s = subst (λ m. Steps result event m new) so_far.same s
 
-  still_same : (result : Result Answer Refusal) → Steps result event between new → new ≡ with_shared old new.shared
+  still_same : (result : Result Answer EventRefusal) → Steps result event between new → new ≡ with_shared old new.shared
   still_same result s = (turns result s).0
 
   pub goes_on : Steps (Ok answer.Done) event between new → IsSoFar event (suc n) old new
@@ -82,7 +82,7 @@ module _ (event : Event) (n : ℕ) (old between new : MachineOf) (so_far : IsSoF
   )
 
   -- or it is refused
-  pub refused : (most : ℕ) → n < most → (told : Refusal) → Steps (Err told) event between new
+  pub refused : (most : ℕ) → n < most → (told : EventRefusal) → Steps (Err told) event between new
       → Repeats (n, stopped.Refused told) event most old new
   refused most within told s = (
     omega (arith, within),

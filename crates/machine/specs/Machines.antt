@@ -14,7 +14,7 @@ use Rattle.model.specs.Step.{NotEnabled, Next, stepped}
 use Rattle.linked_code.specs.declared.program.LinkedProgram.{LinkedProgram}
 use Rattle.linked_code.specs.thread_stacks.Stacks.{ShownEntry}
 use Rattle.machine_state.specs.declared.answers.Answer.{Answer}
-use Rattle.machine_state.specs.declared.refusals.Refusal.{Refusal}
+use Rattle.machine_state.specs.declared.refusals.EventRefusal.{EventRefusal}
 use Rattle.machine_state.specs.declared.state.Shared.{Shared}
 use Rattle.machine_state.specs.Shown.{IsProgram}
 use Rattle.machine_state.specs.Events.{limit_of}
@@ -64,7 +64,7 @@ Opens p limits m =
 
 -- Whatever state of whatever files was shown, the answer tells what becomes of it by the event, and that state is shown: the program
 -- and the limits stay.
-abbrev pub Steps : Result Answer Refusal → Event → (old new : MachineOf) → Type 0
+abbrev pub Steps : Result Answer EventRefusal → Event → (old new : MachineOf) → Type 0
 Steps result event old new =
     (new ≡ record old { shared = new.shared })
     × ((files : List (List ℕ)) (trees : Program) (inflated : List ℕ) (state : StateOf ℕ) → Shows old files trees inflated state

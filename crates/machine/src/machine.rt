@@ -9,7 +9,7 @@ use crate::turns::thread_turns;
 use linked_code::LinkedProgram;
 use linked_code::thread_stacks::ThreadStack;
 use machine_state::state_events::{events_are_whole, stacks_are_lent};
-use machine_state::{Answer, Refusal, Shared};
+use machine_state::{Answer, EventRefusal, Shared};
 use machine_threads::machine_opening::opening_state;
 use machine_threads::thread_events::thread_event;
 use model::{Event, Limits};
@@ -25,7 +25,7 @@ pub enum Stopped {
     /// It is not enabled.
     NotEnabled,
     /// A limit forbids it, or memory is wanted.
-    Refused(Refusal),
+    Refused(EventRefusal),
 }
 
 /// A Java Virtual Machine that runs a linked program (JVMS 2.5): always in a state that the program's files can reach by
@@ -101,7 +101,7 @@ impl Machine {
 
     /// Does an event, if it is enabled. `NotEnabled` where it isn't; an error where a limit forbids it, or memory is wanted. In both
     /// cases nothing has changed.
-    pub fn step(&mut self, event: Event) -> Result<Answer, Refusal>
+    pub fn step(&mut self, event: Event) -> Result<Answer, EventRefusal>
         ensures { Steps result event self.old self.new }
     {
         stacks_are_lent();

@@ -13,8 +13,8 @@ use Rattle.linked_code.specs.thread_stacks.Stacks.{ShownEntry}
 use Rattle.machine_state.specs.shown_stacks.Shown.{ShowsStack}
 use Rattle.machine_state.specs.declared.answers.Answer.{Answer}
 use Rattle.machine_state.specs.declared.answers.Answer.TheVariants as answer
-use Rattle.machine_state.specs.declared.refusals.Refusal.{Refusal}
-use Rattle.machine_state.specs.declared.refusals.Refusal.TheVariants as refusal
+use Rattle.machine_state.specs.declared.refusals.EventRefusal.{EventRefusal}
+use Rattle.machine_state.specs.declared.refusals.EventRefusal.TheVariants as refusal
 use Rattle.machine_state.specs.declared.state.Shared.{Shared}
 use Rattle.machine_state.specs.Refusals.{limit_told}
 use Rattle.machine_state.specs.Shown.{Represents}
@@ -53,7 +53,7 @@ pub record HasBecome (trees : Program) (p : LinkedProgram) (bounds : Bounds) (in
   pub others : AreStacksAdded old new
 
 -- an enabled event may be refused for want of memory, and else at a limit that stands
-abbrev pub MayBeRefused : Program → Bounds → List ℕ → WorldOf ℕ → Cost → Refusal → Type 0
+abbrev pub MayBeRefused : Program → Bounds → List ℕ → WorldOf ℕ → Cost → EventRefusal → Type 0
 MayBeRefused trees bounds inflated world cost refusal.Memory = Unit {0}
 MayBeRefused trees bounds inflated world cost told = limit_of trees bounds inflated world cost ≡ limit_told told
 
@@ -65,7 +65,7 @@ pub record IsDone (trees : Program) (p : LinkedProgram) (bounds : Bounds) (infla
   pub becomes : HasBecome trees p bounds inflated world cost next old new to
 
 pub record IsRefused (trees : Program) (bounds : Bounds) (inflated : List ℕ) (world : WorldOf ℕ) (stepped : SteppedOf (PartOf ℕ))
-    (told : Refusal) : Type 0 where
+    (told : EventRefusal) : Type 0 where
   pub cost : Cost
   pub next : PartOf ℕ
   pub is : stepped ≡ Next cost next
@@ -73,7 +73,7 @@ pub record IsRefused (trees : Program) (bounds : Bounds) (inflated : List ℕ) (
 
 -- What an answer says of what becomes of an event: it is done, it is not enabled, or it is refused; in the latter two cases
 -- nothing has changed.
-abbrev pub Becomes : Program → LinkedProgram → Bounds → List ℕ → WorldOf ℕ → SteppedOf (PartOf ℕ) → Result Answer Refusal
+abbrev pub Becomes : Program → LinkedProgram → Bounds → List ℕ → WorldOf ℕ → SteppedOf (PartOf ℕ) → Result Answer EventRefusal
     → (old new : Shared) (from to : List ShownEntry) → Type 0
 Becomes trees p bounds inflated world stepped (Ok answer.Done) old new from to = IsDone trees p bounds inflated world stepped old new to
 Becomes trees p bounds inflated world stepped (Ok answer.NotEnabled) old new from to = (stepped ≡ NotEnabled) × IsUnchanged old new from to

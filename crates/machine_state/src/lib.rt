@@ -26,7 +26,7 @@ pub mod type_tests;
 ghost use Rattle.machine_state.specs.Instructions.{AreInstructionsDone};
 
 pub use answers::{Answer, Effect, MachineException};
-pub use refusals::Refusal;
+pub use refusals::EventRefusal;
 pub use state::{ClassStatus, Shared};
 
 /// The event of a thread that runs is what its instruction does, where the class that this needs is ready.

@@ -11,6 +11,7 @@ pub mod AccessFlags
 pub mod BuiltIn
 pub mod Classes
 pub mod ReferenceTypes
+pub mod Primitives
 pub mod Lookup
 pub mod DescriptorParts
 pub mod CodeParts

@@ -10,10 +10,11 @@ mod event;
 mod instr;
 mod limits;
 mod monitor_answer;
+mod primitive;
 mod report;
 mod value;
 
-pub use class_file::ExceptionEntry;
+pub use class_file::{BUILT_IN_CLASSES, ExceptionEntry};
 pub use device::{DeviceFault, Sink, Source};
 pub use end::{End, RunCause};
 pub use event::{Event, ScheduleEntry};
@@ -23,5 +24,6 @@ pub use instr::{
 };
 pub use limits::Limits;
 pub use monitor_answer::MonitorAnswer;
+pub use primitive::Primitive;
 pub use report::{EndState, Report};
 pub use value::Value;

@@ -18,7 +18,7 @@ use Rattle.run_laws.specs.interleavings.Ends.{Outcome}
 use Rattle.linked_code.specs.declared.program.LinkedProgram.{LinkedProgram}
 use Rattle.machine_state.specs.declared.answers.Answer.{Answer}
 use Rattle.machine_state.specs.declared.answers.Answer.TheVariants as answer
-use Rattle.machine_state.specs.declared.refusals.Refusal.{Refusal}
+use Rattle.machine_state.specs.declared.refusals.EventRefusal.{EventRefusal}
 use Rattle.machine_state.specs.declared.state.Shared.{Shared}
 use Rattle.machine_state.specs.Shown.{IsProgram}
 use Rattle.machine_state.specs.shown_runs.Runs.{HasRun, AreRunsOpened, AreRunsGoingOn}
@@ -111,7 +111,7 @@ module _ (p : LinkedProgram) (limits : Limits) (events : List Event) where
       subst (λ (l : Limits). HasRun trees p (bounds_of l) m.shared events) at.limits_are
       (subst (λ q. HasRun trees q (bounds_of m.limits) m.shared events) at.program (at.done files trees accepted program).run)
 
-pub goes_by : AreRunsGoingOn → (result : Result Answer Refusal) (event : Event) (old new : MachineOf) → Steps result event old new
+pub goes_by : AreRunsGoingOn → (result : Result Answer EventRefusal) (event : Event) (old new : MachineOf) → Steps result event old new
     → GoesBy result event old new
 goes_by goes result event old new steps = (
   steps.0,

@@ -11,7 +11,7 @@ use Rattle.model.specs.State.{State}
 use Rattle.run_laws.specs.interleavings.Ends.{outcome_of}
 use Rattle.linked_code.specs.declared.program.LinkedProgram.{LinkedProgram}
 use Rattle.machine_state.specs.declared.answers.Answer.{Answer}
-use Rattle.machine_state.specs.declared.refusals.Refusal.{Refusal}
+use Rattle.machine_state.specs.declared.refusals.EventRefusal.{EventRefusal}
 use Rattle.machine_state.specs.Shown.{IsProgram}
 use Rattle.machine_state.specs.shown_runs.Runs.{GoesOn}
 use Rattle.machine.specs.Machines.{MachineOf}
@@ -28,7 +28,7 @@ pub record IsAt (p : LinkedProgram) (limits : Limits) (events : List Event) (m :
   pub done : (files : List (List ℕ)) (trees : Program) → IsAccepted files trees → IsProgram trees p → HasDone m files trees events
 
 -- what becomes of one event more
-abbrev pub GoesBy : Result Answer Refusal → Event → (old new : MachineOf) → Type 0
+abbrev pub GoesBy : Result Answer EventRefusal → Event → (old new : MachineOf) → Type 0
 GoesBy result event old new =
     (new ≡ record old { shared = new.shared })
     × ((files : List (List ℕ)) (trees : Program) (events : List Event) (has : HasDone old files trees events)

@@ -14,7 +14,7 @@ use machine::machine_reports::{is_quiet, report_of};
 use machine::schedule_runs::run_schedule;
 use machine::{Machine, Stopped};
 use machine_state::shown_runs::{runs_are_opened, runs_go_on};
-use machine_state::{Answer, Refusal};
+use machine_state::{Answer, EventRefusal};
 use model::{Event, Limits, ScheduleEntry};
 use run_laws::word_reports::reports_of_words;
 use schedule::Schedule;
@@ -53,7 +53,7 @@ pub(crate) fn at_schedule(
 }
 
 /// Does an event, if it is enabled.
-pub(crate) fn go_on(machine: &mut Machine, event: Event) -> Result<Answer, Refusal>
+pub(crate) fn go_on(machine: &mut Machine, event: Event) -> Result<Answer, EventRefusal>
     ensures { GoesBy result event machine.old machine.new }
 {
     runs_go_on();

@@ -24,16 +24,6 @@ pub struct ProgramNames<'a> {
     ghost numbered: { AreNumbersOf linked.now numbers },
 }
 
-/// The name of a class, by its number.
-fn class_name(set: &ClassSet, class: usize) -> &[u8]
-    ensures { result.now ≡ name_at set.now class }
-{
-    match set.class_at(class) {
-        Some(class) => class.class_name(class.this_class).unwrap_or(b""),
-        None => b"",
-    }
-}
-
 /// The name of the method at a place.
 fn method_name(set: &ClassSet, place: MemberPlace) -> &[u8]
     ensures { result.now ≡ name_in set.now place }
@@ -68,7 +58,7 @@ impl<'a> ProgramNames<'a> {
     pub fn class_name(&self, class: u32) -> &[u8]
         ensures { result.now ≡ name_at self.now.linked.now class }
     {
-        class_name(self.linked.set(), class as usize)
+        self.linked.set().name_at(class as usize)
     }
 
     /// Where the method of a number stands.
@@ -99,7 +89,7 @@ impl<'a> ProgramNames<'a> {
     {
         let place = self.place(number);
         let set = self.linked.set();
-        text.extend_from_slice(class_name(set, place.class))?;
+        text.extend_from_slice(set.name_at(place.class))?;
         text.extend_from_slice(b".")?;
         text.extend_from_slice(method_name(set, place))?;
         Ok(())
@@ -116,7 +106,7 @@ impl<'a> ProgramNames<'a> {
     {
         let place = self.place(number);
         let set = self.linked.set();
-        push_text_member(text, "class", class_name(set, place.class))?;
+        push_text_member(text, "class", set.name_at(place.class))?;
         push_text_member(text, "method", method_name(set, place))
     }
 }

@@ -3,7 +3,8 @@
 use crate::names::ProgramNames;
 use crate::numbers::{push_number, push_words};
 use heap::{Heap, NarrowKind, ObjectKind};
-use linked_code::{Element, LinkedType, Primitive};
+use linked_code::{Element, LinkedType};
+use model::Primitive;
 use std::alloc::AllocError;
 
 /// The number of java.lang.Class: the built-in classes come first in each program.

@@ -8,22 +8,14 @@ use Rattle.model.specs.Types as model
 use Rattle.model.specs.TypeOrder as frames
 use Rattle.model.specs.DescribedTypes.{arrays}
 use Rattle.model.specs.TypeJoin.{object_above}
+use Rattle.model.specs.Primitives.{primitive_of}
 use Rattle.hierarchy.specs.Places.{name_at}
-use Rattle.types.specs.declared.reference_type.Primitive.{Primitive}
-use Rattle.types.specs.declared.reference_type.Primitive.TheVariants as primitive
 use Rattle.types.specs.declared.reference_type.Element.{Element}
 use Rattle.types.specs.declared.reference_type.Element.TheVariants as element
 use Rattle.types.specs.declared.reference_type.ReferenceType.{ReferenceType}
 use Rattle.types.specs.declared.verification_type.VerificationType.{VerificationType}
 use Rattle.types.specs.declared.verification_type.VerificationType.TheVariants as type
 use Rattle.types.specs.declared.frame_type.FrameType.{FrameType}
-
-abbrev pub primitive_of : Primitive → reference.Primitive
-primitive_of primitive.Boolean = reference.Boolean
-primitive_of primitive.Char = reference.Char
-primitive_of primitive.Byte = reference.Byte
-primitive_of primitive.Short = reference.Short
-primitive_of primitive.Int = reference.Int
 
 abbrev pub element_in : Program → Element → reference.ReferenceType
 element_in files (element.Class place) = reference.ClassType (name_at files place)

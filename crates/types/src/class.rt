@@ -13,7 +13,7 @@ use hierarchy::ClassSet;
 pub(crate) const OBJECT: usize = 0;
 
 /// Whether the classes at two places have one name.
-pub(crate) fn is_same_class(set: &ClassSet, c: usize, d: usize) -> bool
+pub fn is_same_class(set: &ClassSet, c: usize, d: usize) -> bool
     ensures { result ≡ name_eq (name_at set.now c) (name_at set.now d) }
 {
     c == d || set.name_at(c) == set.name_at(d)

@@ -6,29 +6,19 @@ ghost use Rattle.model.specs.Types.{is_of};
 ghost use Rattle.model.specs.InitialisedTypes.{is_uninitialised, is_uninitialised_this};
 ghost use Rattle.model.specs.TypeOrder.{is_stack_below, is_local_below};
 ghost use Rattle.hierarchy.specs.Places.{name_at};
-ghost use Rattle.types.specs.View.{primitive_of, element_in, reference_in, type_in, is_object_type};
+ghost use Rattle.model.specs.Primitives.{primitive_of};
+ghost use Rattle.types.specs.View.{element_in, reference_in, type_in, is_object_type};
 
 use crate::class::{is_object, is_same_class, is_subclass};
-use crate::reference_type::{Element, Primitive, ReferenceType};
+use crate::reference_type::{Element, ReferenceType};
 use crate::verification_type::VerificationType;
 use hierarchy::ClassSet;
-
-fn number(primitive: Primitive) -> u8
-    ensures { result ≡ primitive_number (primitive_of primitive) }
-{
-    match primitive {
-        Primitive::Boolean => 0,
-        Primitive::Char => 1,
-        Primitive::Byte => 2,
-        Primitive::Short => 3,
-        Primitive::Int => 4,
-    }
-}
+use model::Primitive;
 
 pub(crate) fn is_same_primitive(a: Primitive, b: Primitive) -> bool
     ensures { result ≡ (primitive_number (primitive_of a) == primitive_number (primitive_of b)) }
 {
-    number(a) == number(b)
+    a.number() == b.number()
 }
 
 fn is_object_element(set: &ClassSet, element: Element) -> bool

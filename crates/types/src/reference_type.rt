@@ -1,14 +1,6 @@
 //! Reference types as data.
 
-/// The primitive types of which there are arrays here.
-#[derive(Clone, Copy, PartialEq, Eq)]
-pub enum Primitive {
-    Boolean,
-    Char,
-    Byte,
-    Short,
-    Int,
-}
+use model::Primitive;
 
 /// What is no array of references: a class, by its place in the set of classes, or an array of a primitive type.
 #[derive(Clone, Copy, PartialEq, Eq)]

@@ -14,12 +14,10 @@ use crate::steps::{MOST_STEPS, Steps};
 use hierarchy::Hierarchy;
 use link_conditions::refusal::{Refusal, RefusalKind};
 use linker::Linked;
+use model::BUILT_IN_CLASSES;
 use std::alloc::{AllocError, Global};
 use std::marker::Model;
 use types::method_code::MethodCode;
-
-/// How many classes are built in. The first file stands behind them.
-const BUILT_IN: usize = 30;
 
 /// The classes of class files in which no condition of linking stands, and each of whose methods with code has a typing
 /// (JVMS 4.10).
@@ -53,10 +51,10 @@ impl Verified {
 fn file_number(class: usize) -> Option<usize>
     ensures { result ≡ file_number class }
 {
-    if class < BUILT_IN {
+    if class < BUILT_IN_CLASSES {
         return None;
     }
-    Some(class - BUILT_IN)
+    Some(class - BUILT_IN_CLASSES)
 }
 
 /// The name of a method with its descriptor behind it.

@@ -1,36 +1,16 @@
 //! Fields that are outside of the profile.
 
-ghost use Rattle.std.specs.Prelude.{◌≡◌, ◌/◌, ◌%◌, ◌<◌, ◌==◌, false, true, map, slice_get, take, IfNone, IfSome};
+ghost use Rattle.std.specs.Prelude.{◌≡◌, false, true, map, slice_get, take, IfNone, IfSome};
 ghost use Rattle.std.specs.Option.{option_map_or};
 ghost use Rattle.std.specs.List.{list_any};
-ghost use Rattle.model.specs.AccessFlags.{is_interface_class};
 ghost use Rattle.model.specs.Spelling.{entry_at};
 ghost use Rattle.model.specs.Profile.{is_int_or_string, is_left_out_constant, left_out_constant, instance_field_of_interface, field_of_left_out_type, field_outside_profile};
 ghost use Rattle.classfile.specs.View.{field_part_of, field_of, file_of};
 ghost use Rattle.classfile.specs.profile.Descriptions.{rows_of};
 
+use crate::access_flags::{STATIC, has};
 use crate::profile::described::{Described, text_says};
 use crate::{ClassFile, Constant, Field, FieldAttribute};
-
-/// ACC_STATIC and ACC_INTERFACE (JVMS tables 4.1-A, 4.5-A and 4.6-A).
-pub(crate) const STATIC: u16 = 0x0008;
-
-const INTERFACE: u16 = 0x0200;
-
-/// Whether a flag is set.
-pub(crate) fn has(flags: u16, flag: u16) -> bool
-    requires { 0 < flag }
-    ensures { result ≡ (flags / flag % 2 == 1) }
-{
-    flags / flag % 2 == 1
-}
-
-/// Whether a class file declares an interface.
-pub(crate) fn is_interface(file: &ClassFile) -> bool
-    ensures { result ≡ is_interface_class (file_of file.now) }
-{
-    has(file.flags, INTERFACE)
-}
 
 /// Whether the entry of an index is an Integer or a String.
 fn is_int_or_string(file: &ClassFile, index: u16) -> bool
@@ -63,7 +43,7 @@ fn is_outside(file: &ClassFile, rows: &[Described], field: &Field) -> bool
 {
     text_says(file, rows, field.descriptor).leaves_out
         || has_left_out_constant(file, &field.attributes)
-        || is_interface(file) && !has(field.flags, STATIC)
+        || file.is_interface() && !has(field.flags, STATIC)
 }
 
 /// The first field that is outside of the profile.

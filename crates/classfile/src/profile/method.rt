@@ -1,42 +1,16 @@
 //! Methods whose descriptor or flags are outside of the profile.
 
-ghost use Rattle.std.specs.Prelude.{◌≡◌, map, option_map};
+ghost use Rattle.std.specs.Prelude.{◌≡◌};
 ghost use Rattle.model.specs.Names.{name_eq, constructor_name, initialiser_name};
 ghost use Rattle.model.specs.Conditions.{text_at};
-ghost use Rattle.model.specs.Classes.{code_in};
 ghost use Rattle.model.specs.Profile.{is_constructor, is_initialiser, contradicts_abstract, contradicts_constructor, is_public_abstract, constructor_with_result, concrete_method_of_interface, initialiser_of_other_descriptor, method_outside_profile};
 ghost use Rattle.model.specs.CodeConditions.{entry_slots};
-ghost use Rattle.classfile.specs.View.{code_of, method_part_of, method_of, file_of};
+ghost use Rattle.classfile.specs.View.{method_of, file_of};
 ghost use Rattle.classfile.specs.profile.Descriptions.{rows_of};
 
+use crate::access_flags::{ABSTRACT, FINAL, NATIVE, PRIVATE, PUBLIC, STATIC, SYNCHRONIZED, has};
 use crate::profile::described::{Described, text_says};
-use crate::profile::field::{STATIC, has, is_interface};
-use crate::{ClassFile, Code, Method, MethodAttribute};
-
-/// ACC_PUBLIC, ACC_PRIVATE, ACC_FINAL, ACC_SYNCHRONIZED, ACC_NATIVE and ACC_ABSTRACT (JVMS table 4.6-A).
-const PUBLIC: u16 = 0x0001;
-
-const PRIVATE: u16 = 0x0002;
-
-const FINAL: u16 = 0x0010;
-
-const SYNCHRONIZED: u16 = 0x0020;
-
-const NATIVE: u16 = 0x0100;
-
-const ABSTRACT: u16 = 0x0400;
-
-/// The first Code among attributes.
-pub(crate) fn first_code(attributes: &[MethodAttribute]) -> Option<&Code>
-    ensures { option_map (λ c. code_of c.now) result ≡ code_in (map method_part_of attributes.now) }
-{
-    for attribute in attributes {
-        if let MethodAttribute::Code { code, .. } = attribute {
-            return Some(code);
-        }
-    }
-    None
-}
+use crate::{ClassFile, Method};
 
 /// Whether the text of an index is this one.
 fn is_text(file: &ClassFile, index: u16, text: &[u8]) -> bool
@@ -107,7 +81,7 @@ fn returns_from_constructor(file: &ClassFile, rows: &[Described], method: &Metho
 fn is_concrete_in_interface(file: &ClassFile, method: &Method) -> bool
     ensures { result ≡ concrete_method_of_interface (file_of file.now) (method_of method.now) }
 {
-    is_interface(file) && !is_initialiser(file, method) && !is_public_abstract(method)
+    file.is_interface() && !is_initialiser(file, method) && !is_public_abstract(method)
 }
 
 /// Whether the descriptor or the flags of a method are outside of the profile.

@@ -6,7 +6,6 @@ ghost use Rattle.classfile.specs.View.{code_of, file_of};
 ghost use Rattle.classfile.specs.profile.Places.{field_offset, offset_in_code, method_code, place_offset};
 
 use crate::profile::fault::{ExceptionField, Place, Spot};
-use crate::profile::method::first_code;
 use crate::{ClassFile, Code};
 
 /// How far a field of an exception entry is from the entry's begin.
@@ -42,7 +41,7 @@ fn method_code(file: &ClassFile, method: usize) -> Option<&Code>
     ensures { option_map (λ c. code_of c.now) result ≡ method_code (file_of file.now) method }
 {
     match file.methods.get(method) {
-        Some(method) => first_code(&method.attributes),
+        Some(method) => method.code(),
         None => None,
     }
 }

@@ -10,7 +10,7 @@ use crate::profile::code::first_in_code;
 use crate::profile::described::{Described, describe_pool};
 use crate::profile::fault::{Fault, Flaw, MethodFault, Place, Spot};
 use crate::profile::field::first_field;
-use crate::profile::method::{first_code, is_outside};
+use crate::profile::method::is_outside;
 use crate::{ClassFile, Method};
 use std::alloc::{AllocError, Global};
 
@@ -31,7 +31,7 @@ fn first_in_method(
             spot: Spot::Declaration,
         }));
     }
-    match first_code(&method.attributes) {
+    match method.code() {
         Some(code) => first_in_code(alloc, file, rows, aside, method, code),
         None => Ok(None),
     }

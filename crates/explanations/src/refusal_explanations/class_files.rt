@@ -2,10 +2,9 @@
 
 use crate::refusal_explanations::line::Line;
 use crate::refusal_explanations::malformed::say_malformed;
-use crate::refusal_explanations::method::class_name;
 use crate::refusal_explanations::outside::{say_outside, say_place};
 use crate::refusal_explanations::unresolved::say_unresolved;
-use classfile::{ClassFile, decode};
+use classfile::{ClassFile, class_name, decode, superclass_name};
 use hierarchy::ClassSet;
 use link_conditions::refusal::{Refusal, RefusalKind};
 use std::alloc::{AllocError, Global};
@@ -83,7 +82,7 @@ fn say_hierarchy(
     line.say("the class ")?;
     line.name(class_name(class))?;
     line.say(", which extends ")?;
-    line.name(class.class_name(class.super_class).unwrap_or(b""))?;
+    line.name(superclass_name(class).unwrap_or(b""))?;
     line.say(", breaks a rule of superclasses")
 }
 

@@ -1,6 +1,5 @@
 //! Classes that declarations name: superclasses, interfaces, catch types and the classes of descriptors.
 
-use crate::refusal_explanations::method::code_of;
 use classfile::{ClassFile, Method};
 use hierarchy::ClassSet;
 
@@ -80,7 +79,7 @@ pub(crate) fn lacking_in_method<'a>(
     if let Some(name) = lacking_in(set, file.pool.text(method.descriptor)) {
         return Some((name, "in its descriptor"));
     }
-    for entry in &code_of(method)?.exceptions {
+    for entry in &method.code()?.exceptions {
         if let Some(name) = lacking_class(set, file, entry.catch_type) {
             return Some((name, "as a catch type"));
         }

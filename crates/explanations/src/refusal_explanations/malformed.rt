@@ -2,7 +2,6 @@
 
 use crate::refusal_explanations::instruction::say_instruction;
 use crate::refusal_explanations::line::Line;
-use crate::refusal_explanations::method::code_of;
 use classfile::{Cause, ClassFile, decode};
 use std::alloc::{AllocError, Global};
 
@@ -56,7 +55,7 @@ fn say_code(line: &mut Line, alloc: Global, bytes: &[u8], offset: usize) -> Resu
 fn say_code_of(line: &mut Line, file: &ClassFile, offset: usize) -> Result<(), AllocError> {
     for (number, method) in file.methods.iter().enumerate() {
         let begin = file.code_offset(number).saturating_add(8);
-        if let Some(code) = code_of(method) {
+        if let Some(code) = method.code() {
             if begin <= offset && offset - begin < code.code.len() {
                 line.say(": ")?;
                 say_instruction(line, file, &code.code, offset - begin)?;

@@ -2,9 +2,9 @@
 
 use crate::refusal_explanations::instruction::say_instruction;
 use crate::refusal_explanations::line::Line;
-use crate::refusal_explanations::method::{class_name, code_called};
-use classfile::ClassFile;
+use crate::refusal_explanations::method::code_called;
 use classfile::profile::{Place, first_fault};
+use classfile::{ClassFile, class_name};
 use std::alloc::{AllocError, Global};
 
 /// Adds the instruction at an offset of a method, and where it stands.

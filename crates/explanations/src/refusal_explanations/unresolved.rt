@@ -5,9 +5,9 @@ use crate::refusal_explanations::declaration::{
 };
 use crate::refusal_explanations::instruction::{Named, named_at};
 use crate::refusal_explanations::line::Line;
-use crate::refusal_explanations::method::{class_name, code_called, method_called};
+use crate::refusal_explanations::method::{code_called, method_called};
 use crate::refusal_explanations::outside::say_place;
-use classfile::ClassFile;
+use classfile::{ClassFile, class_name, superclass_name};
 use hierarchy::ClassSet;
 use std::alloc::AllocError;
 
@@ -52,7 +52,7 @@ fn is_declared(set: &ClassSet, named: &Named<'_>) -> bool {
         if declares(file, named.is_field, name, descriptor) {
             return true;
         }
-        class = match file.class_name(file.super_class) {
+        class = match superclass_name(file) {
             Some(above) => set.class_of(above),
             None => None,
         };

@@ -14,8 +14,8 @@ use Rattle.model.specs.Monitors.{Answered, answers_done, owned, owns, released, 
 use Rattle.heap.specs.declared.monitor.call.Call.{Call}
 use Rattle.heap.specs.declared.monitor.call.Call.TheVariants.{Enter, Exit, Wait, Notify, NotifyAll, WakeAll, Interrupt, Relock}
 use Rattle.heap.specs.monitor.Locks.{Locks, object_of, answered, answered_by, KeptUnlessDone, is_count_full_by, inflates, inflates_in, is_table_full, is_count_full, is_at_most_entries, fat_count, is_fat_at, IsDone, Answers}
-use Rattle.heap.specs.declared.monitor.refusal.Refusal.{Refusal}
-use Rattle.heap.specs.declared.monitor.refusal.Refusal.TheVariants.{LockCount}
+use Rattle.heap.specs.declared.monitor.refusal.MonitorRefusal.{MonitorRefusal}
+use Rattle.heap.specs.declared.monitor.refusal.MonitorRefusal.TheVariants.{LockCount}
 use Rattle.heap.specs.monitor.Words.{monitor_of, monitors_of, is_fat_lock, is_fat_word, lock_at, AreSound, locks_of}
 use Rattle.heap.proofs.monitor.Sound.{monitor_at-monitors_of, is_fat_at-map, count_by-map, locks_thin, locks_record, locks_inflated, sound_inflated}
 
@@ -258,7 +258,7 @@ inflated_sound t u ws xs n o v l w m e s h same is was new room after =
     rw after (sound_inflated t ws n o w m s (in_range t ws n o v e h) (ap is_fat_lock (lock_is ws xs o l same is) ∙ was) new room)
 
 -- what a fat lock's monitor answers to a thread that enters
-pub fat_entered : (r : Result MonitorAnswer Refusal) (o thread : ℕ) (t u : List Monitor) (ws xs : List Word) (n i : ℕ) (v : Locks)
+pub fat_entered : (r : Result MonitorAnswer MonitorRefusal) (o thread : ℕ) (t u : List Monitor) (ws xs : List Word) (n i : ℕ) (v : Locks)
     → locks_of t ws n ≡ v → AreSound t ws n → o < length v.monitors → xs ≡ ws → Fat i ≡ lock_at xs o
     → IfOk r (λ a. a ≡ (monitor_enter thread (monitor_at t i)).answer) → OnOk r (u ≡ set t i (monitor_enter thread (monitor_at t i)).after)
     → OnOk r (is_at_most_entries thread (monitor_at t i) ≡ false)

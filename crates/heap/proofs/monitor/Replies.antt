@@ -3,8 +3,8 @@ use Rattle.std.proofs.Common.{◌≡◌, ℕ, Bool, List, [], ◌∷◌, ◌++�
 use Rattle.model.specs.State.{Monitor}
 use Rattle.model.specs.declared.monitor_answer.MonitorAnswer.{MonitorAnswer}
 use Rattle.heap.specs.declared.monitor.call.Call.{Call}
-use Rattle.heap.specs.declared.monitor.refusal.Refusal.{Refusal}
-use Rattle.heap.specs.declared.monitor.refusal.Refusal.TheVariants.{Monitors, LockCount, Memory}
+use Rattle.heap.specs.declared.monitor.refusal.MonitorRefusal.{MonitorRefusal}
+use Rattle.heap.specs.declared.monitor.refusal.MonitorRefusal.TheVariants.{Monitors, LockCount, Memory}
 use Rattle.heap.specs.monitor.Locks.{Locks, IsAllowed, Answers, IsDone, answered, fat_after}
 use Rattle.heap.specs.monitor.Runs.{Reply, RepliesTo, AreReplies, locks_after}
 
@@ -18,7 +18,7 @@ pub done_is : (call : Call) (answer : MonitorAnswer) (old new : Locks) → IsDon
 done_is call answer old new d =
     same_locks new.monitors (answered call old.monitors).after new.fat (fat_after call old) new.limit old.limit d.monitors d.fat d.limit
 
-pub after_is : (result : Result MonitorAnswer Refusal) (call : Call) (old new : Locks) → Answers result call old new
+pub after_is : (result : Result MonitorAnswer MonitorRefusal) (call : Call) (old new : Locks) → Answers result call old new
     → new ≡ locks_after result call old
 after_is (Ok answer) call old new d = done_is call answer old new d
 after_is (Err Monitors) call old new d = d.1

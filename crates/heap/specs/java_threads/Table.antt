@@ -2,8 +2,8 @@
 use Rattle.std.specs.Prelude.{◌≡◌, ℕ, ◌<◌, ◌≤◌, ◌==◌, List, [], ◌∷◌, ◌++◌, length, Option, Result, Ok, Err, slice_index_or, slice_set}
 use Rattle.std.specs.List.{position}
 use Rattle.model.specs.State.{Thread, new_thread}
-use Rattle.heap.specs.declared.java_threads.refusal.Refusal.{Refusal}
-use Rattle.heap.specs.declared.java_threads.refusal.Refusal.TheVariants.{Threads, Memory}
+use Rattle.heap.specs.declared.java_threads.refusal.ThreadRefusal.{ThreadRefusal}
+use Rattle.heap.specs.declared.java_threads.refusal.ThreadRefusal.TheVariants.{Threads, Memory}
 
 -- the threads in starting order, main's first, and how many may be started, main's included
 pub record ThreadTable : Type 0 where
@@ -29,7 +29,7 @@ pub record IsWithin (count limit : ℕ) : Type 0 where
   pub numbered : limit ≤ 32767
 
 -- a thread was started, or refused because as many were started as may be, or for want of memory
-abbrev pub IsAdded : Result (Unit {0}) Refusal → ℕ → ThreadTable → ThreadTable → Type 0
+abbrev pub IsAdded : Result (Unit {0}) ThreadRefusal → ℕ → ThreadTable → ThreadTable → Type 0
 IsAdded (Ok u) object old new =
     (length old.threads < old.limit) × (new ≡ record old { threads = old.threads ++ new_thread object ∷ [] })
 IsAdded (Err Threads) object old new = (old.limit ≤ length old.threads) × (new ≡ old)

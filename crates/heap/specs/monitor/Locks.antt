@@ -6,8 +6,8 @@ use Rattle.model.specs.Monitors.{Answered, owns, monitor_at, enter, exit, wait, 
 use Rattle.model.specs.declared.monitor_answer.MonitorAnswer.TheVariants.{Done}
 use Rattle.heap.specs.declared.monitor.call.Call.{Call}
 use Rattle.heap.specs.declared.monitor.call.Call.TheVariants.{Enter, Exit, Wait, Notify, NotifyAll, WakeAll, Interrupt, Relock}
-use Rattle.heap.specs.declared.monitor.refusal.Refusal.{Refusal}
-use Rattle.heap.specs.declared.monitor.refusal.Refusal.TheVariants.{Monitors, LockCount, Memory}
+use Rattle.heap.specs.declared.monitor.refusal.MonitorRefusal.{MonitorRefusal}
+use Rattle.heap.specs.declared.monitor.refusal.MonitorRefusal.TheVariants.{Monitors, LockCount, Memory}
 
 -- the monitors of the objects by their references, which of their locks are fat, and how many may be
 pub record Locks : Type 0 where
@@ -119,11 +119,11 @@ pub record IsDone (answer : MonitorAnswer) (call : Call) (old new : Locks) : Typ
   pub count : is_count_full call old ≡ false
 
 -- a call was refused: nothing has changed
-abbrev pub IsRefused : Refusal → Call → Locks → Locks → Type 0
+abbrev pub IsRefused : MonitorRefusal → Call → Locks → Locks → Type 0
 IsRefused Monitors call old new = (is_table_full call old ≡ true) × (new ≡ old)
 IsRefused LockCount call old new = (is_count_full call old ≡ true) × (new ≡ old)
 IsRefused Memory call old new = (takes_memory call old ≡ true) × (is_table_full call old ≡ false) × (new ≡ old)
 
-abbrev pub Answers : Result MonitorAnswer Refusal → Call → Locks → Locks → Type 0
+abbrev pub Answers : Result MonitorAnswer MonitorRefusal → Call → Locks → Locks → Type 0
 Answers (Ok answer) call old new = IsDone answer call old new
 Answers (Err refusal) call old new = IsRefused refusal call old new

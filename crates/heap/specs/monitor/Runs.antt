@@ -2,14 +2,14 @@
 use Rattle.std.specs.Prelude.{◌≡◌, List, [], ◌∷◌, Option, Some, None, Result, Ok, Err}
 use Rattle.model.specs.declared.monitor_answer.MonitorAnswer.{MonitorAnswer}
 use Rattle.heap.specs.declared.monitor.call.Call.{Call}
-use Rattle.heap.specs.declared.monitor.refusal.Refusal.{Refusal}
+use Rattle.heap.specs.declared.monitor.refusal.MonitorRefusal.{MonitorRefusal}
 use Rattle.heap.specs.monitor.Locks.{Locks, IsAllowed, Answers, answered, fat_after}
 
 -- a reply to a call; there is none to one that a caller may not make
 abbrev pub Reply : Type 0
-Reply = Option (Result MonitorAnswer Refusal)
+Reply = Option (Result MonitorAnswer MonitorRefusal)
 
-abbrev pub locks_after : Result MonitorAnswer Refusal → Call → Locks → Locks
+abbrev pub locks_after : Result MonitorAnswer MonitorRefusal → Call → Locks → Locks
 locks_after (Ok answer) call locks = record { monitors = (answered call locks.monitors).after; fat = fat_after call locks; limit = locks.limit }
 locks_after (Err refusal) call locks = locks
 

@@ -6,7 +6,7 @@ use Rattle.model.specs.Worlds.{is_done, is_owner, may_enter, with_entry, with_mo
 use Rattle.model.specs.BuiltInMethods.{waiting}
 use Rattle.heap.specs.declared.monitor.call.Call.{Call}
 use Rattle.heap.specs.declared.monitor.call.Call.TheVariants as calls
-use Rattle.heap.specs.declared.monitor.refusal.Refusal.{Refusal}
+use Rattle.heap.specs.declared.monitor.refusal.MonitorRefusal.{MonitorRefusal}
 use Rattle.heap.specs.monitor.Locks.{Locks, IsRefused, fat_after, is_table_full, is_count_full}
 use Rattle.heap.specs.Heap.{Heap}
 use Rattle.heap.specs.java_threads.Table.{ThreadTable}
@@ -26,7 +26,7 @@ pub record IsWithin (call : Call) (locks : Locks) : Type 0 where
   pub count : is_count_full call locks ≡ false
 
 -- one more entry, where the thread may; refused at a limit or for want of memory, and then nothing has changed
-abbrev pub Enters : Result Bool Refusal → (object thread : ℕ) → Heap → Heap → Type 0
+abbrev pub Enters : Result Bool MonitorRefusal → (object thread : ℕ) → Heap → Heap → Type 0
 Enters (Ok entered) object thread old new =
     SaysMayEnter entered object thread old
     × MonitorsBecome (λ world. with_entry world thread object) (fat_after (calls.Enter object thread) old.locks) old new
@@ -49,7 +49,7 @@ OwnerMakes true event old new from to = BothBecome event old.locks.fat old new f
 OwnerMakes false event old new from to = (new ≡ old) × (to ≡ from)
 
 -- the owner waits; refused at the limit of fat locks or for want of memory, and then nothing has changed
-abbrev pub WaitsBy : Result Bool Refusal → (object thread : ℕ) → Heap → Heap → ThreadTable → ThreadTable → Type 0
+abbrev pub WaitsBy : Result Bool MonitorRefusal → (object thread : ℕ) → Heap → Heap → ThreadTable → ThreadTable → Type 0
 WaitsBy (Ok true) object thread old new from to =
     SaysOwner true object thread old
     × BothBecome (λ world. waiting world thread object) (fat_after (calls.Wait object thread) old.locks) old new from to

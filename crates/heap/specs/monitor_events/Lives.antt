@@ -3,7 +3,7 @@ use Rattle.std.specs.Prelude.{◌≡◌, ℕ, ◌<◌, length, Bool, true, false
 use Rattle.model.specs.State.{WorldOf}
 use Rattle.model.specs.Worlds.{is_alive, thread_of}
 use Rattle.model.specs.BuiltInMethods.{with_started}
-use Rattle.heap.specs.declared.java_threads.refusal.Refusal.{Refusal}
+use Rattle.heap.specs.declared.java_threads.refusal.ThreadRefusal.{ThreadRefusal}
 use Rattle.heap.specs.java_threads.Table.{ThreadTable, IsAdded}
 use Rattle.heap.specs.monitor_events.Tables.{among, ThreadsBecome}
 
@@ -16,7 +16,7 @@ abbrev pub SaysAlive : Bool → (object : ℕ) → ThreadTable → Type 0
 SaysAlive answer object table = (world : WorldOf ℕ) → answer ≡ is_alive (among world table) object
 
 -- a thread that was not started is, unless it is refused; nothing changes of one that was
-abbrev pub StartsBy : Result Bool Refusal → (object : ℕ) → ThreadTable → ThreadTable → Type 0
+abbrev pub StartsBy : Result Bool ThreadRefusal → (object : ℕ) → ThreadTable → ThreadTable → Type 0
 StartsBy (Ok true) object old new =
     SaysStarted false object old × ThreadsBecome (λ world. with_started world object) old new × (length old.threads < old.limit)
 StartsBy (Ok false) object old new = SaysStarted true object old × (new ≡ old)

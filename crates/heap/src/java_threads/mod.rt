@@ -5,6 +5,6 @@ mod status;
 mod thread;
 mod threads;
 
-pub use refusal::Refusal;
+pub use refusal::ThreadRefusal;
 pub use status::{ThreadStatus, WakeCause};
 pub use threads::Threads;

@@ -5,7 +5,7 @@ ghost use Rattle.model.specs.State.{new_thread};
 ghost use Rattle.heap.specs.java_threads.Statuses.{status_of};
 ghost use Rattle.heap.specs.java_threads.Table.{thread_at, number_of, with_thread, IsWithin, IsAdded};
 
-use crate::java_threads::refusal::Refusal;
+use crate::java_threads::refusal::ThreadRefusal;
 use crate::java_threads::status::ThreadStatus;
 use crate::java_threads::thread::Thread;
 use std::alloc::{AllocError, Global};
@@ -77,11 +77,11 @@ impl Threads {
     }
 
     /// A thread that was started, by its Thread object. It has not begun.
-    pub fn add(&mut self, object: u32) -> Result<(), Refusal>
+    pub fn add(&mut self, object: u32) -> Result<(), ThreadRefusal>
         ensures { IsAdded result object self.old self.new }
     {
         if self.is_full() {
-            return Err(Refusal::Threads);
+            return Err(ThreadRefusal::Threads);
         }
         self.threads.reserve(1)?;
         self.threads.push_reserved(Thread::new(object));

@@ -3,7 +3,7 @@
 ghost use Rattle.std.specs.Prelude.{◌≡◌, ◌↔◌, IsTrue};
 ghost use Rattle.heap.specs.monitor.Locks.{object_of, IsAllowed, Answers};
 
-use crate::monitor::refusal::Refusal;
+use crate::monitor::refusal::MonitorRefusal;
 use model::MonitorAnswer;
 
 /// A call of `Monitors`, by the object and the thread that it names.
@@ -74,7 +74,7 @@ pub trait MonitorCalls {
         ensures { IsTrue result ↔ IsAllowed call (Self.locks self.now) };
 
     /// What the call of `Monitors` of that name does.
-    fn apply(&mut self, call: Call) -> Result<MonitorAnswer, Refusal>
+    fn apply(&mut self, call: Call) -> Result<MonitorAnswer, MonitorRefusal>
         requires { IsAllowed call (Self.locks self.old) }
         ensures { Answers result call (Self.locks self.old) (Self.locks self.new) };
 }

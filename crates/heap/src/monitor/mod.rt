@@ -11,6 +11,6 @@ mod waiter;
 
 pub use call::{Call, MonitorCalls};
 pub use monitors::Monitors;
-pub use refusal::Refusal;
+pub use refusal::MonitorRefusal;
 pub use run::{Reply, run_calls};
 pub use waiter::Waiter;

@@ -8,7 +8,7 @@ ghost use Rattle.heap.specs.monitor.Words.{lock_at};
 
 use crate::lock_word::{Lock, LockWord, TryEnter, TryExit};
 use crate::monitor::call::{Call, MonitorCalls};
-use crate::monitor::refusal::Refusal;
+use crate::monitor::refusal::MonitorRefusal;
 use crate::monitor::table::Table;
 use crate::monitor::waiter::Waiter;
 use model::MonitorAnswer;
@@ -58,15 +58,15 @@ fn lock_of(words: &[LockWord], object: u32) -> Lock
 }
 
 /// The index of the next record, where the table may have one more.
-fn next_index(table: &Table, limit: u32) -> Result<u32, Refusal>
+fn next_index(table: &Table, limit: u32) -> Result<u32, MonitorRefusal>
     ensures next { IfOk result (λ index. (index ≡ length table.now) × (length table.now < limit)) }
-    ensures full { IfErr result (λ e. (e ≡ Refusal.Monitors) × (limit ≤ length table.now)) }
+    ensures full { IfErr result (λ e. (e ≡ MonitorRefusal.Monitors) × (limit ≤ length table.now)) }
 {
     let index = table.len();
     if index < limit as usize {
         Ok(index as u32)
     } else {
-        Err(Refusal::Monitors)
+        Err(MonitorRefusal::Monitors)
     }
 }
 
@@ -168,7 +168,7 @@ impl Monitors {
     }
 
     /// The thread enters once, where the monitor has no owner or is the thread's (JLS 17.1).
-    pub fn enter(&mut self, object: u32, thread: u16) -> Result<MonitorAnswer, Refusal>
+    pub fn enter(&mut self, object: u32, thread: u16) -> Result<MonitorAnswer, MonitorRefusal>
         requires { IsAllowed (Call.Enter object thread) self.old }
         ensures { Answers result (Call.Enter object thread) self.old self.new }
     {
@@ -207,7 +207,7 @@ impl Monitors {
 
     /// The thread joins the wait set with its entries, and the monitor has no owner, if the thread is the owner (JLS
     /// 17.2.1).
-    pub fn wait(&mut self, object: u32, thread: u16) -> Result<MonitorAnswer, Refusal>
+    pub fn wait(&mut self, object: u32, thread: u16) -> Result<MonitorAnswer, MonitorRefusal>
         requires { IsAllowed (Call.Wait object thread) self.old }
         ensures { Answers result (Call.Wait object thread) self.old self.new }
     {
@@ -306,7 +306,7 @@ impl MonitorCalls for Monitors {
         }
     }
 
-    fn apply(&mut self, call: Call) -> Result<MonitorAnswer, Refusal> {
+    fn apply(&mut self, call: Call) -> Result<MonitorAnswer, MonitorRefusal> {
         match call {
             Call::Enter { object, thread } => self.enter(object, thread),
             Call::Exit { object, thread } => Ok(self.exit(object, thread)),

@@ -4,7 +4,7 @@ use std::alloc::AllocError;
 
 /// Why a call of `Monitors` was not done. Nothing has changed then.
 #[derive(Clone, Copy, PartialEq, Eq)]
-pub enum Refusal {
+pub enum MonitorRefusal {
     /// The lock would become fat, and as many are as may be.
     Monitors,
     /// The owner has entered 4,294,967,295 times.
@@ -13,13 +13,13 @@ pub enum Refusal {
     Memory,
 }
 
-impl From<AllocError> for Refusal {
+impl From<AllocError> for MonitorRefusal {
     ghost use Rattle.std.specs.Prelude.{◌≡◌};
-    ghost use Rattle.heap.specs.declared.monitor.refusal.Refusal.{Refusal};
+    ghost use Rattle.heap.specs.declared.monitor.refusal.MonitorRefusal.{MonitorRefusal};
 
-    ghost from_gives = { λ _ refusal. refusal ≡ Refusal.Memory };
+    ghost from_gives = { λ _ refusal. refusal ≡ MonitorRefusal.Memory };
 
-    fn from(_: AllocError) -> Refusal {
-        Refusal::Memory
+    fn from(_: AllocError) -> MonitorRefusal {
+        MonitorRefusal::Memory
     }
 }

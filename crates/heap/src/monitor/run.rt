@@ -4,12 +4,12 @@ ghost use Rattle.std.specs.Prelude.{◌≡◌, IfOk, OnErr};
 ghost use Rattle.heap.specs.monitor.Runs.{RepliesTo, AreReplies};
 
 use crate::monitor::call::{Call, MonitorCalls};
-use crate::monitor::refusal::Refusal;
+use crate::monitor::refusal::MonitorRefusal;
 use model::MonitorAnswer;
 use std::alloc::{AllocError, Global};
 
 /// What a call answered, or `None` where a caller may not make it.
-pub type Reply = Option<Result<MonitorAnswer, Refusal>>;
+pub type Reply = Option<Result<MonitorAnswer, MonitorRefusal>>;
 
 fn reply_of<M: MonitorCalls>(monitors: &mut M, call: Call) -> Reply
     ensures { RepliesTo result call (M.locks monitors.old) (M.locks monitors.new) }

@@ -6,7 +6,7 @@ ghost use Rattle.heap.specs.monitor.Locks.{is_at_most_entries};
 ghost use Rattle.model.specs.Monitors.{owned, unlocked, owns, without, monitor_at, monitor_enter, monitor_exit, monitor_wait, monitor_notify, monitor_notify_all, monitor_wake_all, monitor_interrupt, monitor_relock};
 
 use crate::monitor::records::Records;
-use crate::monitor::refusal::Refusal;
+use crate::monitor::refusal::MonitorRefusal;
 use crate::monitor::waiter::Waiter;
 use model::MonitorAnswer;
 use std::alloc::{AllocError, Global};
@@ -136,12 +136,12 @@ impl Table {
     }
 
     /// Enters once; an owner with 4,294,967,295 entries is refused.
-    pub fn enter(&mut self, index: u32, thread: u16) -> Result<MonitorAnswer, Refusal>
+    pub fn enter(&mut self, index: u32, thread: u16) -> Result<MonitorAnswer, MonitorRefusal>
         requires { index < length self.old }
         ensures answer { IfOk result (λ a. a ≡ (monitor_enter thread (monitor_at self.old index)).answer) }
         ensures after { OnOk result (self.new ≡ slice_set self.old index (monitor_enter thread (monitor_at self.old index)).after) }
         ensures counted { OnOk result (is_at_most_entries thread (monitor_at self.old index) ≡ false) }
-        ensures refused { IfErr result (λ e. (e ≡ Refusal.LockCount) × (is_at_most_entries thread (monitor_at self.old index) ≡ true)
+        ensures refused { IfErr result (λ e. (e ≡ MonitorRefusal.LockCount) × (is_at_most_entries thread (monitor_at self.old index) ≡ true)
             × (self.new ≡ self.old)) }
     {
         match self.records.owner(index) {
@@ -151,7 +151,7 @@ impl Table {
             }
             Some(owner) if owner == thread => {
                 let Some(count) = self.records.count(index).checked_add(1) else {
-                    return Err(Refusal::LockCount);
+                    return Err(MonitorRefusal::LockCount);
                 };
                 self.records.set_owner(index, Some(thread), count);
                 Ok(MonitorAnswer::Done)

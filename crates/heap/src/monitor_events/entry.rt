@@ -6,7 +6,7 @@ ghost use Rattle.heap.specs.monitor_events.Tables.{MonitorsBecome};
 ghost use Rattle.heap.specs.monitor_events.Events.{SaysMayEnter, SaysOwner, Enters};
 
 use crate::Heap;
-use crate::monitor::Refusal;
+use crate::monitor::MonitorRefusal;
 use model::MonitorAnswer;
 
 /// Whether a call was done.
@@ -48,7 +48,7 @@ pub fn is_owner(heap: &Heap, object: u32, thread: u16) -> bool
 ///
 /// Where the lock would become one of too many fat locks, the owner has entered 4,294,967,295 times, or there is no memory.
 /// Nothing has changed then.
-pub fn enter(heap: &mut Heap, object: u32, thread: u16) -> Result<bool, Refusal>
+pub fn enter(heap: &mut Heap, object: u32, thread: u16) -> Result<bool, MonitorRefusal>
     requires there { object < length heap.old.locks.monitors }
     requires numbered { thread < 32767 }
     ensures { Enters result object thread heap.old heap.new }

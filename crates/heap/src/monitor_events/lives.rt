@@ -9,7 +9,7 @@ ghost use Rattle.heap.specs.java_threads.Statuses.{status_of};
 ghost use Rattle.heap.specs.java_threads.Table.{thread_at as row_at};
 
 use crate::Heap;
-use crate::java_threads::{Refusal, ThreadStatus, Threads, WakeCause};
+use crate::java_threads::{ThreadRefusal, ThreadStatus, Threads, WakeCause};
 
 /// Whether a thread of a Thread object was started.
 pub fn is_started(threads: &Threads, object: u32) -> bool
@@ -23,7 +23,7 @@ pub fn is_started(threads: &Threads, object: u32) -> bool
 /// # Errors
 ///
 /// Where as many threads have been started as may be, or there is no memory. Nothing has changed then.
-pub fn start(threads: &mut Threads, object: u32) -> Result<bool, Refusal>
+pub fn start(threads: &mut Threads, object: u32) -> Result<bool, ThreadRefusal>
     ensures { StartsBy result object threads.old threads.new }
 {
     if is_started(threads, object) {

@@ -7,7 +7,7 @@ ghost use Rattle.heap.specs.monitor_events.Events.{SaysOwner, OwnerMakes, WaitsB
 
 use crate::Heap;
 use crate::java_threads::{ThreadStatus, Threads, WakeCause};
-use crate::monitor::{Call, Refusal};
+use crate::monitor::{Call, MonitorRefusal};
 use crate::monitor_events::entry::{is_done, is_owner};
 use crate::monitor_events::waking::wake;
 
@@ -22,7 +22,7 @@ pub fn wait(
     threads: &mut Threads,
     object: u32,
     thread: u16,
-) -> Result<bool, Refusal>
+) -> Result<bool, MonitorRefusal>
     requires there { object < length heap.old.locks.monitors }
     requires numbered { thread < 32767 }
     ensures { WaitsBy result object thread heap.old heap.new threads.old threads.new }

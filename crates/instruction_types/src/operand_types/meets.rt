@@ -4,13 +4,15 @@ ghost use Rattle.std.specs.Prelude.{◌≡◌};
 ghost use Rattle.model.specs.ReferenceTypes.{ClassType};
 ghost use Rattle.model.specs.Types.{is_of, is_receiver, is_instance_or_this, is_array_type, is_byte_array_type, has_type_with, is_byte_or_boolean, type_meets};
 ghost use Rattle.hierarchy.specs.Places.{name_at};
-ghost use Rattle.types.specs.View.{primitive_of, reference_in, type_in};
+ghost use Rattle.model.specs.Primitives.{primitive_of};
+ghost use Rattle.types.specs.View.{reference_in, type_in};
 ghost use Rattle.instruction_types.specs.operand_types.View.{want_in};
 
-use crate::operand_types::class::{is_directly_below, is_same_class};
+use crate::operand_types::class::is_directly_below;
 use crate::operand_types::wants::Want;
 use hierarchy::ClassSet;
-use types::{Element, Primitive, ReferenceType, VerificationType, is_assignable};
+use model::Primitive;
+use types::{Element, ReferenceType, VerificationType, is_assignable, is_same_class};
 
 /// Whether a type is of a reference type, or null.
 fn is_of(set: &ClassSet, want: ReferenceType, t: VerificationType) -> bool

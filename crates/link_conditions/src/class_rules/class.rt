@@ -6,14 +6,9 @@ ghost use Rattle.model.specs.Hierarchy.{extends_interface, extends_final, is_fou
 ghost use Rattle.classfile.specs.View.{file_of};
 ghost use Rattle.link_conditions.specs.class_rules.Rules.{class_breaks_rule};
 
-use crate::class_rules::name::{has, superclass_name};
-use classfile::ClassFile;
+use classfile::access_flags::{FINAL, INTERFACE, has};
+use classfile::{ClassFile, superclass_name};
 use hierarchy::ClassSet;
-
-/// ACC_FINAL and ACC_INTERFACE (JVMS table 4.1-A).
-const FINAL: u16 = 0x0010;
-
-const INTERFACE: u16 = 0x0200;
 
 /// Whether the superclass is an interface.
 fn extends_interface(set: &ClassSet, file: &ClassFile) -> bool

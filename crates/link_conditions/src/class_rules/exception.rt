@@ -1,28 +1,16 @@
 //! The catch types of exception tables (JVMS 4.7.3).
 
-ghost use Rattle.std.specs.Prelude.{◌≡◌, map, option_map, position};
+ghost use Rattle.std.specs.Prelude.{◌≡◌, position};
 ghost use Rattle.model.specs.Classes.{code_in};
 ghost use Rattle.model.specs.Hierarchy.{is_no_throwable};
-ghost use Rattle.classfile.specs.View.{code_of, method_part_of, method_of, file_of};
+ghost use Rattle.classfile.specs.View.{method_of, file_of};
 ghost use Rattle.link_conditions.specs.class_rules.Rules.{entry_breaks_rule};
 ghost use Rattle.link_conditions.specs.class_rules.Finding.{first_entry_in, FindsException};
 
 use crate::class_rules::name::is_array_class;
-use classfile::{ClassFile, Code, Method, MethodAttribute};
+use classfile::{ClassFile, Method};
 use hierarchy::ClassSet;
 use model::ExceptionEntry;
-
-/// The first Code among attributes.
-fn first_code(attributes: &[MethodAttribute]) -> Option<&Code>
-    ensures { option_map (λ c. code_of c.now) result ≡ code_in (map method_part_of attributes.now) }
-{
-    for attribute in attributes {
-        if let MethodAttribute::Code { code, .. } = attribute {
-            return Some(code);
-        }
-    }
-    None
-}
 
 /// Whether a class is found and is neither Throwable nor below it, or is an array class.
 fn is_no_throwable(set: &ClassSet, name: &[u8]) -> bool
@@ -63,7 +51,7 @@ fn first_entry(set: &ClassSet, file: &ClassFile, entries: &[ExceptionEntry]) -> 
 fn first_entry_of(set: &ClassSet, file: &ClassFile, method: &Method) -> Option<usize>
     ensures { result ≡ first_entry_in set.now (file_of file.now) (method_of method.now) }
 {
-    match first_code(&method.attributes) {
+    match method.code() {
         Some(code) => first_entry(set, file, &code.exceptions),
         None => None,
     }

@@ -11,22 +11,10 @@ ghost use Rattle.constant_pool.specs.View.{reference_of};
 ghost use Rattle.classfile.specs.View.{method_of, file_of};
 ghost use Rattle.link_conditions.specs.class_rules.Rules.{is_bad_redeclaration, method_breaks_rule};
 
-use crate::class_rules::name::{
-    class_name, has, is_same_package, is_special_name, superclass_name,
-};
-use classfile::{ClassFile, Method, Reference};
+use crate::class_rules::name::{is_same_package, is_special_name};
+use classfile::access_flags::{FINAL, PRIVATE, PROTECTED, PUBLIC, STATIC, has};
+use classfile::{ClassFile, Method, Reference, class_name, superclass_name};
 use hierarchy::ClassSet;
-
-/// ACC_PUBLIC, ACC_PRIVATE, ACC_PROTECTED, ACC_STATIC and ACC_FINAL (JVMS table 4.6-A).
-const PUBLIC: u16 = 0x0001;
-
-const PRIVATE: u16 = 0x0002;
-
-const PROTECTED: u16 = 0x0004;
-
-const STATIC: u16 = 0x0008;
-
-const FINAL: u16 = 0x0010;
 
 /// The method at a place of a class file.
 fn method_at(file: &ClassFile, place: usize) -> Option<&Method>

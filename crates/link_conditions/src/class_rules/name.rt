@@ -1,34 +1,9 @@
-//! Names (JVMS 4.2), and flags.
+//! Names (JVMS 4.2).
 
-ghost use Rattle.std.specs.Prelude.{◌≡◌, ◌/◌, ◌%◌, ◌<◌, ◌==◌, option_map};
-ghost use Rattle.model.specs.Classes.{name_of, super_name_of, package_of, same_package};
+ghost use Rattle.std.specs.Prelude.{◌≡◌};
+ghost use Rattle.model.specs.Classes.{package_of, same_package};
 ghost use Rattle.model.specs.Hierarchy.{is_special_name};
 ghost use Rattle.model.specs.DescriptorParts.{is_array_class};
-ghost use Rattle.classfile.specs.View.{file_of};
-
-use classfile::ClassFile;
-
-/// Whether a flag is set (JVMS tables 4.1-A, 4.6-A).
-pub(crate) fn has(flags: u16, flag: u16) -> bool
-    requires { 0 < flag }
-    ensures { result ≡ (flags / flag % 2 == 1) }
-{
-    flags / flag % 2 == 1
-}
-
-/// The name of the class that a file declares (JVMS 4.1, this_class).
-pub(crate) fn class_name(file: &ClassFile) -> &[u8]
-    ensures { result.now ≡ name_of (file_of file.now) }
-{
-    file.class_name(file.this_class).unwrap_or(b"")
-}
-
-/// The name of its direct superclass (JVMS 4.1, super_class).
-pub(crate) fn superclass_name(file: &ClassFile) -> Option<&[u8]>
-    ensures { option_map (λ t. t.now) result ≡ super_name_of (file_of file.now) }
-{
-    file.class_name(file.super_class)
-}
 
 /// Whether a method of this name is a constructor or an initialiser (JVMS 2.9).
 pub(crate) fn is_special_name(name: &[u8]) -> bool

@@ -7,12 +7,9 @@ ghost use Rattle.model.specs.Classes.{Program, classes_of};
 ghost use Rattle.classfile.specs.View.{file_of, field_of};
 ghost use Rattle.link_conditions.specs.limits_of_linking.Climbing.{climb, climbs, onward};
 
-use classfile::{ClassFile, Field};
+use classfile::{ClassFile, Field, class_name};
 use hierarchy::ClassSet;
 use std::alloc::{AllocError, Global};
-
-/// The bit of a field's access flags that marks it as static (JVMS table 4.5-A).
-const STATIC: u16 = 0x0008;
 
 /// One more instance field than a class may have. What is more is counted as this.
 const TOO_MANY: usize = 65_536;
@@ -27,7 +24,7 @@ pub(crate) struct Climb {
 fn is_instance(field: &Field) -> bool
     ensures { result ≡ is_instance_field (field_of field.now) }
 {
-    field.flags / STATIC % 2 == 0
+    !field.is_static()
 }
 
 /// How many instance fields a class itself declares.
@@ -72,8 +69,7 @@ fn one_step_each(alloc: Global, set: &ClassSet) -> Result<Vec<Climb>, AllocError
         let Some(class) = set.class_at(place) else {
             return Ok(rows);
         };
-        let name = class.class_name(class.this_class).unwrap_or(b"");
-        rows.push(one_step(set, name))?;
+        rows.push(one_step(set, class_name(class)))?;
     }
     Ok(rows)
 }

@@ -5,10 +5,8 @@ ghost use Rattle.model.specs.Linkable.{too_many_fields};
 
 use crate::limits_of_linking::climb::{Climb, climb_all};
 use hierarchy::ClassSet;
+use model::BUILT_IN_CLASSES;
 use std::alloc::{AllocError, Global};
-
-/// How many classes are built in.
-const BUILT_IN: usize = 30;
 
 /// How many instance fields a class may have, with those of its superclasses.
 const MAX_FIELDS: usize = 65_535;
@@ -30,7 +28,7 @@ pub fn first_with_too_many_fields(
     ensures { IfOk result (λ number. number ≡ position (too_many_fields set.now) set.now) }
 {
     let rows = climb_all(alloc, set)?;
-    let Some(files) = rows.get(BUILT_IN..) else {
+    let Some(files) = rows.get(BUILT_IN_CLASSES..) else {
         return Ok(None);
     };
     Ok(first_above_limit(files))

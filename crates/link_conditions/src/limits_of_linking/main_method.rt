@@ -8,14 +8,9 @@ ghost use Rattle.model.specs.Classes.{declared_in, is_method};
 ghost use Rattle.model.specs.Linkable.{stands, NoMain};
 ghost use Rattle.classfile.specs.View.{method_of as tree_of, file_of};
 
-use classfile::{ClassFile, Method};
+use classfile::{ClassFile, Method, class_name};
 use hierarchy::ClassSet;
-
-/// The place of the first file, behind the built-in classes.
-const FIRST_FILE: usize = 30;
-
-/// The bit of a method's access flags that marks it as static (JVMS table 4.6-A).
-const STATIC: u16 = 0x0008;
+use model::BUILT_IN_CLASSES;
 
 /// Whether a text is there, and is this one.
 fn is_spelled(text: Option<&[u8]>, name: &[u8]) -> bool
@@ -41,7 +36,7 @@ fn declares_static_main(file: &ClassFile) -> bool
 {
     for method in &file.methods {
         if is_main(file, method) {
-            return method.flags / STATIC % 2 == 1;
+            return method.is_static();
         }
     }
     false
@@ -51,11 +46,10 @@ fn declares_static_main(file: &ClassFile) -> bool
 pub fn has_no_main(set: &ClassSet) -> bool
     ensures { result ≡ stands set.now NoMain }
 {
-    let Some(first) = set.class_at(FIRST_FILE) else {
+    let Some(first) = set.class_at(BUILT_IN_CLASSES) else {
         return true;
     };
-    let name = first.class_name(first.this_class).unwrap_or(b"");
-    match set.class_of(name) {
+    match set.class_of(class_name(first)) {
         Some(class) => !declares_static_main(class),
         None => true,
     }

@@ -1,6 +1,6 @@
 //! The field or the method at a place.
 
-ghost use Rattle.std.specs.Prelude.{◌≡◌, ◌/◌, ◌%◌, ◌<◌, ◌==◌, IsFalse, false};
+ghost use Rattle.std.specs.Prelude.{◌≡◌, IsFalse, false};
 ghost use Rattle.std.specs.Option.{option_map_or};
 ghost use Rattle.model.specs.Names.{member_eq};
 ghost use Rattle.model.specs.AccessFlags.{is_static_field, is_static_method};
@@ -9,21 +9,10 @@ ghost use Rattle.model.specs.Lookup.{field_of, method_of};
 ghost use Rattle.model.specs.Linkable.{stands, DuplicateClass};
 ghost use Rattle.model.specs.Resolution.{differs};
 ghost use Rattle.constant_pool.specs.View.{reference_of};
-ghost use Rattle.hierarchy.specs.Places.{name_at, member_in, IsFieldAt, IsMethodAt};
+ghost use Rattle.hierarchy.specs.Places.{member_in, IsFieldAt, IsMethodAt};
 
 use classfile::Reference;
 use hierarchy::{ClassSet, MemberPlace};
-
-/// ACC_STATIC (JVMS tables 4.5-A and 4.6-A).
-const STATIC: u16 = 0x0008;
-
-/// Whether a flag is set.
-pub(crate) fn has(flags: u16, flag: u16) -> bool
-    requires { 0 < flag }
-    ensures { result ≡ (flags / flag % 2 == 1) }
-{
-    flags / flag % 2 == 1
-}
 
 /// Whether a flag is another one than is wanted.
 fn differs(wanted: bool, found: bool) -> bool
@@ -48,7 +37,7 @@ pub(crate) fn is_field_of_other_kind(
         return false;
     };
     match class.fields.get(place.member) {
-        Some(declared) => differs(wants_static, has(declared.flags, STATIC)),
+        Some(declared) => differs(wants_static, declared.is_static()),
         None => false,
     }
 }
@@ -69,18 +58,8 @@ pub(crate) fn is_method_of_other_kind(
         return false;
     };
     match class.methods.get(place.member) {
-        Some(declared) => differs(wants_static, has(declared.flags, STATIC)),
+        Some(declared) => differs(wants_static, declared.is_static()),
         None => false,
-    }
-}
-
-/// The name of the class at a place; no bytes where there is no class.
-fn name_at(set: &ClassSet, place: usize) -> &[u8]
-    ensures { result.now ≡ name_at set.now place }
-{
-    match set.class_at(place) {
-        Some(class) => class.class_name(class.this_class).unwrap_or(b""),
-        None => b"",
     }
 }
 
@@ -93,7 +72,7 @@ pub(crate) fn is_field(
 ) -> bool
     ensures { result ≡ member_eq (reference_of wanted.entry) (member_in set.now (reference_of field.entry) place) }
 {
-    wanted.class == name_at(set, place.class)
+    wanted.class == set.name_at(place.class)
         && wanted.name == field.name
         && wanted.descriptor == field.descriptor
 }

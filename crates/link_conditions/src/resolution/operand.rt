@@ -18,15 +18,11 @@ ghost use Rattle.link_conditions.specs.resolution.Operands.{fails_access};
 
 use crate::resolution::descriptor::{descriptor_lacks_class, text_lacks_class};
 use crate::resolution::found::found_in_class;
-use crate::resolution::member::{has, is_field, is_field_of_other_kind, is_method_of_other_kind};
+use crate::resolution::member::{is_field, is_field_of_other_kind, is_method_of_other_kind};
+use classfile::access_flags::{ABSTRACT, INTERFACE, has};
 use classfile::{ClassFile, Constant, Reference};
 use hierarchy::{ClassSet, Hierarchy, MemberPlace};
 use model::{FieldAccess, Invocation};
-
-/// ACC_INTERFACE and ACC_ABSTRACT (JVMS table 4.1-A).
-const INTERFACE: u16 = 0x0200;
-
-const ABSTRACT: u16 = 0x0400;
 
 /// System.out, which no file may put.
 const SYSTEM_OUT: Reference<'static> = Reference {

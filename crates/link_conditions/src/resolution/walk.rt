@@ -1,10 +1,10 @@
 //! The walk over a class file.
 
-ghost use Rattle.std.specs.Prelude.{◌≡◌, IfOk, IfSome, IsFalse, IsTrue, is_some, map, option_map};
+ghost use Rattle.std.specs.Prelude.{◌≡◌, IfOk, IfSome, IsFalse, IsTrue, is_some};
 ghost use Rattle.model.specs.Classes.{code_in};
 ghost use Rattle.model.specs.Linkable.{stands, DuplicateClass};
 ghost use Rattle.model.specs.Resolution.{is_unresolved};
-ghost use Rattle.classfile.specs.View.{code_of, method_part_of, method_of, file_of};
+ghost use Rattle.classfile.specs.View.{method_of, file_of};
 ghost use Rattle.link_conditions.specs.resolution.Rows.{lacking_texts, Tells};
 ghost use Rattle.link_conditions.specs.resolution.Unresolved.{stands_at, FindsInMethod, FindsInMethods};
 
@@ -13,21 +13,9 @@ use crate::resolution::code::first_in_code;
 use crate::resolution::descriptor::{lacking_texts, text_lacks_class};
 use crate::resolution::place::{Spot, UnresolvedPlace};
 use crate::resolution::table::{Row, entry_rows};
-use classfile::{ClassFile, Code, Method, MethodAttribute};
+use classfile::{ClassFile, Method};
 use hierarchy::Hierarchy;
 use std::alloc::{AllocError, Global};
-
-/// The first Code among attributes.
-fn first_code(attributes: &[MethodAttribute]) -> Option<&Code>
-    ensures { option_map (λ c. code_of c.now) result ≡ code_in (map method_part_of attributes.now) }
-{
-    for attribute in attributes {
-        if let MethodAttribute::Code { code, .. } = attribute {
-            return Some(code);
-        }
-    }
-    None
-}
 
 /// The first name in a method that is not found: in its descriptor, then in its code.
 fn first_in_method(
@@ -45,7 +33,7 @@ fn first_in_method(
     if text_lacks_class(hierarchy.set(), file, lacking, method.descriptor) {
         return Ok(Some(Spot::Declaration));
     }
-    match first_code(&method.attributes) {
+    match method.code() {
         Some(code) => first_in_code(alloc, hierarchy, file, rows, code),
         None => Ok(None),
     }

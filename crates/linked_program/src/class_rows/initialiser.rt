@@ -11,8 +11,8 @@ ghost use Rattle.linker.specs.Linking.{IsLinked};
 ghost use Rattle.linked_code.specs.ClassRows.{IsInitialiser};
 ghost use Rattle.method_tables.specs.method_links.Numbers.{AreNumbersOf};
 
-use crate::class_rows::numbers::{class_name, method_number};
-use classfile::{ClassFile, MethodAttribute, Reference};
+use crate::class_rows::numbers::method_number;
+use classfile::{ClassFile, MethodAttribute, Reference, class_name};
 use hierarchy::{ClassSet, MemberPlace};
 use method_tables::method_links::MethodNumbers;
 

@@ -18,13 +18,6 @@ use hierarchy::{ClassSet, MemberPlace};
 use linker::field_links::FieldLinks;
 use method_tables::method_links::MethodNumbers;
 
-/// The name of a class.
-pub(crate) fn class_name(file: &ClassFile) -> &[u8]
-    ensures { result.now ≡ name_of (file_of file.now) }
-{
-    file.class_name(file.this_class).unwrap_or(b"")
-}
-
 /// The number of the class of a name.
 fn number_of(set: &ClassSet, name: &[u8]) -> Option<u16>
     requires { IsLinked set.now }

@@ -8,9 +8,9 @@ ghost use Rattle.linker.specs.class_constants.Constants.{slots_before};
 ghost use Rattle.linked_program.specs.class_rows.Sources.{AreSources, selections_of};
 
 use crate::class_rows::initialiser::initialiser_of;
-use crate::class_rows::numbers::{class_name, field_count, superclass_number};
+use crate::class_rows::numbers::{field_count, superclass_number};
 use crate::class_rows::sources::{RowSources, Selections};
-use classfile::ClassFile;
+use classfile::{ClassFile, class_name};
 use linked_code::LinkedClass;
 use linker::class_constants::constants_of;
 use std::alloc::{AllocError, Global};

@@ -10,23 +10,14 @@ ghost use Rattle.linker.specs.class_constants.Constants.{slots_before, slot_behi
 
 use classfile::{ClassFile, Field};
 use hierarchy::ClassSet;
-
-/// The bit of a field's access flags that marks it as static (JVMS table 4.5-A).
-const STATIC: u16 = 0x0008;
-
-/// How many classes are built in. The first file stands behind them.
-const BUILT_IN: usize = 30;
+use model::BUILT_IN_CLASSES;
 
 /// The slot behind that of a field, if the field is static; a field that isn't has none.
 pub(crate) fn slot_behind(slot: u32, field: &Field) -> u32
     requires { slot + 1 < 2 ^ 32 }
     ensures { result ≡ slot_behind slot (is_static_field (field_of field.now)) }
 {
-    if field.flags / STATIC % 2 == 1 {
-        slot + 1
-    } else {
-        slot
-    }
+    if field.is_static() { slot + 1 } else { slot }
 }
 
 /// The slot behind those of fields that stand in it and behind it.
@@ -49,7 +40,7 @@ pub fn next_slot(set: &ClassSet, class: usize, file: &ClassFile, slot: u32) -> u
     requires begins { slot ≡ slots_before set.now class }
     ensures { result ≡ slots_before set.now (class + 1) }
 {
-    if class < BUILT_IN {
+    if class < BUILT_IN_CLASSES {
         return slot;
     }
     slot_behind_all(slot, &file.fields)

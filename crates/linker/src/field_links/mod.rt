@@ -7,7 +7,6 @@ mod count;
 mod link;
 mod links;
 mod named;
-mod place;
 mod row;
 mod sizes;
 mod slots;

@@ -8,11 +8,11 @@ ghost use Rattle.linker.specs.field_links.Links.{link_of};
 ghost use Rattle.classfile.specs.View.{field_of, file_of};
 ghost use Rattle.linker.specs.field_links.Slots.{static_slot, instance_slot, link_from, AreEnds};
 
-use crate::field_links::count::{instance_count, is_static, static_count};
+use crate::field_links::count::{instance_count, static_count};
 use crate::field_links::link::FieldLink;
-use crate::field_links::place::BUILT_IN;
 use classfile::{ClassFile, Field};
 use hierarchy::{ClassSet, MemberPlace};
+use model::BUILT_IN_CLASSES;
 
 /// Behind which slots the fields end that classes declare.
 #[derive(Drop)]
@@ -51,10 +51,10 @@ fn number_at(numbers: &[usize], place: usize) -> Option<usize>
 fn static_slot(ends: &Ends, class: usize, fields: &[Field]) -> Option<usize>
     ensures { result ≡ static_slot ends.now class (map field_of fields.now) }
 {
-    if class < BUILT_IN {
+    if class < BUILT_IN_CLASSES {
         return None;
     }
-    match number_at(&ends.statics, class - BUILT_IN) {
+    match number_at(&ends.statics, class - BUILT_IN_CLASSES) {
         Some(end) => Some(end.saturating_sub(static_count(fields))),
         None => None,
     }
@@ -74,7 +74,7 @@ fn instance_slot(ends: &Ends, class: usize, fields: &[Field]) -> Option<usize>
 fn link_by(ends: &Ends, class: usize, field: &Field, fields: &[Field]) -> Option<FieldLink>
     ensures { result ≡ link_from ends.now class (field_of field.now) (map field_of fields.now) }
 {
-    if is_static(field) {
+    if field.is_static() {
         match static_slot(ends, class, fields) {
             Some(slot) => Some(FieldLink::Static { class, slot }),
             None => None,

@@ -6,7 +6,6 @@ ghost use Rattle.linker.specs.Linking.{IsLinked};
 ghost use Rattle.linker.specs.field_links.Slots.{static_ends};
 
 use crate::field_links::count::static_count;
-use crate::field_links::place::{file_at, file_count};
 use hierarchy::ClassSet;
 use std::alloc::{AllocError, Global};
 
@@ -18,8 +17,8 @@ pub(crate) fn static_ends(alloc: Global, set: &ClassSet) -> Result<(Vec<usize>, 
 {
     let mut ends = Vec::new(alloc);
     let mut end = 0usize;
-    for number in 0..file_count(set) {
-        let Some(file) = file_at(set, number) else {
+    for number in 0..set.file_count() {
+        let Some(file) = set.file_at(number) else {
             return Ok((ends, end));
         };
         end += static_count(&file.fields);

@@ -8,7 +8,6 @@ ghost use Rattle.model.specs.StringConstants.{string_texts};
 ghost use Rattle.classfile.specs.View.{file_of};
 ghost use Rattle.linker.specs.field_links.Numbers.{number_in, text_number, string_number, IsStringRow, SayNumbers, AreStringNumbers};
 
-use crate::field_links::place::{file_at, file_count};
 use classfile::ClassFile;
 use hierarchy::ClassSet;
 use link_conditions::limits_of_linking::{TextSet, add_texts};
@@ -38,8 +37,8 @@ fn all_texts(alloc: Global, set: &ClassSet) -> Result<TextSet, AllocError>
     ensures { IfOk result (λ texts. texts ≡ string_texts set.now) }
 {
     let mut texts = TextSet::new(alloc);
-    for number in 0..file_count(set) {
-        let Some(file) = file_at(set, number) else {
+    for number in 0..set.file_count() {
+        let Some(file) = set.file_at(number) else {
             return Ok(texts);
         };
         add_texts(alloc, &mut texts, file)?;

@@ -6,12 +6,14 @@ ghost use Rattle.model.specs.DescribedTypes.{arrays, declared_of, field_declared
 ghost use Rattle.constant_pool.specs.descriptors.View.{field_of};
 ghost use Rattle.types.specs.described_types.Described.{primitive_declared, type_missing};
 ghost use Rattle.linker.specs.Linking.{IsLinked};
-ghost use Rattle.linked_code.specs.Numbers.{IsType, primitive_of};
+ghost use Rattle.model.specs.Primitives.{primitive_of};
+ghost use Rattle.linked_code.specs.Numbers.{IsType};
 ghost use Rattle.linker.specs.linked_types.Types.{IsNumbered};
 
 use constant_pool::descriptors::{Element as ElementType, Field, parse_field};
 use hierarchy::ClassSet;
-use linked_code::{Element, LinkedType, Primitive};
+use linked_code::{Element, LinkedType};
+use model::Primitive;
 
 /// An array of so many dimensions of a class, or the class itself where there are none.
 fn class_type(set: &ClassSet, dimensions: u8, name: &[u8]) -> Option<LinkedType>

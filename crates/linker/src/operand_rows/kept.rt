@@ -6,10 +6,10 @@ ghost use Rattle.model.specs.Operands.{words};
 ghost use Rattle.model.specs.Worlds.{kept, element_kept, type_kept};
 ghost use Rattle.constant_pool.specs.descriptors.View.{element_of, field_of};
 ghost use Rattle.linked_code.specs.Fields.{Keeps};
-ghost use Rattle.linked_code.specs.Numbers.{primitive_of};
+ghost use Rattle.model.specs.Primitives.{primitive_of};
 
 use constant_pool::descriptors::{Element, Field, parse_field};
-use linked_code::Primitive;
+use model::Primitive;
 
 fn element_kept(element: Element<'_>) -> Primitive
     ensures { (word : ℕ) → element_kept words (element_of element.entry) word ≡ kept (primitive_of result) word }

@@ -8,6 +8,7 @@ ghost use Rattle.classfile.specs.View.{code_of, field_of, file_of, method_of};
 
 use crate::disasm::names::{push_class, push_utf8};
 use crate::disasm::numbers::{push_hex_short, push_number};
+use class_tree::access_flags::INTERFACE;
 use classfile::{ClassFile, Code, Field, Method};
 use model::ExceptionEntry;
 use std::alloc::{AllocError, Global};
@@ -22,7 +23,7 @@ fn push_flags(text: &mut Vec<u8>, flags: u16) -> Result<(), AllocError>
 fn kind_word(flags: u16) -> &'static [u8]
     ensures { result.now ≡ kind_word flags }
 {
-    if flags / 0x0200 % 2 == 1 {
+    if flags / INTERFACE % 2 == 1 {
         b"interface"
     } else {
         b"class"

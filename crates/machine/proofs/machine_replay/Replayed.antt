@@ -16,8 +16,8 @@ use Rattle.model.specs.State.{State, StateOf}
 use Rattle.run_laws.specs.laws.Steps.{is_wrong}
 use Rattle.run_laws.specs.soundness.Runs.{IsNoEventWrong}
 use Rattle.run_laws.specs.word_reports.Reports.{thread_ends_of, AreReportsOfWords}
-use Rattle.machine_state.specs.declared.refusals.Refusal.{Refusal}
-use Rattle.machine_state.specs.declared.refusals.Refusal.TheVariants as refusal
+use Rattle.machine_state.specs.declared.refusals.EventRefusal.{EventRefusal}
+use Rattle.machine_state.specs.declared.refusals.EventRefusal.TheVariants as refusal
 use Rattle.machine_state.specs.Refusals.{cause_of}
 use Rattle.machine_state.specs.shown_runs.Runs.{IsRefusedAfter}
 use Rattle.machine.specs.declared.machine.Stopped.{Stopped}
@@ -32,7 +32,7 @@ use Rattle.machine.specs.machine_replay.Shown.{IsOpened, Tells, end_of}
 -- ---- the end
 
 module _ (trees : Program) (bounds : Bounds) (state : State) (front : List Event) where
-  pub refused_for : (event : Event) (told : Refusal) → IsRefusedAfter trees bounds front event told
+  pub refused_for : (event : Event) (told : EventRefusal) → IsRefusedAfter trees bounds front event told
       → IsRefusedFor trees bounds front event (cause_of told)
   refused_for event refusal.Objects h = h
   refused_for event refusal.Cells h = h

@@ -3,7 +3,6 @@
 ghost use Rattle.std.specs.Prelude.{◌≡◌, IfOk, map};
 ghost use Rattle.std.specs.List.{list_any};
 ghost use Rattle.model.specs.Report.{end_state_of};
-ghost use Rattle.hierarchy.specs.Places.{name_at};
 ghost use Rattle.machine.specs.machine_reports.Told.{IsTold, TellEnds, is_runnable, are_quiet, AreQuietAt};
 
 use crate::thread_standings::{Standing, standing_of};
@@ -13,16 +12,6 @@ use machine_state::Shared;
 use model::EndState;
 use std::alloc::{AllocError, Global};
 
-/// The name of the class of a number.
-fn class_name(classes: &ClassSet, class: u32) -> &[u8]
-    ensures { result.now ≡ name_at classes.now class }
-{
-    match classes.class_at(class as usize) {
-        Some(class) => class.class_name(class.this_class).unwrap_or(b""),
-        None => b"",
-    }
-}
-
 /// How a thread stands, with the name of its exception's class in place of the number.
 fn end_state(alloc: Global, classes: &ClassSet, standing: Standing) -> Result<EndState, AllocError>
     ensures { IfOk result (IsTold classes.now standing) }
@@ -30,7 +19,7 @@ fn end_state(alloc: Global, classes: &ClassSet, standing: Standing) -> Result<En
     Ok(match standing {
         Standing::Ended => EndState::Ended,
         Standing::Threw(class) => {
-            EndState::Threw(Vec::from_slice(alloc, class_name(classes, class))?)
+            EndState::Threw(Vec::from_slice(alloc, classes.name_at(class as usize))?)
         }
         Standing::Blocked => EndState::Blocked,
         Standing::Waiting => EndState::Waiting,

@@ -31,7 +31,7 @@ use Rattle.linked_code.specs.thread_stacks.Stacks.{ShownFrame, ShownEntry, IsTop
 use Rattle.machine_state.specs.shown_objects.Laws.{is_array, kept_in, HasElements}
 use Rattle.machine_state.proofs.shown_objects.Objects.{are_elements}
 use Rattle.machine_state.specs.declared.answers.Effect.{Effect}
-use Rattle.machine_state.specs.declared.refusals.Refusal.{Refusal}
+use Rattle.machine_state.specs.declared.refusals.EventRefusal.{EventRefusal}
 use Rattle.machine_state.specs.declared.state.Shared.{Shared}
 use Rattle.machine_state.specs.Instructions.{instruction_event, Does}
 use Rattle.machine_state.specs.linked_frames.Frames.{IsRunning, event_of}
@@ -170,7 +170,7 @@ module _ (trees : Program) (p : LinkedProgram) (bounds : Bounds) (inflated : Lis
     pops = pops_met trees p bounds inflated t old stack state frame rest code site meaning instruction is
 
     -- it is done, with a word left where memory lets it be
-    left_word : (count word : ℕ) → event ≡ gone_to site.next state.world count (word ∷ []) → (left : ShownFrame) (result : Result Effect Refusal) → Leaves result count (word ∷ []) found left
+    left_word : (count word : ℕ) → event ≡ gone_to site.next state.world count (word ∷ []) → (left : ShownFrame) (result : Result Effect EventRefusal) → Leaves result count (word ∷ []) found left
         → Does trees p bounds inflated t state.world own event result old old stack (with_top left stack)
     left_word count word goes left result leaves =
         subst (λ s. Does trees p bounds inflated t state.world own s result old old stack (with_top left stack)) (sym (goes ∙ ap (λ n. gone_to n state.world count (word ∷ [])) next))
@@ -201,7 +201,7 @@ module _ (trees : Program) (p : LinkedProgram) (bounds : Bounds) (inflated : Lis
           ∙ ap (λ b. becomes (at_index b (pushing site.next (element_at 0 state.world r i ∷ []) state.world frame.place.slots (drop 2 frame.place.slots.stack)))) (outside r i (loaded r is_r) e)
 
       pub load_done : (r i word : ℕ) → slice_index_or found.operands 1 0 ≡ suc r → slice_index_or found.operands 0 0 ≡ i → i < length (words_at old.heap.objects r) → word ≡ word_at old.heap.objects r i
-          → (left : ShownFrame) (result : Result Effect Refusal) → Leaves result 2 (word ∷ []) found left
+          → (left : ShownFrame) (result : Result Effect EventRefusal) → Leaves result 2 (word ∷ []) found left
           → Does trees p bounds inflated t state.world own event result old old stack (with_top left stack)
       load_done r i word is_r is_i e is_word =
           let h = loaded r is_r in
@@ -280,7 +280,7 @@ module _ (trees : Program) (p : LinkedProgram) (bounds : Bounds) (inflated : Lis
       length_of_null e = measure_by 0 e
 
       pub length_done : (r word : ℕ) → slice_index_or found.operands 0 0 ≡ suc r → word ≡ length (words_at old.heap.objects r)
-          → (left : ShownFrame) (result : Result Effect Refusal) → Leaves result 1 (word ∷ []) found left
+          → (left : ShownFrame) (result : Result Effect EventRefusal) → Leaves result 1 (word ∷ []) found left
           → Does trees p bounds inflated t state.world own event result old old stack (with_top left stack)
       length_done r word is_r is_word =
           let h = any_held r (subst (λ x. accepts AnArray x ≡ true) (shown_operand 0 (suc r) is_r) (meets_first accepts AnArray [] is.shown.operands (pops (array_length_meaning words site) means))) in

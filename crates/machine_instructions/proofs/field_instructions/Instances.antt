@@ -21,11 +21,11 @@ use Rattle.model.specs.Step.{SteppedOf, PartOf, become, raised}
 use Rattle.heap.specs.Heap.{Heap, put_field, word_at}
 use Rattle.linked_code.specs.declared.instruction.LinkedInstruction.{LinkedInstruction}
 use Rattle.linked_code.specs.declared.instruction.LinkedInstruction.TheVariants as linked
-use Rattle.linked_code.specs.declared.types.Primitive.{Primitive}
-use Rattle.linked_code.specs.declared.types.Primitive.TheVariants as primitive
+use Rattle.model.specs.declared.primitive.Primitive.{Primitive}
+use Rattle.model.specs.declared.primitive.Primitive.TheVariants as primitive
 use Rattle.linked_code.specs.declared.method.LinkedCode.{LinkedCode}
 use Rattle.linked_code.specs.declared.program.LinkedProgram.{LinkedProgram}
-use Rattle.linked_code.specs.Numbers.{primitive_of}
+use Rattle.model.specs.Primitives.{primitive_of}
 use Rattle.linked_code.specs.Fields.{HaveSlot, IsGetField, IsPutField}
 use Rattle.linked_code.specs.Linked.{IsLinked, offset_in}
 use Rattle.run_laws.specs.word_operands.Operands.{is_word_with, word_meets}
@@ -33,7 +33,7 @@ use Rattle.linked_code.specs.thread_stacks.Stacks.{ShownFrame, ShownEntry, IsTop
 use Rattle.machine_state.specs.shown_objects.Laws.{IsField}
 use Rattle.machine_state.proofs.shown_objects.Objects.{are_fields}
 use Rattle.machine_state.specs.declared.answers.Effect.{Effect}
-use Rattle.machine_state.specs.declared.refusals.Refusal.{Refusal}
+use Rattle.machine_state.specs.declared.refusals.EventRefusal.{EventRefusal}
 use Rattle.machine_state.specs.declared.state.Shared.{Shared}
 use Rattle.machine_state.specs.Instructions.{instruction_event, Does}
 use Rattle.machine_state.specs.linked_frames.Frames.{IsRunning, event_of}
@@ -106,7 +106,7 @@ module _ (trees : Program) (p : LinkedProgram) (bounds : Bounds) (inflated : Lis
         (pops_met trees p bounds inflated t old stack state frame rest code site meaning (linked.GetField slot) is got l.is))
 
     pub get_field_done : (r word : ℕ) → slice_index_or found.operands 0 0 ≡ suc r → word ≡ word_at old.heap.objects r slot
-        → (left : ShownFrame) (result : Result Effect Refusal) → Leaves result 1 (word ∷ []) found left
+        → (left : ShownFrame) (result : Result Effect EventRefusal) → Leaves result 1 (word ∷ []) found left
         → Does trees p bounds inflated t state.world (model.Invocation frame
         ∷ rest) (instruction_event trees frames (event_of t) state.world frame rest meaning) result old old stack (with_top left stack)
     get_field_done r word is_r is_word left result leaves =

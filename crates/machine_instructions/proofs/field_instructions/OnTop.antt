@@ -23,8 +23,8 @@ use Rattle.linked_code.specs.thread_stacks.Stacks.{ShownFrame, ShownEntry, Invoc
 use Rattle.machine_state.specs.shown_stacks.Shown.{ShowsStack}
 use Rattle.machine_state.specs.declared.answers.Effect.{Effect}
 use Rattle.machine_state.specs.declared.answers.Effect.TheVariants as effect
-use Rattle.machine_state.specs.declared.refusals.Refusal.{Refusal}
-use Rattle.machine_state.specs.declared.refusals.Refusal.TheVariants as refusal
+use Rattle.machine_state.specs.declared.refusals.EventRefusal.{EventRefusal}
+use Rattle.machine_state.specs.declared.refusals.EventRefusal.TheVariants as refusal
 use Rattle.machine_state.specs.declared.state.Shared.{Shared}
 use Rattle.machine_state.specs.Shown.{Represents}
 use Rattle.machine_state.specs.Instructions.{Does}
@@ -122,7 +122,7 @@ module _ (trees : Program) (p : LinkedProgram) (bounds : Bounds) (inflated : Lis
     done effect.NotEnabled e = absurd e
 
   -- where a word is left, memory may be wanted
-  pub done_or_refused : (count : ℕ) (results : List ℕ) (found : ShownFrame) (lent : IsTopFrame stack (Some found)) (left : ShownFrame) (result : Result Effect Refusal) → Leaves result count results found left
+  pub done_or_refused : (count : ℕ) (results : List ℕ) (found : ShownFrame) (lent : IsTopFrame stack (Some found)) (left : ShownFrame) (result : Result Effect EventRefusal) → Leaves result count results found left
       → Does trees p bounds inflated t state.world (model.Invocation frame ∷ rest) (goes_on state.world count results) result old old stack (with_top left stack)
   done_or_refused count results found lent left (Ok answer) e = done state.world old unchanged count results found lent left answer e
   done_or_refused count results found lent left (Err refusal.Memory) e =

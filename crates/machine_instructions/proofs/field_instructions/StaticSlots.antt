@@ -11,18 +11,18 @@ use Rattle.model.specs.Worlds.{value_in, with_static, kept}
 use Rattle.model.specs.Sites.{MeaningOf, Site}
 use Rattle.model.specs.Meanings.{system_out_meaning, get_static_of, put_static_of}
 use Rattle.linked_code.specs.declared.instruction.LinkedInstruction.TheVariants as linked
-use Rattle.linked_code.specs.declared.types.Primitive.{Primitive}
-use Rattle.linked_code.specs.declared.types.Primitive.TheVariants as primitive
+use Rattle.model.specs.declared.primitive.Primitive.{Primitive}
+use Rattle.model.specs.declared.primitive.Primitive.TheVariants as primitive
 use Rattle.linked_code.specs.declared.method.LinkedCode.{LinkedCode}
 use Rattle.linked_code.specs.declared.program.LinkedProgram.{LinkedProgram}
-use Rattle.linked_code.specs.Numbers.{primitive_of}
+use Rattle.model.specs.Primitives.{primitive_of}
 use Rattle.linked_code.specs.Fields.{IsGetStatic, IsPutStatic}
 use Rattle.linked_code.specs.Linked.{IsLinked, offset_in}
 use Rattle.linked_code.specs.thread_stacks.Stacks.{ShownFrame, ShownEntry, IsTopFrame, with_top}
 use Rattle.machine_state.specs.shown_objects.Shown.{ShowsStatics}
 use Rattle.machine_state.proofs.shown_objects.Objects.{are_statics}
 use Rattle.machine_state.specs.declared.answers.Effect.{Effect}
-use Rattle.machine_state.specs.declared.refusals.Refusal.{Refusal}
+use Rattle.machine_state.specs.declared.refusals.EventRefusal.{EventRefusal}
 use Rattle.machine_state.specs.declared.state.Shared.{Shared}
 use Rattle.machine_state.specs.Instructions.{instruction_event, Does}
 use Rattle.machine_state.specs.linked_frames.Frames.{IsRunning, event_of}
@@ -37,7 +37,7 @@ module _ (trees : Program) (p : LinkedProgram) (bounds : Bounds) (inflated : Lis
   -- ---- System.out
 
   module _ (is : IsRunning trees p bounds inflated t old stack state frame rest code site meaning linked.GetSystemOut) (found : ShownFrame) (lent : IsTopFrame stack (Some found)) (frames : ℕ) where
-    pub get_system_out_done : (left : ShownFrame) (result : Result Effect Refusal) → Leaves result 0 (1 ∷ []) found left
+    pub get_system_out_done : (left : ShownFrame) (result : Result Effect EventRefusal) → Leaves result 0 (1 ∷ []) found left
         → Does trees p bounds inflated t state.world (model.Invocation frame
         ∷ rest) (instruction_event trees frames (event_of t) state.world frame rest meaning) result old old stack (with_top left stack)
     get_system_out_done left result leaves =
@@ -52,7 +52,7 @@ module _ (trees : Program) (p : LinkedProgram) (bounds : Bounds) (inflated : Lis
     l = is.stands.linked
 
     pub get_static_done : (word : ℕ) → word ≡ slice_index old.statics.items slot
-        → (left : ShownFrame) (result : Result Effect Refusal) → Leaves result 0 (word ∷ []) found left
+        → (left : ShownFrame) (result : Result Effect EventRefusal) → Leaves result 0 (word ∷ []) found left
         → Does trees p bounds inflated t state.world (model.Invocation frame
         ∷ rest) (instruction_event trees frames (event_of t) state.world frame rest meaning) result old old stack (with_top left stack)
     get_static_done word is_word left result leaves =

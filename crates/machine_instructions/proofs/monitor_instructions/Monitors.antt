@@ -34,7 +34,7 @@ use Rattle.run_laws.specs.word_operands.Operands.{word_meets}
 use Rattle.linked_code.specs.thread_stacks.Stacks.{ShownEntry, Invocation, at_place, replaced}
 use Rattle.machine_state.specs.shown_stacks.Shown.{ShowsStack, offset_at}
 use Rattle.machine_state.specs.declared.answers.Effect.{Effect}
-use Rattle.machine_state.specs.declared.refusals.Refusal.{Refusal}
+use Rattle.machine_state.specs.declared.refusals.EventRefusal.{EventRefusal}
 use Rattle.machine_state.specs.declared.state.Shared.{Shared}
 use Rattle.machine_state.specs.Events.{MayBeRefused}
 use Rattle.machine_state.specs.Instructions.{Does, instruction_event}
@@ -152,8 +152,8 @@ module _ (trees : Program) (p : LinkedProgram) (bounds : Bounds) (inflated : Lis
   -- ---- a refusal changes nothing
 
   pub refused : (new : Shared) (stepped : SteppedOf (PartOf ℕ)) (cost : Cost) (after : PartOf ℕ) → stepped ≡ Next cost after
-      → (told : Refusal) → MayBeRefused trees bounds inflated world cost told → new ≡ old
-      → (result : Result Effect Refusal) → IsErrAnd result (λ e. e ≡ told)
+      → (told : EventRefusal) → MayBeRefused trees bounds inflated world cost told → new ≡ old
+      → (result : Result Effect EventRefusal) → IsErrAnd result (λ e. e ≡ told)
       → Does trees p bounds inflated t world (model.Invocation frame ∷ rest) stepped result old new from from
   refused new stepped cost after e told may unchanged (Ok other) h = absurd h
   refused new stepped cost after e told may unchanged (Err other) h =

@@ -15,7 +15,7 @@ use Rattle.linked_code.specs.thread_stacks.Stacks.{ShownEntry, Invocation, Initi
 use Rattle.machine_state.specs.shown_stacks.Shown.{ShowsStack}
 use Rattle.machine_state.specs.declared.answers.Answer.{Answer}
 use Rattle.machine_state.specs.declared.answers.Answer.TheVariants as answer
-use Rattle.machine_state.specs.declared.refusals.Refusal.{Refusal}
+use Rattle.machine_state.specs.declared.refusals.EventRefusal.{EventRefusal}
 use Rattle.machine_state.specs.declared.state.Shared.{Shared}
 use Rattle.machine_state.specs.Shown.{Represents}
 use Rattle.machine_state.specs.Events.{IsDone, Becomes}
@@ -117,9 +117,9 @@ module _ (trees : Program) (p : LinkedProgram) (bounds : Bounds) (inflated : Lis
   raised_done answer.NotEnabled b to same = let never = b.0 in absurd cc
 
   -- or it can't be made
-  pub raise_refused : (why : Refusal) → Becomes trees p bounds inflated world (raised t IllegalMonitorState world rest) (Err why) old new
+  pub raise_refused : (why : EventRefusal) → Becomes trees p bounds inflated world (raised t IllegalMonitorState world rest) (Err why) old new
       under under
-      → (from : List ShownEntry) (result : Result Answer Refusal) → IsErrAnd result (λ told. told ≡ why)
+      → (from : List ShownEntry) (result : Result Answer EventRefusal) → IsErrAnd result (λ told. told ≡ why)
       → Becomes trees p bounds inflated world stepped result old new from from
   raise_refused why b from (Ok told) e = absurd e
   raise_refused why b from (Err told) e =

@@ -34,8 +34,8 @@ use Rattle.machine_state.specs.declared.state.Shared.{Shared}
 use Rattle.machine_state.specs.declared.answers.MachineException.TheVariants as exception
 use Rattle.machine_state.specs.declared.answers.Effect.{Effect}
 use Rattle.machine_state.specs.declared.answers.Effect.TheVariants as effect
-use Rattle.machine_state.specs.declared.refusals.Refusal.{Refusal}
-use Rattle.machine_state.specs.declared.refusals.Refusal.TheVariants as refusal
+use Rattle.machine_state.specs.declared.refusals.EventRefusal.{EventRefusal}
+use Rattle.machine_state.specs.declared.refusals.EventRefusal.TheVariants as refusal
 use Rattle.machine_state.specs.Events.{MayBeRefused, IsDone}
 use Rattle.machine_state.specs.Instructions.{Does, instruction_event}
 use Rattle.machine_state.specs.linked_frames.Frames.{IsRunning, DoesOwn, event_of}
@@ -159,7 +159,7 @@ module _ (trees : Program) (p : LinkedProgram) (bounds : Bounds) (inflated : Lis
       goes = stepped_is ∙ goes_on trees p bounds inflated state.world shared is.lent.represents t entered (step.returned trees results rest) (model.Invocation frame ∷ rest) says
 
       -- there is no memory for the result
-      pub lacks : (result : Result Effect Refusal) → IsErrAnd result (λ told. told ≡ refusal.Memory) → (to : List ShownEntry) → to ≡ stack
+      pub lacks : (result : Result Effect EventRefusal) → IsErrAnd result (λ told. told ≡ refusal.Memory) → (to : List ShownEntry) → to ≡ stack
           → Does trees p bounds inflated t state.world (model.Invocation frame ∷ rest) stepped result shared shared stack to
       lacks (Ok told) e to same = absurd e
       lacks (Err told) e to same = (

@@ -20,8 +20,8 @@ use Rattle.linked_code.specs.thread_stacks.Stacks.{ShownEntry, on_top, without}
 use Rattle.machine_state.specs.shown_stacks.Shown.{ShowsFrame, ShowsStack}
 use Rattle.machine_state.specs.declared.answers.Effect.{Effect}
 use Rattle.machine_state.specs.declared.answers.Effect.TheVariants as effect
-use Rattle.machine_state.specs.declared.refusals.Refusal.{Refusal}
-use Rattle.machine_state.specs.declared.refusals.Refusal.TheVariants as refusal
+use Rattle.machine_state.specs.declared.refusals.EventRefusal.{EventRefusal}
+use Rattle.machine_state.specs.declared.refusals.EventRefusal.TheVariants as refusal
 use Rattle.machine_state.specs.declared.state.Shared.{Shared}
 use Rattle.machine_state.specs.Shown.{Represents}
 use Rattle.machine_state.specs.Events.{IsDone, MayBeRefused}
@@ -136,7 +136,7 @@ module _ (trees : Program) (p : LinkedProgram) (bounds : Bounds) (inflated : Lis
   same = free world old represented refl refl refl
 
   -- it has a result, or there is no memory for it
-  with_result : (result : Result Effect Refusal) (word : ℕ) (to : List ShownEntry) → Answers result count word next from to
+  with_result : (result : Result Effect EventRefusal) (word : ℕ) (to : List ShownEntry) → Answers result count word next from to
       → Does trees p bounds inflated t world (model.Invocation frame
       ∷ rest) (Next Free (part world (gone_on (word ∷ [])))) result old old from to
   with_result (Ok effect.Done) word to e = same to (word ∷ []) e
@@ -151,7 +151,7 @@ module _ (trees : Program) (p : LinkedProgram) (bounds : Bounds) (inflated : Lis
   with_result (Err refusal.LockCount) word to e = absurd e
   with_result (Err refusal.Memory) word to e = (record { cost = Free; next = part world (gone_on (word ∷ [])); is = refl; may = tt }, record { shared = refl; stack = e })
 
-  pub answered : (word value : ℕ) → word ≡ value → (result : Result Effect Refusal) (to : List ShownEntry)
+  pub answered : (word value : ℕ) → word ≡ value → (result : Result Effect EventRefusal) (to : List ShownEntry)
       → Answers result count word next from to
       → Does trees p bounds inflated t world (model.Invocation frame
       ∷ rest) (Next Free (part world (gone_on (value ∷ [])))) result old old from to
@@ -208,8 +208,8 @@ module _ (trees : Program) (p : LinkedProgram) (bounds : Bounds) (inflated : Lis
 
   -- a refusal changes nothing
   pub refused : (new : Shared) (stepped : SteppedOf (PartOf ℕ)) (cost : Cost) (after : PartOf ℕ) → stepped ≡ Next cost after
-      → (told : Refusal) → MayBeRefused trees bounds inflated world cost told → new ≡ old
-      → (result : Result Effect Refusal) → IsErrAnd result (λ e. e ≡ told)
+      → (told : EventRefusal) → MayBeRefused trees bounds inflated world cost told → new ≡ old
+      → (result : Result Effect EventRefusal) → IsErrAnd result (λ e. e ≡ told)
       → Does trees p bounds inflated t world (model.Invocation frame ∷ rest) stepped result old new from from
   refused new stepped cost after e told may unchanged (Ok other) h = absurd h
   refused new stepped cost after e told may unchanged (Err other) h =

@@ -20,8 +20,8 @@ use Rattle.linked_code.specs.thread_stacks.Stacks.{ShownFrame, ShownEntry, IsTop
 use Rattle.machine_state.specs.shown_stacks.Shown.{ShowsStack}
 use Rattle.machine_state.specs.declared.answers.Effect.{Effect}
 use Rattle.machine_state.specs.declared.answers.Effect.TheVariants as effect
-use Rattle.machine_state.specs.declared.refusals.Refusal.{Refusal}
-use Rattle.machine_state.specs.declared.refusals.Refusal.TheVariants as refusal
+use Rattle.machine_state.specs.declared.refusals.EventRefusal.{EventRefusal}
+use Rattle.machine_state.specs.declared.refusals.EventRefusal.TheVariants as refusal
 use Rattle.machine_state.specs.declared.state.Shared.{Shared}
 use Rattle.machine_state.specs.Shown.{Represents}
 use Rattle.machine_state.specs.Instructions.{Does, instruction_event}
@@ -126,7 +126,7 @@ module _ {trees : Program} {p : LinkedProgram} {bounds : Bounds} {inflated : Lis
   abbrev pub IsEvent : ℕ → SteppedOf (PartOf ℕ) → Type 0
   IsEvent frames stepped = instruction_event trees frames (event_of t) state.world frame rest meaning ≡ stepped
 
-  abbrev pub DoesSo : ℕ → Result Effect Refusal → Shared → List ShownEntry → Type 0
+  abbrev pub DoesSo : ℕ → Result Effect EventRefusal → Shared → List ShownEntry → Type 0
   DoesSo frames result new to =
       Does trees p bounds inflated t state.world (model.Invocation frame ∷ rest) (instruction_event trees frames (event_of t) state.world frame rest meaning) result shared new stack to
 
@@ -148,7 +148,7 @@ module _ {trees : Program} {p : LinkedProgram} {bounds : Bounds} {inflated : Lis
   done_free frames after new count results from to effect.NotEnabled left top event shows fat stacks threads = absurd left
 
   -- it changes no more than its frame
-  pub does_own : (frames : ℕ) (count : ℕ) (results : List ℕ) (from to : ShownFrame) (result : Result Effect Refusal)
+  pub does_own : (frames : ℕ) (count : ℕ) (results : List ℕ) (from to : ShownFrame) (result : Result Effect EventRefusal)
       → Leaves result count results from to → from ≡ is.shown
       → IsEvent frames (Next Free (part state.world (own_after count results))) → DoesSo frames result shared (with_top to stack)
   does_own frames count results from to (Ok told) left top event =

@@ -28,17 +28,17 @@ use Rattle.linked_code.specs.declared.instruction.LinkedInstruction.{LinkedInstr
 use Rattle.linked_code.specs.declared.method.LinkedCode.{LinkedCode}
 use Rattle.linked_code.specs.declared.program.LinkedProgram.{LinkedProgram}
 use Rattle.linked_code.specs.Linked.{offset_in}
-use Rattle.linked_code.specs.Numbers.{primitive_of}
-use Rattle.linked_code.specs.declared.types.Primitive.{Primitive}
-use Rattle.linked_code.specs.declared.types.Primitive.TheVariants as primitive
+use Rattle.model.specs.Primitives.{primitive_of}
+use Rattle.model.specs.declared.primitive.Primitive.{Primitive}
+use Rattle.model.specs.declared.primitive.Primitive.TheVariants as primitive
 use Rattle.linked_code.specs.Objects.{IsNew}
 use Rattle.machine_state.specs.shown_objects.Shown.{names_of, words_in, ShowsObject}
 use Rattle.linked_code.specs.thread_stacks.Stacks.{ShownFrame, ShownEntry, with_top}
 use Rattle.machine_state.specs.declared.answers.Effect.{Effect}
 use Rattle.machine_state.specs.declared.answers.Effect.TheVariants as effect
 use Rattle.machine_state.specs.declared.answers.MachineException.TheVariants as exception
-use Rattle.machine_state.specs.declared.refusals.Refusal.{Refusal}
-use Rattle.machine_state.specs.declared.refusals.Refusal.TheVariants as refusal
+use Rattle.machine_state.specs.declared.refusals.EventRefusal.{EventRefusal}
+use Rattle.machine_state.specs.declared.refusals.EventRefusal.TheVariants as refusal
 use Rattle.machine_state.specs.declared.state.Shared.{Shared}
 use Rattle.machine_state.specs.Refusals.{of_heap}
 use Rattle.machine_state.specs.Events.{MayBeRefused}
@@ -65,7 +65,7 @@ first_words (f ∷ fields) = ap (λ l. 0 ∷ l) (first_words fields) ∙ ap (λ 
 
 -- ---- a refusal of the heap
 
-unmade_by : (why : AllocRefusal) (told : Refusal) → told ≡ of_heap why → (of : ObjectKind) (cells : ℕ) (old new : Heap)
+unmade_by : (why : AllocRefusal) (told : EventRefusal) → told ≡ of_heap why → (of : ObjectKind) (cells : ℕ) (old new : Heap)
     → Allocates (Err why) of cells old new → IsUnmade told of cells old new
 unmade_by heap.Objects told is of cells old new told_so = subst (λ r. IsUnmade r of cells old new) (sym is) (heap.Objects, refl, told_so)
 unmade_by heap.Cells told is of cells old new told_so = subst (λ r. IsUnmade r of cells old new) (sym is) (heap.Cells, refl, told_so)
@@ -83,7 +83,7 @@ module _ {trees : Program} {p : LinkedProgram} {bounds : Bounds} {inflated : Lis
   module _ (frames : ℕ) (of : ObjectKind) (cells count : ℕ) (object : ObjectOf ℕ) (shows : ShowsObject trees p.components.items (fresh of cells) object)
       (event : IsEvent is frames (Next (Makes cells) (part (allocated state.world object) (own_after is count (suc (length state.world.heap) ∷ [])))))
       (after : Heap) (from to : ShownFrame) (top : from ≡ is.shown) where
-    not_made : (told : Refusal) (why : AllocRefusal) → told ≡ of_heap why → Allocates (Err why) of cells shared.heap after → to ≡ from
+    not_made : (told : EventRefusal) (why : AllocRefusal) → told ≡ of_heap why → Allocates (Err why) of cells shared.heap after → to ≡ from
         → DoesSo is frames (Err told) (with_heap after) (with_top to stack)
     not_made told why is_told told_so same =
         let both : MayBeRefused trees bounds inflated state.world (Makes cells) (of_heap why) × (after ≡ shared.heap) = refused trees p bounds inflated state.world shared (with_heap after) is.lent.represents of cells why told_so in (
@@ -91,7 +91,7 @@ module _ {trees : Program} {p : LinkedProgram} {bounds : Bounds} {inflated : Lis
           record { shared = ap with_heap both.1; stack = unchanged is to (same ∙ top) },
         )
 
-    pub makes : (result : Result Effect Refusal) → LeavesNew result of cells count shared.heap after from to
+    pub makes : (result : Result Effect EventRefusal) → LeavesNew result of cells count shared.heap after from to
         → count ≤ length is.shown.operands → DoesSo is frames result (with_heap after) (with_top to stack)
     makes (Ok effect.Done) left there =
         let reference = left.0 in
@@ -129,7 +129,7 @@ module _ {trees : Program} {p : LinkedProgram} {bounds : Bounds} {inflated : Lis
 
   pub makes_object : (class fields : ℕ) → IsNew trees site (offset_in code.starts.items (is.shown.place + 1)) class fields
       → (frames : ℕ) (after : Heap) (from to : ShownFrame) → from ≡ is.shown
-      → (result : Result Effect Refusal) → LeavesNew result (kind.Instance class) fields 0 shared.heap after from to
+      → (result : Result Effect EventRefusal) → LeavesNew result (kind.Instance class) fields 0 shared.heap after from to
       → DoesSo is frames result (with_heap after) (with_top to stack)
   makes_object class fields new frames after from to top result left =
       let object = new_instance words trees new.named in
@@ -163,7 +163,7 @@ module _ {trees : Program} {p : LinkedProgram} {bounds : Bounds} {inflated : Lis
 
     pub makes_array : w < 2 ^ 31 → site.next ≡ offset_in code.starts.items (is.shown.place + 1) → (of : ObjectKind)
         → AreArrays trees p of array
-        → (after : Heap) (to : ShownFrame) (result : Result Effect Refusal) → LeavesNew result of w 1 shared.heap after from to
+        → (after : Heap) (to : ShownFrame) (result : Result Effect EventRefusal) → LeavesNew result of w 1 shared.heap after from to
         → DoesSo is frames result (with_heap after) (with_top to stack)
     makes_array lt next of shows after to result left =
         makes frames of w 1 (array (replicate w 0)) (shows w)

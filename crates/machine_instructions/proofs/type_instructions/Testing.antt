@@ -22,7 +22,7 @@ use Rattle.linked_code.specs.thread_stacks.Stacks.{ShownFrame, ShownEntry, with_
 use Rattle.machine_state.specs.declared.answers.Effect.{Effect}
 use Rattle.machine_state.specs.declared.answers.Effect.TheVariants as effect
 use Rattle.machine_state.specs.declared.answers.MachineException.TheVariants as exception
-use Rattle.machine_state.specs.declared.refusals.Refusal.{Refusal}
+use Rattle.machine_state.specs.declared.refusals.EventRefusal.{EventRefusal}
 use Rattle.machine_state.specs.declared.state.Shared.{Shared}
 use Rattle.machine_state.specs.linked_frames.Frames.{IsRunning}
 use Rattle.machine_instructions.specs.type_instructions.Leaving.{Leaves}
@@ -71,7 +71,7 @@ module _ {trees : Program} {p : LinkedProgram} {bounds : Bounds} {inflated : Lis
   pub instance : (next : ℕ) (type : LinkedType) → IsInstanceOf trees site next type → IsTested p.subclasses type
       → next ≡ offset_in code.starts.items (is.shown.place + 1)
       → (bit : ℕ) → TestsInstance p shared.heap.objects w type bit
-      → (to : ShownFrame) (result : Result Effect Refusal) → Leaves result 1 (bit ∷ []) from to
+      → (to : ShownFrame) (result : Result Effect EventRefusal) → Leaves result 1 (bit ∷ []) from to
       → DoesSo is frames result shared (with_top to stack)
   instance next type test tested behind bit tests to result left =
       does_own is frames 1 (bit ∷ []) from to result left top

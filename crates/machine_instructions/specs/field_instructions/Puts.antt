@@ -2,13 +2,13 @@
 use Rattle.std.specs.Prelude.{◌≡◌, ℕ, ◌+◌, ◌<◌, ◌^◌, List, Result, Ok, Err}
 use Rattle.linked_code.specs.declared.instruction.LinkedInstruction.{LinkedInstruction}
 use Rattle.linked_code.specs.declared.instruction.LinkedInstruction.TheVariants as linked
-use Rattle.linked_code.specs.declared.types.Primitive.{Primitive}
-use Rattle.linked_code.specs.declared.types.Primitive.TheVariants as primitive
+use Rattle.model.specs.declared.primitive.Primitive.{Primitive}
+use Rattle.model.specs.declared.primitive.Primitive.TheVariants as primitive
 use Rattle.linked_code.specs.thread_stacks.Stacks.{ShownFrame, at_place, replaced}
 use Rattle.machine_state.specs.declared.answers.Effect.{Effect}
 use Rattle.machine_state.specs.declared.answers.Effect.TheVariants as effect
-use Rattle.machine_state.specs.declared.refusals.Refusal.{Refusal}
-use Rattle.machine_state.specs.declared.refusals.Refusal.TheVariants as refusal
+use Rattle.machine_state.specs.declared.refusals.EventRefusal.{EventRefusal}
+use Rattle.machine_state.specs.declared.refusals.EventRefusal.TheVariants as refusal
 
 -- putfield of a field of the type; a reference is put as an int is
 abbrev pub put_field_instruction : Primitive → (slot : ℕ) → LinkedInstruction
@@ -32,7 +32,7 @@ gone_on count results frame = at_place (frame.place + 1) (replaced count results
 
 -- The instruction is done, and its frame has gone on, where its place is one that a vector may have; or memory is wanted, and the
 -- frame is as it was.
-abbrev pub Leaves : Result Effect Refusal → (count : ℕ) → List ℕ → (old new : ShownFrame) → Type 0
+abbrev pub Leaves : Result Effect EventRefusal → (count : ℕ) → List ℕ → (old new : ShownFrame) → Type 0
 Leaves (Ok effect.Done) count results old new = old.place < 2 ^ 63 → new ≡ gone_on count results old
 Leaves (Err refusal.Memory) count results old new = new ≡ old
 Leaves told count results old new = ⊥

@@ -8,12 +8,12 @@ use Rattle.linked_code.specs.declared.program.LinkedProgram.{LinkedProgram}
 use Rattle.linked_code.specs.thread_stacks.Stacks.{ShownEntry}
 use Rattle.machine_state.specs.shown_stacks.Shown.{ShowsStack}
 use Rattle.machine_state.specs.declared.answers.Answer.{Answer}
-use Rattle.machine_state.specs.declared.refusals.Refusal.{Refusal}
+use Rattle.machine_state.specs.declared.refusals.EventRefusal.{EventRefusal}
 use Rattle.machine_state.specs.declared.state.Shared.{Shared}
 use Rattle.machine_state.specs.Shown.{Represents}
 use Rattle.machine_state.specs.Events.{Becomes}
 
-abbrev pub Unwinds : Result Answer Refusal → (t : ℕ) → (old new : Shared) (from to : List ShownEntry) → Type 0
+abbrev pub Unwinds : Result Answer EventRefusal → (t : ℕ) → (old new : Shared) (from to : List ShownEntry) → Type 0
 Unwinds result t old new from to =
     (trees : Program) (p : LinkedProgram) (bounds : Bounds) (inflated : List ℕ) (world : WorldOf ℕ) → Represents trees p bounds old world
     → (frame : FrameOf ℕ) (rest : StackOf ℕ) → ShowsStack trees p from (Invocation frame ∷ rest)

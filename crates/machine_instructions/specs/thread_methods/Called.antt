@@ -17,7 +17,7 @@ use Rattle.linked_code.specs.Methods.{built_in_of}
 use Rattle.linked_code.specs.thread_stacks.Stacks.{ShownFrame, ShownEntry, Invocation}
 use Rattle.machine_state.specs.shown_stacks.Shown.{offset_at}
 use Rattle.machine_state.specs.declared.answers.Effect.{Effect}
-use Rattle.machine_state.specs.declared.refusals.Refusal.{Refusal}
+use Rattle.machine_state.specs.declared.refusals.EventRefusal.{EventRefusal}
 use Rattle.machine_state.specs.declared.state.Shared.{Shared}
 use Rattle.machine_state.specs.Shown.{IsProgram, IsLent}
 use Rattle.machine_state.specs.Instructions.{Does}
@@ -84,7 +84,7 @@ call_event trees frames event world frame rest called count offset =
     (built_in_does words (built_in_of called) offset event world frame.place.slots (take count frame.place.slots.stack) (drop count frame.place.slots.stack)))
 
 -- In whatever state a thread calls the method, the result says what becomes of the event by it.
-abbrev pub DoesCall : BuiltInMethod → (count next : ℕ) → Event → Result Effect Refusal → (old new : Shared) (from to : List ShownEntry)
+abbrev pub DoesCall : BuiltInMethod → (count next : ℕ) → Event → Result Effect EventRefusal → (old new : Shared) (from to : List ShownEntry)
     → Type 0
 DoesCall called count next event result old new from to =
     (trees : Program) (p : LinkedProgram) (bounds : Bounds) (inflated : List ℕ) (state : StateOf ℕ) (frame : FrameOf ℕ) (rest : StackOf ℕ) (offset : ℕ)
@@ -94,6 +94,6 @@ DoesCall called count next event result old new from to =
     ∷ rest) (call_event trees frames event state.world frame rest called count offset) result old new from to
 
 -- by an event of a thread that picks nothing
-abbrev pub DoesUnpicked : BuiltInMethod → (count next : ℕ) → (t : ℕ) → Result Effect Refusal → (old new : Shared)
+abbrev pub DoesUnpicked : BuiltInMethod → (count next : ℕ) → (t : ℕ) → Result Effect EventRefusal → (old new : Shared)
     (from to : List ShownEntry) → Type 0
 DoesUnpicked called count next t = DoesCall called count next (record { thread = t; pick = 0 })

@@ -5,8 +5,8 @@ use Rattle.model.specs.Worlds.{is_owner, waiters_of}
 use Rattle.linked_code.specs.thread_stacks.Stacks.{ShownEntry, Invocation, Initialisation, replaced, at_place, on_top}
 use Rattle.machine_state.specs.declared.answers.Effect.{Effect}
 use Rattle.machine_state.specs.declared.answers.Effect.TheVariants as effect
-use Rattle.machine_state.specs.declared.refusals.Refusal.{Refusal}
-use Rattle.machine_state.specs.declared.refusals.Refusal.TheVariants as refusal
+use Rattle.machine_state.specs.declared.refusals.EventRefusal.{EventRefusal}
+use Rattle.machine_state.specs.declared.refusals.EventRefusal.TheVariants as refusal
 
 -- an operand of the frame on top, counted from the top of its stack; 0 where there is none
 abbrev pub operand_of : ℕ → List ShownEntry → ℕ
@@ -20,7 +20,7 @@ went_on count results next (Invocation frame) = Invocation (at_place next (repla
 went_on count results next (Initialisation class phase) = Initialisation class phase
 
 -- the frame on top did, or there was no memory, and nothing has changed
-abbrev pub Answers : Result Effect Refusal → (count word next : ℕ) → (old new : List ShownEntry) → Type 0
+abbrev pub Answers : Result Effect EventRefusal → (count word next : ℕ) → (old new : List ShownEntry) → Type 0
 Answers (Ok effect.Done) count word next old new = new ≡ on_top (went_on count (word ∷ []) next) old
 Answers (Err refusal.Memory) count word next old new = new ≡ old
 Answers result count word next old new = ⊥

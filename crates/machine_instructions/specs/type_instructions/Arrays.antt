@@ -13,8 +13,8 @@ use Rattle.heap.specs.declared.kind.NarrowKind.TheVariants as narrow
 use Rattle.heap.specs.declared.kind.ObjectKind.{ObjectKind}
 use Rattle.heap.specs.declared.kind.ObjectKind.TheVariants as kind
 use Rattle.heap.specs.Heap.{fresh}
-use Rattle.linked_code.specs.declared.types.Primitive.{Primitive}
-use Rattle.linked_code.specs.declared.types.Primitive.TheVariants as linked
+use Rattle.model.specs.declared.primitive.Primitive.{Primitive}
+use Rattle.model.specs.declared.primitive.Primitive.TheVariants as linked
 use Rattle.linked_code.specs.declared.instruction.LinkedInstruction.{LinkedInstruction}
 use Rattle.linked_code.specs.declared.method.LinkedCode.{LinkedCode}
 use Rattle.linked_code.specs.declared.program.LinkedProgram.{LinkedProgram}
@@ -22,7 +22,7 @@ use Rattle.linked_code.specs.Linked.{offset_in}
 use Rattle.machine_state.specs.shown_objects.Shown.{ShowsObject}
 use Rattle.linked_code.specs.thread_stacks.Stacks.{ShownEntry}
 use Rattle.machine_state.specs.declared.answers.Effect.{Effect}
-use Rattle.machine_state.specs.declared.refusals.Refusal.{Refusal}
+use Rattle.machine_state.specs.declared.refusals.EventRefusal.{EventRefusal}
 use Rattle.machine_state.specs.declared.state.Shared.{Shared}
 use Rattle.machine_state.specs.Instructions.{Does, instruction_event}
 use Rattle.machine_state.specs.linked_frames.Frames.{IsRunning, event_of}
@@ -40,7 +40,7 @@ abbrev pub AreArrays : Program → LinkedProgram → ObjectKind → (List ℕ �
 AreArrays trees p kind array = (count : ℕ) → ShowsObject trees p.components.items (fresh kind count) (array (replicate count 0))
 
 -- in whatever state a thread runs at an instruction that makes such an array, the result says what becomes of the event by it
-abbrev pub MakesArray : LinkedProgram → ObjectKind → (t : ℕ) → Result Effect Refusal → (old new : Shared) (from to : List ShownEntry)
+abbrev pub MakesArray : LinkedProgram → ObjectKind → (t : ℕ) → Result Effect EventRefusal → (old new : Shared) (from to : List ShownEntry)
     → Type 0
 MakesArray p kind t result old new from to =
     (frames : ℕ) (trees : Program) (bounds : Bounds) (inflated : List ℕ) (state : StateOf ℕ) (frame : FrameOf ℕ) (rest : StackOf ℕ) (code : LinkedCode) (site : Site) (meaning : MeaningOf ℕ) (instruction : LinkedInstruction)

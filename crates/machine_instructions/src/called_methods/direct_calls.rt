@@ -10,7 +10,7 @@ use crate::called_methods::running::{Call, run_method};
 use linked_code::LinkedProgram;
 use linked_code::thread_stacks::ThreadStack;
 use machine_state::method_selection::{method_at, methods_are_read};
-use machine_state::{Effect, MachineException, Refusal, Shared};
+use machine_state::{Effect, EventRefusal, MachineException, Shared};
 
 /// The reference to the first of the Class objects, which stand in the order of the classes behind the PrintStream of
 /// System.out, the arguments and the Thread of `main`.
@@ -48,7 +48,7 @@ pub fn invoke_static(
     parameters: u8,
     method: u32,
     frames: usize,
-) -> Result<Effect, Refusal>
+) -> Result<Effect, EventRefusal>
     requires running { (class : ℕ) × CanRun program.now thread shared.old stack.old (linked.InvokeStatic parameters class method) }
     requires numbered { thread < 32767 }
     ensures { (class : ℕ) → DoesInstruction program.now (linked.InvokeStatic parameters class method)
@@ -77,7 +77,7 @@ pub fn invoke_special(
     parameters: u8,
     method: u32,
     frames: usize,
-) -> Result<Effect, Refusal>
+) -> Result<Effect, EventRefusal>
     requires running { CanRun program.now thread shared.old stack.old (linked.InvokeSpecial parameters method) }
     requires numbered { thread < 32767 }
     ensures { DoesInstruction program.now (linked.InvokeSpecial parameters method) frames (record { thread = thread; pick = pick }) result

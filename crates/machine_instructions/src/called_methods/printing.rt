@@ -9,7 +9,7 @@ use crate::called_methods::frames::{place_behind, raised, receiver};
 use crate::thread_methods::run_built_in;
 use linked_code::BuiltInMethod;
 use linked_code::thread_stacks::ThreadStack;
-use machine_state::{Effect, MachineException, Refusal, Shared};
+use machine_state::{Effect, EventRefusal, MachineException, Shared};
 
 /// `invokevirtual` of PrintStream.println(int): the number on top is printed; null under it is a NullPointerException.
 ///
@@ -21,7 +21,7 @@ pub fn println(
     stack: &mut ThreadStack,
     thread: u16,
     pick: u16,
-) -> Result<Effect, Refusal>
+) -> Result<Effect, EventRefusal>
     requires running { (p : LinkedProgram) × CanRun p thread shared.old stack.old linked.Println }
     requires numbered { thread < 32767 }
     ensures { (p : LinkedProgram) (frames : ℕ)

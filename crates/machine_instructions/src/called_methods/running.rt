@@ -9,7 +9,7 @@ use linked_code::thread_stacks::{Callee, ThreadStack};
 use linked_code::{LinkedProgram, MethodBody};
 use machine_state::invocations::call as call_method;
 use machine_state::method_selection::{method_at, methods_are_run};
-use machine_state::{Effect, MachineException, Refusal, Shared};
+use machine_state::{Effect, EventRefusal, MachineException, Shared};
 
 /// A call: the method that it runs, by its number, the object whose monitor that enters where it is synchronized, and how many
 /// words it takes.
@@ -42,7 +42,7 @@ pub(crate) fn run_method(
     pick: u16,
     call: Call,
     frames: usize,
-) -> Result<Effect, Refusal>
+) -> Result<Effect, EventRefusal>
     requires able { CanInvoke program.now thread shared.old stack.old call }
     requires numbered { thread < 32767 }
     ensures { Invokes program.now call frames (record { thread = thread; pick = pick }) result shared.old shared.new stack.old stack.new }

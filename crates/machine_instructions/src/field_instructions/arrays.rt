@@ -7,7 +7,7 @@ ghost use Rattle.machine_state.specs.linked_frames.Frames.{DoesOwn};
 
 use crate::field_instructions::leaving::{leave, leave_nothing};
 use linked_code::thread_stacks::ThreadStack;
-use machine_state::{Effect, MachineException, Refusal, Shared};
+use machine_state::{Effect, EventRefusal, MachineException, Shared};
 
 /// `iaload`, `aaload`, `baload`, `caload`, `saload`: the element at the index on top, of the array under it, takes their
 /// place.
@@ -16,7 +16,7 @@ use machine_state::{Effect, MachineException, Refusal, Shared};
 ///
 /// Where there is no memory for the word on the stack; nothing has changed then.
 #[inline]
-pub fn load_element(shared: &Shared, stack: &mut ThreadStack) -> Result<Effect, Refusal>
+pub fn load_element(shared: &Shared, stack: &mut ThreadStack) -> Result<Effect, EventRefusal>
     ensures { (p : LinkedProgram) (t : ℕ) → DoesOwn p linked.LoadElement t result shared.now shared.now stack.old stack.new }
 {
     let Some(frame) = stack.frame_mut() else {
@@ -81,7 +81,7 @@ pub fn store_narrow(shared: &mut Shared, stack: &mut ThreadStack) -> Effect
 ///
 /// Where there is no memory for the word on the stack; nothing has changed then.
 #[inline]
-pub fn array_length(shared: &Shared, stack: &mut ThreadStack) -> Result<Effect, Refusal>
+pub fn array_length(shared: &Shared, stack: &mut ThreadStack) -> Result<Effect, EventRefusal>
     ensures { (p : LinkedProgram) (t : ℕ) → DoesOwn p linked.ArrayLength t result shared.now shared.now stack.old stack.new }
 {
     let Some(frame) = stack.frame_mut() else {

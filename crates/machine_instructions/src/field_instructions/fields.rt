@@ -8,9 +8,9 @@ ghost use Rattle.machine_instructions.specs.field_instructions.Puts.{put_field_i
 
 use crate::field_instructions::leaving::{leave, leave_nothing};
 use crate::field_instructions::narrowing::kept;
-use linked_code::Primitive;
 use linked_code::thread_stacks::ThreadStack;
-use machine_state::{Effect, MachineException, Refusal, Shared};
+use machine_state::{Effect, EventRefusal, MachineException, Shared};
+use model::Primitive;
 
 /// `getfield`: the field in a slot of the object of the operand on top takes the operand's place.
 ///
@@ -18,7 +18,11 @@ use machine_state::{Effect, MachineException, Refusal, Shared};
 ///
 /// Where there is no memory for the word on the stack; nothing has changed then.
 #[inline]
-pub fn get_field(shared: &Shared, stack: &mut ThreadStack, slot: u16) -> Result<Effect, Refusal>
+pub fn get_field(
+    shared: &Shared,
+    stack: &mut ThreadStack,
+    slot: u16,
+) -> Result<Effect, EventRefusal>
     ensures { (p : LinkedProgram) (t : ℕ) → DoesOwn p (linked.GetField slot) t result shared.now shared.now stack.old stack.new }
 {
     let Some(frame) = stack.frame_mut() else {

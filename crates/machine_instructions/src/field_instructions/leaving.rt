@@ -5,7 +5,7 @@ ghost use Rattle.linked_code.specs.thread_stacks.Stacks.{shown_frame};
 ghost use Rattle.machine_instructions.specs.field_instructions.Puts.{Leaves};
 
 use linked_code::thread_stacks::Frame;
-use machine_state::{Effect, Refusal};
+use machine_state::{Effect, EventRefusal};
 
 /// A word takes the place of so many operands, and the frame goes on at the next place.
 ///
@@ -13,7 +13,7 @@ use machine_state::{Effect, Refusal};
 ///
 /// Where there is no memory for the word; nothing has changed then.
 #[inline]
-pub(crate) fn leave(frame: &mut Frame, count: usize, word: u32) -> Result<Effect, Refusal>
+pub(crate) fn leave(frame: &mut Frame, count: usize, word: u32) -> Result<Effect, EventRefusal>
     ensures { Leaves result count (word ∷ []) (shown_frame frame.old) (shown_frame frame.new) }
 {
     frame.replace(count, word)?;

@@ -2,10 +2,10 @@
 
 ghost use Rattle.std.specs.Prelude.{◌≡◌};
 ghost use Rattle.model.specs.Worlds as model;
-ghost use Rattle.linked_code.specs.Numbers.{primitive_of};
+ghost use Rattle.model.specs.Primitives.{primitive_of};
 
 use heap::NarrowKind;
-use linked_code::Primitive;
+use model::Primitive;
 
 /// What a field of a type keeps of a word.
 #[inline]

@@ -9,9 +9,9 @@ ghost use Rattle.machine_instructions.specs.field_instructions.Puts.{put_static_
 
 use crate::field_instructions::leaving::{leave, leave_nothing};
 use crate::field_instructions::narrowing::kept;
-use linked_code::Primitive;
 use linked_code::thread_stacks::ThreadStack;
-use machine_state::{Effect, Refusal, Shared};
+use machine_state::{Effect, EventRefusal, Shared};
+use model::Primitive;
 
 /// The word of the PrintStream, which is the first of all objects.
 const PRINT_STREAM: u32 = 1;
@@ -30,7 +30,11 @@ fn static_word(statics: &[u32], slot: u32) -> u32
 ///
 /// Where there is no memory for the word on the stack; nothing has changed then.
 #[inline]
-pub fn get_static(shared: &Shared, stack: &mut ThreadStack, slot: u32) -> Result<Effect, Refusal>
+pub fn get_static(
+    shared: &Shared,
+    stack: &mut ThreadStack,
+    slot: u32,
+) -> Result<Effect, EventRefusal>
     ensures { (p : LinkedProgram) (class t : ℕ)
         → DoesOwn p (linked.GetStatic class slot) t result shared.now shared.now stack.old stack.new }
 {
@@ -46,7 +50,7 @@ pub fn get_static(shared: &Shared, stack: &mut ThreadStack, slot: u32) -> Result
 ///
 /// Where there is no memory for the word on the stack; nothing has changed then.
 #[inline]
-pub fn get_system_out(stack: &mut ThreadStack) -> Result<Effect, Refusal>
+pub fn get_system_out(stack: &mut ThreadStack) -> Result<Effect, EventRefusal>
     ensures { (p : LinkedProgram) (t : ℕ) (shared : Shared) → DoesOwn p linked.GetSystemOut t result shared shared stack.old stack.new }
 {
     match stack.frame_mut() {

@@ -8,7 +8,7 @@ ghost use Rattle.machine_state.specs.linked_frames.Frames.{CanRun, DoesOwn};
 use crate::monitor_instructions::frames::{go_on, object_on_top};
 use heap::monitor_events as events;
 use linked_code::thread_stacks::ThreadStack;
-use machine_state::{Effect, MachineException, Refusal, Shared};
+use machine_state::{Effect, EventRefusal, MachineException, Shared};
 
 /// `monitorenter`: the thread enters the monitor of the object on top once; it waits while another thread owns it.
 ///
@@ -21,7 +21,7 @@ pub fn monitor_enter(
     shared: &mut Shared,
     stack: &mut ThreadStack,
     thread: u16,
-) -> Result<Effect, Refusal>
+) -> Result<Effect, EventRefusal>
     requires { (p : LinkedProgram) × CanRun p thread shared.old stack.old linked.MonitorEnter }
     ensures { (p : LinkedProgram) → DoesOwn p linked.MonitorEnter thread result shared.old shared.new stack.old stack.new }
 {

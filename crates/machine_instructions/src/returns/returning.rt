@@ -10,7 +10,7 @@ use crate::returns::leaving::{entered_by_top, leave, may_leave};
 use crate::returns::places::next_place_under;
 use linked_code::LinkedProgram;
 use linked_code::thread_stacks::ThreadStack;
-use machine_state::{Effect, MachineException, Refusal, Shared};
+use machine_state::{Effect, EventRefusal, MachineException, Shared};
 
 /// What the frame on top returns: the word on top of its operands, or nothing.
 #[inline]
@@ -36,7 +36,7 @@ pub fn return_from(
     program: &LinkedProgram,
     thread: u16,
     value: bool,
-) -> Result<Effect, Refusal>
+) -> Result<Effect, EventRefusal>
     ensures { DoesOwn program.now (returning value) thread result shared.old shared.new stack.old stack.new }
 {
     let entered = entered_by_top(stack);

@@ -5,7 +5,7 @@ ghost use Rattle.machine_instructions.specs.returns.Unwound.{Unwinds};
 use crate::returns::leaving::{entered_by_top, leave, may_leave};
 use linked_code::thread_stacks::ThreadStack;
 use machine_state::raised_exceptions::raise;
-use machine_state::{Answer, MachineException, Refusal, Shared};
+use machine_state::{Answer, EventRefusal, MachineException, Shared};
 
 /// The exception that is pending ends the frame on top (JVMS 2.10): it goes, and the monitor that the invocation entered is left
 /// once. Where another thread or none owns that monitor, an IllegalMonitorStateException is pending instead.
@@ -13,7 +13,11 @@ use machine_state::{Answer, MachineException, Refusal, Shared};
 /// # Errors
 ///
 /// Where that exception can't be made: as many objects as may be were made, or there is no memory. Nothing has changed then.
-pub fn unwind(shared: &mut Shared, stack: &mut ThreadStack, thread: u16) -> Result<Answer, Refusal>
+pub fn unwind(
+    shared: &mut Shared,
+    stack: &mut ThreadStack,
+    thread: u16,
+) -> Result<Answer, EventRefusal>
     ensures { Unwinds result thread shared.old shared.new stack.old stack.new }
 {
     let entered = entered_by_top(stack);

@@ -5,7 +5,7 @@ ghost use Rattle.machine_instructions.specs.thread_methods.Called.{CanCall, Does
 use crate::thread_methods::{lives, printing, targets, waiting};
 use linked_code::BuiltInMethod;
 use linked_code::thread_stacks::ThreadStack;
-use machine_state::{Effect, Refusal, Shared};
+use machine_state::{Effect, EventRefusal, Shared};
 
 /// By an event that picks nothing.
 fn run_unpicked(
@@ -15,7 +15,7 @@ fn run_unpicked(
     method: BuiltInMethod,
     operands: usize,
     next: usize,
-) -> Result<Effect, Refusal>
+) -> Result<Effect, EventRefusal>
     requires { CanCall thread shared.old stack.old method operands next }
     ensures { DoesUnpicked method operands next thread result shared.old shared.new stack.old stack.new }
 {
@@ -62,7 +62,7 @@ pub fn run_built_in(
     method: BuiltInMethod,
     operands: usize,
     next: usize,
-) -> Result<Effect, Refusal>
+) -> Result<Effect, EventRefusal>
     requires { CanCall thread shared.old stack.old method operands next }
     ensures { DoesCall method operands next (record { thread = thread; pick = pick }) result shared.old shared.new stack.old stack.new }
 {

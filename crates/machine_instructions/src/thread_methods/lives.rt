@@ -14,7 +14,7 @@ use crate::thread_methods::moves::{answer, go_on, object};
 use heap::java_threads::Threads;
 use heap::{Heap, monitor_events as events};
 use linked_code::thread_stacks::ThreadStack;
-use machine_state::{Effect, MachineException, Refusal, Shared};
+use machine_state::{Effect, EventRefusal, MachineException, Shared};
 
 /// The word of a boolean (JVMS 2.3.4).
 fn word_of(flag: bool) -> u32
@@ -38,7 +38,7 @@ pub(crate) fn start(
     stack: &mut ThreadStack,
     operands: usize,
     next: usize,
-) -> Result<Effect, Refusal>
+) -> Result<Effect, EventRefusal>
     ensures { (t : ℕ) → DoesUnpicked method.ThreadStart operands next t result shared.old shared.new stack.old stack.new }
 {
     let spare = spare(&shared.stacks)?;
@@ -58,7 +58,7 @@ pub(crate) fn interrupt(
     stack: &mut ThreadStack,
     operands: usize,
     next: usize,
-) -> Result<Effect, Refusal>
+) -> Result<Effect, EventRefusal>
     requires { AreStatusesWithin shared.old.heap shared.old.threads }
     ensures { (t : ℕ) → DoesUnpicked method.ThreadInterrupt operands next t result shared.old shared.new stack.old stack.new }
 {
@@ -85,7 +85,7 @@ pub(crate) fn ask_interrupted(
     stack: &mut ThreadStack,
     operands: usize,
     next: usize,
-) -> Result<Effect, Refusal>
+) -> Result<Effect, EventRefusal>
     ensures { (t : ℕ) → DoesUnpicked method.ThreadIsInterrupted operands next t result shared.now shared.now stack.old stack.new }
 {
     let interrupted = is_interrupted(&shared.threads, object(stack, 0));
@@ -99,7 +99,7 @@ pub(crate) fn take_interrupted(
     thread: u16,
     operands: usize,
     next: usize,
-) -> Result<Effect, Refusal>
+) -> Result<Effect, EventRefusal>
     ensures { DoesUnpicked method.ThreadInterrupted operands next thread result shared.old shared.new stack.old stack.new }
 {
     let interrupted = shared.threads.interrupted(thread);
@@ -114,7 +114,7 @@ pub(crate) fn ask_alive(
     stack: &mut ThreadStack,
     operands: usize,
     next: usize,
-) -> Result<Effect, Refusal>
+) -> Result<Effect, EventRefusal>
     ensures { (t : ℕ) → DoesUnpicked method.ThreadIsAlive operands next t result shared.now shared.now stack.old stack.new }
 {
     let alive = events::is_alive(&shared.threads, object(stack, 0));
@@ -128,7 +128,7 @@ pub(crate) fn current_thread(
     thread: u16,
     operands: usize,
     next: usize,
-) -> Result<Effect, Refusal>
+) -> Result<Effect, EventRefusal>
     requires { (row_at shared.now.threads.threads thread).object < length shared.now.heap.objects }
     ensures { DoesUnpicked method.ThreadCurrentThread operands next thread result shared.now shared.now stack.old stack.new }
 {
@@ -143,7 +143,7 @@ pub(crate) fn join(
     thread: u16,
     operands: usize,
     next: usize,
-) -> Result<Effect, Refusal>
+) -> Result<Effect, EventRefusal>
     ensures { DoesUnpicked method.ThreadJoin operands next thread result shared.now shared.now stack.old stack.new }
 {
     if events::is_alive(&shared.threads, object(stack, 0)) {

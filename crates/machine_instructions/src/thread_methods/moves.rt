@@ -5,7 +5,7 @@ ghost use Rattle.linked_code.specs.thread_stacks.Stacks.{on_top, without};
 ghost use Rattle.machine_instructions.specs.thread_methods.Moves.{operand_of, went_on, Answers};
 
 use linked_code::thread_stacks::ThreadStack;
-use machine_state::{Effect, Refusal};
+use machine_state::{Effect, EventRefusal};
 
 /// The operand under so many others, 0 where there is none.
 #[inline]
@@ -58,7 +58,7 @@ pub(crate) fn answer(
     operands: usize,
     next: usize,
     word: u32,
-) -> Result<Effect, Refusal>
+) -> Result<Effect, EventRefusal>
     ensures { Answers result operands word next stack.old stack.new }
 {
     if let Some(frame) = stack.frame_mut() {

@@ -7,7 +7,7 @@ ghost use Rattle.machine_instructions.specs.thread_methods.Called.{DoesUnpicked}
 use crate::thread_methods::growth::{add, spare};
 use crate::thread_methods::moves::{go_on, operand};
 use linked_code::thread_stacks::ThreadStack;
-use machine_state::{Effect, Refusal, Shared};
+use machine_state::{Effect, EventRefusal, Shared};
 
 /// `PrintStream.println(int)`: the number is printed.
 pub(crate) fn print_line(
@@ -15,7 +15,7 @@ pub(crate) fn print_line(
     stack: &mut ThreadStack,
     operands: usize,
     next: usize,
-) -> Result<Effect, Refusal>
+) -> Result<Effect, EventRefusal>
     ensures { (t : ℕ) → DoesUnpicked method.PrintStreamPrintln operands next t result shared.old shared.new stack.old stack.new }
 {
     let spare = spare(&shared.printed)?;

@@ -7,13 +7,17 @@ ghost use Rattle.machine_instructions.specs.thread_methods.Called.{DoesUnpicked}
 
 use crate::thread_methods::moves::{go_on, object, operand};
 use linked_code::thread_stacks::ThreadStack;
-use machine_state::{Effect, Refusal, Shared};
+use machine_state::{Effect, EventRefusal, Shared};
 
 /// The slot of the field `target` in an object of Thread or of a class below it.
 const TARGET: u32 = 0;
 
 /// `<init>()V` of a built-in class, which does nothing to its object, and `Thread.yield`, which does nothing.
-pub(crate) fn pass(stack: &mut ThreadStack, operands: usize, next: usize) -> Result<Effect, Refusal>
+pub(crate) fn pass(
+    stack: &mut ThreadStack,
+    operands: usize,
+    next: usize,
+) -> Result<Effect, EventRefusal>
     ensures construct { (shared : Shared) (t : ℕ) → DoesUnpicked method.Construct operands next t result shared shared stack.old stack.new }
     ensures yields { (shared : Shared) (t : ℕ) → DoesUnpicked method.ThreadYield operands next t result shared shared stack.old stack.new }
 {
@@ -27,7 +31,7 @@ pub(crate) fn set_target(
     stack: &mut ThreadStack,
     operands: usize,
     next: usize,
-) -> Result<Effect, Refusal>
+) -> Result<Effect, EventRefusal>
     ensures { (t : ℕ) → DoesUnpicked method.ConstructWithTarget operands next t result shared.old shared.new stack.old stack.new }
 {
     let target = operand(stack, 0);

@@ -10,7 +10,7 @@ ghost use Rattle.machine_instructions.specs.thread_methods.Called.{DoesCall, Doe
 use crate::thread_methods::moves::{go_on, object, stay};
 use heap::{Heap, monitor_events as events};
 use linked_code::thread_stacks::ThreadStack;
-use machine_state::{Effect, MachineException, Refusal, Shared};
+use machine_state::{Effect, EventRefusal, MachineException, Shared};
 
 /// `Object.wait` (JLS 17.2.1): the thread joins the wait set, and stays at its call. One that is interrupted doesn't join.
 pub(crate) fn wait(
@@ -19,7 +19,7 @@ pub(crate) fn wait(
     thread: u16,
     operands: usize,
     next: usize,
-) -> Result<Effect, Refusal>
+) -> Result<Effect, EventRefusal>
     requires there { operand_of 0 stack.old - 1 < length shared.old.heap.locks.monitors }
     requires started { thread < length shared.old.threads.threads }
     ensures { DoesUnpicked method.ObjectWait operands next thread result shared.old shared.new stack.old stack.new }
@@ -62,7 +62,7 @@ pub(crate) fn notify(
     pick: u16,
     operands: usize,
     next: usize,
-) -> Result<Effect, Refusal>
+) -> Result<Effect, EventRefusal>
     requires { operand_of 0 stack.old - 1 < length shared.old.heap.locks.monitors }
     ensures { DoesCall method.ObjectNotify operands next (record { thread = thread; pick = pick }) result shared.old shared.new stack.old
         stack.new }
@@ -85,7 +85,7 @@ pub(crate) fn notify_all(
     thread: u16,
     operands: usize,
     next: usize,
-) -> Result<Effect, Refusal>
+) -> Result<Effect, EventRefusal>
     requires { operand_of 0 stack.old - 1 < length shared.old.heap.locks.monitors }
     ensures { DoesUnpicked method.ObjectNotifyAll operands next thread result shared.old shared.new stack.old stack.new }
 {

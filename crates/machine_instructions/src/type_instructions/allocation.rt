@@ -8,7 +8,7 @@ ghost use Rattle.machine_instructions.specs.type_instructions.Leaving.{LeavesNew
 use crate::type_instructions::leaving::{go_on, set_top};
 use heap::{AllocRefusal, Heap, ObjectKind};
 use linked_code::thread_stacks::Frame;
-use machine_state::{Effect, Refusal};
+use machine_state::{Effect, EventRefusal};
 
 /// One more object of a kind, with so many words, which are 0.
 #[inline]
@@ -34,7 +34,7 @@ pub(crate) fn leave_new(
     frame: &mut Frame,
     kind: ObjectKind,
     cells: u32,
-) -> Result<Effect, Refusal>
+) -> Result<Effect, EventRefusal>
     ensures { LeavesNew result kind cells 0 heap.old heap.new (shown_frame frame.old) (shown_frame frame.new) }
 {
     frame.make_room(1)?;
@@ -55,7 +55,7 @@ pub(crate) fn leave_new_on_top(
     frame: &mut Frame,
     kind: ObjectKind,
     cells: u32,
-) -> Result<Effect, Refusal>
+) -> Result<Effect, EventRefusal>
     ensures { LeavesNew result kind cells 1 heap.old heap.new (shown_frame frame.old) (shown_frame frame.new) }
 {
     let reference = allocate(heap, kind, cells)?;

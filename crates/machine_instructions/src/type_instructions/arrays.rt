@@ -9,9 +9,9 @@ ghost use Rattle.machine_instructions.specs.type_instructions.Arrays.{MakesArray
 
 use crate::type_instructions::allocation::leave_new_on_top;
 use heap::{NarrowKind, ObjectKind};
-use linked_code::Primitive;
 use linked_code::thread_stacks::ThreadStack;
-use machine_state::{Effect, MachineException, Refusal, Shared};
+use machine_state::{Effect, EventRefusal, MachineException, Shared};
+use model::Primitive;
 
 /// The kind of the arrays of a primitive type.
 #[inline]
@@ -34,7 +34,7 @@ fn make_array(
     shared: &mut Shared,
     stack: &mut ThreadStack,
     kind: ObjectKind,
-) -> Result<Effect, Refusal>
+) -> Result<Effect, EventRefusal>
     ensures { (p : LinkedProgram) (t : ℕ) → MakesArray p kind t result shared.old shared.new stack.old stack.new }
 {
     let Some(frame) = stack.frame_mut() else {
@@ -58,7 +58,7 @@ pub fn new_array(
     shared: &mut Shared,
     stack: &mut ThreadStack,
     of: Primitive,
-) -> Result<Effect, Refusal>
+) -> Result<Effect, EventRefusal>
     ensures { (p : LinkedProgram) (t : ℕ) → DoesOwn p (linked.NewArray of) t result shared.old shared.new stack.old stack.new }
 {
     make_array(shared, stack, kind_of_array(of))
@@ -74,7 +74,7 @@ pub fn new_reference_array(
     shared: &mut Shared,
     stack: &mut ThreadStack,
     component: u32,
-) -> Result<Effect, Refusal>
+) -> Result<Effect, EventRefusal>
     ensures { (p : LinkedProgram) (t : ℕ) → DoesOwn p (linked.NewReferenceArray component) t result shared.old shared.new stack.old
         stack.new }
 {

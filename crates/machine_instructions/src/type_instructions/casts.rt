@@ -10,7 +10,7 @@ use heap::Heap;
 use linked_code::thread_stacks::ThreadStack;
 use linked_code::{LinkedProgram, LinkedType};
 use machine_state::type_tests::is_object_below;
-use machine_state::{Effect, MachineException, Refusal, Shared};
+use machine_state::{Effect, EventRefusal, MachineException, Shared};
 
 /// Whether a word is null or that of an instance of a type.
 #[inline]
@@ -65,7 +65,7 @@ pub fn instance_of(
     stack: &mut ThreadStack,
     program: &LinkedProgram,
     of: LinkedType,
-) -> Result<Effect, Refusal>
+) -> Result<Effect, EventRefusal>
     ensures { (t : ℕ) → DoesOwn program.now (linked.InstanceOf of) t result shared.now shared.now stack.old stack.new }
 {
     let Some(frame) = stack.frame_mut() else {

@@ -10,7 +10,7 @@ use crate::type_instructions::allocation::leave_new;
 use crate::type_instructions::leaving::leave;
 use heap::ObjectKind;
 use linked_code::thread_stacks::ThreadStack;
-use machine_state::{Effect, MachineException, Refusal, Shared};
+use machine_state::{Effect, EventRefusal, MachineException, Shared};
 
 /// `ldc` of an object that is there from the start: its word, the reference and one, goes onto the stack.
 ///
@@ -18,7 +18,7 @@ use machine_state::{Effect, MachineException, Refusal, Shared};
 ///
 /// Where there is no memory for the word; nothing has changed then.
 #[inline]
-pub fn load_object(stack: &mut ThreadStack, word: u32) -> Result<Effect, Refusal>
+pub fn load_object(stack: &mut ThreadStack, word: u32) -> Result<Effect, EventRefusal>
     ensures { (p : LinkedProgram) (t : ℕ) (shared : Shared)
         → DoesOwn p (linked.LoadObject word) t result shared shared stack.old stack.new }
 {
@@ -40,7 +40,7 @@ pub fn new_object(
     stack: &mut ThreadStack,
     class: u16,
     fields: u16,
-) -> Result<Effect, Refusal>
+) -> Result<Effect, EventRefusal>
     ensures { (p : LinkedProgram) (t : ℕ) → DoesOwn p (linked.New class fields) t result shared.old shared.new stack.old stack.new }
 {
     let Some(frame) = stack.frame_mut() else {

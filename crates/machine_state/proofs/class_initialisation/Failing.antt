@@ -15,7 +15,7 @@ use Rattle.linked_code.specs.thread_stacks.Stacks.{ShownEntry}
 use Rattle.machine_state.specs.shown_stacks.Shown.{ShowsStack}
 use Rattle.machine_state.specs.declared.answers.Answer.{Answer}
 use Rattle.machine_state.specs.declared.answers.Answer.TheVariants as answer
-use Rattle.machine_state.specs.declared.refusals.Refusal.{Refusal}
+use Rattle.machine_state.specs.declared.refusals.EventRefusal.{EventRefusal}
 use Rattle.machine_state.specs.declared.state.ClassStatus.{ClassStatus}
 use Rattle.machine_state.specs.declared.state.Shared.{Shared}
 use Rattle.machine_state.specs.Shown.{IsProgram, shown_status}
@@ -34,7 +34,7 @@ module _ (trees : Program) (p : LinkedProgram) (bounds : Bounds) (inflated : Lis
   after = with_class_status world class (shown_status status)
 
   -- refused, it changes nothing, and so at this status
-  pub still_refused : (told : Refusal) (mid : Shared) (from under : List ShownEntry)
+  pub still_refused : (told : EventRefusal) (mid : Shared) (from under : List ShownEntry)
       → Becomes trees p bounds inflated world (raised t fault world rest) (Err told) old mid under under
       → Becomes trees p bounds inflated world (raised t fault after rest) (Err told) old mid from from
   still_refused told mid from under h =

@@ -9,7 +9,7 @@ use Rattle.model.specs.ClassInitialisation.{IsReady, look_by}
 use Rattle.machine_state.specs.declared.state.ClassStatus.{ClassStatus}
 use Rattle.machine_state.specs.declared.state.ClassStatus.TheVariants as status
 use Rattle.machine_state.specs.declared.answers.Answer.{Answer}
-use Rattle.machine_state.specs.declared.refusals.Refusal.{Refusal}
+use Rattle.machine_state.specs.declared.refusals.EventRefusal.{EventRefusal}
 use Rattle.machine_state.specs.Shown.{shown_status, is_initialised}
 
 -- the status that is kept
@@ -31,16 +31,16 @@ pub ready_look : (t : ℕ) (s : model.ClassStatus) (flags : List Bool) (number :
 ready_look t s flags number flag e on h = ready_by t s (sym (ap (λ o. unwrap_or o false) h) ∙ sym e ∙ on)
 
 -- what is said of an answer is said of it as the one of need_class
-pub instead : (P : Result Answer Refusal → Type 0) (Q : Result (Option Answer) Refusal → Type 0)
-    → ((answer : Answer) → P (Ok answer) → Q (Ok (Some answer))) → ((told : Refusal) → P (Err told) → Q (Err told))
-    → (result : Result Answer Refusal) (mapped : Result (Option Answer) Refusal)
+pub instead : (P : Result Answer EventRefusal → Type 0) (Q : Result (Option Answer) EventRefusal → Type 0)
+    → ((answer : Answer) → P (Ok answer) → Q (Ok (Some answer))) → ((told : EventRefusal) → P (Err told) → Q (Err told))
+    → (result : Result Answer EventRefusal) (mapped : Result (Option Answer) EventRefusal)
     → MatchResult result (λ answer. IsOkAnd mapped (λ o. o ≡ Some answer)) (λ told. mapped ≡ Err told) → P result → Q mapped
 instead P Q ok err (Ok answer) (Ok o) h e = subst (λ (o : Option Answer). Q (Ok o)) (sym h) (ok answer e)
 instead P Q ok err (Ok answer) (Err told) h e = absurd h
 instead P Q ok err (Err told) mapped h e = subst Q (sym h) (err told e)
 
 -- a refusal that is handed on
-pub told_so : (P : Result Answer Refusal → Type 0) (why : Refusal) (result : Result Answer Refusal) → IsErrAnd result (λ told. told ≡ why)
+pub told_so : (P : Result Answer EventRefusal → Type 0) (why : EventRefusal) (result : Result Answer EventRefusal) → IsErrAnd result (λ told. told ≡ why)
     → P (Err why) → P result
 told_so P why (Ok answer) e h = absurd e
-told_so P why (Err told) e h = subst (λ (r : Refusal). P (Err r)) (sym e) h
+told_so P why (Err told) e h = subst (λ (r : EventRefusal). P (Err r)) (sym e) h

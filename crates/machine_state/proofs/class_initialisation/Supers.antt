@@ -13,7 +13,7 @@ use Rattle.linked_code.specs.Numbers.{IsClassAt, IsClassIf}
 use Rattle.linked_code.specs.thread_stacks.Stacks.{ShownEntry}
 use Rattle.machine_state.specs.shown_stacks.Shown.{ShowsStack}
 use Rattle.machine_state.specs.declared.answers.Answer.{Answer}
-use Rattle.machine_state.specs.declared.refusals.Refusal.{Refusal}
+use Rattle.machine_state.specs.declared.refusals.EventRefusal.{EventRefusal}
 use Rattle.machine_state.specs.declared.state.Shared.{Shared}
 use Rattle.machine_state.specs.Shown.{IsProgram}
 use Rattle.machine_state.specs.Events.{Becomes, IsUnchanged}
@@ -31,7 +31,7 @@ none_first trees (Some superclass) h = absurd h
 
 module _ (trees : Program) (p : LinkedProgram) (bounds : Bounds) (inflated : List ℕ) (world : WorldOf ℕ) (class : Name) (rest : StackOf ℕ)
     (frames t : ℕ)
-    (result : Result Answer Refusal) (old new : Shared) (from to : List ShownEntry) where
+    (result : Result Answer EventRefusal) (old new : Shared) (from to : List ShownEntry) where
   -- what becomes of the class, by what comes before it
   abbrev pub Steps : Option Name → Type 0
   Steps first =

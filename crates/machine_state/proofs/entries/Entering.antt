@@ -16,8 +16,8 @@ use Rattle.model.specs.Worlds.{is_done, may_enter, is_owner, with_entry, entry_c
 use Rattle.model.specs.BuiltInMethods.{waiting}
 use Rattle.heap.specs.declared.monitor.call.Call.{Call}
 use Rattle.heap.specs.declared.monitor.call.Call.TheVariants as calls
-use Rattle.heap.specs.declared.monitor.refusal.Refusal.{Refusal}
-use Rattle.heap.specs.declared.monitor.refusal.Refusal.TheVariants as refusal
+use Rattle.heap.specs.declared.monitor.refusal.MonitorRefusal.{MonitorRefusal}
+use Rattle.heap.specs.declared.monitor.refusal.MonitorRefusal.TheVariants as refusal
 use Rattle.heap.specs.monitor.Locks as locks
 use Rattle.heap.specs.monitor.Locks.{Locks, is_fat_at, inflates_in, fat_after, takes_memory}
 use Rattle.heap.specs.Heap.{Heap}
@@ -66,20 +66,20 @@ none_told : (call : Call) (l : Locks) → IsWithin call l → call_limit call l 
 none_told call l w = λ i. if w.count i then Some cause.LockCount else if w.table i then Some cause.Monitors else None
 
 -- what a refusal tells
-told_by_limit : (trees : Program) (bounds : Bounds) (inflated : List ℕ) (world : WorldOf ℕ) (cost : Cost) (told : Refusal)
+told_by_limit : (trees : Program) (bounds : Bounds) (inflated : List ℕ) (world : WorldOf ℕ) (cost : Cost) (told : MonitorRefusal)
     → limit_of trees bounds inflated world cost ≡ limit_told (Err told) → MayBeRefused trees bounds inflated world cost (of_monitors told)
 told_by_limit trees bounds inflated world cost refusal.Monitors e = e
 told_by_limit trees bounds inflated world cost refusal.LockCount e = e
 told_by_limit trees bounds inflated world cost refusal.Memory e = tt
 
 -- only an owner is refused
-refused_owner : (object t : ℕ) (told : Refusal) (old new : Locks) → locks.IsRefused told (calls.Enter object t) old new
+refused_owner : (object t : ℕ) (told : MonitorRefusal) (old new : Locks) → locks.IsRefused told (calls.Enter object t) old new
     → owns t (monitor_at old.monitors object).owner ≡ true
 refused_owner object t refusal.Monitors old new why = (and_parts _ _ (and_parts _ _ why.0).0).0
 refused_owner object t refusal.LockCount old new why = (and_parts _ _ why.0).0
 refused_owner object t refusal.Memory old new why = (and_parts _ _ (and_parts _ _ why.0).0).0
 
-refused_waiter : (object t : ℕ) (told : Refusal) (old new : Locks) → locks.IsRefused told (calls.Wait object t) old new
+refused_waiter : (object t : ℕ) (told : MonitorRefusal) (old new : Locks) → locks.IsRefused told (calls.Wait object t) old new
     → owns t (monitor_at old.monitors object).owner ≡ true
 refused_waiter object t refusal.Monitors old new why = (and_parts _ _ why.0).0
 refused_waiter object t refusal.LockCount old new why = absurd (false≢true why.0)
@@ -141,7 +141,7 @@ module _ (trees : Program) (p : LinkedProgram) (bounds : Bounds) (inflated : Lis
       let locks : new.heap.locks ≡ old.heap.locks = λ i. record { monitors = monitors i; fat = fat i; limit = becomes.limit i } in
       same ∙ ap (λ (h : Heap). record old { heap = h }) (becomes.rest ∙ ap (λ (l : Locks). record old.heap { locks = l }) locks)
 
-  enters : (result : Result Bool Refusal) → Enters result object t old.heap new.heap → new ≡ record old { heap = new.heap }
+  enters : (result : Result Bool MonitorRefusal) → Enters result object t old.heap new.heap → new ≡ record old { heap = new.heap }
       → EntersIn trees p bounds inflated world t object result old new
   enters (Ok true) e same =
       let may : is_done (enter object t old.heap.locks.monitors).answer ≡ true = sym (e.0 world) in
@@ -173,7 +173,7 @@ module _ (trees : Program) (p : LinkedProgram) (bounds : Bounds) (inflated : Lis
   wait_limit : owns t m.owner ≡ true → limit_of trees bounds inflated world (Joins object) ≡ call_limit wait old.heap.locks
   wait_limit own = (λ i. if is_crowded (sym s.represents.limits.monitors i) inflated object then Some cause.Monitors else None) ∙ sym (joined own).refused
 
-  waits : (result : Result Bool Refusal) → WaitsBy result object t old.heap new.heap old.threads new.threads
+  waits : (result : Result Bool MonitorRefusal) → WaitsBy result object t old.heap new.heap old.threads new.threads
       → new ≡ record old { heap = new.heap; threads = new.threads }
       → WaitsIn trees p bounds inflated world t object result old new
   waits (Ok true) e same =

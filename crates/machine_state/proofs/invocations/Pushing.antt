@@ -24,8 +24,8 @@ use Rattle.machine_state.proofs.shown_stacks.Laws.{counted, begin, call, two_ste
 use Rattle.machine_state.specs.declared.answers.MachineException.TheVariants as exception
 use Rattle.machine_state.specs.declared.answers.Effect.{Effect}
 use Rattle.machine_state.specs.declared.answers.Effect.TheVariants as effect
-use Rattle.machine_state.specs.declared.refusals.Refusal.{Refusal}
-use Rattle.machine_state.specs.declared.refusals.Refusal.TheVariants as refusal
+use Rattle.machine_state.specs.declared.refusals.EventRefusal.{EventRefusal}
+use Rattle.machine_state.specs.declared.refusals.EventRefusal.TheVariants as refusal
 use Rattle.machine_state.specs.declared.state.Shared.{Shared}
 use Rattle.machine_state.specs.Events.{MayBeRefused}
 use Rattle.machine_state.specs.Instructions.{Does}
@@ -70,7 +70,7 @@ module _ (trees : Program) (p : LinkedProgram) (bounds : Bounds) (inflated : Lis
   abbrev next : SteppedOf (PartOf ℕ)
   next = Next (begin_cost world frame.entered) (part (with_begin world t frame.entered) (Invocation frame ∷ rest))
 
-  abbrev Comes : Result Effect Refusal → Shared → List ShownEntry → Type 0
+  abbrev Comes : Result Effect EventRefusal → Shared → List ShownEntry → Type 0
   Comes result new to = Does trees p bounds inflated t world own stepped result old new from to
 
   -- there are as many frames as may be
@@ -100,18 +100,18 @@ module _ (trees : Program) (p : LinkedProgram) (bounds : Bounds) (inflated : Lis
       goes : stepped ≡ next
       goes = pushes ∙ ap (λ b. enabled_if b next) (may_is true says)
 
-      refused : (told : Refusal) (new : Shared) (to : List ShownEntry)
+      refused : (told : EventRefusal) (new : Shared) (to : List ShownEntry)
           → MayBeRefused trees bounds inflated world (begin_cost world frame.entered) told → new ≡ old → to ≡ from → Comes (Err told) new to
       refused told new to may same kept = (record { cost = begin_cost world frame.entered; next = _; is = goes; may = may }, record { shared = same; stack = kept })
 
       -- there is no memory for the frame
-      pub lacks : (result : Result Effect Refusal) → IsErrAnd result (λ told. told ≡ refusal.Memory) → (to : List ShownEntry) → to ≡ from
+      pub lacks : (result : Result Effect EventRefusal) → IsErrAnd result (λ told. told ≡ refusal.Memory) → (to : List ShownEntry) → to ≡ from
           → Comes result old to
       lacks (Ok u) e to kept = absurd e
       lacks (Err told) e to kept = refused told old to (subst (MayBeRefused trees bounds inflated world (begin_cost world frame.entered)) (sym e) tt) refl kept
 
       -- the entry is refused
-      pub forbidden : (told : Refusal) (new : Shared) (to : List ShownEntry) → EntersFor (Err told) t frame.entered old new → to ≡ from
+      pub forbidden : (told : EventRefusal) (new : Shared) (to : List ShownEntry) → EntersFor (Err told) t frame.entered old new → to ≡ from
           → Comes (Err told) new to
       forbidden told new to e kept =
           let by : EntersBy trees p bounds inflated world (Err told) t frame.entered old new = e trees p bounds inflated world s (may_is true says) in

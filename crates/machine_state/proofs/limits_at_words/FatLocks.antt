@@ -12,7 +12,7 @@ use Rattle.model.specs.Monitors.{Answered, answers_done, owned, owns, as_entrant
 use Rattle.model.specs.LimitStands.{is_inflating_entry, with_inflated, inflated_by, is_crowded}
 use Rattle.heap.specs.declared.monitor.call.Call.{Call}
 use Rattle.heap.specs.declared.monitor.call.Call.TheVariants as calls
-use Rattle.heap.specs.declared.monitor.refusal.Refusal.TheVariants.{Monitors, LockCount, Memory}
+use Rattle.heap.specs.declared.monitor.refusal.MonitorRefusal.TheVariants.{Monitors, LockCount, Memory}
 use Rattle.heap.specs.monitor.Locks.{Locks, is_fat_at, fat_count, inflates_in, takes_memory, is_table_full, is_count_full}
 use Rattle.run_laws.specs.monitor_counts.Counts.{is_inflated, IsOwnerCounted}
 use Rattle.machine_state.specs.limits_at_words.FatLocks.{AreFlags, flags_after, IsOneOf, call_limit, AreEntriesAsTaken, AreWaitsAsTaken, AreRelocksAllowed, AreRefusalsLimits, AreFlagsKept, AreCallsAsTaken}

@@ -22,7 +22,7 @@ use Rattle.machine_state.specs.shown_objects.Shown.{ShowsObject}
 use Rattle.machine_state.specs.shown_stacks.Shown.{ShowsStack}
 use Rattle.machine_state.specs.declared.answers.Answer.{Answer}
 use Rattle.machine_state.specs.declared.answers.MachineException.{MachineException}
-use Rattle.machine_state.specs.declared.refusals.Refusal.{Refusal}
+use Rattle.machine_state.specs.declared.refusals.EventRefusal.{EventRefusal}
 use Rattle.machine_state.specs.declared.state.Shared.{Shared}
 use Rattle.machine_state.specs.Refusals.{of_heap}
 use Rattle.machine_state.specs.Instructions.{shown_exception}
@@ -39,7 +39,7 @@ module _ (trees : Program) (p : LinkedProgram) (bounds : Bounds) (inflated : Lis
   -- ---- refused
 
   pub told_as : (next : PartOf ℕ) (object : ObjectKind) (why : AllocRefusal) (after : Heap) → heap.IsRefused why 0 old.heap after
-      → (result : Result Answer Refusal) → IsErrAnd result (λ told. told ≡ of_heap why)
+      → (result : Result Answer EventRefusal) → IsErrAnd result (λ told. told ≡ of_heap why)
       → Becomes trees p bounds inflated world (Next (Makes 0) next) result old (record old { heap = after }) shown shown
   told_as next object why after is (Ok u) e = absurd e
   told_as next object why after is (Err told) e =

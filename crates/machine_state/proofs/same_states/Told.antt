@@ -19,7 +19,8 @@ use Rattle.linked_code.specs.declared.program.LinkedProgram.{LinkedProgram}
 use Rattle.linked_code.specs.declared.types.Element.{Element}
 use Rattle.linked_code.specs.declared.types.Element.TheVariants as element
 use Rattle.linked_code.specs.declared.types.LinkedType.{LinkedType}
-use Rattle.linked_code.specs.Numbers.{IsClassAt, IsMethodAt, IsClassOf, IsArrayOf, IsType, IsTypeAt, IsTypeWith, methods_of, primitive_of}
+use Rattle.model.specs.Primitives.{primitive_of}
+use Rattle.linked_code.specs.Numbers.{IsClassAt, IsMethodAt, IsClassOf, IsArrayOf, IsType, IsTypeAt, IsTypeWith, methods_of}
 use Rattle.linked_code.specs.thread_stacks.Stacks.{ShownFrame, ShownEntry, Invocation, Initialisation}
 use Rattle.machine_state.specs.shown_objects.Shown.{names_of, words_in, cells_of, primitive_in, IsKindOf, ShowsObject, ShowsObjects, ShowsStatics}
 use Rattle.machine_state.specs.shown_stacks.Shown.{ShowsFrame, ShowsEntry, ShowsStack, phase_of, offset_at}

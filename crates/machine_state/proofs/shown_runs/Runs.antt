@@ -26,8 +26,8 @@ use Rattle.run_laws.proofs.word_reports.Reported.{reported}
 use Rattle.linked_code.specs.declared.program.LinkedProgram.{LinkedProgram}
 use Rattle.machine_state.specs.declared.answers.Answer.{Answer}
 use Rattle.machine_state.specs.declared.answers.Answer.TheVariants as answer
-use Rattle.machine_state.specs.declared.refusals.Refusal.{Refusal}
-use Rattle.machine_state.specs.declared.refusals.Refusal.TheVariants as refusal
+use Rattle.machine_state.specs.declared.refusals.EventRefusal.{EventRefusal}
+use Rattle.machine_state.specs.declared.refusals.EventRefusal.TheVariants as refusal
 use Rattle.machine_state.specs.declared.state.Shared.{Shared}
 use Rattle.machine_state.specs.Events.{MayBeRefused}
 use Rattle.machine_state.specs.state_events.Whole.{IsShown, IsSame, Turns}
@@ -111,7 +111,7 @@ module _ (files : List (List ℕ)) (trees : Program) (accepted : IsAccepted file
   told_after cost next is o e =
       sym (limits_standing files trees accepted.linkable bounds events at lead.state event lead.reached lead.are) ∙ ap (limit_by trees bounds crowded at) is ∙ e
 
-  pub refused_after : (cost : Cost) (next : StateOf ℕ) → stepped words trees bounds.frames at event ≡ Next cost next → (told : Refusal)
+  pub refused_after : (cost : Cost) (next : StateOf ℕ) → stepped words trees bounds.frames at event ≡ Next cost next → (told : EventRefusal)
       → MayBeRefused trees bounds (inflated trees bounds.frames events) at.world cost told → IsRefusedAfter trees bounds events event told
   refused_after cost next is refusal.Objects may = told_after cost next is _ may
   refused_after cost next is refusal.Cells may = told_after cost next is _ may
@@ -131,7 +131,7 @@ module _ (files : List (List ℕ)) (trees : Program) (accepted : IsAccepted file
   pub still : (new : Shared) → IsSame old new → HasRun trees p bounds new events
   still new same = record { at = has.at; lead = has.lead; shown = shown_still trees p bounds (inflated trees bounds.frames events) old new has.at has.shown same }
 
-  pub going_on : (new : Shared) (result : Result Answer Refusal)
+  pub going_on : (new : Shared) (result : Result Answer EventRefusal)
       → Turns trees p bounds (inflated trees bounds.frames events) has.at event result old new
       → GoesOn trees p bounds events has.lead.state event result new
   going_on new (Ok answer.Done) t =

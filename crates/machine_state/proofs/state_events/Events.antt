@@ -32,7 +32,7 @@ use Rattle.linked_code.specs.thread_stacks.Stacks.{ShownEntry}
 use Rattle.machine_state.specs.shown_stacks.Shown.{ShowsStack}
 use Rattle.machine_state.specs.declared.answers.Answer.{Answer}
 use Rattle.machine_state.specs.declared.answers.Answer.TheVariants as answer
-use Rattle.machine_state.specs.declared.refusals.Refusal.{Refusal}
+use Rattle.machine_state.specs.declared.refusals.EventRefusal.{EventRefusal}
 use Rattle.machine_state.specs.declared.state.Shared.{Shared}
 use Rattle.machine_state.specs.Shown.{Represents}
 use Rattle.machine_state.specs.Events.{AreStacksAdded, HasBecome, Becomes}
@@ -236,7 +236,7 @@ module _ (files : List (List ℕ)) (trees : Program) (accepted : IsAccepted file
             ∙ set_same shared.stacks.items event.thread from kept_is;
       }
 
-  turns : (result : Result Answer Refusal) (after : Shared) (to : List ShownEntry)
+  turns : (result : Result Answer EventRefusal) (after : Shared) (to : List ShownEntry)
       → Becomes trees p bounds inflated state.world part_after result lent after from to
       → (new : Shared) → HasInPlace event.thread to after new → Turns trees p bounds inflated state event result shared new
   turns (Ok answer.Done) after to b new given = is_done after to b.cost b.next b.is b.becomes new given

@@ -10,7 +10,7 @@ use Rattle.heap.specs.Heap.{Object, kind_of}
 use Rattle.heap.specs.declared.kind.NarrowKind.TheVariants as narrow
 use Rattle.heap.specs.declared.kind.ObjectKind.{ObjectKind}
 use Rattle.heap.specs.declared.kind.ObjectKind.TheVariants as kind
-use Rattle.linked_code.specs.declared.types.Primitive.TheVariants as linked
+use Rattle.model.specs.declared.primitive.Primitive.TheVariants as linked
 use Rattle.linked_code.specs.declared.types.Element.{Element}
 use Rattle.linked_code.specs.declared.types.Element.TheVariants as element
 use Rattle.linked_code.specs.declared.types.LinkedType.{LinkedType}

@@ -17,14 +17,14 @@ use Rattle.linked_code.specs.declared.thread_stacks.frame.Callee.{Callee}
 use Rattle.linked_code.specs.thread_stacks.Stacks.{ShownEntry}
 use Rattle.machine_state.specs.shown_stacks.Shown.{ShowsStack, IsCallee, phase_of}
 use Rattle.machine_state.specs.declared.answers.Answer.{Answer}
-use Rattle.machine_state.specs.declared.refusals.Refusal.{Refusal}
+use Rattle.machine_state.specs.declared.refusals.EventRefusal.{EventRefusal}
 use Rattle.machine_state.specs.declared.state.Shared.{Shared}
 use Rattle.machine_state.specs.Shown.{IsProgram, Represents}
 use Rattle.machine_state.specs.Events.{Becomes}
 use Rattle.machine_state.specs.entries.Entered.{IsShared}
 
 -- an exception comes to the class on top, by its number: it is erroneous (steps 11 and 12)
-abbrev pub Fails : Result Answer Refusal → (t number : ℕ) → (is_error : Bool) → (old new : Shared) (from to : List ShownEntry) → Type 0
+abbrev pub Fails : Result Answer EventRefusal → (t number : ℕ) → (is_error : Bool) → (old new : Shared) (from to : List ShownEntry) → Type 0
 Fails result t number is_error old new from to =
     (trees : Program) (p : LinkedProgram) (bounds : Bounds) (inflated : List ℕ) (world : WorldOf ℕ) → IsProgram trees p → Represents trees p bounds old world
     → (class : Name) (phase : Phase) (rest : StackOf ℕ) → IsClassAt trees number class
@@ -66,7 +66,7 @@ IsInitialiserBy p number found =
 -- ---- its steps, in each world that is shown
 
 -- a method is called with no arguments, over whatever stands on the stack
-abbrev pub Calls : Result Answer Refusal → (t : ℕ) → Callee → (frames : ℕ) → (old new : Shared) (from to : List ShownEntry) → Type 0
+abbrev pub Calls : Result Answer EventRefusal → (t : ℕ) → Callee → (frames : ℕ) → (old new : Shared) (from to : List ShownEntry) → Type 0
 Calls result t callee frames old new from to =
     (trees : Program) (p : LinkedProgram) (bounds : Bounds) (inflated : List ℕ) (world : WorldOf ℕ) → IsShared trees p bounds inflated old world
     → (own : StackOf ℕ) → ShowsStack trees p from own
@@ -75,7 +75,7 @@ Calls result t callee frames old new from to =
     old new from to
 
 -- so over the class on top, which is done after that
-abbrev pub CallsOver : Result Answer Refusal → (t : ℕ) → Callee → (frames : ℕ) → (old new : Shared) (from to : List ShownEntry) → Type 0
+abbrev pub CallsOver : Result Answer EventRefusal → (t : ℕ) → Callee → (frames : ℕ) → (old new : Shared) (from to : List ShownEntry) → Type 0
 CallsOver result t callee frames old new from to =
     (trees : Program) (p : LinkedProgram) (bounds : Bounds) (inflated : List ℕ) (world : WorldOf ℕ) → IsShared trees p bounds inflated old world
     → (class : Name) (rest : StackOf ℕ) → ShowsStack trees p from (model.Initialisation class model.Super ∷ rest)
@@ -85,7 +85,7 @@ CallsOver result t callee frames old new from to =
     result old new from to
 
 -- the class's own initialiser is called, if it declares one (step 9)
-abbrev pub RunsInitialiser : LinkedProgram → Result Answer Refusal → (t number frames : ℕ) → (old new : Shared) (from to : List ShownEntry)
+abbrev pub RunsInitialiser : LinkedProgram → Result Answer EventRefusal → (t number frames : ℕ) → (old new : Shared) (from to : List ShownEntry)
     → Type 0
 RunsInitialiser p result t number frames old new from to =
     (trees : Program) (bounds : Bounds) (inflated : List ℕ) (world : WorldOf ℕ) → IsProgram trees p → IsShared trees p bounds inflated old world
@@ -96,7 +96,7 @@ RunsInitialiser p result t number frames old new from to =
     result old new from to
 
 -- the event of a thread with the class on top, by its number and its phase
-abbrev pub Initialises : LinkedProgram → Result Answer Refusal → (t number : ℕ) → LinkedPhase → (frames : ℕ) → (old new : Shared)
+abbrev pub Initialises : LinkedProgram → Result Answer EventRefusal → (t number : ℕ) → LinkedPhase → (frames : ℕ) → (old new : Shared)
     (from to : List ShownEntry) → Type 0
 Initialises p result t number phase frames old new from to =
     (trees : Program) (bounds : Bounds) (inflated : List ℕ) (world : WorldOf ℕ) → IsProgram trees p → IsShared trees p bounds inflated old world

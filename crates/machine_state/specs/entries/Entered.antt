@@ -6,7 +6,7 @@ use Rattle.model.specs.Outcomes.{Cost, Joins}
 use Rattle.model.specs.LimitStands.{Bounds}
 use Rattle.model.specs.Worlds.{may_enter, is_owner, with_entry, entry_cost}
 use Rattle.model.specs.BuiltInMethods.{waiting}
-use Rattle.heap.specs.declared.monitor.refusal.Refusal.{Refusal}
+use Rattle.heap.specs.declared.monitor.refusal.MonitorRefusal.{MonitorRefusal}
 use Rattle.run_laws.specs.monitor_counts.Counts.{is_inflated, AreMonitorsCounted}
 use Rattle.heap.specs.monitor_events.Events.{Enters, WaitsBy}
 use Rattle.machine_state.specs.limits_at_words.FatLocks.{AreFlags, flags_after}
@@ -31,7 +31,7 @@ pub record IsTaken (trees : Program) (p : LinkedProgram) (bounds : Bounds) (infl
   pub flags : new.heap.locks.fat ≡ flags_after cost old.heap.locks.fat
 
 -- it is refused at a limit that stands, or for want of memory
-pub record IsForbidden (trees : Program) (bounds : Bounds) (inflated : List ℕ) (world : WorldOf ℕ) (cost : Cost) (told : Refusal)
+pub record IsForbidden (trees : Program) (bounds : Bounds) (inflated : List ℕ) (world : WorldOf ℕ) (cost : Cost) (told : MonitorRefusal)
     (old new : Shared) : Type 0 where
   pub may : MayBeRefused trees bounds inflated world cost (of_monitors told)
   pub same : new ≡ old
@@ -39,7 +39,7 @@ pub record IsForbidden (trees : Program) (bounds : Bounds) (inflated : List ℕ)
 -- ---- entries
 
 -- where no other thread owns the monitor, it is entered once, or the entry is refused; where one does, nothing has changed
-abbrev pub EntersIn : Program → LinkedProgram → Bounds → List ℕ → WorldOf ℕ → (t object : ℕ) → Result Bool Refusal → Shared → Shared
+abbrev pub EntersIn : Program → LinkedProgram → Bounds → List ℕ → WorldOf ℕ → (t object : ℕ) → Result Bool MonitorRefusal → Shared → Shared
     → Type 0
 EntersIn trees p bounds inflated world t object (Ok true) old new =
     (may_enter world t object ≡ true) × IsTaken trees p bounds inflated world (entry_cost world object) (with_entry world t object) old new
@@ -50,13 +50,13 @@ EntersIn trees p bounds inflated world t object (Err told) old new =
 abbrev pub AreEntered : Type 0
 AreEntered =
     (trees : Program) (p : LinkedProgram) (bounds : Bounds) (inflated : List ℕ) (world : WorldOf ℕ) (old new : Shared) → IsShared trees p bounds inflated old world
-    → (t object : ℕ) (result : Result Bool Refusal) → Enters result object t old.heap new.heap → new ≡ record old { heap = new.heap }
+    → (t object : ℕ) (result : Result Bool MonitorRefusal) → Enters result object t old.heap new.heap → new ≡ record old { heap = new.heap }
     → EntersIn trees p bounds inflated world t object result old new
 
 -- ---- waits
 
 -- where the thread owns the monitor, it joins the wait set, or is refused; where it doesn't, nothing has changed
-abbrev pub WaitsIn : Program → LinkedProgram → Bounds → List ℕ → WorldOf ℕ → (t object : ℕ) → Result Bool Refusal → Shared → Shared → Type 0
+abbrev pub WaitsIn : Program → LinkedProgram → Bounds → List ℕ → WorldOf ℕ → (t object : ℕ) → Result Bool MonitorRefusal → Shared → Shared → Type 0
 WaitsIn trees p bounds inflated world t object (Ok true) old new =
     (is_owner world t object ≡ true) × IsTaken trees p bounds inflated world (Joins object) (waiting world t object) old new
 WaitsIn trees p bounds inflated world t object (Ok false) old new = (is_owner world t object ≡ false) × (new ≡ old)
@@ -66,6 +66,6 @@ WaitsIn trees p bounds inflated world t object (Err told) old new =
 abbrev pub AreWaiting : Type 0
 AreWaiting =
     (trees : Program) (p : LinkedProgram) (bounds : Bounds) (inflated : List ℕ) (world : WorldOf ℕ) (old new : Shared) → IsShared trees p bounds inflated old world
-    → (t object : ℕ) (result : Result Bool Refusal) → WaitsBy result object t old.heap new.heap old.threads new.threads
+    → (t object : ℕ) (result : Result Bool MonitorRefusal) → WaitsBy result object t old.heap new.heap old.threads new.threads
     → new ≡ record old { heap = new.heap; threads = new.threads }
     → WaitsIn trees p bounds inflated world t object result old new

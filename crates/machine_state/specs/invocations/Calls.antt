@@ -12,13 +12,13 @@ use Rattle.linked_code.specs.declared.thread_stacks.frame.Callee.{Callee}
 use Rattle.linked_code.specs.thread_stacks.Stacks.{ShownEntry}
 use Rattle.machine_state.specs.shown_stacks.Shown.{ShowsStack, IsCallee}
 use Rattle.machine_state.specs.declared.answers.Effect.{Effect}
-use Rattle.machine_state.specs.declared.refusals.Refusal.{Refusal}
+use Rattle.machine_state.specs.declared.refusals.EventRefusal.{EventRefusal}
 use Rattle.machine_state.specs.declared.state.Shared.{Shared}
 use Rattle.machine_state.specs.Instructions.{Does}
 use Rattle.machine_state.specs.entries.Entered.{IsShared}
 
 -- the frame on top calls a method, and so many of its operands are the arguments
-abbrev pub DoesCall : Result Effect Refusal → (t : ℕ) → Callee → (count frames : ℕ) → (old new : Shared) (from to : List ShownEntry)
+abbrev pub DoesCall : Result Effect EventRefusal → (t : ℕ) → Callee → (count frames : ℕ) → (old new : Shared) (from to : List ShownEntry)
     → Type 0
 DoesCall result t callee count frames old new from to =
     (trees : Program) (p : LinkedProgram) (bounds : Bounds) (inflated : List ℕ) (world : WorldOf ℕ) → IsShared trees p bounds inflated old world
@@ -30,7 +30,7 @@ DoesCall result t callee count frames old new from to =
     result old new from to
 
 -- a method is called with these arguments, over whatever stands on the stack
-abbrev pub DoesFirstCall : Result Effect Refusal → (t : ℕ) → Callee → (arguments : List ℕ) (frames : ℕ) → (old new : Shared)
+abbrev pub DoesFirstCall : Result Effect EventRefusal → (t : ℕ) → Callee → (arguments : List ℕ) (frames : ℕ) → (old new : Shared)
     (from to : List ShownEntry) → Type 0
 DoesFirstCall result t callee arguments frames old new from to =
     (trees : Program) (p : LinkedProgram) (bounds : Bounds) (inflated : List ℕ) (world : WorldOf ℕ) → IsShared trees p bounds inflated old world

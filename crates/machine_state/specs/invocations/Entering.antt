@@ -8,7 +8,7 @@ use Rattle.model.specs.Worlds.{may_enter, with_entry, entry_cost}
 use Rattle.heap.specs.Heap.{Heap}
 use Rattle.heap.specs.monitor_events.Tables.{over}
 use Rattle.linked_code.specs.declared.program.LinkedProgram.{LinkedProgram}
-use Rattle.machine_state.specs.declared.refusals.Refusal.{Refusal}
+use Rattle.machine_state.specs.declared.refusals.EventRefusal.{EventRefusal}
 use Rattle.machine_state.specs.declared.state.Shared.{Shared}
 use Rattle.machine_state.specs.Events.{MayBeRefused}
 use Rattle.machine_state.specs.entries.Entered.{IsShared, IsTaken}
@@ -36,7 +36,7 @@ abbrev pub SaysMayBegin : Bool → (t : ℕ) → Option ℕ → Heap → Type 0
 SaysMayBegin answer t entered heap = (world : WorldOf ℕ) → answer ≡ may_begin (over world heap) t entered
 
 -- it is entered, or refused
-abbrev pub EntersBy : Program → LinkedProgram → Bounds → List ℕ → WorldOf ℕ → Result (Unit {0}) Refusal → (t : ℕ) → Option ℕ → Shared
+abbrev pub EntersBy : Program → LinkedProgram → Bounds → List ℕ → WorldOf ℕ → Result (Unit {0}) EventRefusal → (t : ℕ) → Option ℕ → Shared
     → Shared → Type 0
 EntersBy trees p bounds inflated world (Ok u) t entered old new =
     IsTaken trees p bounds inflated world (begin_cost world entered) (with_begin world t entered) old new × (new ≡ record old { heap = new.heap })
@@ -44,7 +44,7 @@ EntersBy trees p bounds inflated world (Err told) t entered old new =
     MayBeRefused trees bounds inflated world (begin_cost world entered) told × (new ≡ old)
 
 -- in each world that is shown, where no other thread owns the monitor
-abbrev pub EntersFor : Result (Unit {0}) Refusal → (t : ℕ) → Option ℕ → Shared → Shared → Type 0
+abbrev pub EntersFor : Result (Unit {0}) EventRefusal → (t : ℕ) → Option ℕ → Shared → Shared → Type 0
 EntersFor result t entered old new =
     (trees : Program) (p : LinkedProgram) (bounds : Bounds) (inflated : List ℕ) (world : WorldOf ℕ) → IsShared trees p bounds inflated old world
     → may_begin world t entered ≡ true → EntersBy trees p bounds inflated world result t entered old new

@@ -12,8 +12,8 @@ use Rattle.model.specs.LimitStands.{is_inflating_entry, inflated_by, is_crowded,
 use Rattle.model.specs.Words.{AreWellTypedWords}
 use Rattle.heap.specs.declared.monitor.call.Call.{Call}
 use Rattle.heap.specs.declared.monitor.call.Call.TheVariants as calls
-use Rattle.heap.specs.declared.monitor.refusal.Refusal.{Refusal}
-use Rattle.heap.specs.declared.monitor.refusal.Refusal.TheVariants.{Monitors, LockCount, Memory}
+use Rattle.heap.specs.declared.monitor.refusal.MonitorRefusal.{MonitorRefusal}
+use Rattle.heap.specs.declared.monitor.refusal.MonitorRefusal.TheVariants.{Monitors, LockCount, Memory}
 use Rattle.heap.specs.monitor.Locks.{Locks, IsAllowed, fat_after, is_table_full, is_count_full, Answers}
 use Rattle.run_laws.specs.monitor_counts.Counts.{is_inflated, Returns, IsMonitorCounted, AreMonitorsCounted}
 
@@ -50,7 +50,7 @@ call_limit call locks =
     else None
 
 -- what an answer says of limits: where a call is done, or refused for want of memory, none stands
-abbrev pub limit_told : Result MonitorAnswer Refusal → Option RunCause
+abbrev pub limit_told : Result MonitorAnswer MonitorRefusal → Option RunCause
 limit_told (Ok answer) = None
 limit_told (Err Monitors) = Some cause.Monitors
 limit_told (Err LockCount) = Some cause.LockCount
@@ -59,7 +59,7 @@ limit_told (Err Memory) = None
 -- it tells the limit that stands, whichever call it is
 abbrev pub AreRefusalsLimits : Type 0
 AreRefusalsLimits =
-    (result : Result MonitorAnswer Refusal) (call : Call) (old new : Locks) → Answers result call old new → call_limit call old ≡ limit_told result
+    (result : Result MonitorAnswer MonitorRefusal) (call : Call) (old new : Locks) → Answers result call old new → call_limit call old ≡ limit_told result
 
 -- the locks keep the flags of what was inflated
 pub record Shows (locks : Locks) (objects : List ℕ) (object : ℕ) : Type 0 where

@@ -10,7 +10,7 @@ use Rattle.linked_code.specs.thread_stacks.Stacks.{ShownEntry}
 use Rattle.machine_state.specs.shown_stacks.Shown.{ShowsStack}
 use Rattle.machine_state.specs.declared.answers.Answer.{Answer}
 use Rattle.machine_state.specs.declared.answers.Effect.{Effect}
-use Rattle.machine_state.specs.declared.refusals.Refusal.{Refusal}
+use Rattle.machine_state.specs.declared.refusals.EventRefusal.{EventRefusal}
 use Rattle.machine_state.specs.declared.state.Shared.{Shared}
 use Rattle.machine_state.specs.Shown.{Represents}
 use Rattle.machine_state.specs.Instructions.{Does}
@@ -24,7 +24,7 @@ IsThrown exception t old new =
     → IsDone trees p bounds inflated world (on_to (with_pending world t exception) own) old new shown
 
 -- whatever becomes of the event of which an instruction answered the effect
-abbrev pub Applies : Result Answer Refusal → Effect → (t : ℕ) → Shared → Shared → Type 0
+abbrev pub Applies : Result Answer EventRefusal → Effect → (t : ℕ) → Shared → Shared → Type 0
 Applies result effect t between new =
     (trees : Program) (p : LinkedProgram) (bounds : Bounds) (inflated : List ℕ) (world : WorldOf ℕ) (old : Shared) → Represents trees p bounds old world
     → (from : List ShownEntry) (own : StackOf ℕ) → ShowsStack trees p from own

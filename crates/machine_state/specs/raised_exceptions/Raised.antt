@@ -13,7 +13,7 @@ use Rattle.machine_state.specs.shown_stacks.Shown.{ShowsStack}
 use Rattle.machine_state.specs.declared.answers.Answer.{Answer}
 use Rattle.machine_state.specs.declared.answers.MachineException.{MachineException}
 use Rattle.machine_state.specs.declared.answers.MachineException.TheVariants as exception
-use Rattle.machine_state.specs.declared.refusals.Refusal.{Refusal}
+use Rattle.machine_state.specs.declared.refusals.EventRefusal.{EventRefusal}
 use Rattle.machine_state.specs.declared.state.Shared.{Shared}
 use Rattle.machine_state.specs.Instructions.{shown_exception}
 use Rattle.machine_state.specs.Shown.{Represents}
@@ -49,13 +49,13 @@ AreNumbered = (trees : Program) (fault : MachineException) → IsNumbered trees 
 -- ---- what raises them
 
 -- in each world that is shown, and over each stack of the thread
-abbrev pub IsRaised : Result Answer Refusal → MachineException → (t : ℕ) → Shared → Shared → Type 0
+abbrev pub IsRaised : Result Answer EventRefusal → MachineException → (t : ℕ) → Shared → Shared → Type 0
 IsRaised result fault t old new =
     (trees : Program) (p : LinkedProgram) (bounds : Bounds) (inflated : List ℕ) (world : WorldOf ℕ) → Represents trees p bounds old world
     → (shown : List ShownEntry) (own : StackOf ℕ) → ShowsStack trees p shown own
     → Becomes trees p bounds inflated world (raised t (shown_exception fault) world own) result old new shown shown
 
-abbrev pub IsRaisedByInterrupt : Result Answer Refusal → (t : ℕ) → Shared → Shared → Type 0
+abbrev pub IsRaisedByInterrupt : Result Answer EventRefusal → (t : ℕ) → Shared → Shared → Type 0
 IsRaisedByInterrupt result t old new =
     (trees : Program) (p : LinkedProgram) (bounds : Bounds) (inflated : List ℕ) (world : WorldOf ℕ) → Represents trees p bounds old world
     → (shown : List ShownEntry) (own : StackOf ℕ) → ShowsStack trees p shown own

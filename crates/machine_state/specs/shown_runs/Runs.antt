@@ -14,8 +14,8 @@ use Rattle.model.specs.Words.{AreWordsOf}
 use Rattle.linked_code.specs.declared.program.LinkedProgram.{LinkedProgram}
 use Rattle.machine_state.specs.declared.answers.Answer.{Answer}
 use Rattle.machine_state.specs.declared.answers.Answer.TheVariants as answer
-use Rattle.machine_state.specs.declared.refusals.Refusal.{Refusal}
-use Rattle.machine_state.specs.declared.refusals.Refusal.TheVariants as refusal
+use Rattle.machine_state.specs.declared.refusals.EventRefusal.{EventRefusal}
+use Rattle.machine_state.specs.declared.refusals.EventRefusal.TheVariants as refusal
 use Rattle.machine_state.specs.declared.state.Shared.{Shared}
 use Rattle.machine_state.specs.Refusals.{limit_told}
 use Rattle.machine_state.specs.Events.{limit_of}
@@ -55,13 +55,13 @@ AreRunsLonger =
     → LeadsOn trees bounds events event cost next
 
 -- an enabled event that was refused: where memory wasn't wanted, the limit that is told stands
-abbrev pub IsRefusedAfter : Program → Bounds → List Event → Event → Refusal → Type 0
+abbrev pub IsRefusedAfter : Program → Bounds → List Event → Event → EventRefusal → Type 0
 IsRefusedAfter trees bounds events event refusal.Memory = Unit {0}
 IsRefusedAfter trees bounds events event told = limit_after trees bounds events event ≡ limit_told told
 
 -- It is done, and the run has gone on; or it is not enabled in the state of the run; or it is, and it is refused.
 abbrev pub GoesOn : (trees : Program) (p : LinkedProgram) (bounds : Bounds) (events : List Event) (state : State) → Event
-    → Result Answer Refusal → Shared → Type 0
+    → Result Answer EventRefusal → Shared → Type 0
 GoesOn trees p bounds events state event (Ok answer.Done) shared = HasRun trees p bounds shared (events ++ event ∷ [])
 GoesOn trees p bounds events state event (Ok answer.NotEnabled) shared = IsFalse (is_enabled trees bounds.frames state event) × HasRun trees p bounds shared events
 GoesOn trees p bounds events state event (Err told) shared =
@@ -72,6 +72,6 @@ abbrev pub AreRunsGoingOn : Type 0
 AreRunsGoingOn =
     (files : List (List ℕ)) (trees : Program) → IsAccepted files trees
     → (p : LinkedProgram) (bounds : Bounds) (events : List Event) (old new : Shared) (has : HasRun trees p bounds old events)
-    (event : Event) (result : Result Answer Refusal)
+    (event : Event) (result : Result Answer EventRefusal)
     → Turns trees p bounds (inflated trees bounds.frames events) has.at event result old new
     → GoesOn trees p bounds events has.lead.state event result new

@@ -17,7 +17,7 @@ use Rattle.linked_code.specs.thread_stacks.Stacks.{ShownEntry}
 use Rattle.machine_state.specs.shown_stacks.Shown.{ShowsStack}
 use Rattle.machine_state.specs.declared.answers.Answer.{Answer}
 use Rattle.machine_state.specs.declared.answers.Answer.TheVariants as answer
-use Rattle.machine_state.specs.declared.refusals.Refusal.{Refusal}
+use Rattle.machine_state.specs.declared.refusals.EventRefusal.{EventRefusal}
 use Rattle.machine_state.specs.declared.state.Shared.{Shared}
 use Rattle.machine_state.specs.Shown.{Represents, IsLent}
 use Rattle.machine_state.specs.Events.{limit_of, MayBeRefused, Becomes}
@@ -82,13 +82,13 @@ pub record IsEventDone (trees : Program) (p : LinkedProgram) (bounds : Bounds) (
 
 -- it is enabled, and refused: a limit stands, or memory is wanted
 pub record IsEventRefused (trees : Program) (bounds : Bounds) (inflated : List ℕ) (state : StateOf ℕ) (event : Event)
-    (told : Refusal) : Type 0 where
+    (told : EventRefusal) : Type 0 where
   pub cost : Cost
   pub next : StateOf ℕ
   pub is : stepped words trees bounds.frames state event ≡ Next cost next
   pub may : MayBeRefused trees bounds inflated state.world cost told
 
-abbrev pub Turns : Program → LinkedProgram → Bounds → List ℕ → StateOf ℕ → Event → Result Answer Refusal → Shared → Shared → Type 0
+abbrev pub Turns : Program → LinkedProgram → Bounds → List ℕ → StateOf ℕ → Event → Result Answer EventRefusal → Shared → Shared → Type 0
 Turns trees p bounds inflated state event (Ok answer.Done) old new = IsEventDone trees p bounds inflated state event new
 Turns trees p bounds inflated state event (Ok answer.NotEnabled) old new = (stepped words trees bounds.frames state event ≡ NotEnabled) × IsSame old new
 Turns trees p bounds inflated state event (Err told) old new = IsEventRefused trees bounds inflated state event told × IsSame old new
@@ -102,7 +102,7 @@ AreEventsWhole =
     → (event : Event) (from : List ShownEntry) (own : StackOf ℕ) → slice_get shared.stacks.items event.thread ≡ Some from
     → slice_get state.stacks event.thread ≡ Some own
     → (other : List ShownEntry) (lent : Shared) → HasInPlace event.thread other shared lent
-    → (result : Result Answer Refusal) (after : Shared) (to : List ShownEntry)
+    → (result : Result Answer EventRefusal) (after : Shared) (to : List ShownEntry)
     → Becomes trees p bounds inflated state.world
     (settled event.thread (thread_event words trees bounds.frames event state.world own (thread_at state.world event.thread).status))
     result lent after from to

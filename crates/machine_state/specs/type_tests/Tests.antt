@@ -11,8 +11,8 @@ use Rattle.heap.specs.declared.kind.NarrowKind.{NarrowKind}
 use Rattle.heap.specs.declared.kind.NarrowKind.TheVariants as narrow
 use Rattle.heap.specs.declared.kind.ObjectKind.{ObjectKind}
 use Rattle.heap.specs.declared.kind.ObjectKind.TheVariants as kind
-use Rattle.linked_code.specs.declared.types.Primitive.{Primitive}
-use Rattle.linked_code.specs.declared.types.Primitive.TheVariants as linked
+use Rattle.model.specs.declared.primitive.Primitive.{Primitive}
+use Rattle.model.specs.declared.primitive.Primitive.TheVariants as linked
 use Rattle.linked_code.specs.declared.types.Element.TheVariants as element
 use Rattle.linked_code.specs.declared.types.LinkedType.{LinkedType}
 use Rattle.linked_code.specs.declared.program.LinkedProgram.{LinkedProgram}

@@ -6,7 +6,7 @@ use crate::class_initialisation::constants::set_constants;
 use crate::class_initialisation::statuses::{ClassLook, look, set_status};
 use crate::method_selection::{class_at, classes_are_read};
 use crate::raised_exceptions::raise;
-use crate::{Answer, ClassStatus, MachineException, Refusal, Shared};
+use crate::{Answer, ClassStatus, EventRefusal, MachineException, Shared};
 use linked_code::LinkedProgram;
 use linked_code::thread_stacks::{Phase, ThreadStack};
 
@@ -17,7 +17,7 @@ fn begin(
     program: &LinkedProgram,
     thread: u16,
     class: u16,
-) -> Result<Answer, Refusal>
+) -> Result<Answer, EventRefusal>
     ensures { Begins program.now result thread class shared.old shared.new stack.old stack.new }
 {
     classes_are_read();
@@ -42,7 +42,7 @@ pub fn need_class(
     program: &LinkedProgram,
     thread: u16,
     class: u16,
-) -> Result<Option<Answer>, Refusal>
+) -> Result<Option<Answer>, EventRefusal>
     ensures { Needs program.now result thread class shared.old shared.new stack.old stack.new }
 {
     match look(shared, thread, class) {

@@ -7,9 +7,7 @@ ghost use Rattle.machine_state.specs.class_initialisation.Statuses.{IsFileOf, Is
 ghost use Rattle.model.specs.ClassInitialisation.{look_by};
 
 use crate::{ClassStatus, Shared};
-
-/// How many classes are built in. They come first among the numbers of classes, and are always initialised.
-const BUILT_IN: usize = 30;
+use model::BUILT_IN_CLASSES;
 
 /// How a thread finds a class that must be initialised.
 #[derive(Clone, Copy)]
@@ -22,11 +20,11 @@ pub enum ClassLook {
     Failed,
 }
 
-/// Its place among the classes of the files, unless it is built in.
+/// Its place among the classes of the files, unless it is built in. Built-in classes are always initialised.
 fn file_of(class: u16) -> Option<usize>
     ensures { IsFileOf class result }
 {
-    (class as usize).checked_sub(BUILT_IN)
+    (class as usize).checked_sub(BUILT_IN_CLASSES)
 }
 
 /// How far the class of a file is.

@@ -10,7 +10,7 @@ use crate::class_initialisation::needing::need_class;
 use crate::class_initialisation::statuses::set_status;
 use crate::invocations::first_call;
 use crate::raised_exceptions::{apply, raise};
-use crate::{Answer, ClassStatus, MachineException, Refusal, Shared};
+use crate::{Answer, ClassStatus, EventRefusal, MachineException, Shared};
 use linked_code::LinkedProgram;
 use linked_code::thread_stacks::{Callee, Phase, ThreadStack};
 
@@ -36,7 +36,7 @@ pub fn fail(
     thread: u16,
     class: u16,
     is_error: bool,
-) -> Result<Answer, Refusal>
+) -> Result<Answer, EventRefusal>
     ensures { Fails result thread class is_error shared.old shared.new stack.old stack.new }
 {
     if is_error {
@@ -55,7 +55,7 @@ fn call(
     thread: u16,
     callee: Callee,
     frames: usize,
-) -> Result<Answer, Refusal>
+) -> Result<Answer, EventRefusal>
     requires numbered { thread < 32767 }
     requires entered { callee.entered ≡ None }
     ensures { Calls result thread callee frames shared.old shared.new stack.old stack.new }
@@ -74,7 +74,7 @@ fn call_over(
     thread: u16,
     callee: Callee,
     frames: usize,
-) -> Result<Answer, Refusal>
+) -> Result<Answer, EventRefusal>
     requires numbered { thread < 32767 }
     requires entered { callee.entered ≡ None }
     ensures { CallsOver result thread callee frames shared.old shared.new stack.old stack.new }
@@ -101,7 +101,7 @@ fn run_initialiser(
     thread: u16,
     class: u16,
     frames: usize,
-) -> Result<Answer, Refusal>
+) -> Result<Answer, EventRefusal>
     requires { thread < 32767 }
     ensures { RunsInitialiser program.now result thread class frames shared.old shared.new stack.old stack.new }
 {
@@ -129,7 +129,7 @@ pub fn initialise(
     class: u16,
     phase: Phase,
     frames: usize,
-) -> Result<Answer, Refusal>
+) -> Result<Answer, EventRefusal>
     requires { thread < 32767 }
     ensures { Initialises program.now result thread class phase frames shared.old shared.new stack.old stack.new }
 {
@@ -150,7 +150,7 @@ fn begin_step(
     thread: u16,
     class: u16,
     frames: usize,
-) -> Result<Answer, Refusal>
+) -> Result<Answer, EventRefusal>
     requires { thread < 32767 }
     ensures { Initialises program.now result thread class Phase.Super frames shared.old shared.new stack.old stack.new }
 {

@@ -3,7 +3,7 @@
 ghost use Rattle.std.specs.Prelude.{◌<◌};
 ghost use Rattle.machine_state.specs.invocations.Entering.{IsThere, SaysMayBegin, EntersFor};
 
-use crate::{Refusal, Shared};
+use crate::{EventRefusal, Shared};
 use heap::Heap;
 use heap::monitor_events::{enter, may_enter};
 
@@ -29,7 +29,7 @@ pub(crate) fn enter_for(
     shared: &mut Shared,
     thread: u16,
     entered: Option<u32>,
-) -> Result<(), Refusal>
+) -> Result<(), EventRefusal>
     requires there { IsThere entered shared.old.heap }
     requires numbered { thread < 32767 }
     ensures { EntersFor result thread entered shared.old shared.new }

@@ -5,7 +5,7 @@ ghost use Rattle.machine_state.specs.invocations.Entering.{IsThere};
 ghost use Rattle.machine_state.specs.invocations.Calls.{DoesCall, DoesFirstCall};
 
 use crate::invocations::entering::{enter_for, may_begin};
-use crate::{Effect, MachineException, Refusal, Shared};
+use crate::{Effect, EventRefusal, MachineException, Shared};
 use linked_code::thread_stacks::{Callee, ThreadStack};
 
 /// The frame on top calls a method with code: a new frame stands over it, whose first local variables are its last operands,
@@ -23,7 +23,7 @@ pub fn call(
     callee: Callee,
     parameters: usize,
     frames: usize,
-) -> Result<Effect, Refusal>
+) -> Result<Effect, EventRefusal>
     requires there { IsThere callee.entered shared.old.heap }
     requires numbered { thread < 32767 }
     ensures { DoesCall result thread callee parameters frames shared.old shared.new stack.old stack.new }
@@ -60,7 +60,7 @@ pub fn first_call(
     callee: Callee,
     arguments: &[u32],
     frames: usize,
-) -> Result<Effect, Refusal>
+) -> Result<Effect, EventRefusal>
     requires there { IsThere callee.entered shared.old.heap }
     requires numbered { thread < 32767 }
     ensures { DoesFirstCall result thread callee arguments.now frames shared.old shared.new stack.old stack.new }

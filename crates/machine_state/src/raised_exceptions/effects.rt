@@ -3,7 +3,7 @@
 ghost use Rattle.machine_state.specs.raised_exceptions.Applied.{IsThrown, Applies};
 
 use crate::raised_exceptions::raising::{raise, raise_interrupt};
-use crate::{Answer, Effect, Refusal, Shared};
+use crate::{Answer, Effect, EventRefusal, Shared};
 
 /// The object of a reference is thrown: it is pending in a thread.
 fn throw(shared: &mut Shared, thread: u16, exception: u32)
@@ -17,7 +17,7 @@ fn throw(shared: &mut Shared, thread: u16, exception: u32)
 /// # Errors
 ///
 /// Where an exception can't be made: as many objects as may be were made, or there is no memory. Nothing has changed then.
-pub fn apply(shared: &mut Shared, thread: u16, effect: Effect) -> Result<Answer, Refusal>
+pub fn apply(shared: &mut Shared, thread: u16, effect: Effect) -> Result<Answer, EventRefusal>
     ensures { Applies result effect thread shared.old shared.new }
 {
     match effect {

@@ -5,7 +5,7 @@ ghost use Rattle.machine_state.specs.raised_exceptions.Raised.{class_number, IsR
 ghost use Rattle.heap.specs.Heap.{Allocates};
 ghost use Rattle.heap.specs.declared.kind.ObjectKind.{ObjectKind};
 
-use crate::{Answer, MachineException, Refusal, Shared};
+use crate::{Answer, EventRefusal, MachineException, Shared};
 
 /// The number of the class of an exception: the built-in classes come first in each program.
 fn class_of(fault: MachineException) -> u32
@@ -34,7 +34,11 @@ fn class_of(fault: MachineException) -> u32
 /// # Errors
 ///
 /// Where as many objects as may be were made, or there is no memory. Nothing has changed then.
-pub fn raise(shared: &mut Shared, thread: u16, fault: MachineException) -> Result<Answer, Refusal>
+pub fn raise(
+    shared: &mut Shared,
+    thread: u16,
+    fault: MachineException,
+) -> Result<Answer, EventRefusal>
     ensures { IsRaised result fault thread shared.old shared.new }
 {
     let exception = shared.heap.alloc_object(class_of(fault), 0)?;
@@ -48,7 +52,7 @@ pub fn raise(shared: &mut Shared, thread: u16, fault: MachineException) -> Resul
 /// # Errors
 ///
 /// Where as many objects as may be were made, or there is no memory. Nothing has changed then.
-pub fn raise_interrupt(shared: &mut Shared, thread: u16) -> Result<Answer, Refusal>
+pub fn raise_interrupt(shared: &mut Shared, thread: u16) -> Result<Answer, EventRefusal>
     ensures { IsRaisedByInterrupt result thread shared.old shared.new }
 {
     let exception = shared

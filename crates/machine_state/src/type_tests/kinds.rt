@@ -5,7 +5,8 @@ ghost use Rattle.linked_code.specs.Subtypes.{is_linked_subtype};
 ghost use Rattle.machine_state.specs.type_tests.Tests.{linked_primitive, array_of, IsTypeOfKind, TestsKind};
 
 use heap::{NarrowKind, ObjectKind};
-use linked_code::{Element, LinkedProgram, LinkedType, Primitive, Subclasses, types_are_tested};
+use linked_code::{Element, LinkedProgram, LinkedType, Subclasses, types_are_tested};
+use model::Primitive;
 
 /// Whether instances of a class are of a type.
 fn is_instance_below(subclasses: &Subclasses, class: u32, of: LinkedType) -> bool

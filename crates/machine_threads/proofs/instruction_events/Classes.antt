@@ -19,7 +19,7 @@ use Rattle.linked_code.specs.declared.program.LinkedProgram.{LinkedProgram}
 use Rattle.linked_code.specs.Linked.{offset_in}
 use Rattle.linked_code.specs.thread_stacks.Stacks.{ShownEntry}
 use Rattle.machine_state.specs.declared.answers.Answer.{Answer}
-use Rattle.machine_state.specs.declared.refusals.Refusal.{Refusal}
+use Rattle.machine_state.specs.declared.refusals.EventRefusal.{EventRefusal}
 use Rattle.machine_state.specs.declared.state.Shared.{Shared}
 use Rattle.machine_state.specs.Events.{IsUnchanged, Becomes}
 use Rattle.machine_state.specs.Instructions.{IsAt, AreInstructionsDone, instruction_event}
@@ -113,7 +113,7 @@ module _ (trees : Program) (p : LinkedProgram) (bounds : Bounds) (inflated : Lis
   looked all e class looks = looked_by all e class looks (is_built_in class) refl
 
   -- what is answered of the class is answered of the event
-  answered : AreInstructionsDone → (event.pick == 0) ≡ true → (class : Name) → meaning.looks ≡ Some class → (told : Result Answer Refusal)
+  answered : AreInstructionsDone → (event.pick == 0) ≡ true → (class : Name) → meaning.looks ≡ Some class → (told : Result Answer EventRefusal)
       (new : Shared) (to : List ShownEntry)
       → ((behind : SteppedOf (PartOf ℕ)) → Becomes trees p bounds inflated state.world (by_class class behind) told shared new stack to)
       → Becomes trees p bounds inflated state.world whole told shared new stack to
@@ -122,7 +122,7 @@ module _ (trees : Program) (p : LinkedProgram) (bounds : Bounds) (inflated : Lis
       subst (λ (x : SteppedOf (PartOf ℕ)). Becomes trees p bounds inflated state.world x told shared new stack to) l.1 (h l.0)
 
   pub first_by : AreInstructionsDone → (event.pick == 0) ≡ true → (class : Name) → meaning.looks ≡ Some class
-      → (result : Result (Option Answer) Refusal) (new : Shared) (to : List ShownEntry)
+      → (result : Result (Option Answer) EventRefusal) (new : Shared) (to : List ShownEntry)
       → needed.NeedsBy trees p bounds inflated event.thread class state.world (Invocation frame ∷ rest) result shared new stack to
       → FirstBy trees p bounds inflated frames event state frame rest meaning result shared new stack to
   first_by all e class looks (Ok None) new to h = (all trees frames event state.world frame rest site meaning is.stands.at (ap (look_at event.thread state.world) looks ∙ h.0), h.1)
@@ -135,7 +135,7 @@ module _ (trees : Program) (p : LinkedProgram) (bounds : Bounds) (inflated : Lis
   -- ---- by what the instruction needs
 
   pub by_need : AreInstructionsDone → (event.pick == 0) ≡ true → (number : ℕ) → needs.Needs instruction (Some number)
-      → (result : Result (Option Answer) Refusal) (new : Shared) (to : List ShownEntry)
+      → (result : Result (Option Answer) EventRefusal) (new : Shared) (to : List ShownEntry)
       → needed.Needs p result event.thread number shared new stack to
       → FirstBy trees p bounds inflated frames event state frame rest meaning result shared new stack to
   by_need all e number n result new to h =

@@ -6,12 +6,12 @@ use Rattle.model.specs.Sites.{Site}
 use Rattle.linked_code.specs.declared.instruction.LinkedInstruction.{LinkedInstruction}
 use Rattle.linked_code.specs.declared.instruction.LinkedInstruction.TheVariants as linked
 use Rattle.linked_code.specs.declared.program.LinkedProgram.{LinkedProgram}
-use Rattle.linked_code.specs.declared.types.Primitive.{Primitive}
+use Rattle.model.specs.declared.primitive.Primitive.{Primitive}
 use Rattle.linked_code.specs.declared.types.LinkedType.{LinkedType}
 use Rattle.linked_code.specs.Linked.{IsLinked}
 use Rattle.linked_code.specs.thread_stacks.Stacks.{ShownEntry}
 use Rattle.machine_state.specs.declared.answers.Effect.{Effect}
-use Rattle.machine_state.specs.declared.refusals.Refusal.{Refusal}
+use Rattle.machine_state.specs.declared.refusals.EventRefusal.{EventRefusal}
 use Rattle.machine_state.specs.declared.state.Shared.{Shared}
 use Rattle.machine_state.specs.linked_frames.Frames.{DoesOwn}
 use Rattle.machine_instructions.specs.local_instructions.Local.{is_local}
@@ -19,11 +19,11 @@ use Rattle.machine_threads.specs.instruction_events.Families.{is_call, is_field_
 use Rattle.machine_threads.specs.instruction_events.Doing.{DoesFieldOrLocal}
 
 -- what is said of an instruction that is the same
-pub own_same : (p : LinkedProgram) (i j : LinkedInstruction) (t : ℕ) (result : Result Effect Refusal) (old new : Shared)
+pub own_same : (p : LinkedProgram) (i j : LinkedInstruction) (t : ℕ) (result : Result Effect EventRefusal) (old new : Shared)
     (from to : List ShownEntry) → i ≡ j → DoesOwn p j t result old new from to → DoesOwn p i t result old new from to
 own_same p i j t result old new from to e h = subst (λ (x : LinkedInstruction). DoesOwn p x t result old new from to) (sym e) h
 
-pub field_same : (p : LinkedProgram) (i j : LinkedInstruction) (result : Result Effect Refusal) (old new : Shared)
+pub field_same : (p : LinkedProgram) (i j : LinkedInstruction) (result : Result Effect EventRefusal) (old new : Shared)
     (from to : List ShownEntry) → i ≡ j → ((t : ℕ) → DoesOwn p j t result old new from to) → DoesFieldOrLocal p i result old new from to
 field_same p i j result old new from to e h = λ reached t. own_same p i j t result old new from to e (h t)
 

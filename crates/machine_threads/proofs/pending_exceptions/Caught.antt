@@ -24,7 +24,7 @@ use Rattle.machine_state.specs.shown_objects.Shown.{ShowsObjects}
 use Rattle.machine_state.specs.shown_stacks.Shown.{ShowsFrame, ShowsStack, offset_at}
 use Rattle.machine_state.proofs.shown_stacks.Laws.{catch}
 use Rattle.machine_state.specs.declared.answers.Answer.{Answer}
-use Rattle.machine_state.specs.declared.refusals.Refusal.{Refusal}
+use Rattle.machine_state.specs.declared.refusals.EventRefusal.{EventRefusal}
 use Rattle.machine_state.specs.declared.state.Shared.{Shared}
 use Rattle.machine_state.specs.Shown.{Represents}
 use Rattle.machine_state.specs.Events.{Becomes, IsDone}
@@ -99,7 +99,7 @@ module _ (trees : Program) (p : LinkedProgram) (bounds : Bounds) (inflated : Lis
       subst (λ (st : List ShownEntry). IsHandlerOnTop p shared.heap.objects exception st found) top.is h
       trees is.program state.world.heap is.lent.represents.world_is.objects frame top.shows.top stands
 
-  module _ (result : Result Answer Refusal) (new : Shared) (to : List ShownEntry) where
+  module _ (result : Result Answer EventRefusal) (new : Shared) (to : List ShownEntry) where
     abbrev BecomesBy : Option ExceptionEntry → Type 0
     BecomesBy entry = Becomes trees p bounds inflated state.world (unwound words t exception state.world frame rest entry) result shared new stack to
 

@@ -11,7 +11,7 @@ use Rattle.linked_code.specs.declared.thread_stacks.entry.Phase.{Phase}
 use Rattle.linked_code.specs.declared.thread_stacks.stack.Top.TheVariants as top
 use Rattle.linked_code.specs.thread_stacks.Stacks.{ShownEntry, Invocation, Initialisation, top_of}
 use Rattle.machine_state.specs.declared.answers.Answer.{Answer}
-use Rattle.machine_state.specs.declared.refusals.Refusal.{Refusal}
+use Rattle.machine_state.specs.declared.refusals.EventRefusal.{EventRefusal}
 use Rattle.machine_state.specs.declared.state.Shared.{Shared}
 use Rattle.machine_threads.specs.pending_exceptions.Pending.{IsPending, event_of_pending, DoesPending, DoesInFrame, DoesInClass}
 
@@ -24,7 +24,7 @@ module _ (p : LinkedProgram) (t exception : ℕ) (old : Shared) where
   empty (Invocation f ∷ others) e trees bounds inflated state own is = absurd cc
   empty (Initialisation n ph ∷ others) e trees bounds inflated state own is = absurd cc
 
-  module _ (result : Result Answer Refusal) (new : Shared) (to : List ShownEntry) where
+  module _ (result : Result Answer EventRefusal) (new : Shared) (to : List ShownEntry) where
     pub frame : (from : List ShownEntry) → top.Invocation ≡ top_of from → DoesInFrame p t exception result old new from to
         → DoesPending p t exception result old new from to
     frame [] e does trees bounds inflated state own is = absurd cc

@@ -12,7 +12,7 @@ use Rattle.linked_code.specs.declared.program.LinkedProgram.{LinkedProgram}
 use Rattle.linked_code.specs.thread_stacks.Stacks.{ShownEntry}
 use Rattle.machine_state.specs.declared.answers.Effect.{Effect}
 use Rattle.machine_state.specs.declared.answers.Effect.TheVariants as effect
-use Rattle.machine_state.specs.declared.refusals.Refusal.{Refusal}
+use Rattle.machine_state.specs.declared.refusals.EventRefusal.{EventRefusal}
 use Rattle.machine_state.specs.declared.state.Shared.{Shared}
 use Rattle.machine_state.specs.Shown.{Represents}
 use Rattle.machine_state.specs.Events.{AreStacksAdded, IsUnchanged, IsDone, IsRefused}
@@ -143,7 +143,7 @@ module _ (trees : Program) (p : LinkedProgram) (bounds : Bounds) (inflated : Lis
     begun (effect.Throws thrown) new to d = absurd (not_raised _ refl d.0)
     begun effect.Interrupts new to d = absurd (not_raised _ refl d.0)
 
-    pub refused : (told : Refusal) (new : Shared) (to : List ShownEntry)
+    pub refused : (told : EventRefusal) (new : Shared) (to : List ShownEntry)
         → Does trees p bounds inflated t world [] called (Err told) old new from to
         → Does trees p bounds inflated t world [] begins (Err told) old new from to
     refused told new to d =

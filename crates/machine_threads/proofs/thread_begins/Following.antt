@@ -11,7 +11,7 @@ use Rattle.model.specs.Step.{initial_class, main_frame, main_event, needing, beg
 use Rattle.linked_code.specs.declared.program.LinkedProgram.{LinkedProgram}
 use Rattle.linked_code.specs.thread_stacks.Stacks.{ShownEntry}
 use Rattle.machine_state.specs.declared.answers.Answer.{Answer}
-use Rattle.machine_state.specs.declared.refusals.Refusal.{Refusal}
+use Rattle.machine_state.specs.declared.refusals.EventRefusal.{EventRefusal}
 use Rattle.machine_state.specs.declared.state.Shared.{Shared}
 use Rattle.machine_state.specs.Shown.{IsProgram, IsLent}
 use Rattle.machine_state.specs.Events.{Becomes, IsUnchanged}
@@ -24,7 +24,7 @@ pub still_able : (p : LinkedProgram) (t : ℕ) (old mid : Shared) (from between 
 still_able p t old mid from between same able =
     subst (λ (l : List ShownEntry). CanBegin p t mid l) (sym same.stack) (subst (λ (m : Shared). CanBegin p t m from) (sym same.shared) able)
 
-module _ (p : LinkedProgram) (result : Result Answer Refusal) (frames : ℕ) (old mid new : Shared) (from between to : List ShownEntry)
+module _ (p : LinkedProgram) (result : Result Answer EventRefusal) (frames : ℕ) (old mid new : Shared) (from between to : List ShownEntry)
     (same : IsUnchanged old mid from between) where
   called : CallsMain p result frames mid new between to → CallsMain p result frames old new from to
   called calls =

@@ -29,7 +29,7 @@ use Rattle.machine_state.specs.shown_stacks.Shown.{ShowsStack}
 use Rattle.machine_state.proofs.shown_stacks.Laws.{return}
 use Rattle.machine_state.specs.declared.answers.Answer.{Answer}
 use Rattle.machine_state.specs.declared.answers.Answer.TheVariants as answer
-use Rattle.machine_state.specs.declared.refusals.Refusal.{Refusal}
+use Rattle.machine_state.specs.declared.refusals.EventRefusal.{EventRefusal}
 use Rattle.machine_state.specs.declared.state.Shared.{Shared}
 use Rattle.machine_state.specs.Shown.{Represents}
 use Rattle.machine_state.specs.Events.{Becomes, HasBecome, IsDone, MayBeRefused}
@@ -159,9 +159,9 @@ module _ (trees : Program) (p : LinkedProgram) (bounds : Bounds) (inflated : Lis
     throws_is : relock_event trees t object count cause world own ≡ raised_by_interrupt t (relocked world object t count) own
     throws_is = event_is true says ∙ ap (λ c. after_wait trees t c (relocked world object t count) own) interrupted
 
-    pub refused : (why : Refusal) (between : Shared)
+    pub refused : (why : EventRefusal) (between : Shared)
         → Becomes trees p bounds inflated world (raised_by_interrupt t world own) (Err why) old between from from
-        → (result : Result Answer Refusal) → IsErrAnd result (λ told. told ≡ why)
+        → (result : Result Answer EventRefusal) → IsErrAnd result (λ told. told ≡ why)
         → Becomes trees p bounds inflated world (relock_event trees t object count cause world own) result old between from from
     refused why between b (Ok told) e = absurd e
     refused why between b (Err told) e =

@@ -18,7 +18,7 @@ use Rattle.linked_code.specs.declared.instruction.LinkedInstruction.TheVariants 
 use Rattle.linked_code.specs.declared.program.LinkedProgram.{LinkedProgram}
 use Rattle.linked_code.specs.Calls.{IsDirectCall, CallsConstructor, CallsSpecial, CallsOnly}
 use Rattle.linked_code.specs.Linked.{IsLinked}
-use Rattle.linked_code.specs.Numbers.{primitive_of}
+use Rattle.model.specs.Primitives.{primitive_of}
 use Rattle.machine_state.specs.Instructions.{instruction_event}
 use Rattle.machine_state.specs.linked_frames.Frames.{event_of}
 use Rattle.machine_threads.specs.declared.waiting_instructions.kinds.Standing.{Standing}

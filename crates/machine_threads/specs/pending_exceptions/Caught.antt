@@ -12,7 +12,7 @@ use Rattle.linked_code.specs.declared.program.LinkedProgram.{LinkedProgram}
 use Rattle.linked_code.specs.thread_stacks.Stacks.{ShownFrame, ShownEntry, Invocation, caught}
 use Rattle.machine_state.specs.shown_stacks.Shown.{ShowsFrame, ShowsStack, offset_at}
 use Rattle.machine_state.specs.declared.answers.Answer.{Answer}
-use Rattle.machine_state.specs.declared.refusals.Refusal.{Refusal}
+use Rattle.machine_state.specs.declared.refusals.EventRefusal.{EventRefusal}
 use Rattle.machine_state.specs.declared.state.Shared.{Shared}
 use Rattle.machine_state.specs.Shown.{Represents}
 use Rattle.machine_state.specs.Events.{Becomes}
@@ -31,7 +31,7 @@ pub record IsCleared (t : ℕ) (old new : Shared) : Type 0 where
 
 -- In each world in which the exception is an object, the frame on top goes on at the offset of the handler with the exception alone
 -- on its stack, and the exception is not pending any more.
-abbrev pub Catches : (t handler exception : ℕ) → Result Answer Refusal → (old new : Shared) (from to : List ShownEntry) → Type 0
+abbrev pub Catches : (t handler exception : ℕ) → Result Answer EventRefusal → (old new : Shared) (from to : List ShownEntry) → Type 0
 Catches t handler exception result old new from to =
     (trees : Program) (p : LinkedProgram) (bounds : Bounds) (inflated : List ℕ) (world : WorldOf ℕ) → Represents trees p bounds old world
     → (length old.heap.objects < 2 ^ 32 → exception < length old.heap.objects)

@@ -12,7 +12,7 @@ use Rattle.linked_code.specs.declared.program.LinkedProgram.{LinkedProgram}
 use Rattle.linked_code.specs.Numbers.{IsClassAt}
 use Rattle.linked_code.specs.thread_stacks.Stacks.{ShownEntry}
 use Rattle.machine_state.specs.declared.answers.Answer.{Answer}
-use Rattle.machine_state.specs.declared.refusals.Refusal.{Refusal}
+use Rattle.machine_state.specs.declared.refusals.EventRefusal.{EventRefusal}
 use Rattle.machine_state.specs.declared.state.Shared.{Shared}
 use Rattle.machine_state.specs.Shown.{IsProgram, IsLent}
 use Rattle.machine_state.specs.Events.{Becomes}
@@ -30,20 +30,20 @@ abbrev pub event_of_pending : Program → (t exception : ℕ) → StateOf ℕ �
 event_of_pending trees t exception state own = pending_event words trees t exception (slice_get (types_of state.world.heap) exception) state.world own
 
 -- the result says it, in whatever state
-abbrev pub DoesPending : LinkedProgram → (t exception : ℕ) → Result Answer Refusal → (old new : Shared) (from to : List ShownEntry) → Type 0
+abbrev pub DoesPending : LinkedProgram → (t exception : ℕ) → Result Answer EventRefusal → (old new : Shared) (from to : List ShownEntry) → Type 0
 DoesPending p t exception result old new from to =
     (trees : Program) (bounds : Bounds) (inflated : List ℕ) (state : StateOf ℕ) (own : StackOf ℕ) → IsPending trees p bounds inflated t exception old from state own
     → Becomes trees p bounds inflated state.world (event_of_pending trees t exception state own) result old new from to
 
 -- with a frame on top
-abbrev pub DoesInFrame : LinkedProgram → (t exception : ℕ) → Result Answer Refusal → (old new : Shared) (from to : List ShownEntry) → Type 0
+abbrev pub DoesInFrame : LinkedProgram → (t exception : ℕ) → Result Answer EventRefusal → (old new : Shared) (from to : List ShownEntry) → Type 0
 DoesInFrame p t exception result old new from to =
     (trees : Program) (bounds : Bounds) (inflated : List ℕ) (state : StateOf ℕ) (frame : FrameOf ℕ) (rest : StackOf ℕ) → IsPending trees p bounds inflated t exception old from state (model.Invocation frame ∷ rest)
     → Becomes trees p bounds inflated state.world (event_of_pending trees t exception state (model.Invocation frame
     ∷ rest)) result old new from to
 
 -- with a class on top, by its number
-abbrev pub DoesInClass : LinkedProgram → (t number exception : ℕ) → Result Answer Refusal → (old new : Shared) (from to : List ShownEntry)
+abbrev pub DoesInClass : LinkedProgram → (t number exception : ℕ) → Result Answer EventRefusal → (old new : Shared) (from to : List ShownEntry)
     → Type 0
 DoesInClass p t number exception result old new from to =
     (trees : Program) (bounds : Bounds) (inflated : List ℕ) (state : StateOf ℕ) (class : Name) (phase : Phase) (rest : StackOf ℕ) → IsClassAt trees number class

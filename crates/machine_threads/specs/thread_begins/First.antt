@@ -15,7 +15,7 @@ use Rattle.linked_code.specs.thread_stacks.Stacks.{ShownEntry}
 use Rattle.machine_state.specs.shown_stacks.Shown.{ShowsStack, IsCallee}
 use Rattle.machine_state.specs.declared.answers.Effect.{Effect}
 use Rattle.machine_state.specs.declared.answers.Effect.TheVariants as effect
-use Rattle.machine_state.specs.declared.refusals.Refusal.{Refusal}
+use Rattle.machine_state.specs.declared.refusals.EventRefusal.{EventRefusal}
 use Rattle.machine_state.specs.declared.state.Shared.{Shared}
 use Rattle.machine_state.specs.Instructions.{Does}
 use Rattle.machine_state.specs.entries.Entered.{IsShared}
@@ -26,7 +26,7 @@ begun_by effect.Done t shared = record shared { threads = with_thread shared.thr
 begun_by told t shared = shared
 
 -- a method is called with one argument, in each world that is shown, and over the empty stack of the thread
-abbrev pub PushesFirst : Result Effect Refusal → (t : ℕ) → Callee → (argument frames : ℕ) → (old new : Shared) (from to : List ShownEntry)
+abbrev pub PushesFirst : Result Effect EventRefusal → (t : ℕ) → Callee → (argument frames : ℕ) → (old new : Shared) (from to : List ShownEntry)
     → Type 0
 PushesFirst result t callee argument frames old new from to =
     (trees : Program) (p : LinkedProgram) (bounds : Bounds) (inflated : List ℕ) (world : WorldOf ℕ) → IsShared trees p bounds inflated old world

@@ -15,7 +15,7 @@ use Rattle.linked_code.specs.declared.thread_stacks.frame.Callee.{Callee}
 use Rattle.linked_code.specs.thread_stacks.Stacks.{ShownEntry}
 use Rattle.machine_state.specs.shown_stacks.Shown.{ShowsStack, IsCallee}
 use Rattle.machine_state.specs.declared.answers.Answer.{Answer}
-use Rattle.machine_state.specs.declared.refusals.Refusal.{Refusal}
+use Rattle.machine_state.specs.declared.refusals.EventRefusal.{EventRefusal}
 use Rattle.machine_state.specs.declared.state.Shared.{Shared}
 use Rattle.machine_state.specs.Shown.{IsProgram, IsLent}
 use Rattle.machine_state.specs.Events.{Becomes}
@@ -32,7 +32,7 @@ IsInitialClass p number = (trees : Program) → IsProgram trees p → IsClassAt 
 -- ---- the call, in each world that is shown, over the empty stack of the main thread
 
 -- a method gets the empty array, and the thread has begun
-abbrev pub CallsFirst : Result Answer Refusal → Callee → (frames : ℕ) → (old new : Shared) (from to : List ShownEntry) → Type 0
+abbrev pub CallsFirst : Result Answer EventRefusal → Callee → (frames : ℕ) → (old new : Shared) (from to : List ShownEntry) → Type 0
 CallsFirst result callee frames old new from to =
     (trees : Program) (p : LinkedProgram) (bounds : Bounds) (inflated : List ℕ) (world : WorldOf ℕ) → IsShared trees p bounds inflated old world
     → ShowsStack trees p from []
@@ -42,7 +42,7 @@ CallsFirst result callee frames old new from to =
     result old new from to
 
 -- so main, whose class is ready
-abbrev pub CallsMain : LinkedProgram → Result Answer Refusal → (frames : ℕ) → (old new : Shared) (from to : List ShownEntry) → Type 0
+abbrev pub CallsMain : LinkedProgram → Result Answer EventRefusal → (frames : ℕ) → (old new : Shared) (from to : List ShownEntry) → Type 0
 CallsMain p result frames old new from to =
     (trees : Program) (bounds : Bounds) (inflated : List ℕ) (state : StateOf ℕ) → IsProgram trees p → IsLent trees p bounds inflated 0 old from state []
     → Becomes trees p bounds inflated state.world
@@ -52,7 +52,7 @@ CallsMain p result frames old new from to =
 -- ---- the event
 
 -- the main thread calls main by the rules of invokestatic, in whatever state it is
-abbrev pub BeginsMain : LinkedProgram → Result Answer Refusal → (frames : ℕ) → (old new : Shared) (from to : List ShownEntry) → Type 0
+abbrev pub BeginsMain : LinkedProgram → Result Answer EventRefusal → (frames : ℕ) → (old new : Shared) (from to : List ShownEntry) → Type 0
 BeginsMain p result frames old new from to =
     (trees : Program) (bounds : Bounds) (inflated : List ℕ) (state : StateOf ℕ) → IsProgram trees p → IsLent trees p bounds inflated 0 old from state []
     → Becomes trees p bounds inflated state.world (main_event words trees frames state.world) result old new from to

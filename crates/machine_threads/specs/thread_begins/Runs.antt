@@ -17,7 +17,7 @@ use Rattle.run_laws.specs.typed_threads.Objects.{IsInstance}
 use Rattle.linked_code.specs.declared.thread_stacks.frame.Callee.{Callee}
 use Rattle.linked_code.specs.thread_stacks.Stacks.{ShownEntry}
 use Rattle.machine_state.specs.declared.answers.Effect.{Effect}
-use Rattle.machine_state.specs.declared.refusals.Refusal.{Refusal}
+use Rattle.machine_state.specs.declared.refusals.EventRefusal.{EventRefusal}
 use Rattle.machine_state.specs.declared.state.Shared.{Shared}
 use Rattle.machine_state.specs.Shown.{IsProgram, IsLent}
 use Rattle.machine_state.specs.Instructions.{Does}
@@ -54,7 +54,7 @@ pub record CanBegin (p : LinkedProgram) (t : ℕ) (shared : Shared) (stack : Lis
   pub lent : IsLent trees p bounds inflated t shared stack state []
 
 -- a started thread calls run of its Thread object, in whatever state it is
-abbrev pub BeginsRun : LinkedProgram → Result Effect Refusal → (t frames : ℕ) → (old new : Shared) (from to : List ShownEntry) → Type 0
+abbrev pub BeginsRun : LinkedProgram → Result Effect EventRefusal → (t frames : ℕ) → (old new : Shared) (from to : List ShownEntry) → Type 0
 BeginsRun p result t frames old new from to =
     (trees : Program) (bounds : Bounds) (inflated : List ℕ) (state : StateOf ℕ) → IsProgram trees p → IsLent trees p bounds inflated t old from state []
     → Does trees p bounds inflated t state.world [] (run_event words trees frames t state.world (thread_at state.world t).object) result

@@ -13,7 +13,7 @@ use Rattle.machine_state.specs.linked_frames.Frames.{IsInstruction}
 use Rattle.linked_code.specs.declared.thread_stacks.stack.Top.TheVariants as top
 use Rattle.linked_code.specs.thread_stacks.Stacks.{ShownEntry, top_of}
 use Rattle.machine_state.specs.declared.answers.Answer.{Answer}
-use Rattle.machine_state.specs.declared.refusals.Refusal.{Refusal}
+use Rattle.machine_state.specs.declared.refusals.EventRefusal.{EventRefusal}
 use Rattle.machine_state.specs.declared.state.Shared.{Shared}
 use Rattle.machine_state.specs.Shown.{IsProgram, IsLent}
 use Rattle.machine_state.specs.Events.{Becomes}
@@ -35,32 +35,32 @@ RunsAt p t instruction shared stack =
     × (top.Invocation ≡ top_of stack) × IsInstruction p stack (Some instruction)
 
 -- in whatever state its stack is lent, the result says what becomes of an event, as files, a state and the thread's own stack have it
-abbrev pub DoesIn : LinkedProgram → (t : ℕ) → (Program → StateOf ℕ → StackOf ℕ → SteppedOf (PartOf ℕ)) → Result Answer Refusal
+abbrev pub DoesIn : LinkedProgram → (t : ℕ) → (Program → StateOf ℕ → StackOf ℕ → SteppedOf (PartOf ℕ)) → Result Answer EventRefusal
     → (old new : Shared) (from to : List ShownEntry) → Type 0
 DoesIn p t stepped result old new from to =
     (trees : Program) (bounds : Bounds) (inflated : List ℕ) (state : StateOf ℕ) (own : StackOf ℕ) → IsProgram trees p → IsLent trees p bounds inflated t old from state own
     → Becomes trees p bounds inflated state.world (stepped trees state own) result old new from to
 
 -- of a thread that runs, with no exception pending
-abbrev pub DoesRunning : LinkedProgram → Result Answer Refusal → Event → (frames : ℕ) → (old new : Shared) (from to : List ShownEntry)
+abbrev pub DoesRunning : LinkedProgram → Result Answer EventRefusal → Event → (frames : ℕ) → (old new : Shared) (from to : List ShownEntry)
     → Type 0
 DoesRunning p result event frames old new from to =
     DoesIn p event.thread (λ trees state own. running_event words trees frames event state.world own) result old new from to
 
 -- of one that runs
-abbrev pub DoesGoing : LinkedProgram → Result Answer Refusal → Event → (frames : ℕ) → (old new : Shared) (from to : List ShownEntry)
+abbrev pub DoesGoing : LinkedProgram → Result Answer EventRefusal → Event → (frames : ℕ) → (old new : Shared) (from to : List ShownEntry)
     → Type 0
 DoesGoing p result event frames old new from to =
     DoesIn p event.thread (λ trees state own. going_event words trees frames event state.world own (thread_at state.world event.thread).pending) result old new from to
 
 -- of any, but for the end of the thread that may belong to it
-abbrev pub DoesUnsettled : LinkedProgram → Result Answer Refusal → Event → (frames : ℕ) → (old new : Shared) (from to : List ShownEntry)
+abbrev pub DoesUnsettled : LinkedProgram → Result Answer EventRefusal → Event → (frames : ℕ) → (old new : Shared) (from to : List ShownEntry)
     → Type 0
 DoesUnsettled p result event frames old new from to =
     DoesIn p event.thread (λ trees state own. thread_event words trees frames event state.world own (thread_at state.world event.thread).status) result old new from to
 
 -- the whole event of a thread
-abbrev pub DoesEvent : LinkedProgram → Result Answer Refusal → Event → (frames : ℕ) → (old new : Shared) (from to : List ShownEntry)
+abbrev pub DoesEvent : LinkedProgram → Result Answer EventRefusal → Event → (frames : ℕ) → (old new : Shared) (from to : List ShownEntry)
     → Type 0
 DoesEvent p result event frames old new from to =
     (trees : Program) (bounds : Bounds) (inflated : List ℕ) (state : StateOf ℕ) (own : StackOf ℕ) → IsProgram trees p → IsLent trees p bounds inflated event.thread old from state own

@@ -13,20 +13,20 @@ use Rattle.linked_code.specs.declared.thread_stacks.entry.Phase.{Phase}
 use Rattle.linked_code.specs.thread_stacks.Stacks.{ShownEntry}
 use Rattle.machine_state.specs.shown_stacks.Shown.{phase_of}
 use Rattle.machine_state.specs.declared.answers.Answer.{Answer}
-use Rattle.machine_state.specs.declared.refusals.Refusal.{Refusal}
+use Rattle.machine_state.specs.declared.refusals.EventRefusal.{EventRefusal}
 use Rattle.machine_state.specs.declared.state.Shared.{Shared}
 use Rattle.machine_state.specs.Shown.{IsProgram, IsLent}
 use Rattle.machine_state.specs.Events.{Becomes}
 use Rattle.machine_threads.specs.thread_events.Events.{DoesIn}
 
 -- it has left a wait set, and enters its monitor again (JLS 17.2.1)
-abbrev pub DoesRelock : LinkedProgram → Result Answer Refusal → Event → (object count : ℕ) → WakeCause → (old new : Shared)
+abbrev pub DoesRelock : LinkedProgram → Result Answer EventRefusal → Event → (object count : ℕ) → WakeCause → (old new : Shared)
     (from to : List ShownEntry) → Type 0
 DoesRelock p result event object count cause old new from to =
     DoesIn p event.thread (λ trees state own. unpicked event (relock_event trees event.thread object count cause state.world own)) result old new from to
 
 -- an exception is pending (JVMS 2.10)
-abbrev pub DoesPending : LinkedProgram → Result Answer Refusal → Event → (exception : ℕ) → (old new : Shared) (from to : List ShownEntry)
+abbrev pub DoesPending : LinkedProgram → Result Answer EventRefusal → Event → (exception : ℕ) → (old new : Shared) (from to : List ShownEntry)
     → Type 0
 DoesPending p result event exception old new from to =
     DoesIn p event.thread
@@ -34,7 +34,7 @@ DoesPending p result event exception old new from to =
     result old new from to
 
 -- a class is on top, by its number and its phase (JVMS 5.5)
-abbrev pub DoesInitialisation : LinkedProgram → Result Answer Refusal → Event → (number : ℕ) → Phase → (frames : ℕ) → (old new : Shared)
+abbrev pub DoesInitialisation : LinkedProgram → Result Answer EventRefusal → Event → (number : ℕ) → Phase → (frames : ℕ) → (old new : Shared)
     (from to : List ShownEntry) → Type 0
 DoesInitialisation p result event number phase frames old new from to =
     (trees : Program) (bounds : Bounds) (inflated : List ℕ) (state : StateOf ℕ) (class : Name) (rest : StackOf ℕ)
@@ -44,7 +44,7 @@ DoesInitialisation p result event number phase frames old new from to =
     (unpicked event (initialisation_event words trees frames event.thread class (phase_of phase) state.world rest)) result old new from to
 
 -- its stack is empty: it begins (JVMS 5.2; JLS 17)
-abbrev pub DoesBegin : LinkedProgram → Result Answer Refusal → Event → (frames : ℕ) → (old new : Shared) (from to : List ShownEntry)
+abbrev pub DoesBegin : LinkedProgram → Result Answer EventRefusal → Event → (frames : ℕ) → (old new : Shared) (from to : List ShownEntry)
     → Type 0
 DoesBegin p result event frames old new from to =
     (trees : Program) (bounds : Bounds) (inflated : List ℕ) (state : StateOf ℕ) → IsProgram trees p → IsLent trees p bounds inflated event.thread old from state []

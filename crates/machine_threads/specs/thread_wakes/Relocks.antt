@@ -7,7 +7,7 @@ use Rattle.model.specs.Step.{thread_at, relock_event}
 use Rattle.linked_code.specs.declared.program.LinkedProgram.{LinkedProgram}
 use Rattle.linked_code.specs.thread_stacks.Stacks.{ShownEntry}
 use Rattle.machine_state.specs.declared.answers.Answer.{Answer}
-use Rattle.machine_state.specs.declared.refusals.Refusal.{Refusal}
+use Rattle.machine_state.specs.declared.refusals.EventRefusal.{EventRefusal}
 use Rattle.machine_state.specs.declared.state.Shared.{Shared}
 use Rattle.machine_state.specs.Shown.{IsProgram, IsLent}
 use Rattle.machine_state.specs.Events.{Becomes}
@@ -31,7 +31,7 @@ pub record IsToRelock (p : LinkedProgram) (t object count : ℕ) (cause : WakeCa
   pub numbered : t < 32767
 
 -- in whatever state the thread has left it, the result says what becomes of its event
-abbrev pub RelocksIn : LinkedProgram → (t object count : ℕ) → WakeCause → Result Answer Refusal → (old new : Shared)
+abbrev pub RelocksIn : LinkedProgram → (t object count : ℕ) → WakeCause → Result Answer EventRefusal → (old new : Shared)
     (from to : List ShownEntry) → Type 0
 RelocksIn p t object count cause result old new from to =
     (trees : Program) (bounds : Bounds) (inflated : List ℕ) (state : StateOf ℕ) (own : StackOf ℕ) → HasLeft trees p bounds inflated t object count cause old from state own

@@ -9,7 +9,7 @@ use linked_code::{LinkedInstruction, LinkedProgram};
 use machine_instructions::called_methods::{
     invoke_interface, invoke_special, invoke_static, invoke_virtual, println,
 };
-use machine_state::{Effect, Refusal, Shared};
+use machine_state::{Effect, EventRefusal, Shared};
 
 /// Does an instruction. One that calls nothing picks nothing.
 pub(crate) fn any_instruction(
@@ -20,7 +20,7 @@ pub(crate) fn any_instruction(
     pick: u16,
     frames: usize,
     instruction: LinkedInstruction,
-) -> Result<Effect, Refusal>
+) -> Result<Effect, EventRefusal>
     requires able { CanRun program.now thread shared.old stack.old instruction }
     requires numbered { thread < 32767 }
     ensures { DoesInstruction program.now instruction frames (record { thread = thread; pick = pick }) result shared.old shared.new

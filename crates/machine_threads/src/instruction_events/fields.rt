@@ -3,10 +3,11 @@
 ghost use Rattle.machine_threads.specs.instruction_events.Doing.{DoesFieldOrLocal};
 
 use linked_code::thread_stacks::ThreadStack;
-use linked_code::{LinkedInstruction, LinkedProgram, Primitive};
+use linked_code::{LinkedInstruction, LinkedProgram};
 use machine_instructions::field_instructions::{get_field, get_static, put_field, put_static};
 use machine_instructions::local_instructions::local_instruction;
-use machine_state::{Effect, Refusal, Shared};
+use machine_state::{Effect, EventRefusal, Shared};
+use model::Primitive;
 
 /// Does an instruction on a field, or one that touches its frame alone.
 #[inline]
@@ -15,7 +16,7 @@ pub(crate) fn field_instruction(
     stack: &mut ThreadStack,
     program: &LinkedProgram,
     instruction: LinkedInstruction,
-) -> Result<Effect, Refusal>
+) -> Result<Effect, EventRefusal>
     ensures { DoesFieldOrLocal program.now instruction result shared.old shared.new stack.old stack.new }
 {
     match instruction {

@@ -6,7 +6,7 @@ use crate::instruction_needs::class_needed;
 use linked_code::thread_stacks::ThreadStack;
 use linked_code::{LinkedInstruction, LinkedProgram};
 use machine_state::class_initialisation::need_class;
-use machine_state::{Answer, Refusal, Shared, instructions_are_done};
+use machine_state::{Answer, EventRefusal, Shared, instructions_are_done};
 
 /// What comes before the instruction at which a thread stands: the class that it needs (JVMS 5.5). It answers nothing where the
 /// event is what the instruction does, and nothing has changed; else it answers what became of the event. An event that picks
@@ -22,7 +22,7 @@ pub(crate) fn class_first(
     thread: u16,
     pick: u16,
     instruction: LinkedInstruction,
-) -> Result<Option<Answer>, Refusal>
+) -> Result<Option<Answer>, EventRefusal>
     ensures { ComesFirst program.now instruction (record { thread = thread; pick = pick }) result
         shared.old shared.new stack.old stack.new }
 {

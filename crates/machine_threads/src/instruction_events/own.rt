@@ -16,7 +16,7 @@ use machine_instructions::type_instructions::{
     check_cast, instance_of, load_object, new_array, new_object, new_reference_array,
     store_reference, throw,
 };
-use machine_state::{Effect, Refusal, Shared};
+use machine_state::{Effect, EventRefusal, Shared};
 
 /// Does an instruction that calls nothing (JVMS 2.11), its class, where it needs one, being ready.
 ///
@@ -29,7 +29,7 @@ pub(crate) fn own_instruction(
     program: &LinkedProgram,
     thread: u16,
     instruction: LinkedInstruction,
-) -> Result<Effect, Refusal>
+) -> Result<Effect, EventRefusal>
     requires able { CanRun program.now thread shared.old stack.old instruction }
     requires own { is_call instruction ≡ false }
     ensures { DoesOwn program.now instruction thread result shared.old shared.new stack.old stack.new }

@@ -5,22 +5,20 @@ ghost use Rattle.machine_state.specs.declared.state.ClassStatus.{ClassStatus};
 
 use linked_code::LinkedProgram;
 use machine_state::ClassStatus;
+use model::BUILT_IN_CLASSES;
 use std::alloc::{AllocError, Global};
-
-/// How many classes are built in. The first file stands behind them.
-const BUILT_IN: usize = 30;
 
 /// No class of a file is initialised.
 pub(crate) fn opening_statuses(
     alloc: Global,
     program: &LinkedProgram,
 ) -> Result<Vec<ClassStatus>, AllocError>
-    requires { 30 ≤ length program.now.classes.items }
-    ensures { IfOk result (λ statuses. statuses.items ≡ replicate (length program.now.classes.items - 30) ClassStatus.NotInitialised) }
+    requires { BUILT_IN_CLASSES ≤ length program.now.classes.items }
+    ensures { IfOk result (λ statuses. statuses.items ≡ replicate (length program.now.classes.items - BUILT_IN_CLASSES) ClassStatus.NotInitialised) }
 {
     let mut statuses = Vec::new(alloc);
     statuses.resize(
-        program.classes.len() - BUILT_IN,
+        program.classes.len() - BUILT_IN_CLASSES,
         ClassStatus::NotInitialised,
     )?;
     Ok(statuses)
@@ -28,11 +26,11 @@ pub(crate) fn opening_statuses(
 
 /// The built-in classes are ready from the start, and no others.
 pub(crate) fn opening_ready(alloc: Global, program: &LinkedProgram) -> Result<Vec<bool>, AllocError>
-    requires { 30 ≤ length program.now.classes.items }
-    ensures { IfOk result (λ ready. ready.items ≡ replicate 30 true ++ replicate (length program.now.classes.items - 30) false) }
+    requires { BUILT_IN_CLASSES ≤ length program.now.classes.items }
+    ensures { IfOk result (λ ready. ready.items ≡ replicate BUILT_IN_CLASSES true ++ replicate (length program.now.classes.items - BUILT_IN_CLASSES) false) }
 {
     let mut ready = Vec::new(alloc);
-    ready.resize(BUILT_IN, true)?;
+    ready.resize(BUILT_IN_CLASSES, true)?;
     ready.resize(program.classes.len(), false)?;
     Ok(ready)
 }

@@ -5,7 +5,7 @@ ghost use Rattle.machine_threads.specs.pending_exceptions.Caught.{IsCaughtOnTop,
 
 use heap::Heap;
 use linked_code::thread_stacks::ThreadStack;
-use machine_state::{Answer, Refusal, Shared};
+use machine_state::{Answer, EventRefusal, Shared};
 use std::alloc::AllocError;
 
 /// The word of the reference of an object, which is one of 32 bits, or 0 where there is no such object.
@@ -49,7 +49,7 @@ pub(crate) fn catch_in(
     thread: u16,
     handler: u16,
     exception: u32,
-) -> Result<Answer, Refusal>
+) -> Result<Answer, EventRefusal>
     ensures { Catches thread handler exception result shared.old shared.new stack.old stack.new }
 {
     let word = word_of(&shared.heap, exception);

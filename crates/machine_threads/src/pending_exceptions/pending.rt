@@ -9,7 +9,7 @@ use linked_code::thread_stacks::{ThreadStack, Top};
 use machine_instructions::returns::unwind;
 use machine_state::class_initialisation::fail;
 use machine_state::exception_handlers::is_error;
-use machine_state::{Answer, Refusal, Shared};
+use machine_state::{Answer, EventRefusal, Shared};
 
 /// The event with a frame on top: the frame goes on at its handler, or ends (JVMS 2.10).
 fn event_in_frame(
@@ -18,7 +18,7 @@ fn event_in_frame(
     program: &LinkedProgram,
     thread: u16,
     exception: u32,
-) -> Result<Answer, Refusal>
+) -> Result<Answer, EventRefusal>
     ensures { DoesInFrame program.now thread exception result shared.old shared.new stack.old stack.new }
 {
     match handler_on_top(program, &shared.heap, stack, exception) {
@@ -35,7 +35,7 @@ fn event_in_class(
     thread: u16,
     class: u16,
     exception: u32,
-) -> Result<Answer, Refusal>
+) -> Result<Answer, EventRefusal>
     ensures { DoesInClass program.now thread class exception result shared.old shared.new stack.old stack.new }
 {
     let is_error = is_error(program, &shared.heap, exception);
@@ -55,7 +55,7 @@ pub fn pending_event(
     program: &LinkedProgram,
     thread: u16,
     exception: u32,
-) -> Result<Answer, Refusal>
+) -> Result<Answer, EventRefusal>
     ensures { DoesPending program.now thread exception result shared.old shared.new stack.old stack.new }
 {
     match stack.top() {

@@ -7,7 +7,7 @@ ghost use Rattle.machine_threads.specs.thread_begins.First.{PushesFirst};
 use crate::thread_begins::begun::begin_where_done;
 use linked_code::thread_stacks::{Callee, ThreadStack};
 use machine_state::invocations::first_call;
-use machine_state::{Effect, MachineException, Refusal, Shared};
+use machine_state::{Effect, EventRefusal, MachineException, Shared};
 
 /// A thread calls its first method with one argument, by its word, and has begun then. Where a stack may have no frame, a
 /// StackOverflowError is raised (JVMS 2.5.2), and where another thread owns the monitor that the call enters, the event isn't
@@ -23,7 +23,7 @@ pub fn push_first(
     callee: Callee,
     argument: u32,
     frames: usize,
-) -> Result<Effect, Refusal>
+) -> Result<Effect, EventRefusal>
     requires there { IsThere callee.entered shared.old.heap }
     requires numbered { thread < 32767 }
     ensures { PushesFirst result thread callee argument frames shared.old shared.new stack.old stack.new }

@@ -12,7 +12,7 @@ use linked_code::thread_stacks::{Callee, ThreadStack};
 use machine_state::class_initialisation::need_class;
 use machine_state::method_selection::{method_at, methods_are_read};
 use machine_state::raised_exceptions::apply;
-use machine_state::{Answer, Refusal, Shared};
+use machine_state::{Answer, EventRefusal, Shared};
 
 /// The word of the reference to the empty array that `main` gets, one of the objects of the opening heap.
 const ARGUMENTS: u32 = 2;
@@ -48,7 +48,7 @@ fn call_first(
     stack: &mut ThreadStack,
     callee: Callee,
     frames: usize,
-) -> Result<Answer, Refusal>
+) -> Result<Answer, EventRefusal>
     requires there { IsThere callee.entered shared.old.heap }
     ensures { CallsFirst result callee frames shared.old shared.new stack.old stack.new }
 {
@@ -66,7 +66,7 @@ fn call_main(
     program: &LinkedProgram,
     class: u16,
     frames: usize,
-) -> Result<Answer, Refusal>
+) -> Result<Answer, EventRefusal>
     requires able { CanBegin program.now 0 shared.old stack.old }
     requires initial { IsInitialClass program.now class }
     ensures { CallsMain program.now result frames shared.old shared.new stack.old stack.new }
@@ -91,7 +91,7 @@ pub fn begin_main(
     stack: &mut ThreadStack,
     program: &LinkedProgram,
     frames: usize,
-) -> Result<Answer, Refusal>
+) -> Result<Answer, EventRefusal>
     requires able { CanBegin program.now 0 shared.old stack.old }
     ensures { BeginsMain program.now result frames shared.old shared.new stack.old stack.new }
 {

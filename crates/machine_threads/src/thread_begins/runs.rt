@@ -10,7 +10,7 @@ use heap::Heap;
 use linked_code::LinkedProgram;
 use linked_code::thread_stacks::{Callee, ThreadStack};
 use machine_state::method_selection::{class_of_kind, methods_are_read, select_virtual};
-use machine_state::{Effect, MachineException, Refusal, Shared};
+use machine_state::{Effect, EventRefusal, MachineException, Shared};
 
 /// The number of the method `run` of a Thread object, by the rules of `invokevirtual` (JVMS 6.5).
 fn selected_run(program: &LinkedProgram, heap: &Heap, object: u32) -> Option<u32>
@@ -55,7 +55,7 @@ pub fn begin_run(
     program: &LinkedProgram,
     thread: u16,
     frames: usize,
-) -> Result<Effect, Refusal>
+) -> Result<Effect, EventRefusal>
     requires able { CanBegin program.now thread shared.old stack.old }
     requires numbered { thread < 32767 }
     ensures { BeginsRun program.now result thread frames shared.old shared.new stack.old stack.new }

@@ -9,7 +9,7 @@ use crate::thread_begins::runs::begin_run;
 use linked_code::LinkedProgram;
 use linked_code::thread_stacks::ThreadStack;
 use machine_state::raised_exceptions::apply;
-use machine_state::{Answer, Refusal, Shared};
+use machine_state::{Answer, EventRefusal, Shared};
 
 /// A thread that was started calls `run` of its Thread object, and what it raises is pending then.
 fn begin_started(
@@ -18,7 +18,7 @@ fn begin_started(
     program: &LinkedProgram,
     thread: u16,
     frames: usize,
-) -> Result<Answer, Refusal>
+) -> Result<Answer, EventRefusal>
     requires able { CanBegin program.now thread shared.old stack.old }
     requires numbered { thread < 32767 }
     ensures { BeginsStarted program.now result thread frames shared.old shared.new stack.old stack.new }
@@ -43,7 +43,7 @@ pub fn begin_thread(
     program: &LinkedProgram,
     thread: u16,
     frames: usize,
-) -> Result<Answer, Refusal>
+) -> Result<Answer, EventRefusal>
     requires able { CanBegin program.now thread shared.old stack.old }
     requires numbered { thread < 32767 }
     ensures { BeginsThread program.now result thread frames shared.old shared.new stack.old stack.new }

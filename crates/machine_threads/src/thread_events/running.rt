@@ -9,7 +9,7 @@ use crate::instruction_events::instruction_event;
 use crate::thread_events::unpicked::{begin, initialisation};
 use linked_code::LinkedProgram;
 use linked_code::thread_stacks::{ThreadStack, Top};
-use machine_state::{Answer, Refusal, Shared};
+use machine_state::{Answer, EventRefusal, Shared};
 
 /// By what is on top of its stack: with a frame the event is that of its instruction (JVMS 2.6), with a class that the thread
 /// initialises it is the next step of that (JVMS 5.5), and with an empty stack the thread begins (JVMS 5.2; JLS 17).
@@ -20,7 +20,7 @@ pub(crate) fn running_event(
     thread: u16,
     pick: u16,
     frames: usize,
-) -> Result<Answer, Refusal>
+) -> Result<Answer, EventRefusal>
     requires able { HasThread program.now thread shared.old stack.old }
     requires runs { (row_at shared.old.threads.threads thread).status ≡ Running }
     requires goes_on { (row_at shared.old.threads.threads thread).pending ≡ None }

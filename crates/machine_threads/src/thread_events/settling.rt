@@ -4,7 +4,7 @@ ghost use Rattle.machine_threads.specs.thread_events.Settling.{SettlesEvent};
 
 use crate::thread_wakes::settle;
 use linked_code::thread_stacks::ThreadStack;
-use machine_state::{Answer, Refusal, Shared};
+use machine_state::{Answer, EventRefusal, Shared};
 
 /// What an event of a thread came to, with the end of the thread that may belong to it: where the event is done, the stack is empty,
 /// and the thread has begun or an exception is pending, it has ended, and all that wait on its Thread object are woken.
@@ -16,8 +16,8 @@ pub(crate) fn settle_event(
     shared: &mut Shared,
     stack: &ThreadStack,
     thread: u16,
-    given: Result<Answer, Refusal>,
-) -> Result<Answer, Refusal>
+    given: Result<Answer, EventRefusal>,
+) -> Result<Answer, EventRefusal>
     ensures { SettlesEvent thread given result shared.old shared.new stack.now }
 {
     match given {

@@ -15,7 +15,7 @@ use heap::java_threads::WakeCause;
 use linked_code::LinkedProgram;
 use linked_code::thread_stacks::{Phase, ThreadStack};
 use machine_state::class_initialisation::initialise;
-use machine_state::{Answer, Refusal, Shared};
+use machine_state::{Answer, EventRefusal, Shared};
 
 /// The event of a thread that has left the wait set of an object (JLS 17.2.1).
 pub(crate) fn relock(
@@ -27,7 +27,7 @@ pub(crate) fn relock(
     object: u32,
     count: u32,
     cause: WakeCause,
-) -> Result<Answer, Refusal>
+) -> Result<Answer, EventRefusal>
     requires able { HasThread program.now thread shared.old stack.old }
     requires left { (row_at shared.old.threads.threads thread).status ≡ Relock object count (cause_of cause) }
     requires numbered { thread < 32767 }
@@ -48,7 +48,7 @@ pub(crate) fn pending(
     thread: u16,
     pick: u16,
     exception: u32,
-) -> Result<Answer, Refusal>
+) -> Result<Answer, EventRefusal>
     requires runs { (row_at shared.old.threads.threads thread).status ≡ Running }
     requires pending { (row_at shared.old.threads.threads thread).pending ≡ Some exception }
     ensures { DoesPending program.now result (record { thread = thread; pick = pick }) exception shared.old shared.new stack.old stack.new }
@@ -69,7 +69,7 @@ pub(crate) fn initialisation(
     class: u16,
     phase: Phase,
     frames: usize,
-) -> Result<Answer, Refusal>
+) -> Result<Answer, EventRefusal>
     requires numbered { thread < 32767 }
     ensures { DoesInitialisation program.now result (record { thread = thread; pick = pick }) class phase frames shared.old shared.new
         stack.old stack.new }
@@ -88,7 +88,7 @@ pub(crate) fn begin(
     thread: u16,
     pick: u16,
     frames: usize,
-) -> Result<Answer, Refusal>
+) -> Result<Answer, EventRefusal>
     requires able { CanBegin program.now thread shared.old stack.old }
     requires numbered { thread < 32767 }
     ensures { DoesBegin program.now result (record { thread = thread; pick = pick }) frames shared.old shared.new stack.old stack.new }

@@ -13,7 +13,7 @@ use linked_code::LinkedProgram;
 use linked_code::thread_stacks::ThreadStack;
 use machine_instructions::returns::next_place_of_top;
 use machine_state::raised_exceptions::raise_interrupt;
-use machine_state::{Answer, Refusal, Shared};
+use machine_state::{Answer, EventRefusal, Shared};
 
 /// Whether a thread that has left the wait set of an object may enter its monitor again: no thread owns it.
 #[inline]
@@ -39,7 +39,7 @@ pub fn relock_event(
     object: u32,
     count: u32,
     cause: WakeCause,
-) -> Result<Answer, Refusal>
+) -> Result<Answer, EventRefusal>
     requires { IsToRelock program.now thread object count (cause_of cause) shared.old stack.old }
     ensures { RelocksIn program.now thread object count (cause_of cause) result shared.old shared.new stack.old stack.new }
 {

@@ -15,11 +15,6 @@ use hierarchy::{ClassSet, MemberPlace};
 use indexmap::IndexMap;
 use std::alloc::{AllocError, Global};
 
-/// ACC_PRIVATE and ACC_STATIC (JVMS table 4.6-A).
-const PRIVATE: u16 = 0x0002;
-
-const STATIC: u16 = 0x0008;
-
 /// A name and a descriptor in the class at a place. Both are given by the number of the first method that has them.
 #[derive(Clone, Copy, PartialEq, Eq, Hash)]
 pub(crate) struct Declaration {
@@ -48,7 +43,7 @@ pub(crate) fn key_of(
 fn is_selectable(method: &Method) -> bool
     ensures { result ≡ is_selectable (method_of method.now) }
 {
-    method.flags / STATIC % 2 == 0 && method.flags / PRIVATE % 2 == 0
+    !method.is_static() && !method.is_private()
 }
 
 /// Whether the method at a place is there, and is neither static nor private.

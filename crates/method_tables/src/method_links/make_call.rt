@@ -1,50 +1,21 @@
 //! What the declaration of a method tells of its calls.
 
-ghost use Rattle.std.specs.Prelude.{◌≡◌, ◌+◌, ◌/◌, ◌%◌, ◌<◌, ◌≤◌, ◌==◌, map, length, option_map, IfOk, if◌then◌else◌};
+ghost use Rattle.std.specs.Prelude.{◌≡◌, ◌+◌, ◌≤◌, length, option_map, IfOk, if◌then◌else◌};
 ghost use Rattle.model.specs.Classes.{code_in};
 ghost use Rattle.model.specs.DescribedTypes.{parameters_declared};
-ghost use Rattle.classfile.specs.View.{code_of, file_of, method_of, method_part_of};
+ghost use Rattle.classfile.specs.View.{code_of, file_of, method_of};
 ghost use Rattle.types.specs.method_code.Linked.{IsLinked};
 ghost use Rattle.method_tables.specs.method_links.Calls.{frame_needs, needs_of, IsTold};
 ghost use Rattle.method_tables.specs.method_links.Describing.{Describes};
 ghost use Rattle.method_tables.specs.method_links.Methods.{member_at};
 
 use crate::method_links::call::{FrameCode, MethodCall};
-use classfile::{ClassFile, Code, Method, MethodAttribute};
+use classfile::access_flags::{ABSTRACT, NATIVE, PRIVATE, STATIC, SYNCHRONIZED, has};
+use classfile::{ClassFile, Code, Method};
 use constant_pool::descriptors::parse_method;
 use hierarchy::{ClassSet, MemberPlace};
 use std::alloc::{AllocError, Global};
 use std::sync::Arc;
-
-/// Access flags of methods (JVMS table 4.6-A).
-const PRIVATE: u16 = 0x0002;
-
-const STATIC: u16 = 0x0008;
-
-const SYNCHRONIZED: u16 = 0x0020;
-
-const NATIVE: u16 = 0x0100;
-
-const ABSTRACT: u16 = 0x0400;
-
-fn has(flags: u16, flag: u16) -> bool
-    requires { 0 < flag }
-    ensures { result ≡ (flags / flag % 2 == 1) }
-{
-    flags / flag % 2 == 1
-}
-
-/// The first Code among attributes.
-fn first_code(attributes: &[MethodAttribute]) -> Option<&Code>
-    ensures { option_map (λ c. code_of c.now) result ≡ code_in (map method_part_of attributes.now) }
-{
-    for attribute in attributes {
-        if let MethodAttribute::Code { code, .. } = attribute {
-            return Some(code);
-        }
-    }
-    None
-}
 
 /// A code with its bytes shared.
 fn shared(alloc: Global, code: &Code) -> Result<FrameCode, AllocError>
@@ -65,7 +36,7 @@ fn shared(alloc: Global, code: &Code) -> Result<FrameCode, AllocError>
 fn frame_code(alloc: Global, method: &Method) -> Result<Option<FrameCode>, AllocError>
     ensures { IfOk result (λ code. option_map frame_needs code ≡ option_map needs_of (code_in (method_of method.now).parts)) }
 {
-    match first_code(&method.attributes) {
+    match method.code() {
         Some(code) => Ok(Some(shared(alloc, code)?)),
         None => Ok(None),
     }

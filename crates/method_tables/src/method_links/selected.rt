@@ -15,7 +15,7 @@ ghost use Rattle.method_tables.specs.method_links.Selected.{AreSelectionsOf, dec
 use crate::method_links::declarations::{Declaration, declared_of, key_of};
 use crate::method_links::numbers::MethodNumbers;
 use crate::method_links::selectors::{Part, first_numbers};
-use classfile::ClassFile;
+use classfile::{ClassFile, class_name};
 use hierarchy::ClassSet;
 use indexmap::IndexMap;
 use std::alloc::{AllocError, Global};
@@ -52,8 +52,7 @@ impl Model for SelectedMethods {
 fn superclass_of(set: &ClassSet, file: &ClassFile) -> Option<usize>
     ensures { result ≡ superclass_place set.now (file_of file.now) }
 {
-    let name = file.class_name(file.this_class).unwrap_or(b"");
-    match set.superclass_of(name) {
+    match set.superclass_of(class_name(file)) {
         Some(superclass) => set.place_of(superclass),
         None => None,
     }

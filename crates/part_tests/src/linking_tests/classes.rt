@@ -2,9 +2,10 @@
 
 use crate::linking_tests::program::{Answers, Class, Method, Row, asked};
 use class_tree::Reference;
-use hierarchy::{ClassSet, Hierarchy, Innermost, MemberPlace, Primitive, ReferenceType};
+use hierarchy::{ClassSet, Hierarchy, Innermost, MemberPlace, ReferenceType};
 use linker::Linked;
 use made_files::class_builder::CodeParts;
+use model::Primitive;
 use std::alloc::{AllocError, Global};
 use std::test::Fail;
 

@@ -1,6 +1,7 @@
 //! Links of fields, and numbers of classes and of texts.
 
 use crate::linking_tests::program::{Answers, Class, Entry, Method, Row, asked};
+use class_tree::access_flags::STATIC;
 use linker::Linked;
 use linker::field_links::{ClassNumbers, FieldLink, FieldLinks, StringNumbers};
 use made_files::class_builder::CodeParts;
@@ -8,8 +9,6 @@ use std::alloc::{AllocError, Global};
 use std::test::Fail;
 
 const INSTANCE: u16 = 0x0000;
-
-const STATIC: u16 = 0x0008;
 
 const OBJECT: &[u8] = b"java/lang/Object";
 

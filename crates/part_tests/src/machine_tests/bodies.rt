@@ -4,7 +4,7 @@ ghost use Rattle.std.specs.Prelude.{◌<◌};
 
 use crate::machine_tests::monitors::{enter, exit, notify, relock, wait};
 use crate::machine_tests::plain::PlainMonitors;
-use heap::monitor::{Call, Monitors, Refusal, run_calls};
+use heap::monitor::{Call, MonitorRefusal, Monitors, run_calls};
 use std::alloc::{AllocError, Global};
 use std::process::Abort;
 use std::test::Fail;
@@ -130,7 +130,7 @@ fn compare(rt: &impl Abort, alloc: Global, calls: &[Call], at_once: usize) -> Re
         let replies = run_calls(alloc, &mut monitors, part)?;
         let others = run_calls(alloc, &mut plain, part)?;
         assert!(rt; replies == others);
-        was_full |= replies.contains(&Some(Err(Refusal::Monitors)));
+        was_full |= replies.contains(&Some(Err(MonitorRefusal::Monitors)));
         for object in 0..OBJECTS {
             assert!(rt; agree(alloc, &monitors, &plain, object)?);
         }

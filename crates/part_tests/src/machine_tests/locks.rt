@@ -2,13 +2,13 @@
 
 use crate::machine_tests::monitors::{enter, exit, notify, relock, wait};
 use heap::Heap;
-use heap::monitor::{Call, Refusal};
+use heap::monitor::{Call, MonitorRefusal};
 use model::{Limits, MonitorAnswer};
 use std::alloc::{AllocError, Global};
 use std::process::Abort;
 use std::test::Fail;
 
-type Answer = Result<MonitorAnswer, Refusal>;
+type Answer = Result<MonitorAnswer, MonitorRefusal>;
 
 /// What a heap shows of a lock that has become fat: its owner, the entries, and the thread and the count of the one that
 /// waits.

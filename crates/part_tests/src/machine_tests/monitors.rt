@@ -1,6 +1,6 @@
 //! Monitors whose locks become fat, as far as the table has room.
 
-use heap::monitor::{Call, MonitorCalls, Monitors, Refusal};
+use heap::monitor::{Call, MonitorCalls, MonitorRefusal, Monitors};
 use model::MonitorAnswer;
 use std::test::Fail;
 
@@ -33,7 +33,10 @@ pub(crate) fn relock(object: u32, thread: u16, count: u32) -> Call {
 }
 
 /// What the call answered, and whether the lock of the object is fat then. `None` where a caller may not make it.
-fn told(monitors: &mut Monitors, call: Call) -> Option<(Result<MonitorAnswer, Refusal>, bool)> {
+fn told(
+    monitors: &mut Monitors,
+    call: Call,
+) -> Option<(Result<MonitorAnswer, MonitorRefusal>, bool)> {
     if !monitors.allows(call) {
         return None;
     }
@@ -57,7 +60,7 @@ fn a_wait_inflates_where_the_table_has_room(rt: HostRuntime) -> Result<(), Fail>
         (enter(0, 1), Ok(MonitorAnswer::Held), false),
         (enter(1, 0), Ok(MonitorAnswer::Done), false),
         (wait(0, 0), Ok(MonitorAnswer::Done), true),
-        (wait(1, 0), Err(Refusal::Monitors), false),
+        (wait(1, 0), Err(MonitorRefusal::Monitors), false),
         (exit(1, 0), Ok(MonitorAnswer::Done), false),
         (enter(0, 1), Ok(MonitorAnswer::Done), true),
         (notify(0, 1, 0), Ok(MonitorAnswer::Done), true),

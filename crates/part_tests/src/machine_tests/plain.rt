@@ -5,7 +5,7 @@ ghost use Rattle.std.specs.List.{remove};
 ghost use Rattle.model.specs.Monitors.{owns, without, unlocked};
 ghost use Rattle.heap.specs.monitor.Locks.{inflates, is_count_full_by, answered_by, joins_by};
 
-use heap::monitor::{Call, MonitorCalls, Refusal, Waiter};
+use heap::monitor::{Call, MonitorCalls, MonitorRefusal, Waiter};
 use model::MonitorAnswer;
 use std::alloc::{AllocError, Global};
 use std::marker::Model;
@@ -284,14 +284,14 @@ impl MonitorCalls for PlainMonitors {
         }
     }
 
-    fn apply(&mut self, call: Call) -> Result<MonitorAnswer, Refusal> {
+    fn apply(&mut self, call: Call) -> Result<MonitorAnswer, MonitorRefusal> {
         let object = call.object() as usize;
         let inflates = self.monitors[object].inflates(call);
         if inflates && !self.fat[object] && self.limit as usize <= fat_count(self.fat.as_slice()) {
-            return Err(Refusal::Monitors);
+            return Err(MonitorRefusal::Monitors);
         }
         if self.monitors[object].is_count_full(call) {
-            return Err(Refusal::LockCount);
+            return Err(MonitorRefusal::LockCount);
         }
         let answer = self.monitors[object].apply(call)?;
         if !inflates {

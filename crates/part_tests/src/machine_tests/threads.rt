@@ -1,6 +1,6 @@
 //! The table of threads.
 
-use heap::java_threads::{Refusal, ThreadStatus, Threads, WakeCause};
+use heap::java_threads::{ThreadRefusal, ThreadStatus, Threads, WakeCause};
 use std::test::Fail;
 
 /// What the table shows of a thread: its object, whether it has begun, what is pending, whether it is interrupted, and what it
@@ -34,7 +34,7 @@ fn each_part_is_kept(rt: HostRuntime) -> Result<(), Fail> {
     for (object, answer, len) in [
         (17, Ok(()), 2),
         (18, Ok(()), 3),
-        (20, Err(Refusal::Threads), 3),
+        (20, Err(ThreadRefusal::Threads), 3),
     ] {
         assert!(rt; threads.is_full() == answer.is_err());
         assert!(rt; threads.add(object) == answer && threads.len() == len);

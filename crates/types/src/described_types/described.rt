@@ -8,15 +8,17 @@ ghost use Rattle.model.specs.Resolution.{is_missing};
 ghost use Rattle.model.specs.DescriptorScan.{dimensions_of};
 ghost use Rattle.model.specs.DescribedTypes.{arrays, declared_of, returned_type, field_declared, parameters_declared, results_declared, type_named, made_type, reference_declared, verification_type};
 ghost use Rattle.constant_pool.specs.descriptors.View.{field_of};
-ghost use Rattle.types.specs.View.{primitive_of, reference_in, type_in};
+ghost use Rattle.model.specs.Primitives.{primitive_of};
+ghost use Rattle.types.specs.View.{reference_in, type_in};
 ghost use Rattle.types.specs.described_types.Described.{Gives, HasDimensions, type_missing, declared_missing, primitive_declared, parameters_in, results_in};
 
 use crate::described_types::made::class_named;
-use crate::{Element, Primitive, ReferenceType, VerificationType};
+use crate::{Element, ReferenceType, VerificationType};
 use constant_pool::descriptors::{
     Element as ElementType, Field, Method, parse_field, parse_method,
 };
 use hierarchy::ClassSet;
+use model::Primitive;
 use std::alloc::{AllocError, Global};
 
 /// The types that a method takes and gives.

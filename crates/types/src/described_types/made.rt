@@ -16,21 +16,11 @@ use hierarchy::ClassSet;
 /// The place of java/lang/Object, in every set.
 const OBJECT: usize = 0;
 
-/// The name of the class at a place; no bytes where there is no class.
-fn name_at(set: &ClassSet, place: usize) -> &[u8]
-    ensures { result.now ≡ name_at set.now place }
-{
-    match set.class_at(place) {
-        Some(class) => class.class_name(class.this_class).unwrap_or(b""),
-        None => b"",
-    }
-}
-
 /// The class as which a class counts.
 fn made_class(set: &ClassSet, class: usize) -> usize
     ensures { ClassType (name_at set.now result) ≡ made_type set.now (ClassType (name_at set.now class)) }
 {
-    if set.is_interface(name_at(set, class)) {
+    if set.is_interface(set.name_at(class)) {
         return OBJECT;
     }
     class

@@ -10,9 +10,6 @@ use crate::method_code::declaration::MethodCode;
 use class_tree::{ClassFile, Code};
 use hierarchy::{ClassSet, Hierarchy};
 
-/// ACC_STATIC (JVMS table 4.6-A).
-const STATIC: u16 = 0x0008;
-
 impl<'a> MethodCode<'a> {
     ghost use Rattle.types.specs.method_code.View.{files_of, member_of, body_of};
 
@@ -72,7 +69,7 @@ impl<'a> MethodCode<'a> {
     fn is_static(&self) -> bool
         ensures { result ≡ is_static_of (files_of self.now) (member_of self.now) }
     {
-        self.method.flags / STATIC % 2 == 1
+        self.method.is_static()
     }
 
     /// Whether it has no receiver: if it is static, or the initialiser of its class whatever its flags are.

@@ -1,25 +1,10 @@
 //! The method at a place.
 
-ghost use Rattle.std.specs.Prelude.{◌≡◌, map, option_map, IfSome};
-ghost use Rattle.model.specs.Classes.{code_in};
-ghost use Rattle.class_tree.specs.View.{code_of, method_part_of, method_of};
+ghost use Rattle.std.specs.Prelude.{◌≡◌, option_map, IfSome};
 ghost use Rattle.types.specs.method_code.Linked.{IsLinked};
 
 use crate::method_code::declaration::MethodCode;
-use class_tree::{Code, MethodAttribute};
 use hierarchy::Hierarchy;
-
-/// The first Code among attributes.
-fn first_code(attributes: &[MethodAttribute]) -> Option<&Code>
-    ensures { option_map (λ c. code_of c.now) result ≡ code_in (map method_part_of attributes.now) }
-{
-    for attribute in attributes {
-        if let MethodAttribute::Code { code, .. } = attribute {
-            return Some(code);
-        }
-    }
-    None
-}
 
 impl<'a> MethodCode<'a> {
     ghost use Rattle.types.specs.method_code.View.{files_of, shown, shown_at};
@@ -36,7 +21,7 @@ impl<'a> MethodCode<'a> {
         let Some(found) = file.methods.get(method) else {
             return None;
         };
-        let Some(code) = first_code(&found.attributes) else {
+        let Some(code) = found.code() else {
             return None;
         };
         Some(MethodCode {

@@ -6,7 +6,7 @@ ghost use Rattle.types.specs.subclass_table.Rows.{has_bit, is_above_at, FitIn, I
 
 use crate::subclass_table::bits::{clear_row, set_bit};
 use crate::subclass_table::columns::column_at;
-use crate::subclass_table::names::class_name;
+use classfile::class_name;
 use hierarchy::Hierarchy;
 use std::alloc::{AllocError, Global};
 

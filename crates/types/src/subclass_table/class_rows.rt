@@ -13,8 +13,7 @@ ghost use Rattle.types.specs.subclass_table.Made.{IsMade, AreRowsAt, AreMade, Is
 
 use crate::subclass_table::bits::{add_row, clear_row, set_bit};
 use crate::subclass_table::columns::column_at;
-use crate::subclass_table::names::superclass_name;
-use classfile::ClassFile;
+use classfile::{ClassFile, superclass_name};
 use hierarchy::ClassSet;
 use std::alloc::{AllocError, Global};
 

@@ -1,27 +1,11 @@
 //! The names of classes.
 
-ghost use Rattle.std.specs.Prelude.{◌≡◌, option_map, true, Some};
-ghost use Rattle.classfile.specs.View.{file_of};
+ghost use Rattle.std.specs.Prelude.{◌≡◌, true, Some};
 ghost use Rattle.hierarchy.specs.Places.{place_of};
-ghost use Rattle.model.specs.Classes.{name_of, super_name_of};
 ghost use Rattle.types.specs.subclass_table.Rows.{FindOwnPlaces};
 
-use classfile::ClassFile;
+use classfile::class_name;
 use hierarchy::ClassSet;
-
-/// The name of a class.
-pub(crate) fn class_name(file: &ClassFile) -> &[u8]
-    ensures { result.now ≡ name_of (file_of file.now) }
-{
-    file.class_name(file.this_class).unwrap_or(b"")
-}
-
-/// The name of its direct superclass.
-pub(crate) fn superclass_name(file: &ClassFile) -> Option<&[u8]>
-    ensures { option_map (λ t. t.now) result ≡ super_name_of (file_of file.now) }
-{
-    file.class_name(file.super_class)
-}
 
 /// Whether the class of a name stands at a place.
 fn is_found_at(set: &ClassSet, name: &[u8], place: usize) -> bool

@@ -1,8 +1,7 @@
 //! An order of the classes of a set, in which each comes after those directly above it. It only spares time: nothing is
 //! proved of it, and what rests on it is looked at.
 
-use crate::subclass_table::names::superclass_name;
-use classfile::ClassFile;
+use classfile::{ClassFile, superclass_name};
 use hierarchy::ClassSet;
 use std::alloc::{AllocError, Global};
 

@@ -10,8 +10,7 @@ ghost use Rattle.types.specs.View.{type_in};
 
 use hierarchy::ClassSet;
 use instruction_types::operand_types::Wants;
-use instruction_types::places::is_same_class;
-use types::{Element, ReferenceType, VerificationType};
+use types::{Element, ReferenceType, VerificationType, is_same_class};
 
 /// A local variable after a `new`: what it made before is not to be used any more.
 fn forgotten(offset: u16, t: VerificationType) -> VerificationType

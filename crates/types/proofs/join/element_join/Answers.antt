@@ -2,7 +2,8 @@ use Rattle.std.proofs.Common.{◌∙◌, sym, ap, Some, cond}
 use Rattle.model.specs.Names.{java_lang_object}
 use Rattle.model.specs.ReferenceTypes.{ClassType, PrimitiveArray}
 use Rattle.model.specs.TypeJoin.{reference_join}
-use Rattle.types.specs.View.{primitive_of, element_in}
+use Rattle.model.specs.Primitives.{primitive_of}
+use Rattle.types.specs.View.{element_in}
 use Rattle.types.proofs.Classes.{object_at}
 use Rattle.types.proofs.join.element_join.Goals as goal
 

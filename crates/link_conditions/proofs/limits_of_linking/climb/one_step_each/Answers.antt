@@ -1,4 +1,4 @@
-use Rattle.std.proofs.Common.{rules, ◌≡◌, ◌++◌, map, List, sym, ap, ◌∙◌}
+use Rattle.std.proofs.Common.{◌++◌, map, List, sym, ap, ◌∙◌}
 use Rattle.classfile.specs.View.{file_of}
 use Rattle.model.specs.Tree.{FileTree}
 use Rattle.model.specs.Classes.{classes_of, name_of}
@@ -18,7 +18,4 @@ pub loop-place-preserved : goal.loop-place-preserved
 loop-place-preserved c =
     let files = c.args.set.now in
     row_pushed (λ (file : FileTree). climb files 1 (name_of file)) c.loop-place.rows.items c.push.new.self.items c.one_step.result (classes_of files) c.loop-place.place (file_of c.in-Some.class.now) (climbs files 1) (sym c.in-Some.ensures)
-    (c.one_step.ensures ∙ ap (climb files 1) (name_is c)) c.in_ok-push.ensures.items c.loop-place.invariant
-  where
-    name_is : (c : goal.In_ok-push) → c.unwrap_or-name.result.now ≡ name_of (file_of c.in-Some.class.now)
-    name_is c = search rules
+    (c.one_step.ensures ∙ ap (climb files 1) c.class_name.ensures) c.in_ok-push.ensures.items c.loop-place.invariant

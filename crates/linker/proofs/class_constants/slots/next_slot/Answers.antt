@@ -11,8 +11,8 @@ use Rattle.linker.proofs.class_constants.Places.{slots_more}
 use Rattle.linker.proofs.class_constants.Sizes.{slots_fit}
 use Rattle.linker.proofs.class_constants.slots.next_slot.Goals as goal
 
-pub returns-then-class-lt-BUILT_IN : goal.returns-then-class-lt-BUILT_IN
-returns-then-class-lt-BUILT_IN c =
+pub returns-then-class-lt-BUILT_IN_CLASSES : goal.returns-then-class-lt-BUILT_IN_CLASSES
+returns-then-class-lt-BUILT_IN_CLASSES c =
     let files = c.args.set.now in
     let same : c.args.class - 30 ≡ (c.args.class + 1) - 30 = omega arith in
     c.requires.begins ∙ ap (λ n. length (static_fields (take n files))) same

@@ -11,8 +11,8 @@ use Rattle.model.specs.Outcomes.{Starts}
 use Rattle.model.specs.State.{WorldOf}
 use Rattle.model.specs.Worlds.{thread_of}
 use Rattle.model.specs.Step.{part, become}
-use Rattle.heap.specs.declared.java_threads.refusal.Refusal.{Refusal}
-use Rattle.heap.specs.declared.java_threads.refusal.Refusal.TheVariants as refusal
+use Rattle.heap.specs.declared.java_threads.refusal.ThreadRefusal.{ThreadRefusal}
+use Rattle.heap.specs.declared.java_threads.refusal.ThreadRefusal.TheVariants as refusal
 use Rattle.heap.specs.java_threads.Table.{ThreadTable, IsAdded}
 use Rattle.run_laws.specs.word_operands.Receivers.{is_any}
 use Rattle.linked_code.specs.declared.method.BuiltInMethod.TheVariants as method
@@ -37,7 +37,7 @@ module _ (trees : Program) (p : LinkedProgram) (bounds : Bounds) (inflated : Lis
   abbrev limit : Bool → Option RunCause
   limit full = if full then Some cause.Threads else None
 
-  may_refuse : (told : Refusal) (object : ℕ) (new : ThreadTable) → IsAdded (Err told) object old.threads new
+  may_refuse : (told : ThreadRefusal) (object : ℕ) (new : ThreadTable) → IsAdded (Err told) object old.threads new
       → MayBeRefused trees bounds inflated world Starts (of_threads told) × (new ≡ old.threads)
   may_refuse refusal.Threads object new h = (ap limit (full_is ∙ le-leb old.threads.limit (length old.threads.threads) h.0), h.1)
   may_refuse refusal.Memory object new h = (tt, h.1)

@@ -1,7 +1,7 @@
 use Rattle.std.proofs.Common.{sym, subst}
 use Rattle.model.specs.ReferenceTypes.{PrimitiveArray}
 use Rattle.model.specs.State.{Primitives}
-use Rattle.linked_code.specs.Numbers.{primitive_of}
+use Rattle.model.specs.Primitives.{primitive_of}
 use Rattle.machine_instructions.specs.type_instructions.Arrays.{AreArrays}
 use Rattle.machine_instructions.proofs.type_instructions.Making.{primitive_arrays}
 use Rattle.machine_instructions.proofs.type_instructions.arrays.new_array.Goals as goal

@@ -2,7 +2,7 @@ use Rattle.std.proofs.Common.{◌-◌, ◌<◌, ◌∙◌, sym, ap, arith}
 use Rattle.model.specs.ReferenceTypes.{PrimitiveArray}
 use Rattle.model.specs.Types.{OfType}
 use Rattle.model.specs.DescribedTypes.{verification_type}
-use Rattle.types.specs.View.{primitive_of}
+use Rattle.model.specs.Primitives.{primitive_of}
 use Rattle.types.proofs.described_types.Arrays.{made_arrays, primitive_before}
 use Rattle.types.proofs.described_types.described.primitive_type.Goals as goal
 
