@@ -3,6 +3,5 @@ pub mod Texts
 pub mod Checking
 pub mod Lengths
 pub mod PoolReading
-pub mod PoolLayout
 pub mod descriptors
 pub mod reading

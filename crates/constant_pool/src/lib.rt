@@ -22,5 +22,4 @@ pub use kind::TextKind;
 pub use lookup::{NameAndDescriptor, Reference};
 pub use name::is_method_name;
 pub use pool::Pool;
-pub use read::read_pool;
 pub use texts::Texts;

@@ -1,14 +1,12 @@
 //! Reading a pool.
 
-ghost use Rattle.std.specs.Prelude.{◌≡◌, ◌-◌, ◌&&◌, ℕ, not, drop, IsTrue, List, IfOk, IfErr};
+ghost use Rattle.std.specs.Prelude.{◌≡◌, ◌-◌, ◌&&◌, not, IsTrue, IfOk};
 ghost use Rattle.std.specs.List.{list_all};
-ghost use Rattle.model.specs.Tree.{Entry};
 ghost use Rattle.model.specs.Spelling.{is_text_byte, is_wide};
 ghost use Rattle.constant_pool.specs.reading.Input.{Input};
-ghost use Rattle.constant_pool.specs.reading.Reading.{Gives, Fails, pair_at};
+ghost use Rattle.constant_pool.specs.reading.Reading.{Gives, pair_at};
 ghost use Rattle.constant_pool.specs.View.{entry_of, entries_of};
 ghost use Rattle.constant_pool.specs.PoolReading.{is_wide_tag, utf8_at, body_at, entry_at, entries_at, pool_at};
-ghost use Rattle.constant_pool.specs.PoolLayout.{PoolLayout, AnswersPool, Ends, is_pool_cause};
 
 use crate::constant::Constant;
 use crate::pool::Pool;
@@ -145,44 +143,5 @@ impl Pool {
             return Err(fault);
         }
         Ok(Pool::new(read_constants(alloc, count - 1, reader)?))
-    }
-}
-
-/// A reader of the bytes from the offset `at` on.
-fn reader_at(bytes: &[u8], at: usize) -> Result<Reader<'_>, Stop>
-    ensures there { IfOk result (λ reader. reader ≡ record { at = at; rest = drop at bytes.now }) }
-    ensures missing { IfErr result (λ stop. Fails stop (pool_at (record { at = at; rest = drop at bytes.now }))) }
-{
-    let mut reader = Reader::new(bytes);
-    match reader.bytes(at) {
-        Ok(_) => Ok(reader),
-        Err(stop) => Err(stop.moved(at)),
-    }
-}
-
-fn pool_from(alloc: Global, bytes: &[u8], at: usize) -> Result<(Pool, usize), Stop>
-    ensures { Ends result (pool_at (record { at = at; rest = drop at bytes.now })) }
-{
-    let mut reader = reader_at(bytes, at)?;
-    let pool = Pool::read(alloc, &mut reader)?;
-    Ok((pool, reader.at()))
-}
-
-/// The pool that begins in the bytes at the offset `at`, with its constant_pool_count, and the offset behind it.
-///
-/// The first fault is answered: `Truncated` at the field that the bytes cut, a constant_pool_count of 0 among them;
-/// `Tag` at a tag of no entry, or of one that takes two places where one is left; `Utf8` at the first byte of a text with
-/// a byte that cannot stand there.
-pub fn read_pool(alloc: Global, bytes: &[u8], at: usize) -> Result<(Pool, usize), Malformed>
-    // What is answered is spelled so.
-    ensures found { IfOk result (λ r. PoolLayout bytes.now at r.0 r.1) }
-    // What is spelled so is answered, unless memory runs out.
-    ensures only { (places : List Entry) (behind : ℕ) → PoolLayout bytes.now at places behind → AnswersPool result places behind }
-    // No other cause is answered than these of the pool, or OutOfMemory.
-    ensures cause { IfErr result (λ e. IsTrue (is_pool_cause e.cause)) }
-{
-    match pool_from(alloc, bytes, at) {
-        Ok(found) => Ok(found),
-        Err(stop) => Err(stop.malformed()),
     }
 }

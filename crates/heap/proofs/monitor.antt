@@ -1,6 +1,5 @@
 pub mod Keys
 pub mod Listed
-pub mod Replies
 pub mod Sound
 pub mod Done
 pub mod ThinLocks

@@ -1,4 +1,3 @@
 pub mod Locks
 pub mod Records
-pub mod Runs
 pub mod Words

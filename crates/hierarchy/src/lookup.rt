@@ -4,21 +4,19 @@ ghost use Rattle.std.specs.Prelude.{◌≡◌, option_map, IfSome};
 ghost use Rattle.constant_pool.specs.View.{reference_of};
 ghost use Rattle.class_tree.specs.View.{method_of};
 ghost use Rattle.model.specs.Classes.{lineage};
-ghost use Rattle.model.specs.Lookup.{method_in_class, first_found, select, any_method, field_in_class};
+ghost use Rattle.model.specs.Lookup.{method_in_class, first_found, any_method, field_in_class};
 ghost use Rattle.hierarchy.specs.Places.{member_in, IsFieldAt, IsMethodAt};
 ghost use Rattle.hierarchy.specs.Wanted.{wants};
 
 use crate::place::MemberPlace;
 use crate::set::ClassSet;
-use class_tree::access_flags::{PRIVATE, PUBLIC, STATIC, has};
+use class_tree::access_flags::{PUBLIC, STATIC, has};
 use class_tree::{Method, Reference};
 
 /// Which methods count in a look-up.
 #[derive(Clone, Copy)]
 pub(crate) enum Wanted {
     Any,
-    /// An instance method that is not private.
-    Selectable,
     /// A public instance method.
     PublicInstance,
 }
@@ -29,7 +27,6 @@ pub(crate) fn counts(wanted: Wanted, method: &Method) -> bool
 {
     match wanted {
         Wanted::Any => true,
-        Wanted::Selectable => !has(method.flags, STATIC) && !has(method.flags, PRIVATE),
         Wanted::PublicInstance => has(method.flags, PUBLIC) && !has(method.flags, STATIC),
     }
 }
@@ -75,16 +72,6 @@ impl ClassSet {
             place = next;
         }
         None
-    }
-
-    /// The method that a receiver of a class has of this name and descriptor (JVMS 6.5, invokevirtual): the nearest
-    /// declaration that is neither static nor private, abstract or not. Takes no memory.
-    pub fn select(&self, class: &[u8], method: Reference<'_>) -> Option<MemberPlace>
-        ensures found { option_map (λ p. member_in self.now (reference_of method.entry) p) result
-            ≡ select self.now class.now (reference_of method.entry) }
-        ensures place { IfSome result (IsMethodAt self.now (reference_of method.entry)) }
-    {
-        self.method_above(class, method, Wanted::Selectable)
     }
 
     /// The method of this name and descriptor that the class of a reference itself declares (JVMS 4.6). Takes no memory.

@@ -21,5 +21,5 @@ pub use frames::{frame_join, is_frame_below};
 pub use join::{local_join, reference_join, stack_join};
 pub use order::{is_assignable, is_local_below, is_stack_below};
 pub use reference_type::{Element, ReferenceType};
-pub use superclasses::{has_superclasses, linked_files_have_superclasses};
+pub use superclasses::linked_files_have_superclasses;
 pub use verification_type::VerificationType;

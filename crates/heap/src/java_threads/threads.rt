@@ -140,13 +140,6 @@ impl Threads {
         }
     }
 
-    pub fn set_object(&mut self, thread: u16, object: u32)
-        ensures { self.new ≡ with_thread self.old thread (record (thread_at self.old.threads thread) { object = object }) }
-    {
-        let value = thread_of(self.threads.as_slice(), thread);
-        self.set(thread, Thread { object, ..value });
-    }
-
     pub fn set_begun(&mut self, thread: u16, begun: bool)
         ensures { self.new ≡ with_thread self.old thread (record (thread_at self.old.threads thread) { begun = begun }) }
     {

@@ -5,12 +5,10 @@ mod call;
 mod monitors;
 mod records;
 mod refusal;
-mod run;
 mod table;
 mod waiter;
 
 pub use call::{Call, MonitorCalls};
 pub use monitors::Monitors;
 pub use refusal::MonitorRefusal;
-pub use run::{Reply, run_calls};
 pub use waiter::Waiter;

@@ -1,7 +1,5 @@
 //! Bursts as events of a thread: what the loop over linked code does, in the words of the definitions.
 
-mod burst;
 mod theorems;
 
-pub use burst::thread_local_burst;
 pub use theorems::{events_join, steps_are_events};

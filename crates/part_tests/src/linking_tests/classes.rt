@@ -1,8 +1,7 @@
-//! Which classes, interfaces and arrays stand below which, and which methods classes have.
+//! Which classes, interfaces and arrays stand below which.
 
 use crate::linking_tests::program::{Answers, Class, Method, Row, asked};
-use class_tree::Reference;
-use hierarchy::{ClassSet, Hierarchy, Innermost, MemberPlace, ReferenceType};
+use hierarchy::{ClassSet, Hierarchy, Innermost, ReferenceType};
 use linker::Linked;
 use made_files::class_builder::CodeParts;
 use model::Primitive;
@@ -158,56 +157,5 @@ fn classes_stand_below_others(rt: HostRuntime) -> Result<(), Fail> {
     assert_eq!(rt; found.wrong_interface, None);
     assert_eq!(rt; found.wrong_class_above, None);
     assert_eq!(rt; found.wrong_type, None);
-    Ok(())
-}
-
-/// A class, the name of a method with no parameters and no result, and the places of the class that declares it and of the
-/// method there, where a receiver of the class has such a method.
-static SELECTED: [(&[u8], &[u8], Option<(usize, usize)>); 4] = [
-    (b"A", b"wait", Some((0, 1))),
-    (b"java/lang/Thread", b"run", Some((2, 0))),
-    // it is static
-    (b"java/lang/Thread", b"yield", None),
-    (b"A", b"run", None),
-];
-
-/// The place of the first row of `SELECTED` that isn't so.
-fn wrong_selection(set: &ClassSet) -> Option<usize> {
-    for (place, (class, name, wanted)) in SELECTED.iter().enumerate() {
-        let method = Reference {
-            class: OBJECT,
-            name,
-            descriptor: b"()V",
-        };
-        if set.select(class, method)
-            != wanted.map(|(class, member)| MemberPlace { class, member })
-        {
-            return Some(place);
-        }
-    }
-    None
-}
-
-#[derive(Drop)]
-struct SelectionAnswers {
-    wrong: Option<usize>,
-}
-
-impl Answers for SelectionAnswers {
-    fn of(
-        _alloc: Global,
-        linked: &Linked,
-        _indices: &[u16],
-    ) -> Result<SelectionAnswers, AllocError> {
-        Ok(SelectionAnswers {
-            wrong: wrong_selection(linked.set()),
-        })
-    }
-}
-
-#[test]
-fn classes_have_methods(rt: HostRuntime) -> Result<(), Fail> {
-    let found: SelectionAnswers = asked(rt.alloc(), &CLASSES, &NO_ROWS)?;
-    assert_eq!(rt; found.wrong, None);
     Ok(())
 }

@@ -1,5 +1,5 @@
 //! Tests of sets of classes and of what is made of linked ones: links of fields and of methods, numbers of classes and of
-//! texts, limits, and superclasses that do not end. They go over tables.
+//! texts, and limits. They go over tables.
 
 #[cfg(test)]
 mod classes;
@@ -15,5 +15,3 @@ mod methods;
 mod program;
 #[cfg(test)]
 mod selections;
-#[cfg(test)]
-mod superclasses;

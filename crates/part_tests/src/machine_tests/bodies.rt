@@ -4,7 +4,8 @@ ghost use Rattle.std.specs.Prelude.{◌<◌};
 
 use crate::machine_tests::monitors::{enter, exit, notify, relock, wait};
 use crate::machine_tests::plain::PlainMonitors;
-use heap::monitor::{Call, MonitorRefusal, Monitors, run_calls};
+use heap::monitor::{Call, MonitorCalls, MonitorRefusal, Monitors};
+use model::MonitorAnswer;
 use std::alloc::{AllocError, Global};
 use std::process::Abort;
 use std::test::Fail;
@@ -114,6 +115,24 @@ fn agree(
     )
 }
 
+/// What each call answered, or `None` where a caller may not make it.
+fn make_calls<M: MonitorCalls>(
+    alloc: Global,
+    monitors: &mut M,
+    calls: &[Call],
+) -> Result<Vec<Option<Result<MonitorAnswer, MonitorRefusal>>>, AllocError> {
+    let mut replies = Vec::new(alloc);
+    for call in calls {
+        let reply = if monitors.allows(*call) {
+            Some(monitors.apply(*call))
+        } else {
+            None
+        };
+        replies.push(reply)?;
+    }
+    Ok(replies)
+}
+
 /// Runs the calls by so many at a time on both bodies, which answer alike and show the same after each part. Says whether
 /// one was refused for a full table.
 fn compare(rt: &impl Abort, alloc: Global, calls: &[Call], at_once: usize) -> Result<bool, Fail>
@@ -127,8 +146,8 @@ fn compare(rt: &impl Abort, alloc: Global, calls: &[Call], at_once: usize) -> Re
     }
     let mut was_full = false;
     for part in calls.chunks(at_once) {
-        let replies = run_calls(alloc, &mut monitors, part)?;
-        let others = run_calls(alloc, &mut plain, part)?;
+        let replies = make_calls(alloc, &mut monitors, part)?;
+        let others = make_calls(alloc, &mut plain, part)?;
         assert!(rt; replies == others);
         was_full |= replies.contains(&Some(Err(MonitorRefusal::Monitors)));
         for object in 0..OBJECTS {

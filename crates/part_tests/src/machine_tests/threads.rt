@@ -39,7 +39,6 @@ fn each_part_is_kept(rt: HostRuntime) -> Result<(), Fail> {
         assert!(rt; threads.is_full() == answer.is_err());
         assert!(rt; threads.add(object) == answer && threads.len() == len);
     }
-    threads.set_object(1, 19);
     threads.set_begun(1, true);
     threads.set_pending(1, Some(5));
     threads.set_interrupted(1, true);
@@ -48,13 +47,13 @@ fn each_part_is_kept(rt: HostRuntime) -> Result<(), Fail> {
     threads.set_begun(3, true);
     for (thread, want) in [
         (0, added(2)),
-        (1, (19, true, Some(5), true, RELOCK)),
+        (1, (17, true, Some(5), true, RELOCK)),
         (2, added(18)),
         (3, added(0)),
     ] {
         assert!(rt; row(&threads, thread) == want, "thread {thread}");
     }
-    for (object, number) in [(2, Some(0)), (17, None), (18, Some(2)), (19, Some(1))] {
+    for (object, number) in [(2, Some(0)), (17, Some(1)), (18, Some(2)), (19, None)] {
         assert!(rt; threads.number(object) == number, "object {object}");
     }
     Ok(())
