@@ -1,0 +1,79 @@
+//! Which classes may declare a method that another one redeclares as it must not.
+
+ghost use Rattle.std.specs.Prelude.{◌≡◌, true, false};
+ghost use Rattle.model.specs.Hierarchy.{redeclares_in};
+ghost use Rattle.classfile.specs.View.{file_of, method_of};
+ghost use Rattle.link_conditions.specs.class_rules.Rules.{is_bad_redeclaration};
+ghost use Rattle.link_conditions.specs.class_rules.Declared.{AreDeclaredIn};
+ghost use Rattle.link_conditions.specs.class_rules.Suspected.{AreSuspects};
+
+use crate::class_rules::declared::DeclaredMethods;
+use crate::class_rules::flags::{is_bad_redeclaration, may_be_bad};
+use crate::class_rules::method_table::{flags_at, flags_of, number_of};
+use classfile::access_flags::{PRIVATE, has};
+use classfile::{ClassFile, Method, class_name};
+use hierarchy::ClassSet;
+
+/// Classes among which are all those that declare a method which another one redeclares as it must not.
+#[derive(Clone, Copy)]
+pub(crate) enum Suspects {
+    All,
+    None,
+    /// Those that declare the method of a number, as far as its access flags tell.
+    Of { number: usize },
+}
+
+/// Those of the method of a file.
+pub(crate) fn suspects_of(
+    set: &ClassSet,
+    methods: &DeclaredMethods,
+    file: &ClassFile,
+    again: &Method,
+) -> Suspects
+    requires { AreDeclaredIn set.now methods.now }
+    ensures { AreSuspects set.now methods.now (file_of file.now) (method_of again.now) result }
+{
+    if !methods.is_whole {
+        return Suspects::All;
+    }
+    let name = file.pool.text(again.name);
+    let descriptor = file.pool.text(again.descriptor);
+    let Some(number) = number_of(&methods.table, name, descriptor) else {
+        return Suspects::None;
+    };
+    let flags = flags_of(&methods.table, number);
+    if flags.iter().any(|flags| may_be_bad(*flags, again)) {
+        Suspects::Of { number }
+    } else {
+        Suspects::None
+    }
+}
+
+/// Whether the class of a name is one of them.
+pub(crate) fn is_suspect(
+    set: &ClassSet,
+    methods: &DeclaredMethods,
+    suspects: Suspects,
+    file: &ClassFile,
+    again: &Method,
+    superclass: &[u8],
+) -> bool
+    requires { AreSuspects set.now methods.now (file_of file.now) (method_of again.now) suspects }
+    ensures { result ≡ false → redeclares_in is_bad_redeclaration set.now (file_of file.now) (method_of again.now) superclass.now ≡ false }
+{
+    let number = match suspects {
+        Suspects::All => return true,
+        Suspects::None => return false,
+        Suspects::Of { number } => number,
+    };
+    let Some(place) = set.place_of(superclass) else {
+        return false;
+    };
+    match flags_at(&methods.table, place, number) {
+        Some(flags) => {
+            !has(flags, PRIVATE)
+                && is_bad_redeclaration(superclass, flags, class_name(file), again)
+        }
+        None => false,
+    }
+}
