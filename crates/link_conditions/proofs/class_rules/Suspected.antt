@@ -1,9 +1,11 @@
 -- Classes that may declare a method which another one redeclares as it must not: what a table tells of those that do.
-use Rattle.std.proofs.Common.{◌≡◌, ℕ, Bool, true, false, not, ◌||◌, ◌&&◌, cond, List, [], ◌∷◌, refl, sym, ap, ◌∙◌, subst, Option, Some, None}
+use Rattle.std.proofs.Common.{◌≡◌, ℕ, ◌+◌, ◌<◌, ◌≤◌, arith, length, ltb, Bool, true, false, not, ◌||◌, ◌&&◌, cond, List, [], ◌∷◌, refl, sym, ap, ◌∙◌, subst, Option, Some, None}
 use Rattle.std.specs.Prelude.{◌==◌, find, position, slice_get}
 use Rattle.std.specs.Option.{option_and_then, option_map_or}
 use Rattle.std.specs.List.{list_any}
 use Rattle.std.proofs.lemmas.Bool.{and_parts, or_parts, eqb-true}
+use Rattle.std.proofs.lemmas.Option.{slice_get_past}
+use borrow.Author.Tests.{ltb-true, ltb-false}
 use Rattle.model.specs.Names.{Name, name_eq, spells}
 use Rattle.model.specs.Tree.{Entry, Utf8, Integer, Float, Long, Double, Class, String, Field, Method, InterfaceMethod, NameAndType, Unusable, FileTree, MethodTree}
 use Rattle.model.specs.Spelling.{entry_at, text_of}
@@ -21,6 +23,34 @@ use Rattle.constant_pool.proofs.Passing.{none_at}
 use Rattle.link_conditions.specs.class_rules.Rules.{is_bad_redeclaration}
 use Rattle.link_conditions.specs.declared.class_rules.method_table.MethodTable.{MethodTable}
 use Rattle.link_conditions.specs.class_rules.Declared.{number_of, flags_at, flags_of, is_told_by, is_told, has_untold, TellsMethods, with_flags, may_be_bad}
+
+-- ---- a table that is looked through, class by class
+
+pub one_more : (test : ℕ → Bool) (n : ℕ) → ((k : ℕ) → k < n → test k ≡ false) → test n ≡ false → (k : ℕ) → k < n + 1 → test k ≡ false
+one_more test n before here k lt = by (ltb k n) refl
+  where
+    by : (b : Bool) → ltb k n ≡ b → test k ≡ false
+    by true e = before k (ltb-true k n e)
+    by false e =
+        let past : n ≤ k = ltb-false k n e in
+        let same : n ≡ k = omega (arith, past, lt) in
+        subst (λ j. test j ≡ false) same here
+
+pub all_told : (files : Program) (t : MethodTable) (n : ℕ) → length (classes_of files) ≤ n
+    → ((k : ℕ) → k < n → option_map_or (has_untold t k) (class_at files k) false ≡ false) → TellsMethods files t
+all_told files t n all before k = by (ltb k n) refl
+  where
+    by : (b : Bool) → ltb k n ≡ b → option_map_or (has_untold t k) (class_at files k) false ≡ false
+    by true e = before k (ltb-true k n e)
+    by false e =
+        let past : n ≤ k = ltb-false k n e in
+        ap (λ (o : Option FileTree). option_map_or (has_untold t k) o false) (slice_get_past (classes_of files) k (omega (arith, all, past)))
+
+-- ---- no class of a list
+
+pub none_among : (test : Name → Bool) → ((class : Name) → test class ≡ false) → (classes : List Name) → list_any test classes ≡ false
+none_among test none [] = refl
+none_among test none (class ∷ classes) = rw (none class, none_among test none classes) refl
 
 -- ---- texts
 
@@ -121,20 +151,20 @@ module _ (files : Program) (file : FileTree) (again : MethodTree) where
   not_broken class m h =
       by (is_private m.flags) (is_static_method m) (is_static_method again) (is_final m.flags) (is_private again.flags) (is_package_private m.flags) (same_package class (name_of file)) h
     where
-      by : (private static again_static final again_private package same : Bool)
-          → (not private && cond static (not again_static) (final || (again_static || (again_private || package)))) ≡ false
+      by : (private static again_static final again_private narrow same : Bool)
+          → (not private && cond static (not again_static) (final || (again_static || (again_private || narrow)))) ≡ false
           → (not private
               && ((final && not static)
                   || ((static && not again_static)
-                      || ((not static && again_static) || ((not static && (package && not same)) || (not static && again_private))))))
+                      || ((not static && again_static) || ((not static && (narrow && not same)) || (not static && again_private))))))
               ≡ false
-      by true static again_static final again_private package same h = refl
-      by false true true true again_private package same h = refl
-      by false true true false again_private package same h = refl
-      by false true false final again_private package same h = absurd cc
-      by false false again_static true again_private package same h = absurd cc
-      by false false true false again_private package same h = absurd cc
-      by false false false false true package same h = absurd cc
+      by true static again_static final again_private narrow same h = refl
+      by false true true true again_private narrow same h = refl
+      by false true true false again_private narrow same h = refl
+      by false true false final again_private narrow same h = absurd cc
+      by false false again_static true again_private narrow same h = absurd cc
+      by false false true false again_private narrow same h = absurd cc
+      by false false false false true narrow same h = absurd cc
       by false false false false false true same h = absurd cc
       by false false false false false false same h = refl
 

@@ -1,5 +1,5 @@
 -- Tables of the methods that the classes of a program declare, by numbers of names with descriptors.
-use Rattle.std.specs.Prelude.{◌≡◌, ◌×◌, ℕ, List, [], Option, Some, Bool, true, false, not, ◌&&◌, ◌||◌, ◌==◌, if◌then◌else◌, position, slice_get}
+use Rattle.std.specs.Prelude.{◌≡◌, ℕ, List, [], Option, Bool, true, false, not, ◌&&◌, ◌||◌, ◌==◌, if◌then◌else◌, position, slice_get}
 use Rattle.std.specs.Option.{option_and_then, option_map_or}
 use Rattle.std.specs.List.{list_any}
 use Rattle.std.specs.Map.{lookup}

@@ -1,5 +1,5 @@
 -- Which classes may declare a method that another one redeclares as it must not.
-use Rattle.std.specs.Prelude.{◌≡◌, ◌×◌, Some, true, false}
+use Rattle.std.specs.Prelude.{◌≡◌, Some, false}
 use Rattle.model.specs.Names.{Name}
 use Rattle.model.specs.Tree.{FileTree, MethodTree}
 use Rattle.model.specs.Classes.{Program}

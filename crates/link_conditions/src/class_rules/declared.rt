@@ -27,7 +27,10 @@ fn is_told(table: &MethodTable, class: usize, file: &ClassFile, method: &Method)
     let Some(number) = number_of(table, name, descriptor) else {
         return false;
     };
-    if !flags_of(table, number).iter().any(|flags| *flags == method.flags) {
+    if !flags_of(table, number)
+        .iter()
+        .any(|flags| *flags == method.flags)
+    {
         return false;
     }
     match flags_at(table, class, number) {
@@ -36,15 +39,12 @@ fn is_told(table: &MethodTable, class: usize, file: &ClassFile, method: &Method)
     }
 }
 
-fn has_untold_among(
-    table: &MethodTable,
-    class: usize,
-    file: &ClassFile,
-    methods: &[Method],
-) -> bool
+fn has_untold_among(table: &MethodTable, class: usize, file: &ClassFile, methods: &[Method]) -> bool
     ensures { result ≡ list_any (λ m. not (is_told table.now class (file_of file.now) (method_of m))) methods.now }
 {
-    methods.iter().any(|method| !is_told(table, class, file, method))
+    methods
+        .iter()
+        .any(|method| !is_told(table, class, file, method))
 }
 
 /// Whether the table doesn't tell of some method of the class at a place.

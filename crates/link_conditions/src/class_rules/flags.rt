@@ -4,14 +4,14 @@ ghost use Rattle.std.specs.Prelude.{◌≡◌};
 ghost use Rattle.model.specs.AccessFlags.{is_package_private};
 ghost use Rattle.classfile.specs.View.{method_of};
 ghost use Rattle.link_conditions.specs.class_rules.Rules.{is_bad_redeclaration};
-ghost use Rattle.link_conditions.specs.class_rules.Declared.{may_be_bad, with_flags};
+ghost use Rattle.link_conditions.specs.class_rules.Declared.{with_flags};
 
 use crate::class_rules::name::is_same_package;
 use classfile::Method;
 use classfile::access_flags::{FINAL, PRIVATE, PROTECTED, PUBLIC, STATIC, has};
 
 /// Whether only its package may name a method of these access flags (JVMS 5.4.4).
-fn is_package_private(flags: u16) -> bool
+pub(crate) fn is_package_private(flags: u16) -> bool
     ensures { result ≡ is_package_private flags }
 {
     !has(flags, PUBLIC) && !has(flags, PRIVATE) && !has(flags, PROTECTED)
@@ -33,20 +33,4 @@ pub(crate) fn is_bad_redeclaration(
         || has(again.flags, STATIC)
         || is_package_private(flags) && !is_same_package(superclass, class)
         || has(again.flags, PRIVATE)
-}
-
-/// Whether there may be classes in which a method must not redeclare one that has these access flags.
-pub(crate) fn may_be_bad(flags: u16, again: &Method) -> bool
-    ensures { result ≡ may_be_bad (method_of again.now) flags }
-{
-    if has(flags, PRIVATE) {
-        return false;
-    }
-    if has(flags, STATIC) {
-        return !has(again.flags, STATIC);
-    }
-    has(flags, FINAL)
-        || has(again.flags, STATIC)
-        || has(again.flags, PRIVATE)
-        || is_package_private(flags)
 }

@@ -58,7 +58,10 @@ pub(crate) fn number_of(table: &MethodTable, name: &[u8], descriptor: &[u8]) -> 
 pub(crate) fn flags_at(table: &MethodTable, class: usize, signature: usize) -> Option<u16>
     ensures { result ≡ flags_at table.now class signature }
 {
-    table.declared.get(&Declaration { class, signature }).copied()
+    table
+        .declared
+        .get(&Declaration { class, signature })
+        .copied()
 }
 
 /// Those with which any class declares it.

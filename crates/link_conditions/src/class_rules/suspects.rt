@@ -1,16 +1,16 @@
 //! Which classes may declare a method that another one redeclares as it must not.
 
-ghost use Rattle.std.specs.Prelude.{◌≡◌, true, false};
+ghost use Rattle.std.specs.Prelude.{◌≡◌, false};
 ghost use Rattle.model.specs.Hierarchy.{redeclares_in};
 ghost use Rattle.classfile.specs.View.{file_of, method_of};
 ghost use Rattle.link_conditions.specs.class_rules.Rules.{is_bad_redeclaration};
-ghost use Rattle.link_conditions.specs.class_rules.Declared.{AreDeclaredIn};
+ghost use Rattle.link_conditions.specs.class_rules.Declared.{AreDeclaredIn, may_be_bad};
 ghost use Rattle.link_conditions.specs.class_rules.Suspected.{AreSuspects};
 
 use crate::class_rules::declared::DeclaredMethods;
-use crate::class_rules::flags::{is_bad_redeclaration, may_be_bad};
+use crate::class_rules::flags::{is_bad_redeclaration, is_package_private};
 use crate::class_rules::method_table::{flags_at, flags_of, number_of};
-use classfile::access_flags::{PRIVATE, has};
+use classfile::access_flags::{FINAL, PRIVATE, STATIC, has};
 use classfile::{ClassFile, Method, class_name};
 use hierarchy::ClassSet;
 
@@ -21,6 +21,22 @@ pub(crate) enum Suspects {
     None,
     /// Those that declare the method of a number, as far as its access flags tell.
     Of { number: usize },
+}
+
+/// Whether there may be classes in which a method must not redeclare one that has these access flags.
+fn may_be_bad(flags: u16, again: &Method) -> bool
+    ensures { result ≡ may_be_bad (method_of again.now) flags }
+{
+    if has(flags, PRIVATE) {
+        return false;
+    }
+    if has(flags, STATIC) {
+        return !has(again.flags, STATIC);
+    }
+    has(flags, FINAL)
+        || has(again.flags, STATIC)
+        || has(again.flags, PRIVATE)
+        || is_package_private(flags)
 }
 
 /// Those of the method of a file.
@@ -71,8 +87,7 @@ pub(crate) fn is_suspect(
     };
     match flags_at(&methods.table, place, number) {
         Some(flags) => {
-            !has(flags, PRIVATE)
-                && is_bad_redeclaration(superclass, flags, class_name(file), again)
+            !has(flags, PRIVATE) && is_bad_redeclaration(superclass, flags, class_name(file), again)
         }
         None => false,
     }

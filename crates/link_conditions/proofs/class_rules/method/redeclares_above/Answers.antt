@@ -11,5 +11,5 @@ loop-step-preserved c =
     let files = c.args.set.now in
     let test = redeclares_in is_bad_redeclaration files (file_of c.args.file.now) (method_of c.args.again.now) in
     let more : c.loop-step._step < length (classes_of files) = subst (λ k. c.loop-step._step < k) c.count-step-end.ensures c.loop-step-test.true in
-    let here : test c.loop-step.class.now ≡ false = sym c.redeclares_in.ensures ∙ c.if-redeclares_in.false in
+    let here : test c.loop-step.class.now ≡ false = sym c.redeclares_suspect.ensures ∙ c.if-redeclares_suspect.false in
     sym (any_next files test (length (classes_of files)) c.loop-step._step c.loop-step.class.now c.in-Some.next.now more here (sym c.in-Some.ensures)) ∙ c.loop-step.invariant
