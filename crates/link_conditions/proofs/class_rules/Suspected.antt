@@ -77,6 +77,14 @@ texts_are file name descriptor m h =
 
 -- ---- what the table tells of a method that a class declares
 
+pub last_fails : (a b : Bool) → b ≡ false → (a && b) ≡ false
+last_fails true b h = h
+last_fails false b h = refl
+
+pub first_fails : (a b : Bool) → a ≡ true → (not a && b) ≡ false
+first_fails true b h = refl
+first_fails false b h = absurd cc
+
 not_false : (b : Bool) → not b ≡ false → b ≡ true
 not_false true h = refl
 not_false false h = absurd cc
@@ -154,10 +162,10 @@ module _ (files : Program) (file : FileTree) (again : MethodTree) where
       by : (private static again_static final again_private narrow same : Bool)
           → (not private && cond static (not again_static) (final || (again_static || (again_private || narrow)))) ≡ false
           → (not private
-              && ((final && not static)
-                  || ((static && not again_static)
-                      || ((not static && again_static) || ((not static && (narrow && not same)) || (not static && again_private))))))
-              ≡ false
+          && ((final && not static)
+          || ((static && not again_static)
+          || ((not static && again_static) || ((not static && (narrow && not same)) || (not static && again_private))))))
+          ≡ false
       by true static again_static final again_private narrow same h = refl
       by false true true true again_private narrow same h = refl
       by false true true false again_private narrow same h = refl

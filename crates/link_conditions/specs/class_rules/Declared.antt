@@ -12,7 +12,7 @@ use Rattle.hierarchy.specs.Places.{class_at}
 use Rattle.link_conditions.specs.declared.class_rules.method_table.Signature.{Signature}
 use Rattle.link_conditions.specs.declared.class_rules.method_table.Declaration.{Declaration}
 use Rattle.link_conditions.specs.declared.class_rules.method_table.MethodTable.{MethodTable}
-use Rattle.link_conditions.specs.declared.class_rules.declared.DeclaredMethods.{DeclaredMethods}
+use Rattle.link_conditions.specs.declared.class_rules.declared_methods.DeclaredMethods.{DeclaredMethods}
 
 -- ---- look-ups
 

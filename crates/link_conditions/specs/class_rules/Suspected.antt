@@ -7,7 +7,7 @@ use Rattle.model.specs.Hierarchy.{redeclares_in}
 use Rattle.model.specs.Profile.{method_name, method_descriptor}
 use Rattle.link_conditions.specs.class_rules.Rules.{is_bad_redeclaration}
 use Rattle.link_conditions.specs.class_rules.Declared.{number_of, TellsMethods}
-use Rattle.link_conditions.specs.declared.class_rules.declared.DeclaredMethods.{DeclaredMethods}
+use Rattle.link_conditions.specs.declared.class_rules.declared_methods.DeclaredMethods.{DeclaredMethods}
 use Rattle.link_conditions.specs.declared.class_rules.suspects.Suspects.{Suspects}
 use Rattle.link_conditions.specs.declared.class_rules.suspects.Suspects.TheVariants as suspects
 

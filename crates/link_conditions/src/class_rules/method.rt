@@ -12,7 +12,7 @@ ghost use Rattle.link_conditions.specs.class_rules.Rules.{is_bad_redeclaration, 
 ghost use Rattle.link_conditions.specs.class_rules.Declared.{AreDeclaredIn};
 ghost use Rattle.link_conditions.specs.class_rules.Suspected.{AreSuspects};
 
-use crate::class_rules::declared::DeclaredMethods;
+use crate::class_rules::declared_methods::DeclaredMethods;
 use crate::class_rules::flags::is_bad_redeclaration;
 use crate::class_rules::name::is_special_name;
 use crate::class_rules::suspects::{Suspects, is_suspect, suspects_of};

@@ -2,7 +2,7 @@
 //! with the other classes of its program. That no class is above itself is asked elsewhere.
 
 mod class;
-mod declared;
+mod declared_methods;
 mod exception;
 mod flags;
 mod method;
@@ -12,6 +12,6 @@ mod place;
 mod rule;
 mod suspects;
 
-pub use declared::DeclaredMethods;
+pub use declared_methods::DeclaredMethods;
 pub use place::RulePlace;
 pub use rule::first_broken_rule;

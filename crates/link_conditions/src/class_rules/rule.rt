@@ -8,7 +8,7 @@ ghost use Rattle.link_conditions.specs.class_rules.Rules.{breaks_rules, IsFirstB
 ghost use Rattle.link_conditions.specs.class_rules.Declared.{AreDeclaredIn};
 
 use crate::class_rules::class::class_breaks_rule;
-use crate::class_rules::declared::DeclaredMethods;
+use crate::class_rules::declared_methods::DeclaredMethods;
 use crate::class_rules::exception::first_exception;
 use crate::class_rules::method::first_method;
 use crate::class_rules::place::RulePlace;

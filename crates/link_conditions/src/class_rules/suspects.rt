@@ -1,13 +1,14 @@
 //! Which classes may declare a method that another one redeclares as it must not.
 
 ghost use Rattle.std.specs.Prelude.{◌≡◌, false};
+ghost use Rattle.std.specs.List.{list_any};
 ghost use Rattle.model.specs.Hierarchy.{redeclares_in};
 ghost use Rattle.classfile.specs.View.{file_of, method_of};
 ghost use Rattle.link_conditions.specs.class_rules.Rules.{is_bad_redeclaration};
 ghost use Rattle.link_conditions.specs.class_rules.Declared.{AreDeclaredIn, may_be_bad};
 ghost use Rattle.link_conditions.specs.class_rules.Suspected.{AreSuspects};
 
-use crate::class_rules::declared::DeclaredMethods;
+use crate::class_rules::declared_methods::DeclaredMethods;
 use crate::class_rules::flags::{is_bad_redeclaration, is_package_private};
 use crate::class_rules::method_table::{flags_at, flags_of, number_of};
 use classfile::access_flags::{FINAL, PRIVATE, STATIC, has};
@@ -39,6 +40,13 @@ fn may_be_bad(flags: u16, again: &Method) -> bool
         || is_package_private(flags)
 }
 
+/// Whether there may be such classes for one of several methods, by their access flags.
+fn any_may_be_bad(flags: &[u16], again: &Method) -> bool
+    ensures { result ≡ list_any (may_be_bad (method_of again.now)) flags.now }
+{
+    flags.iter().any(|flags| may_be_bad(*flags, again))
+}
+
 /// Those of the method of a file.
 pub(crate) fn suspects_of(
     set: &ClassSet,
@@ -57,8 +65,7 @@ pub(crate) fn suspects_of(
     let Some(number) = number_of(&methods.table, name, descriptor) else {
         return Suspects::None;
     };
-    let flags = flags_of(&methods.table, number);
-    if flags.iter().any(|flags| may_be_bad(*flags, again)) {
+    if any_may_be_bad(flags_of(&methods.table, number), again) {
         Suspects::Of { number }
     } else {
         Suspects::None

@@ -5,7 +5,7 @@ use Rattle.model.specs.Classes.{classes_of}
 use Rattle.hierarchy.specs.Places.{class_at}
 use Rattle.link_conditions.specs.class_rules.Declared.{has_untold}
 use Rattle.link_conditions.proofs.class_rules.Suspected.{one_more, all_told}
-use Rattle.link_conditions.proofs.class_rules.declared.is_whole.Goals as goal
+use Rattle.link_conditions.proofs.class_rules.declared_methods.is_whole.Goals as goal
 
 pub loop-class-init : goal.loop-class-init
 loop-class-init c = λ place lt. absurd (omega (arith, lt))
