@@ -144,11 +144,14 @@ module _ (files : Program) (t : MethodTable) (all : TellsMethods files t) (class
 -- one that passes no test is none of those that pass none
 passed_by_none : (test : ℕ → Bool) (xs : List ℕ) (x : ℕ) → list_any (λ f. f == x) xs ≡ true → list_any test xs ≡ false → test x ≡ false
 passed_by_none test [] x h none = absurd cc
-passed_by_none test (y ∷ ys) x h none = by (y == x) refl (or_parts (test y) _ none) h
+passed_by_none test (y ∷ ys) x h none =
+    let both = or_parts (test y) _ none in
+    by (y == x) refl both.0 (λ more. passed_by_none test ys x more both.1) h
   where
-    by : (b : Bool) → (y == x) ≡ b → (test y ≡ false) × (list_any test ys ≡ false) → (b || list_any (λ f. f == x) ys) ≡ true → test x ≡ false
-    by true e both h = subst (λ z. test z ≡ false) (eqb-true y x e) both.0
-    by false e both h = passed_by_none test ys x h both.1
+    by : (b : Bool) → (y == x) ≡ b → test y ≡ false → (list_any (λ f. f == x) ys ≡ true → test x ≡ false)
+        → (b || list_any (λ f. f == x) ys) ≡ true → test x ≡ false
+    by true e here rest h = subst (λ z. test z ≡ false) (eqb-true y x e) here
+    by false e here rest h = rest h
 
 module _ (files : Program) (file : FileTree) (again : MethodTree) where
   -- a method of a class, of its name and descriptor, is redeclared as it must not be
