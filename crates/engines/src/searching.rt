@@ -5,6 +5,7 @@ ghost use Rattle.std.specs.Option.{option_map, option_map_or};
 ghost use Rattle.std.specs.Io.KnownBytes.{Appends};
 ghost use Rattle.model.specs.Accepted.{IsAccepted};
 ghost use Rattle.model.specs.Devices.{Counts};
+ghost use Rattle.search.specs.run_outcomes.Outcomes.{printed_text};
 ghost use Rattle.engines.specs.Engines.{CountsFailure};
 ghost use Rattle.engines.specs.Runs.{RecordsFront, recording_of};
 ghost use Rattle.engines.specs.Searches.{IsFileOf, IsSearched, IsUnsearched, RecordsFound, Searches};
@@ -17,6 +18,7 @@ use crate::verification::accepted;
 use command_line::LimitOptions;
 use model::{DeviceFault, Limits, Sink, Source};
 use program_runs::verified_programs::verified_program;
+use schedule::report::push_printed;
 use search::Progress;
 use search::run_outcomes::Wanted;
 use search::search_reports::{Answer, search_report};
@@ -156,15 +158,11 @@ fn write_found<V: Sink>(recorder: &mut Option<V>, file: &Option<Vec<u8>>) -> Res
     }
 }
 
-/// The lines of numbers between which commas stand.
-pub(crate) fn printed_lines(alloc: Global, numbers: &[u8]) -> Result<Vec<u8>, AllocError> {
+/// The text of printed numbers, each on a line.
+pub(crate) fn printed_lines(alloc: Global, numbers: &[i32]) -> Result<Vec<u8>, AllocError>
+    ensures { IfOk result (λ lines. lines.items ≡ printed_text numbers.now) }
+{
     let mut lines = Vec::new(alloc);
-    if numbers.is_empty() {
-        return Ok(lines);
-    }
-    for byte in numbers {
-        lines.push(if *byte == b',' { b'\n' } else { *byte })?;
-    }
-    lines.push(b'\n')?;
+    push_printed(alloc, &mut lines, numbers)?;
     Ok(lines)
 }
