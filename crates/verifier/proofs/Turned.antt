@@ -52,7 +52,7 @@ pub look_over : (m : MethodCode) (hs : List Handler) (origin : Origin) (offset :
 look_over m hs origin offset leads targets count read steps counted to s r =
     let listed = leads_in (files_of m) origin leads in
     let same : count ≡ length (all_leads offset hs targets) =
-    counted ∙ (sym (length-map _ leads) ∙ (sym (length-map (λ (lead : ℕ × FrameType). lead.0) listed) ∙ (ap length to ∙ length-map offset_of (all_leads offset hs targets)))) in
+    counted ∙ (sym (length-map leads _) ∙ (sym (length-map listed (λ (lead : ℕ × FrameType). lead.0)) ∙ (ap length to ∙ length-map (all_leads offset hs targets) offset_of))) in
     subst (λ n. steps ≤ 64 + bytes_at (body_of m) offset + suc n * suc (places (body_of m))) same (omega (arith, s, r))
 
 -- ---- the offsets that are told
@@ -116,7 +116,7 @@ module _ (m : MethodCode) where
 
       counted : leads ≡ length (all_leads offset hs targets)
       counted =
-          sym (length-map (λ (lead : ℕ × FrameType). lead.0) of.leads) ∙ (ap length of.to ∙ length-map offset_of (all_leads offset hs targets))
+          sym (length-map of.leads (λ (lead : ℕ × FrameType). lead.0)) ∙ (ap length of.to ∙ length-map (all_leads offset hs targets) offset_of)
 
       pub turn_done : steps ≤ min (32 + length (body_of m).code.exceptions + look) (most_a_turn (body_of m))
           → DoesTurn (turn_at (files_of m) (member_of m) (body_of m) (tables_in (files_of m) start) offset) steps (tables_in (files_of m) done)

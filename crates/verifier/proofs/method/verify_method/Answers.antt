@@ -51,7 +51,7 @@ loop-offset-smaller c =
     let m = c.args.method.now in
     let files = files_of m in
     let limit = bounded files (member_of m) (body_of m) in
-    less files (ordered_from files c.requires.1.no_refusal) (member_of m) (body_of m) (tables_in files c.loop-offset.found) c.take_lowest.new.self c.in-Some.offset c.in-Some.ensures.waits c.in-Some.ensures.taken_off limit.0 (tables_in files c.turn.new.found) (c.in_default-turn.ensures.turned.lighter limit.0 limit.1)
+    less files (ordered_from files c.requires.1.no_refusal) (member_of m) (body_of m) (tables_in files c.loop-offset.found) c.take_lowest.new.self c.in-Some.offset c.in-Some.ensures.waits c.in-Some.ensures.taken_off limit.0 (tables_in files c.turn.new.found) (c.in-Ok-turn.ensures.turned.lighter limit.0 limit.1)
 
 pub loop-offset-preserved : goal.loop-offset-preserved
 loop-offset-preserved c =
@@ -59,9 +59,9 @@ loop-offset-preserved c =
     let files = files_of m in
     let body = body_of m in
     record {
-      search = c.in_default-turn.ensures.turned.search;
-      looks = subst (λ hs. AreLooks m hs c.turn.new.found) c.deref-in-Some-2.ensures.value c.in_default-turn.ensures.looks;
-      meanings = c.in_default-turn.ensures.meanings;
+      search = c.in-Ok-turn.ensures.turned.search;
+      looks = subst (λ hs. AreLooks m hs c.turn.new.found) c.deref-in-Some-2.ensures.value c.in-Ok-turn.ensures.looks;
+      meanings = c.in-Ok-turn.ensures.meanings;
       taken = λ costs are.
           turn_taken files (member_of m) body (tables_in files c.loop-offset.found) (tables_in files c.turn.new.found) c.in-Some.offset c.in-Ok-turn.taken
           (lowest_is c.loop-offset.found.waiting c.in-Some.offset c.in-Some.ensures.waits c.in-Some.ensures.lowest)
