@@ -1,7 +1,8 @@
-use Rattle.std.proofs.Common.{◌≡◌, ◌<◌, ◌∙◌, length, refl, ap, sym, subst}
+use Rattle.std.proofs.Common.{◌≡◌, ℕ, ◌<◌, ◌∙◌, length, refl, ap, sym, subst}
+use Rattle.std.specs.Global.{Vec}
 use Rattle.std.specs.Prelude.{Some, slice_get, IfSome}
 use Rattle.verifier.specs.Agreeing.{AgreeAt}
-use Rattle.verifier.specs.Looks.{LeavesAt}
+use Rattle.verifier.specs.Looks.{LeavesAt, SettlesAt}
 use Rattle.run_laws.specs.typing_search.Tables.{entry_of}
 use Rattle.run_laws.proofs.typing_search.Linking.{ordered_from}
 use Rattle.types.specs.method_code.View.{files_of}
@@ -106,7 +107,8 @@ returns-in-Some-targets-clause-looks c =
     let hs = c.args.handlers.now in
     let told = led_to_told m hs c.begin_turn.new.self c.args.offset _ _ c.look_at.new.found c.in-Some-targets.targets c.in-Some-targets.is c.in-Ok.ensures.led in
     looked m (ordered_from (files_of m) c.requires.linked.1.no_refusal) hs c.args.found.now c.begin_turn.new.self c.args.offset c.begin_turn.ensures.types c.begin_turn.ensures.waiting c.requires.search c.requires.looks c.begin_turn.ensures.looks
-    c.look_at.new.found c.settle-in-Some-targets.new.self c.in-Some-targets.targets.items c.settle-in-Some-targets.ensures.types c.settle-in-Some-targets.ensures.waiting told.0 c.settle-in-Some-targets.ensures.looks
+    c.look_at.new.found c.settle-in-Some-targets.new.self c.in-Some-targets.targets.items c.settle-in-Some-targets.ensures.types c.settle-in-Some-targets.ensures.waiting told.0
+    (subst (λ (v : Vec ℕ). SettlesAt c.args.offset v.items c.look_at.new.found c.settle-in-Some-targets.new.self) c.in-Some-targets.targets-is c.settle-in-Some-targets.ensures.looks)
 
 pub returns-in-Some-targets-clause-done : goal.returns-in-Some-targets-clause-done
 returns-in-Some-targets-clause-done c =
