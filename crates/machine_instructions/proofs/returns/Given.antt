@@ -5,7 +5,7 @@ use Rattle.model.specs.State as model
 use Rattle.model.specs.State.{StackOf}
 use Rattle.model.specs.Step as step
 use Rattle.linked_code.specs.declared.program.LinkedProgram.{LinkedProgram}
-use Rattle.linked_code.specs.thread_stacks.Stacks.{ShownFrame, ShownEntry, Invocation, Initialisation, IsTopFrame, moved, returned, under_top}
+use Rattle.linked_code.specs.thread_stacks.Stacks.{ShownFrame, ShownEntry, Invocation, Initialisation, IsTopFrame, moved, returned, on_top}
 use Rattle.machine_state.specs.shown_stacks.Shown.{ShowsStack}
 use Rattle.machine_state.specs.Memory.{operand_counts, shown_counts, has_grown}
 use Rattle.machine_state.proofs.Memory.{counts_shown, grown_under}
@@ -20,19 +20,17 @@ given stack word found top = by (drop 1 stack) refl top
     by (Initialisation class phase ∷ others) is top = absurd cc
 
 -- nothing is
-pub passes_nothing : (stack : List ShownEntry) (next : ℕ) → drop 1 (under_top (moved next) stack) ≡ returned next [] (drop 1 stack)
+pub passes_nothing : (under : List ShownEntry) (next : ℕ) → on_top (moved next) under ≡ returned next [] under
 passes_nothing [] next = refl
-passes_nothing (top ∷ []) next = refl
-passes_nothing (top ∷ Invocation frame ∷ others) next = refl
-passes_nothing (top ∷ Initialisation class phase ∷ others) next = refl
+passes_nothing (Invocation frame ∷ others) next = refl
+passes_nothing (Initialisation class phase ∷ others) next = refl
 
 -- there is no invoker
-pub passes_over : (stack : List ShownEntry) → IsTopFrame (drop 1 stack) None → (next : ℕ) (results : List ℕ)
-    → drop 1 (under_top (moved next) stack) ≡ returned next results (drop 1 stack)
+pub passes_over : (under : List ShownEntry) → IsTopFrame under None → (next : ℕ) (results : List ℕ)
+    → on_top (moved next) under ≡ returned next results under
 passes_over [] top next results = refl
-passes_over (entry ∷ []) top next results = refl
-passes_over (entry ∷ Invocation frame ∷ others) top next results = absurd cc
-passes_over (entry ∷ Initialisation class phase ∷ others) top next results = refl
+passes_over (Invocation frame ∷ others) top next results = absurd cc
+passes_over (Initialisation class phase ∷ others) top next results = refl
 
 -- the invoker has one operand more
 pub given_grows : (trees : Program) (p : LinkedProgram) (stack : List ShownEntry) (frame : ShownFrame) (below : List ShownEntry) → stack ≡ Invocation frame ∷ below

@@ -1,7 +1,7 @@
 //! Returns to the invoker.
 
 ghost use Rattle.std.specs.Prelude.{◌≡◌, ℕ, Ok, true, false, drop, option_to_list, OnOk, OnErr};
-ghost use Rattle.linked_code.specs.thread_stacks.Stacks.{moved, returned, under_top};
+ghost use Rattle.linked_code.specs.thread_stacks.Stacks.{moved, returned, on_top};
 ghost use Rattle.machine_state.specs.declared.answers.Effect.TheVariants as effect;
 ghost use Rattle.machine_state.specs.declared.state.Shared.{Shared};
 ghost use Rattle.machine_instructions.specs.returns.Returned.{result_in, returning, IsGiven};
@@ -31,7 +31,7 @@ fn result_of(stack: &ThreadStack, value: bool) -> Option<u32>
 fn gives_value(stack: &ThreadStack, returns: Option<u32>) -> bool
     ensures gives { result ≡ true → IsGiven stack.now returns }
     ensures passes { result ≡ false → (next : ℕ)
-        → drop 1 (under_top (moved next) stack.now) ≡ returned next (option_to_list returns) (drop 1 stack.now) }
+        → on_top (moved next) (drop 1 stack.now) ≡ returned next (option_to_list returns) (drop 1 stack.now) }
 {
     match returns {
         Some(_) => match stack.frame_under() {
@@ -57,8 +57,8 @@ fn return_under(
     if gives_value(stack, returns) {
         return stack.return_to(next, returns);
     }
-    stack.go_on_under(next);
     stack.drop_top();
+    stack.go_on(next);
     Ok(())
 }
 
