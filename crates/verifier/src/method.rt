@@ -235,17 +235,16 @@ fn turn(
     match look_at(
         alloc, method, starts, handlers, meanings, found, offset, before,
     ) {
-        Ok(Looked {
-            targets: Some(targets),
-            steps,
-        }) => {
-            found.settle(alloc, offset, targets);
-            Ok(steps_of_turn(method, steps))
+        Ok(looked) => {
+            let steps = steps_of_turn(method, looked.steps);
+            match looked.targets {
+                Some(targets) => {
+                    found.settle(alloc, offset, targets);
+                    Ok(steps)
+                }
+                None => Ok(steps),
+            }
         }
-        Ok(Looked {
-            targets: None,
-            steps,
-        }) => Ok(steps_of_turn(method, steps)),
         Err(fault) => Err(fault),
     }
 }

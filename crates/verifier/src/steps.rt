@@ -67,7 +67,7 @@ fn merged(leads: usize, types: usize) -> u64
 
 /// How many bytes a text has.
 fn text_bytes(text: Option<&[u8]>) -> usize
-    ensures { result ≤ text_bytes (option_map (λ t. t.now) text) }
+    ensures { result ≤ text_bytes (option_map (λ t. t.now) text.entry) }
 {
     match text {
         Some(text) => text.len(),
@@ -77,7 +77,7 @@ fn text_bytes(text: Option<&[u8]>) -> usize
 
 /// How many bytes the texts of a member have.
 fn member_bytes(member: Option<Reference<'_>>) -> usize
-    ensures { result ≤ member_bytes (option_map (λ r. reference_of r) member) }
+    ensures { result ≤ member_bytes (option_map (λ r. reference_of r) member.entry) }
 {
     match member {
         Some(member) => member
