@@ -93,8 +93,9 @@ module _ (trees : Program) (limits : Limits) (want : Wanted) (p : LinkedProgram)
   none_visited_in program =
       subst (λ (x : StatesOf). HasVisited trees x.limits want x [] 0) (sym s_is) (none_visited trees limits want p program)
 
-  pub says_in : (most states : ℕ) (v : Verdict) → Says trees s.limits want most states v → Says trees limits want most states v
-  says_in most states v says = subst (λ l. Says trees l want most states v) (ap (λ (x : StatesOf). x.limits) s_is) says
+  pub says_in : (most states told : ℕ) → told ≡ states → (v : Verdict) → Says trees s.limits want most states v → Says trees limits want most told v
+  says_in most states told is v says =
+      subst (λ n. Says trees limits want most n v) (sym is) (subst (λ l. Says trees l want most states v) (ap (λ (x : StatesOf). x.limits) s_is) says)
 
   -- the opening state is one
   pub one_in : (most : ℕ) → 1 ≤ most → length s.schedules ≤ most
