@@ -23,7 +23,7 @@ use Rattle.engines.specs.declared.status.Status.{Status}
 
 module _ (lefts : List (Option (List ℕ))) (asked : LimitOptions) (want : Wanted) (recorded : Bool) where
   -- a class file isn't read, and nothing is written
-  pub unread_is_unsearched : (fault : Fault) (held : Option (List ℕ)) (kept : Option (Option (List ℕ))) (file : ℕ) → file < length lefts → IsOfFile file fault
+  pub unread_is_unsearched : (fault : Fault) (held : Option (List ℕ)) (kept : Option (List ℕ)) (file : ℕ) → file < length lefts → IsOfFile file fault
       → IsUnsearched lefts asked want recorded held held kept kept fault
   unread_is_unsearched faults.Device held kept file within of_file = inl (refl, refl)
   unread_is_unsearched faults.Memory held kept file within of_file = absurd of_file
@@ -32,7 +32,7 @@ module _ (lefts : List (Option (List ℕ))) (asked : LimitOptions) (want : Wante
   unread_is_unsearched (faults.Refusal refusal) held kept file within of_file = (refl, refl, inl (file, within, of_file))
 
   -- the writing stops
-  pub part_is_unsearched : (fault : DeviceFault) (old new : Option (List ℕ)) (kept made : Option (Option (List ℕ)))
+  pub part_is_unsearched : (fault : DeviceFault) (old new : Option (List ℕ)) (kept made : Option (List ℕ))
       → SearchesPart lefts asked want recorded old new kept made → IsUnsearched lefts asked want recorded old new kept made (fault_of fault)
   part_is_unsearched devices.Device old new kept made part = part
   part_is_unsearched devices.Memory old new kept made part = part
@@ -44,23 +44,6 @@ module _ (lefts : List (Option (List ℕ))) (asked : LimitOptions) (want : Wante
       let by_files = subst (λ these. IsSearched (map bytes these) asked want given text file status) of_files searched in
       (map bytes read, each, subst (λ this. IsSearched (map bytes read) asked want this text file status) of_given by_files)
 
--- where there is a file it is asked for
-pub asked_for : (recording : Recording) (recorded : Bool) (answer : Answer) (file : Option (List ℕ)) → IsFileOf recording recorded answer file → IsTrue (is_some file) → IsTrue recorded
-asked_for recording recorded (answers.Found schedule report) file spelled there = sym spelled.0 ∙ there
-asked_for recording recorded (answers.Complete outcomes) (Some bytes) none there = absurd (none-some bytes (sym none))
-asked_for recording recorded (answers.Complete outcomes) None none there = absurd (false≢true there)
-asked_for recording recorded answers.GaveUp (Some bytes) none there = absurd (none-some bytes (sym none))
-asked_for recording recorded answers.GaveUp None none there = absurd (false≢true there)
-
-pub file_is_asked_for : (files : List (List ℕ)) (asked : LimitOptions) (want : Wanted) (recorded : Bool) (text : List ℕ) (file : Option (List ℕ)) (status : Status)
-    → IsSearched files asked want recorded text file status → IsTrue (is_some file) → IsTrue recorded
-file_is_asked_for files asked want recorded text file status searched there = asked_for (recording_of searched.limits files) recorded searched.answer file searched.spelled there
-
--- a file's bytes are there where the file is
-pub is_there : {F : Type 0} (bytes : F → List ℕ) (file : Option F) → IsTrue (is_some file) → IsTrue (is_some (option_map bytes file))
-is_there bytes (Some f) there = there
-is_there bytes None there = there
-
 -- the file that is recorded is that of the schedule that was found
 pub file_of_found : {F E : Type 0} (bytes : F → List ℕ) (recording : Recording) (recorded : Bool) (schedule : List ScheduleEntry) (report : Report) (result : Result (Option F) E)
     → IfOk result (λ file. is_some file ≡ recorded)
@@ -69,15 +52,3 @@ pub file_of_found : {F E : Type 0} (bytes : F → List ℕ) (recording : Recordi
 file_of_found bytes recording recorded schedule report (Ok (Some file)) asked spelled = (asked, spelled)
 file_of_found bytes recording recorded schedule report (Ok None) asked spelled = (asked, spelled)
 file_of_found bytes recording recorded schedule report (Err fault) asked spelled = tt
-
--- ---- the writing of a file
-
--- where there is a file, it is written as it is for a run
-pub found_is_recorded : (kept made : Option (Option (List ℕ))) (file : Option (List ℕ)) → IsTrue (is_some file) → Records kept made file → RecordsFound kept made file
-found_is_recorded kept made (Some bytes) there records = records
-found_is_recorded kept made None there records = absurd (false≢true there)
-
--- and where there is none, none is written
-pub none_is_recorded : {F : Type 0} (bytes : F → List ℕ) (kept : Option (Option (List ℕ))) (file : Option F) → is_some file ≡ false → RecordsFound kept kept (option_map bytes file)
-none_is_recorded bytes kept (Some f) there = absurd (false≢true (sym there))
-none_is_recorded bytes kept None there = refl
