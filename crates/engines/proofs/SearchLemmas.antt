@@ -1,9 +1,7 @@
 -- Why class files are not searched, and how far what a search says is written.
-use Rattle.std.proofs.Common.{◌≡◌, ℕ, ◌<◌, Bool, false, List, length, map, Option, Some, None, inl, refl, subst, sym, ◌∙◌}
-use Rattle.std.specs.Prelude.{IfOk, IfSome, IsTrue, Result, Ok, Err, is_some}
+use Rattle.std.proofs.Common.{◌≡◌, ℕ, ◌<◌, Bool, List, length, Option, Some, None, inl, refl}
+use Rattle.std.specs.Prelude.{IfOk, IfSome, Result, Ok, Err, is_some}
 use Rattle.std.specs.Option.{option_map}
-use Rattle.std.proofs.lemmas.Bool.{false≢true}
-use Rattle.std.proofs.lemmas.Option.{none-some}
 use Rattle.model.specs.declared.device.DeviceFault.{DeviceFault}
 use Rattle.model.specs.declared.device.DeviceFault.TheVariants as devices
 use Rattle.model.specs.declared.event.ScheduleEntry.{ScheduleEntry}
@@ -11,15 +9,12 @@ use Rattle.model.specs.declared.report.Report.{Report}
 use Rattle.model.specs.Schedule.{Recording, ScheduleFile, events_of}
 use Rattle.command_line.specs.declared.options.LimitOptions.{LimitOptions}
 use Rattle.search.specs.declared.run_outcomes.wanted.Wanted.{Wanted}
-use Rattle.search.specs.declared.search_reports.answers.Answer.{Answer}
 use Rattle.search.specs.declared.search_reports.answers.Answer.TheVariants as answers
 use Rattle.engines.specs.Devices.{fault_of}
-use Rattle.engines.specs.Engines.{IsOfFile, ReadsEach}
-use Rattle.engines.specs.Runs.{Records, recording_of}
-use Rattle.engines.specs.Searches.{IsFileOf, IsSearched, IsUnsearched, RecordsFound, Searches, SearchesPart}
+use Rattle.engines.specs.Engines.{IsOfFile}
+use Rattle.engines.specs.Searches.{IsFileOf, IsUnsearched, SearchesPart}
 use Rattle.engines.specs.declared.fault.Fault.{Fault}
 use Rattle.engines.specs.declared.fault.Fault.TheVariants as faults
-use Rattle.engines.specs.declared.status.Status.{Status}
 
 module _ (lefts : List (Option (List ℕ))) (asked : LimitOptions) (want : Wanted) (recorded : Bool) where
   -- a class file isn't read, and nothing is written
@@ -36,13 +31,6 @@ module _ (lefts : List (Option (List ℕ))) (asked : LimitOptions) (want : Wante
       → SearchesPart lefts asked want recorded old new kept made → IsUnsearched lefts asked want recorded old new kept made (fault_of fault)
   part_is_unsearched devices.Device old new kept made part = part
   part_is_unsearched devices.Memory old new kept made part = part
-
-  -- the class files that were read are searched
-  pub is_searches : {F : Type 0} (bytes : F → List ℕ) (read files : List F) (given : Bool) (text : List ℕ) (file : Option (List ℕ)) (status : Status)
-      → ReadsEach lefts (map bytes read) → files ≡ read → given ≡ recorded → IsSearched (map bytes files) asked want given text file status → Searches lefts asked want recorded text file status
-  is_searches bytes read files given text file status each of_files of_given searched =
-      let by_files = subst (λ these. IsSearched (map bytes these) asked want given text file status) of_files searched in
-      (map bytes read, each, subst (λ this. IsSearched (map bytes read) asked want this text file status) of_given by_files)
 
 -- the file that is recorded is that of the schedule that was found
 pub file_of_found : {F E : Type 0} (bytes : F → List ℕ) (recording : Recording) (recorded : Bool) (schedule : List ScheduleEntry) (report : Report) (result : Result (Option F) E)

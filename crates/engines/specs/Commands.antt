@@ -1,11 +1,10 @@
 -- What a command does, by what the files hold that its words name: the text that it writes to the output, the file that it writes, and its
 -- status (own). Each does what its engine does, with these files in their order.
-use Rattle.std.specs.Prelude.{◌≡◌, ◌⊎◌, ℕ, ◌-◌, ◌^◌, Bool, true, false, List, [], map, Option, Some, None, IsTrue, is_some, string_bytes, unwrap_or, vec_items}
+use Rattle.std.specs.Prelude.{◌≡◌, ◌⊎◌, ℕ, ◌-◌, ◌^◌, Bool, true, false, List, [], map, Option, Some, None, IsTrue, is_some, string_bytes, unwrap_or, vec_items, Result, Ok, Err}
 use Rattle.std.specs.Option.{option_map}
 use Rattle.std.specs.Io.KnownBytes.{Appends}
 use Rattle.std.specs.declared.string.String.{String}
 use Rattle.std.specs.Global.{Global}
-use Rattle.clap.specs.declared.error.Error.{Error}
 use Rattle.model.specs.Devices.{AppendsFront}
 use Rattle.program_runs.specs.declared.traced_runs.window.Window.{Window}
 use Rattle.search.specs.declared.run_outcomes.wanted.Wanted.{Wanted}
@@ -25,7 +24,6 @@ use Rattle.command_line.specs.declared.options.TraceForm.{TraceForm}
 use Rattle.command_line.specs.declared.options.TraceForm.TheVariants as forms
 use Rattle.command_line.specs.declared.options.Verify.{Verify}
 use Rattle.command_line.specs.declared.usage.Usage.{Usage}
-use Rattle.command_line.specs.declared.usage.Usage.TheVariants as usages
 use Rattle.engines.specs.Continuations.{Continues, IsUncontinued}
 use Rattle.engines.specs.Devices.{IsUnable}
 use Rattle.engines.specs.Files.{AreGiven, IsWith, Written, held_at, written_at}
@@ -55,6 +53,13 @@ Listed = List ℕ → Option (Option (List (String Global)))
 abbrev pub files_at : Held → List (String Global) → List (Option (List ℕ))
 files_at held paths = held_at held (map string_bytes paths)
 
+-- ---- what is recorded
+
+-- there is a fault before the file is written, or behind that; or there is none but that it can't be written
+abbrev pub IsUnrecorded : Result Status Fault → (held holds : Held) → Written → Fault → Type 0
+IsUnrecorded outcome held holds written fault = ((outcome ≡ Err fault) × (IsWith held holds None ⊎ IsWith held holds written))
+    ⊎ (((status : Status) × (outcome ≡ Ok status)) × IsUnable fault × IsWith held holds None)
+
 -- ---- run
 
 pub record IsRunDone (held : Held) (run : Run) (text : List ℕ) (written : Written) (status : Status) : Type 0 where
@@ -64,7 +69,7 @@ pub record IsRunDone (held : Held) (run : Run) (text : List ℕ) (written : Writ
   pub recorded : written ≡ written_at run.record file
 
 -- what was made may be recorded though the output failed
-pub record IsRunUndone (held : Held) (run : Run) (fault : Fault) (old new : Option (List ℕ)) (written : Written) : Type 0 where
+pub record IsRunUndone (held : Held) (run : Run) (old new : Option (List ℕ)) (fault : Fault) (written : Written) : Type 0 where
   pub file : Option (List ℕ)
   pub unrun : IsUnrun (files_at held run.files.items) run.limits run.options old new None file fault
   pub recorded : (written ≡ None) ⊎ (written ≡ written_at run.record file)
@@ -78,7 +83,7 @@ pub record IsContinuationDone (held : Held) (replay : Replay) (then_run : ThenRu
   pub made : IsTrue (is_some then_run.record) → IsTrue (is_some file)
   pub recorded : written ≡ written_at then_run.record file
 
-pub record IsContinuationUndone (held : Held) (replay : Replay) (then_run : ThenRun) (fault : Fault) (old new : Option (List ℕ)) (written : Written) : Type 0 where
+pub record IsContinuationUndone (held : Held) (replay : Replay) (then_run : ThenRun) (old new : Option (List ℕ)) (fault : Fault) (written : Written) : Type 0 where
   pub file : Option (List ℕ)
   pub uncontinued : IsUncontinued (held (string_bytes replay.schedule)) (files_at held replay.files.items) replay.limits
       (unwrap_or then_run.budget 10000000) old new None file fault
@@ -89,10 +94,10 @@ IsReplayDone held replay None text written status =
     Replays (held (string_bytes replay.schedule)) (files_at held replay.files.items) replay.limits text status × (written ≡ None)
 IsReplayDone held replay (Some then_run) text written status = IsContinuationDone held replay then_run text written status
 
-abbrev pub IsReplayUndone : Held → Replay → Option ThenRun → Fault → (old new : Option (List ℕ)) → Written → Type 0
-IsReplayUndone held replay None fault old new written =
+abbrev pub IsReplayUndone : Held → Replay → Option ThenRun → (old new : Option (List ℕ)) → Fault → Written → Type 0
+IsReplayUndone held replay None old new fault written =
     IsFaulty (held (string_bytes replay.schedule)) (files_at held replay.files.items) replay.limits old new fault × (written ≡ None)
-IsReplayUndone held replay (Some then_run) fault old new written = IsContinuationUndone held replay then_run fault old new written
+IsReplayUndone held replay (Some then_run) old new fault written = IsContinuationUndone held replay then_run old new fault written
 
 -- ---- trace
 
@@ -114,8 +119,8 @@ abbrev pub IsTraceDone : Held → Trace → List ℕ → Written → Status → 
 IsTraceDone held trace text written status = (window : Window) × IsWindow trace window
     × Traces (held (string_bytes trace.schedule)) (files_at held trace.files.items) trace.limits window text status × (written ≡ None)
 
-abbrev pub IsTraceUndone : Held → Trace → Fault → (old new : Option (List ℕ)) → Written → Type 0
-IsTraceUndone held trace fault old new written = (window : Window) × IsWindow trace window
+abbrev pub IsTraceUndone : Held → Trace → (old new : Option (List ℕ)) → Fault → Written → Type 0
+IsTraceUndone held trace old new fault written = (window : Window) × IsWindow trace window
     × IsUntraced (held (string_bytes trace.schedule)) (files_at held trace.files.items) trace.limits window old new fault × (written ≡ None)
 
 -- ---- search
@@ -127,7 +132,7 @@ pub record IsSearchDone (held : Held) (search : Search) (text : List ℕ) (writt
   pub searches : Searches (files_at held search.files.items) search.limits want (is_some search.record) text file status
   pub recorded : written ≡ written_at search.record file
 
-pub record IsSearchUndone (held : Held) (search : Search) (fault : Fault) (old new : Option (List ℕ)) (written : Written) : Type 0 where
+pub record IsSearchUndone (held : Held) (search : Search) (old new : Option (List ℕ)) (fault : Fault) (written : Written) : Type 0 where
   pub want : Wanted
   pub asked : IsAskedFor held search.goal want
   pub file : Option (List ℕ)
@@ -158,8 +163,8 @@ abbrev pub OfGiven : Held → Listed → List (String Global) → (List (Option 
 OfGiven held listed paths P = (given : List (List ℕ)) × AreGiven listed (map string_bytes paths) given × P (held_at held given)
 
 -- or a folder can't be read, or memory is wanted for the paths
-abbrev pub OfGivenOrUnable : Held → Listed → List (String Global) → Fault → (old new : Option (List ℕ)) → (List (Option (List ℕ)) → Type 0) → Type 0
-OfGivenOrUnable held listed paths fault old new P = (IsUnable fault × (new ≡ old)) ⊎ OfGiven held listed paths P
+abbrev pub OfGivenOrUnable : Held → Listed → List (String Global) → (old new : Option (List ℕ)) → Fault → (List (Option (List ℕ)) → Type 0) → Type 0
+OfGivenOrUnable held listed paths old new fault P = (IsUnable fault × (new ≡ old)) ⊎ OfGiven held listed paths P
 
 -- ---- schedule
 
@@ -169,10 +174,10 @@ IsScheduleDone held input schedule true text written status = (bytes : List ℕ)
 IsScheduleDone held input schedule false text written status = Prints (held (string_bytes schedule.file)) text
     × (written ≡ None) × (status ≡ Returned)
 
-abbrev pub IsScheduleUndone : Held → (input : Option (List ℕ)) → Schedule → (write : Bool) → Fault → (old new : Option (List ℕ)) → Written → Type 0
-IsScheduleUndone held input schedule true fault old new written = (new ≡ old) × (written ≡ None)
+abbrev pub IsScheduleUndone : Held → (input : Option (List ℕ)) → Schedule → (write : Bool) → (old new : Option (List ℕ)) → Fault → Written → Type 0
+IsScheduleUndone held input schedule true old new fault written = (new ≡ old) × (written ≡ None)
     × ((kept made : Option (List ℕ)) × IsUntranscribed input kept made fault)
-IsScheduleUndone held input schedule false fault old new written = IsUnprinted (held (string_bytes schedule.file)) old new fault × (written ≡ None)
+IsScheduleUndone held input schedule false old new fault written = IsUnprinted (held (string_bytes schedule.file)) old new fault × (written ≡ None)
 
 -- ---- any command
 
@@ -189,33 +194,41 @@ IsDone held listed input (commands.Disasm disasm) text written status =
 IsDone held listed input (commands.Schedule schedule) text written status = IsScheduleDone held input schedule schedule.write text written status
 
 -- What keeps a command from a status, what is on the output then, and what is written.
-abbrev pub IsUndone : Held → Listed → (input : Option (List ℕ)) → Command → Fault → (old new : Option (List ℕ)) → Written → Type 0
-IsUndone held listed input (commands.Run run) fault old new written = IsRunUndone held run fault old new written
-IsUndone held listed input (commands.Replay replay) fault old new written = IsReplayUndone held replay replay.then_run fault old new written
-IsUndone held listed input (commands.Trace trace) fault old new written = IsTraceUndone held trace fault old new written
-IsUndone held listed input (commands.Search search) fault old new written =
-    (IsUnable fault × (new ≡ old) × (written ≡ None)) ⊎ IsSearchUndone held search fault old new written
-IsUndone held listed input (commands.Verify verify) fault old new written =
-    OfGivenOrUnable held listed verify.files.items fault old new (λ lefts. IsUnacceptedAs verify.library lefts old new fault) × (written ≡ None)
-IsUndone held listed input (commands.Disasm disasm) fault old new written =
-    OfGivenOrUnable held listed disasm.files.items fault old new (λ lefts. IsUnlistedAs disasm.names lefts old new fault) × (written ≡ None)
-IsUndone held listed input (commands.Schedule schedule) fault old new written = IsScheduleUndone held input schedule schedule.write fault old new written
+abbrev pub IsUndone : Held → Listed → (input : Option (List ℕ)) → Command → (old new : Option (List ℕ)) → Fault → Written → Type 0
+IsUndone held listed input (commands.Run run) old new fault written = IsRunUndone held run old new fault written
+IsUndone held listed input (commands.Replay replay) old new fault written = IsReplayUndone held replay replay.then_run old new fault written
+IsUndone held listed input (commands.Trace trace) old new fault written = IsTraceUndone held trace old new fault written
+IsUndone held listed input (commands.Search search) old new fault written =
+    (IsUnable fault × (new ≡ old) × (written ≡ None)) ⊎ IsSearchUndone held search old new fault written
+IsUndone held listed input (commands.Verify verify) old new fault written =
+    OfGivenOrUnable held listed verify.files.items old new fault (λ lefts. IsUnacceptedAs verify.library lefts old new fault) × (written ≡ None)
+IsUndone held listed input (commands.Disasm disasm) old new fault written =
+    OfGivenOrUnable held listed disasm.files.items old new fault (λ lefts. IsUnlistedAs disasm.names lefts old new fault) × (written ≡ None)
+IsUndone held listed input (commands.Schedule schedule) old new fault written = IsScheduleUndone held input schedule schedule.write old new fault written
 
 -- ---- the words of a command line
 
--- The words ask for help or the version, and some text is written; or they spell a command, and what it does is done.
+-- the words ask for help or the version
+abbrev pub AskForHelp : (words : List (List ℕ)) → Type 0
+AskForHelp words = (usage : Usage) × Fails words usage × Asks usage
+
+-- They do, and it is written, of which nothing more is said; or they spell a command, and it is done.
 abbrev pub Does : Held → Listed → (input : Option (List ℕ)) → (words : List (List ℕ)) → List ℕ → Written → Status → Type 0
-Does held listed input words text written status =
-    (((error : Error) × Fails words (usages.Asked error)) × (written ≡ None) × (status ≡ Returned))
+Does held listed input words text written status = (AskForHelp words × (written ≡ None) × (status ≡ Returned))
     ⊎ ((command : Command) × Spells words command × IsDone held listed input command text written status)
 
 -- The words are no command, and nothing is written; or help can't be written; or they spell a command, and it isn't done.
-abbrev pub Stops : Held → Listed → (input : Option (List ℕ)) → (words : List (List ℕ)) → Complaint → (old new : Option (List ℕ)) → Written → Type 0
-Stops held listed input words (complaints.Usage usage) old new written =
+abbrev pub Stops : Held → Listed → (input : Option (List ℕ)) → (words : List (List ℕ)) → (old new : Option (List ℕ)) → Complaint → Written → Type 0
+Stops held listed input words old new (complaints.Usage usage) written =
     Fails words usage × (Asks usage → ⊥) × (new ≡ old) × (written ≡ None)
-Stops held listed input words (complaints.Fault fault) old new written =
-    (((error : Error) × Fails words (usages.Asked error)) × IsUnable fault × (written ≡ None))
-    ⊎ ((command : Command) × Spells words command × IsUndone held listed input command fault old new written)
+Stops held listed input words old new (complaints.Fault fault) written =
+    (AskForHelp words × IsUnable fault × ((text : List ℕ) × AppendsFront old new text) × (written ≡ None))
+    ⊎ ((command : Command) × Spells words command × IsUndone held listed input command old new fault written)
+
+-- what comes of words that are no command, where it is no help
+abbrev pub IsUntold : Usage → (old new : Option (List ℕ)) → Complaint → Type 0
+IsUntold usage old new (complaints.Usage told) = (told ≡ usage) × (Asks usage → ⊥) × (new ≡ old)
+IsUntold usage old new (complaints.Fault fault) = Asks usage × IsUnable fault × ((text : List ℕ) × AppendsFront old new text)
 
 -- ---- what a call leaves
 

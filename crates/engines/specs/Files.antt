@@ -28,11 +28,11 @@ held_at held paths = map held paths
 -- ---- what lies in a folder
 
 -- these may be the names of what lies there, and there are none where there is no folder
-abbrev pub Lists : Option (Option (List (String Global))) → Option (List (String Global)) → Type 0
-Lists None found = Unit {0}
-Lists (Some None) found = found ≡ None
-Lists (Some (Some names)) None = ⊥
-Lists (Some (Some names)) (Some found) = IsPermutation names found
+abbrev pub IsListed : Option (Option (List (String Global))) → Option (List (String Global)) → Type 0
+IsListed None found = Unit {0}
+IsListed (Some None) found = found ≡ None
+IsListed (Some (Some names)) None = ⊥
+IsListed (Some (Some names)) (Some found) = IsPermutation names found
 
 -- the path without the slash that may stand at its end
 abbrev pub IsUnslashed : (path folder : List ℕ) → Type 0
@@ -47,7 +47,7 @@ IsGiven path (Some names) paths = (folder : List ℕ) × IsUnslashed path folder
 abbrev pub AreGiven : (List ℕ → Option (Option (List (String Global)))) → (paths given : List (List ℕ)) → Type 0
 AreGiven listed [] given = given ≡ []
 AreGiven listed (path ∷ paths) given = (found : Option (List (String Global))) × (front rest : List (List ℕ))
-    × Lists (listed path) found × IsGiven path found front × AreGiven listed paths rest × (given ≡ front ++ rest)
+    × IsListed (listed path) found × IsGiven path found front × AreGiven listed paths rest × (given ≡ front ++ rest)
 
 -- ---- what is written
 

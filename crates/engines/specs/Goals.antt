@@ -1,5 +1,6 @@
 -- What a search is to find, by the words that ask for it (own).
-use Rattle.std.specs.Prelude.{◌≡◌, ℕ, ◌==◌, ◌&&◌, Bool, List, [], ◌∷◌, ◌++◌, map, Option, Some, None, if◌then◌else◌, string_bytes, vec_items}
+use Rattle.std.specs.Prelude.{◌≡◌, ℕ, ◌==◌, ◌&&◌, Bool, not, List, [], ◌∷◌, ◌++◌, length, map, Option, Some, None, if◌then◌else◌, string_bytes}
+use Rattle.std.specs.List.{ends_with, starts_with}
 use Rattle.std.specs.declared.vec.Vec.{Vec}
 use Rattle.std.specs.Global.{Global}
 use Rattle.command_line.specs.declared.options.Goal.{Goal}
@@ -8,27 +9,31 @@ use Rattle.search.specs.declared.run_outcomes.wanted.Wanted.{Wanted}
 use Rattle.search.specs.declared.run_outcomes.wanted.Wanted.TheVariants as wanted
 use Rattle.engines.specs.Engines.{Reads}
 
+-- the byte in the place of one of a list of numbers: a comma ends a line
+abbrev pub line_byte : ℕ → ℕ
+line_byte byte = if byte == 0x2c then 0x0a else byte
+
 -- the lines of numbers between which commas stand, and none where there is no number
 abbrev pub lines_of : List ℕ → List ℕ
 lines_of [] = []
-lines_of (byte ∷ bytes) = map (λ b. if b == 0x2c then 0x0a else b) (byte ∷ bytes) ++ 0x0a ∷ []
+lines_of (byte ∷ bytes) = map line_byte (byte ∷ bytes) ++ 0x0a ∷ []
+
+-- a carriage return, and a line feed behind it
+abbrev pub begins_return : List ℕ → Bool
+begins_return bytes = starts_with (λ a b. a == b) bytes (0x0d ∷ 0x0a ∷ [])
 
 -- without each carriage return that stands before a line feed
 abbrev pub without_returns : List ℕ → List ℕ
 without_returns [] = []
-without_returns (byte ∷ []) = byte ∷ []
-without_returns (byte ∷ next ∷ bytes) =
-    if (byte == 0x0d) && (next == 0x0a) then without_returns (next ∷ bytes) else byte ∷ without_returns (next ∷ bytes)
+without_returns (byte ∷ bytes) = if begins_return (byte ∷ bytes) then without_returns bytes else byte ∷ without_returns bytes
 
--- the last line has a line feed at its end, too
-abbrev pub ended : List ℕ → List ℕ
-ended [] = []
-ended (byte ∷ []) = if byte == 0x0a then byte ∷ [] else byte ∷ 0x0a ∷ []
-ended (byte ∷ next ∷ bytes) = byte ∷ ended (next ∷ bytes)
+-- there is a last line, and no line feed at its end
+abbrev pub is_unended : List ℕ → Bool
+is_unended bytes = not (length bytes == 0) && not (ends_with (λ a b. a == b) bytes (0x0a ∷ []))
 
--- the text of the file of another outcome
+-- the text of a file: its last line has a line feed at its end, too
 abbrev pub text_of_file : List ℕ → List ℕ
-text_of_file bytes = ended (without_returns bytes)
+text_of_file bytes = if is_unended (without_returns bytes) then without_returns bytes ++ 0x0a ∷ [] else without_returns bytes
 
 -- what the goal asks for, by what files hold
 abbrev pub IsAskedFor : (List ℕ → Option (List ℕ)) → Option Goal → Wanted → Type 0

@@ -5,7 +5,7 @@ ghost use Rattle.std.specs.Option.{option_map};
 ghost use Rattle.std.specs.declared.string.String.{String as Text};
 ghost use Rattle.std.specs.Global.{Global as System};
 ghost use Rattle.engines.specs.Engines.{Reads};
-ghost use Rattle.engines.specs.Files.{IsWith, Lists};
+ghost use Rattle.engines.specs.Files.{IsWith, IsListed};
 
 use std::alloc::Global;
 use std::io;
@@ -24,7 +24,7 @@ pub trait Folder {
 
     /// The names of what lies in the folder at a path, in any order, or `None` where there is no folder.
     fn names(&self, alloc: Global, path: &str) -> io::Result<Option<Vec<String>>>
-        ensures { IfOk result (λ names. Lists (listed self.now path.now) (option_map vec_items names)) };
+        ensures { IfOk result (λ names. IsListed (listed self.now path.now) (option_map vec_items names)) };
 
     /// Makes a file of these bytes at a path, in place of one that is there. Every other file stays as it is, and after an
     /// error this one does, too.

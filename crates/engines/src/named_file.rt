@@ -1,7 +1,8 @@
 //! Files of a folder, as sources.
 
-ghost use Rattle.std.specs.Prelude.{◌≡◌, IfOk, map, string_bytes, sum_by};
+ghost use Rattle.std.specs.Prelude.{◌≡◌, IfErr, IfOk, map, string_bytes, sum_by};
 ghost use Rattle.engines.specs.Files.{failures_of, held_at, left_of};
+ghost use Rattle.engines.specs.declared.fault.Fault.TheVariants.{Memory};
 
 use crate::fault::{Fault, device_fault};
 use crate::folder::Folder;
@@ -41,18 +42,14 @@ impl<F: Folder> Source for NamedFile<'_, F> {
                 self.reading = Reading::Behind;
                 Ok(bytes)
             }
-            Err(error) => Err(self.fault(device_fault(&error))),
+            Err(error) => match device_fault(&error) {
+                DeviceFault::Device => {
+                    self.reading = Reading::Failed;
+                    Err(DeviceFault::Device)
+                }
+                DeviceFault::Memory => Err(DeviceFault::Memory),
+            },
         }
-    }
-}
-
-impl<F> NamedFile<'_, F> {
-    /// The fault, once it is known of the file.
-    fn fault(&mut self, fault: DeviceFault) -> DeviceFault {
-        if fault == DeviceFault::Device {
-            self.reading = Reading::Failed;
-        }
-        fault
     }
 }
 

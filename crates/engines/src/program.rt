@@ -1,7 +1,9 @@
 //! What the words of a command line ask for.
 
-ghost use Rattle.std.specs.Prelude.{IfErr, IfOk, map, string_bytes};
-ghost use Rattle.engines.specs.Commands.{Does, IsDone, IsUndone, Leaves, LeavesAt, Stops};
+ghost use Rattle.std.specs.Prelude.{◌≡◌, IfErr, IfOk, map, string_bytes};
+ghost use Rattle.std.specs.Io.KnownBytes.{Appends};
+ghost use Rattle.command_line.specs.CommandLine.{Asks};
+ghost use Rattle.engines.specs.Commands.{Does, IsDone, IsUndone, IsUntold, Leaves, LeavesAt, Stops};
 
 use crate::commands::{disasm, replay, run_files, schedule, search, trace, verify};
 use crate::complaint::Complaint;
@@ -38,8 +40,8 @@ pub fn run<R: Threads + Wait + Sync, G: Gate + Progress + Sync, F: Folder, I: So
     ensures done { IfOk result (Leaves
         (Does (F.held folder.old) (F.listed folder.old) (I.remaining input.old) (map string_bytes words.now))
         (W.contents output.old) (W.contents output.new) (F.held folder.old) (F.held folder.new)) }
-    ensures faulty { IfErr result (LeavesAt (λ complaint. Stops (F.held folder.old) (F.listed folder.old) (I.remaining input.old)
-        (map string_bytes words.now) complaint (W.contents output.old) (W.contents output.new))
+    ensures faulty { IfErr result (LeavesAt (Stops (F.held folder.old) (F.listed folder.old) (I.remaining input.old)
+        (map string_bytes words.now) (W.contents output.old) (W.contents output.new))
         (F.held folder.old) (F.held folder.new)) }
 {
     match command(alloc, words) {
@@ -62,8 +64,8 @@ pub fn run<R: Threads + Wait + Sync, G: Gate + Progress + Sync, F: Folder, I: So
 
 /// Writes help or the version, where the words ask for it.
 fn told<W: Sink>(alloc: Global, usage: Usage, output: &mut W) -> Result<Status, Complaint>
-    ensures told { IfOk result (λ status. (status ≡ Status.Returned) × IsAsked usage
-        × ((text : _) × Appends (W.contents output.old) (W.contents output.new) text)) }
+    ensures told { IfOk result (λ status. (text : _) × (status ≡ Status.Returned) × Asks usage
+        × Appends (W.contents output.old) (W.contents output.new) text) }
     ensures untold { IfErr result (IsUntold usage (W.contents output.old) (W.contents output.new)) }
 {
     if !matches!(&usage, Usage::Asked(_)) {
@@ -93,8 +95,8 @@ fn done<R: Threads + Wait + Sync, G: Gate + Progress + Sync, F: Folder, I: Sourc
     ensures done { IfOk result (Leaves
         (IsDone (F.held folder.old) (F.listed folder.old) (I.remaining input.old) command.now)
         (W.contents output.old) (W.contents output.new) (F.held folder.old) (F.held folder.new)) }
-    ensures faulty { IfErr result (LeavesAt (λ fault. IsUndone (F.held folder.old) (F.listed folder.old) (I.remaining input.old)
-        command.now fault (W.contents output.old) (W.contents output.new)) (F.held folder.old) (F.held folder.new)) }
+    ensures faulty { IfErr result (LeavesAt (IsUndone (F.held folder.old) (F.listed folder.old) (I.remaining input.old)
+        command.now (W.contents output.old) (W.contents output.new)) (F.held folder.old) (F.held folder.new)) }
 {
     match command {
         Command::Run(options) => run_files(rt, alloc, gate, folder, options, output, explanation),

@@ -4,7 +4,7 @@ ghost use Rattle.std.specs.Prelude.{None};
 
 use crate::folder::Folder;
 use std::alloc::Global;
-use std::fs::{OpenFile, OpenOptions};
+use std::fs::{OpenFile, OpenOptions, Permissions};
 use std::io::{ErrorKind, Read, Write};
 use std::rt::Files;
 use std::{fs, io};
@@ -82,8 +82,9 @@ fn write_straight<R: Files>(files: &R, path: &str, bytes: &[u8]) -> io::Result<(
 /// Puts a file of these bytes in the place of the regular file to which a path leads. One that can't be written stays.
 fn replace<R: Files>(alloc: Global, files: &R, path: &str, bytes: &[u8]) -> io::Result<()> {
     let there = OpenOptions::new().write(true).open(files, path)?;
+    let permissions = there.metadata()?.permissions();
     let target = files.canonicalize(alloc, path)?;
-    match make_beside(alloc, files, target.as_str(), Some(&there), bytes) {
+    match make_beside(alloc, files, target.as_str(), Some(permissions), bytes) {
         Err(error) if error.kind() == ErrorKind::PermissionDenied => {
             write_straight(files, path, bytes)
         }
@@ -91,16 +92,16 @@ fn replace<R: Files>(alloc: Global, files: &R, path: &str, bytes: &[u8]) -> io::
     }
 }
 
-/// Makes a file of these bytes beside a path, with the permissions of the file that is there, if one is, and gives it its name.
+/// Makes a file of these bytes, with these permissions or the usual ones, beside a path, and gives it its name.
 fn make_beside<R: Files>(
     alloc: Global,
     files: &R,
     path: &str,
-    there: Option<&R::File>,
+    permissions: Option<Permissions>,
     bytes: &[u8],
 ) -> io::Result<()> {
-    let (mut file, name) = new_beside(alloc, files, path)?;
-    let moved = match filled(&mut file, there, bytes) {
+    let (file, name) = new_beside(alloc, files, path)?;
+    let moved = match filled(file, permissions, bytes) {
         Ok(()) => fs::rename(files, name.as_str(), path),
         Err(error) => Err(error),
     };
@@ -118,11 +119,7 @@ fn new_beside<R: Files>(
 ) -> io::Result<(R::File, String)> {
     for number in 0..TRIES {
         let name = format!(in alloc; "{path}.{number}.part")?;
-        let made = OpenOptions::new()
-            .write(true)
-            .create_new(true)
-            .open(files, name.as_str());
-        match made {
+        match create_new(files, name.as_str()) {
             Ok(file) => return Ok((file, name)),
             Err(error) if error.kind() == ErrorKind::AlreadyExists => {}
             Err(error) => return Err(error),
@@ -131,10 +128,23 @@ fn new_beside<R: Files>(
     Err(io::Error::from(ErrorKind::AlreadyExists))
 }
 
-/// Writes these bytes to a new file, which gets the permissions of another one, if it is to.
-fn filled<T: Write + OpenFile>(file: &mut T, like: Option<&T>, bytes: &[u8]) -> io::Result<()> {
-    if let Some(like) = like {
-        file.set_permissions(like.metadata()?.permissions())?;
+/// A file at a path where there is none.
+fn create_new<R: Files>(files: &R, path: &str) -> io::Result<R::File> {
+    OpenOptions::new()
+        .write(true)
+        .create_new(true)
+        .open(files, path)
+}
+
+/// Gives a new file its permissions and its bytes, and closes it.
+fn filled<T: Write + OpenFile + Drop>(
+    file: T,
+    permissions: Option<Permissions>,
+    bytes: &[u8],
+) -> io::Result<()> {
+    let mut file = file;
+    if let Some(permissions) = permissions {
+        file.set_permissions(permissions)?;
     }
     file.write_all(bytes)?;
     file.sync_all()

@@ -23,11 +23,11 @@ fn main(rt: HostRuntime) -> ExitCode {
         Ok(words) => words,
         Err(error) => return ExitCode::from(without_words(&rt, &error).code()),
     };
-    let done = done(&rt, words.as_slice(), rt.stderr().is_terminal());
-    if done.is_closed {
+    let ending = done(&rt, words.as_slice(), rt.stderr().is_terminal());
+    if ending.is_closed {
         return ExitCode::from(CLOSED_PIPE);
     }
-    ExitCode::from(told(&rt, done.outcome, done.explanation.text()).code())
+    ExitCode::from(told(&rt, ending.outcome, ending.explanation.text()).code())
 }
 
 /// The words of the command line, the program's name first.
@@ -38,7 +38,7 @@ fn words(rt: &HostRuntime) -> io::Result<Vec<String>> {
 
 /// What comes of the words.
 #[derive(Drop)]
-struct Done {
+struct Ending {
     outcome: Result<Status, Complaint>,
     explanation: Explanation,
     /// Whether the output is a pipe that nobody reads.
@@ -51,7 +51,7 @@ fn done<R: Files + Input + Print + Eprint + Clock + AllocGlobal + Threads + Wait
     rt: &R,
     words: &[String],
     is_terminal: bool,
-) -> Done {
+) -> Ending {
     let progress = Progress::new(rt, is_terminal);
     let mut output = Counted::new(rt.alloc(), Cleared::new(&progress, io::writer(rt)));
     let mut input = Counted::new(rt.alloc(), rt.reader());
@@ -79,7 +79,7 @@ fn done<R: Files + Input + Print + Eprint + Clock + AllocGlobal + Threads + Wait
             &mut explanation,
         );
     }
-    Done {
+    Ending {
         outcome,
         explanation,
         is_closed: failure == Some(ErrorKind::BrokenPipe),

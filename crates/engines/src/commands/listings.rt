@@ -1,9 +1,8 @@
 //! `verify` and `disasm`.
 
-ghost use Rattle.std.specs.Prelude.{◌≡◌, IfErr, IfOk, IsTrue};
+ghost use Rattle.std.specs.Prelude.{◌≡◌, IfErr, IfOk, map};
 ghost use Rattle.std.specs.Io.KnownBytes.{Appends};
 ghost use Rattle.engines.specs.Commands.{IsUnacceptedAs, IsUnlistedAs, ListsAs, OfGiven, OfGivenOrUnable, VerifiesAs};
-ghost use Rattle.engines.specs.Files.{held_at};
 
 use crate::fault::Fault;
 use crate::folder::Folder;
@@ -28,8 +27,8 @@ pub(crate) fn verify<F: Folder, W: Sink>(
     ensures verified { IfOk result (λ status. (text : _) × (status ≡ Status.Returned)
         × OfGiven (F.held folder.now) (F.listed folder.now) options.now.files.items (λ lefts. VerifiesAs options.now.library lefts text)
         × Appends (W.contents output.old) (W.contents output.new) text) }
-    ensures faulty { IfErr result (λ fault. OfGivenOrUnable (F.held folder.now) (F.listed folder.now) options.now.files.items fault
-        (W.contents output.old) (W.contents output.new)
+    ensures faulty { IfErr result (λ fault. OfGivenOrUnable (F.held folder.now) (F.listed folder.now) options.now.files.items
+        (W.contents output.old) (W.contents output.new) fault
         (λ lefts. IsUnacceptedAs options.now.library lefts (W.contents output.old) (W.contents output.new) fault)) }
 {
     let paths = given_paths(alloc, folder, &options.files)?;
@@ -67,8 +66,8 @@ pub(crate) fn disasm<F: Folder, W: Sink>(
     ensures listed { IfOk result (λ status. (text : _) × (status ≡ Status.Returned)
         × OfGiven (F.held folder.now) (F.listed folder.now) options.now.files.items (λ lefts. ListsAs options.now.names lefts text)
         × Appends (W.contents output.old) (W.contents output.new) text) }
-    ensures faulty { IfErr result (λ fault. OfGivenOrUnable (F.held folder.now) (F.listed folder.now) options.now.files.items fault
-        (W.contents output.old) (W.contents output.new)
+    ensures faulty { IfErr result (λ fault. OfGivenOrUnable (F.held folder.now) (F.listed folder.now) options.now.files.items
+        (W.contents output.old) (W.contents output.new) fault
         (λ lefts. IsUnlistedAs options.now.names lefts (W.contents output.old) (W.contents output.new) fault)) }
 {
     let paths = given_paths(alloc, folder, &options.files)?;

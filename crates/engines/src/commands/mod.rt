@@ -1,6 +1,7 @@
 //! What each command does over a folder, by its engine.
 
 mod listings;
+mod outcome_texts;
 mod replays;
 mod runs;
 mod schedules;

@@ -7,7 +7,7 @@ ghost use Rattle.engines.specs.Commands.{IsContinuationDone, IsContinuationUndon
 ghost use Rattle.engines.specs.Continuations.{Continues, IsUncontinued};
 ghost use Rattle.engines.specs.Replays.{IsFaulty, Replays};
 
-use crate::commands::storing::store_made;
+use crate::commands::storing::recorded;
 use crate::continuing::continue_engine;
 use crate::explanation::Explanation;
 use crate::fault::Fault;
@@ -30,7 +30,7 @@ pub(crate) fn replay<F: Folder, W: Sink>(
 ) -> Result<Status, Fault>
     ensures done { IfOk result (Leaves (IsReplayDone (F.held folder.old) options.now options.now.then_run)
         (W.contents output.old) (W.contents output.new) (F.held folder.old) (F.held folder.new)) }
-    ensures faulty { IfErr result (LeavesAt (λ fault. IsReplayUndone (F.held folder.old) options.now options.now.then_run fault
+    ensures faulty { IfErr result (LeavesAt (IsReplayUndone (F.held folder.old) options.now options.now.then_run
         (W.contents output.old) (W.contents output.new)) (F.held folder.old) (F.held folder.new)) }
 {
     if let Some(then_run) = &options.then_run {
@@ -87,14 +87,12 @@ fn replay_on<F: Folder, W: Sink>(
 ) -> Result<Status, Fault>
     ensures done { IfOk result (Leaves (IsContinuationDone (F.held folder.old) options.now then_run.now)
         (W.contents output.old) (W.contents output.new) (F.held folder.old) (F.held folder.new)) }
-    ensures faulty { IfErr result (LeavesAt (λ fault. IsContinuationUndone (F.held folder.old) options.now then_run.now fault
+    ensures faulty { IfErr result (LeavesAt (IsContinuationUndone (F.held folder.old) options.now then_run.now
         (W.contents output.old) (W.contents output.new)) (F.held folder.old) (F.held folder.new)) }
 {
     let mut file = None;
-    let continued = continued(alloc, folder, options, then_run, output, &mut file);
-    let stored = store_made(alloc, folder, &then_run.record, &file, explanation);
-    let status = continued?;
-    stored?;
+    let outcome = continued(alloc, folder, options, then_run, output, &mut file);
+    let status = recorded(alloc, folder, &then_run.record, &file, outcome, explanation)?;
     if let Some(most) = explanation.most_events(status, options.explain) {
         let lines = told_record(alloc, folder, &file, &options.files, &options.limits, most);
         explanation.tell(lines);

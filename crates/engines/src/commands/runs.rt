@@ -6,7 +6,7 @@ ghost use Rattle.std.specs.Io.KnownBytes.{Appends};
 ghost use Rattle.engines.specs.Commands.{IsRunDone, IsRunUndone, Leaves, LeavesAt, files_at};
 ghost use Rattle.engines.specs.Runs.{IsUnrun, Runs};
 
-use crate::commands::storing::store_made;
+use crate::commands::storing::recorded;
 use crate::explanation::Explanation;
 use crate::fault::Fault;
 use crate::folder::Folder;
@@ -33,14 +33,12 @@ pub(crate) fn run_files<R: Threads + Wait + Sync, G: Gate + Sync, F: Folder, W: 
 ) -> Result<Status, Fault>
     ensures done { IfOk result (Leaves (IsRunDone (F.held folder.old) options.now)
         (W.contents output.old) (W.contents output.new) (F.held folder.old) (F.held folder.new)) }
-    ensures faulty { IfErr result (LeavesAt (λ fault. IsRunUndone (F.held folder.old) options.now fault
+    ensures faulty { IfErr result (LeavesAt (IsRunUndone (F.held folder.old) options.now
         (W.contents output.old) (W.contents output.new)) (F.held folder.old) (F.held folder.new)) }
 {
     let mut file = None;
-    let ran = ran(rt, alloc, gate, folder, options, output, &mut file);
-    let stored = store_made(alloc, folder, &options.record, &file, explanation);
-    let status = ran?;
-    stored?;
+    let outcome = ran(rt, alloc, gate, folder, options, output, &mut file);
+    let status = recorded(alloc, folder, &options.record, &file, outcome, explanation)?;
     if let Some(most) = explanation.most_events(status, options.explain) {
         let lines = told_record(alloc, folder, &file, &options.files, &options.limits, most);
         explanation.tell(lines);

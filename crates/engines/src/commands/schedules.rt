@@ -1,7 +1,9 @@
 //! `schedule`.
 
-ghost use Rattle.std.specs.Prelude.{IfErr, IfOk};
+ghost use Rattle.std.specs.Prelude.{◌≡◌, IfErr, IfOk, None, Some, string_bytes};
 ghost use Rattle.engines.specs.Commands.{IsScheduleDone, IsScheduleUndone, Leaves, LeavesAt};
+ghost use Rattle.engines.specs.Files.{IsWith};
+ghost use Rattle.engines.specs.Transcriptions.{IsUntranscribed, Transcribes};
 
 use crate::commands::storing::store;
 use crate::device::Counted;
@@ -26,8 +28,8 @@ pub(crate) fn schedule<F: Folder, I: Source, W: Sink>(
 ) -> Result<Status, Fault>
     ensures done { IfOk result (Leaves (IsScheduleDone (F.held folder.old) (I.remaining input.old) options.now options.now.write)
         (W.contents output.old) (W.contents output.new) (F.held folder.old) (F.held folder.new)) }
-    ensures faulty { IfErr result (LeavesAt (λ fault. IsScheduleUndone (F.held folder.old) (I.remaining input.old) options.now
-        options.now.write fault (W.contents output.old) (W.contents output.new)) (F.held folder.old) (F.held folder.new)) }
+    ensures faulty { IfErr result (LeavesAt (IsScheduleUndone (F.held folder.old) (I.remaining input.old) options.now
+        options.now.write (W.contents output.old) (W.contents output.new)) (F.held folder.old) (F.held folder.new)) }
 {
     if options.write {
         write_schedule(alloc, folder, options, input, explanation)

@@ -1,9 +1,8 @@
 //! `trace`.
 
-ghost use Rattle.std.specs.Prelude.{IfErr, IfOk, string_bytes};
+ghost use Rattle.std.specs.Prelude.{◌≡◌, IfErr, IfOk, None};
 ghost use Rattle.std.specs.Io.KnownBytes.{Appends};
-ghost use Rattle.engines.specs.Commands.{IsTraceDone, IsTraceUndone, IsWindow, Leaves, LeavesAt, files_at, form_of};
-ghost use Rattle.engines.specs.Traces.{IsUntraced, Traces};
+ghost use Rattle.engines.specs.Commands.{IsTraceDone, IsTraceUndone, IsWindow, form_of};
 
 use crate::explanation::Explanation;
 use crate::fault::Fault;
@@ -27,8 +26,8 @@ pub(crate) fn trace<F: Folder, W: Sink>(
 ) -> Result<Status, Fault>
     ensures traced { IfOk result (λ status. (text : _) × IsTraceDone (F.held folder.now) options.now text None status
         × Appends (W.contents output.old) (W.contents output.new) text) }
-    ensures faulty { IfErr result (λ fault. IsTraceUndone (F.held folder.now) options.now fault
-        (W.contents output.old) (W.contents output.new) None) }
+    ensures faulty { IfErr result (λ fault. IsTraceUndone (F.held folder.now) options.now
+        (W.contents output.old) (W.contents output.new) fault None) }
 {
     let status = traced(alloc, folder, options, output)?;
     if let Some(most) = explanation.most_events(status, options.explain) {
@@ -54,8 +53,8 @@ fn traced<F: Folder, W: Sink>(
 ) -> Result<Status, Fault>
     ensures traced { IfOk result (λ status. (text : _) × IsTraceDone (F.held folder.now) options.now text None status
         × Appends (W.contents output.old) (W.contents output.new) text) }
-    ensures faulty { IfErr result (λ fault. IsTraceUndone (F.held folder.now) options.now fault
-        (W.contents output.old) (W.contents output.new) None) }
+    ensures faulty { IfErr result (λ fault. IsTraceUndone (F.held folder.now) options.now
+        (W.contents output.old) (W.contents output.new) fault None) }
 {
     let mut schedule = source(folder, options.schedule.as_str());
     let mut files = sources(alloc, folder, &options.files)?;
