@@ -6,6 +6,7 @@ use engines::Folder;
 use indexmap::IndexMap;
 use std::alloc::Global;
 use std::io;
+use std::io::ErrorKind;
 
 /// Files in memory by their names, and another folder for every other name. What is recorded stays in memory.
 #[derive(Drop)]
@@ -64,6 +65,12 @@ impl<F: Folder> Folder for CaseFolder<'_, F> {
     }
 
     fn write(&mut self, alloc: Global, path: &str, bytes: &[u8]) -> io::Result<()> {
+        if self.given.get(path).is_some() {
+            return Err(io::Error::from(ErrorKind::PermissionDenied));
+        }
+        if self.names(alloc, path)?.is_some() {
+            return Err(io::Error::from(ErrorKind::IsADirectory));
+        }
         let bytes = Vec::from_slice(alloc, bytes)?;
         self.recorded.insert(String::from_str(alloc, path)?, bytes)?;
         Ok(())
