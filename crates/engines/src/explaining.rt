@@ -41,7 +41,7 @@ fn told_line<F: Folder>(
     command: &Command,
     fault: &Fault,
     output: Option<ErrorKind>,
-    recording: Option<ErrorKind>,
+    recording: Option<&str>,
 ) -> Option<Vec<u8>> {
     let line = match fault {
         Fault::Device => of_device(alloc, folder, command, output, recording),
@@ -181,13 +181,13 @@ fn of_device<F: Folder>(
     folder: &F,
     command: &Command,
     output: Option<ErrorKind>,
-    recording: Option<ErrorKind>,
+    recording: Option<&str>,
 ) -> Result<Option<Vec<u8>>, AllocError> {
     if let Some(kind) = output {
         return line_with(alloc, "the output", &kind);
     }
-    if let (Some(path), Some(kind)) = (record_of(command), recording) {
-        return line_with(alloc, path, &kind);
+    if let (Some(path), Some(reason)) = (record_of(command), recording) {
+        return line_with(alloc, path, &reason);
     }
     if let Some(path) = first_of(command) {
         if let Err(error) = folder.read(alloc, path) {

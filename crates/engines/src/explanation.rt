@@ -2,7 +2,7 @@
 
 use crate::status::Status;
 use std::alloc::Global;
-use std::io::ErrorKind;
+use std::io;
 
 /// How many events are done again, at the most, for what the words don't ask for.
 const MOST_EVENTS: u64 = 100_000_000;
@@ -13,7 +13,7 @@ pub struct Explanation {
     is_wanted: bool,
     text: Vec<u8>,
     /// The system's reason why a file couldn't be written.
-    reason: Option<ErrorKind>,
+    reason: Option<String>,
 }
 
 impl Explanation {
@@ -37,12 +37,13 @@ impl Explanation {
     }
 
     /// The system's reason why a file couldn't be written, if that is so.
-    pub(crate) fn reason(&self) -> Option<ErrorKind> {
-        self.reason
+    pub(crate) fn reason(&self) -> Option<&str> {
+        self.reason.as_deref()
     }
 
-    pub(crate) fn keep_reason(&mut self, reason: ErrorKind) {
-        self.reason = Some(reason);
+    /// This is that reason.
+    pub(crate) fn keep_reason(&mut self, alloc: Global, error: &io::Error) {
+        self.reason = format!(in alloc; "{error}").ok();
     }
 
     /// How many events may be done again to tell why a run ended with this status, if that is to be told.

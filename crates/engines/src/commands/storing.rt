@@ -66,7 +66,7 @@ pub(crate) fn store<F: Folder>(
     match folder.write(alloc, path, bytes) {
         Ok(()) => Ok(()),
         Err(error) => {
-            explanation.keep_reason(error.kind());
+            explanation.keep_reason(alloc, &error);
             Err(device_fault(&error))
         }
     }
