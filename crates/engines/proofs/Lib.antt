@@ -1,8 +1,12 @@
+pub mod CommandLemmas
 pub mod DeviceLemmas
 pub mod EngineLemmas
+pub mod FileLemmas
+pub mod GivenLemmas
 pub mod LibraryLemmas
 pub mod ListingLemmas
 pub mod OpeningLemmas
+pub mod OutcomeLemmas
 pub mod RecordingLemmas
 pub mod RunLemmas
 pub mod SearchLemmas

@@ -1,10 +1,11 @@
-use Rattle.std.proofs.Common.{arith, map, sym, subst, vec_items, ◌∙◌}
+use Rattle.std.proofs.Common.{arith, ℕ, ◌≤◌, map, sym, subst, vec_items, ◌∙◌}
 use Rattle.std.specs.Arc.{arc_value}
 use Rattle.std.proofs.lemmas.List.{length-map}
 use Rattle.model.specs.Classes.{Program}
 use Rattle.machine.specs.Machines.{IsProgramOf}
 use Rattle.search.specs.search_reports.Answers.{Answers}
 use Rattle.engines.proofs.RunLemmas.{few_files}
+use Rattle.engines.specs.Searches.{most_states}
 use Rattle.engines.proofs.searching.search_of.Goals as goal
 
 pub search_report-requires : goal.search_report-requires
@@ -24,8 +25,9 @@ returns g c =
       chosen = c.limits-limits.ensures;
       answer = found.answer;
       states = found.states;
-      answers = subst (λ (t : Program). Answers t c.limits-limits.result c.args.wanted.now c.args.most found.states found.answer) (c.set-classes.ensures.same ∙ c.linked.ensures.same) c.in_ok-searched.ensures.answers;
-      few = c.in_ok-searched.ensures.few;
+      answers = subst (λ (t : Program). Answers t c.limits-limits.result c.args.wanted.now (most_states c.args.options.now) found.states found.answer) (c.set-classes.ensures.same ∙ c.linked.ensures.same)
+          (subst (λ (most : ℕ). Answers c.set-classes.result.now c.limits-limits.result c.args.wanted.now most found.states found.answer) c.most_states-most.ensures c.in_ok-searched.ensures.answers);
+      few = subst (λ (most : ℕ). 1 ≤ most → found.states ≤ most) c.most_states-most.ensures c.in_ok-searched.ensures.few;
       told = c.in_ok-text.ensures;
       spelled = c.in_ok-file.ensures;
       ended = c.of_search-status.ensures;

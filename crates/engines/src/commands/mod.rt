@@ -1,0 +1,17 @@
+//! What each command does over a folder, by its engine.
+
+mod listings;
+mod outcome_texts;
+mod replays;
+mod runs;
+mod schedules;
+mod searches;
+mod storing;
+mod traces;
+
+pub(crate) use listings::{disasm, verify};
+pub(crate) use replays::replay;
+pub(crate) use runs::run_files;
+pub(crate) use schedules::schedule;
+pub(crate) use searches::search;
+pub(crate) use traces::trace;
