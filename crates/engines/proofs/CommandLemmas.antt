@@ -52,13 +52,18 @@ module _ (held : Held) (run : Run) (old new : Option (List ℕ)) (file : Option 
     pub run_done : (status : Status) → IfOk outcome (λ _. IsTrue (is_some run.record) → IsTrue (is_some file)) → outcome ≡ Ok status
         → IsWith held holds (written_at run.record file) → Leaves (IsRunDone held run) old new held holds status
     run_done status made same with =
-        let all = at_ok outcome status RunTold same told in
-        (all.0, written_at run.record file, record {
-          file = file;
-          runs = all.1;
-          made = at_ok outcome status (λ _. IsTrue (is_some run.record) → IsTrue (is_some file)) same made;
-          recorded = refl;
-        }, all.2, with)
+        let all = at_ok outcome status RunTold same told in (
+          all.0,
+          written_at run.record file,
+          record {
+            file = file;
+            runs = all.1;
+            made = at_ok outcome status (λ _. IsTrue (is_some run.record) → IsTrue (is_some file)) same made;
+            recorded = refl;
+          },
+          all.2,
+          with,
+        )
 
     pub run_undone : (fault : Fault) → IfErr outcome (IsUnrun (files_at held run.files.items) run.limits run.options old new None file)
         → IsUnrecorded outcome held holds (written_at run.record file) fault → LeavesAt (IsRunUndone held run old new) held holds fault
@@ -91,13 +96,18 @@ module _ (held : Held) (replay : Replay) (then_run : ThenRun) (old new : Option 
     pub continuation_done : (status : Status) → IfOk outcome (λ _. IsTrue (is_some then_run.record) → IsTrue (is_some file)) → outcome ≡ Ok status
         → IsWith held holds (written_at then_run.record file) → Leaves (IsContinuationDone held replay then_run) old new held holds status
     continuation_done status made same with =
-        let all = at_ok outcome status ContinuationTold same told in
-        (all.0, written_at then_run.record file, record {
-          file = file;
-          continues = all.1;
-          made = at_ok outcome status (λ _. IsTrue (is_some then_run.record) → IsTrue (is_some file)) same made;
-          recorded = refl;
-        }, all.2, with)
+        let all = at_ok outcome status ContinuationTold same told in (
+          all.0,
+          written_at then_run.record file,
+          record {
+            file = file;
+            continues = all.1;
+            made = at_ok outcome status (λ _. IsTrue (is_some then_run.record) → IsTrue (is_some file)) same made;
+            recorded = refl;
+          },
+          all.2,
+          with,
+        )
 
     pub continuation_undone : (fault : Fault) → IfErr outcome Untold
         → IsUnrecorded outcome held holds (written_at then_run.record file) fault
