@@ -7,7 +7,6 @@ pub mod Raising
 pub mod Untouched
 pub mod Nears
 pub mod Entries
-pub mod Worklists
 pub mod Merges
 pub mod Looked
 pub mod Puts
@@ -16,4 +15,3 @@ pub mod Counting
 pub mod Turns
 pub mod Turned
 pub mod Members
-pub mod Limited

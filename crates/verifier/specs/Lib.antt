@@ -1,4 +1,3 @@
-pub mod Worklist
 pub mod Waiting
 pub mod Packed
 pub mod Raised

@@ -69,27 +69,27 @@ pub returns-then-leaves_at-clause-turned : goal.returns-then-leaves_at-clause-tu
 returns-then-leaves_at-clause-turned c =
     let m = c.args.method.now in
     turned m (ordered_from (files_of m) c.requires.linked.1.no_refusal) c.args.handlers.now c.args.found.now c.begin_turn.new.self c.args.offset c.begin_turn.ensures.types c.begin_turn.ensures.waiting c.requires.search c.requires.looks c.begin_turn.ensures.looks
-    c.pass_on.new.found c.settle.new.self c.in-Some-taken.look.targets.items c.settle.ensures.types c.settle.ensures.waiting c.in_ok-steps.ensures.led
+    c.pass_on.new.found c.settle.new.self c.in-Some-taken.look.targets.items c.settle.ensures.types c.settle.ensures.waiting c.in_ok-pass_on.ensures
 
 pub returns-then-leaves_at-clause-looks : goal.returns-then-leaves_at-clause-looks
 returns-then-leaves_at-clause-looks c =
     let m = c.args.method.now in
     looked m (ordered_from (files_of m) c.requires.linked.1.no_refusal) c.args.handlers.now c.args.found.now c.begin_turn.new.self c.args.offset c.begin_turn.ensures.types c.begin_turn.ensures.waiting c.requires.search c.requires.looks c.begin_turn.ensures.looks
-    c.pass_on.new.found c.settle.new.self c.in-Some-taken.look.targets.items c.settle.ensures.types c.settle.ensures.waiting c.in_ok-steps.ensures.led c.settle.ensures.looks
+    c.pass_on.new.found c.settle.new.self c.in-Some-taken.look.targets.items c.settle.ensures.types c.settle.ensures.waiting c.in_ok-pass_on.ensures c.settle.ensures.looks
 
 pub returns-in-Ok-Some-clause-turned : goal.returns-in-Ok-Some-clause-turned
 returns-in-Ok-Some-clause-turned c =
     let m = c.args.method.now in
     let hs = c.args.handlers.now in
     turned m (ordered_from (files_of m) c.requires.linked.1.no_refusal) hs c.args.found.now c.begin_turn.new.self c.args.offset c.begin_turn.ensures.types c.begin_turn.ensures.waiting c.requires.search c.requires.looks c.begin_turn.ensures.looks
-    c.look_at.new.found c.settle-in-Ok-Some.new.self c.in-Ok-Some.targets.items c.settle-in-Ok-Some.ensures.types c.settle-in-Ok-Some.ensures.waiting (led_to_told m hs c.begin_turn.new.self c.args.offset _ _ c.look_at.new.found c.in-Ok-Some.targets c.in-Ok-Some.field-0-is c.in-Ok-Some.ensures.led)
+    c.look_at.new.found c.settle-in-Ok-Some.new.self c.in-Ok-Some.targets.items c.settle-in-Ok-Some.ensures.types c.settle-in-Ok-Some.ensures.waiting (led_to_told m hs c.begin_turn.new.self c.args.offset _ c.look_at.new.found c.in-Ok-Some.targets c.in-Ok-Some.field-0-is c.in-Ok-Some.ensures.led)
 
 pub returns-in-Ok-Some-clause-looks : goal.returns-in-Ok-Some-clause-looks
 returns-in-Ok-Some-clause-looks c =
     let m = c.args.method.now in
     let hs = c.args.handlers.now in
     looked m (ordered_from (files_of m) c.requires.linked.1.no_refusal) hs c.args.found.now c.begin_turn.new.self c.args.offset c.begin_turn.ensures.types c.begin_turn.ensures.waiting c.requires.search c.requires.looks c.begin_turn.ensures.looks
-    c.look_at.new.found c.settle-in-Ok-Some.new.self c.in-Ok-Some.targets.items c.settle-in-Ok-Some.ensures.types c.settle-in-Ok-Some.ensures.waiting (led_to_told m hs c.begin_turn.new.self c.args.offset _ _ c.look_at.new.found c.in-Ok-Some.targets c.in-Ok-Some.field-0-is c.in-Ok-Some.ensures.led) c.settle-in-Ok-Some.ensures.looks
+    c.look_at.new.found c.settle-in-Ok-Some.new.self c.in-Ok-Some.targets.items c.settle-in-Ok-Some.ensures.types c.settle-in-Ok-Some.ensures.waiting (led_to_told m hs c.begin_turn.new.self c.args.offset _ c.look_at.new.found c.in-Ok-Some.targets c.in-Ok-Some.field-0-is c.in-Ok-Some.ensures.led) c.settle-in-Ok-Some.ensures.looks
 
 pub returns-in-Ok-None-clause-turned : goal.returns-in-Ok-None-clause-turned
 returns-in-Ok-None-clause-turned c =
