@@ -129,7 +129,7 @@ stops refusal.Cells event old new no_want goes files trees events has = let h = 
 stops refusal.Monitors event old new no_want goes files trees events has = let h = goes.1 files trees events has in (h.0, (cause.Monitors, h.1))
 stops refusal.Threads event old new no_want goes files trees events has = let h = goes.1 files trees events has in (h.0, (cause.Threads, h.1))
 stops refusal.LockCount event old new no_want goes files trees events has = let h = goes.1 files trees events has in (h.0, (cause.LockCount, h.1))
-stops refusal.Memory event old new no_want goes = absurd (no_want refl)
+stops refusal.Memory event old new no_want goes files trees events has = absurd (no_want refl)
 
 -- ---- local events
 

@@ -1,4 +1,4 @@
-use Rattle.std.proofs.Common.{◌∙◌, ap, inl, inr, subst, rules, tests, Some, arith}
+use Rattle.std.proofs.Common.{◌∙◌, ap, inr, subst, rules, tests, Some, arith}
 use Rattle.search.specs.Machines.{GoesOrStops}
 use Rattle.search.specs.States.{AreMetByThread, HasGoneFrom, IsInState}
 use Rattle.search.proofs.Expanded.{IsPickMet, crowded, event_at, goes_again, gives_up, limited, pick_kept, pick_met, thread_met}

@@ -1,4 +1,4 @@
-use Rattle.std.proofs.Common.{inl, arith, ◌<◌, length, sym, subst}
+use Rattle.std.proofs.Common.{inl, arith}
 use Rattle.search.specs.States.{IsMetFrom}
 use Rattle.search.proofs.Growth.{stays, gave_up, went_on, new_met}
 use Rattle.search.proofs.states.States.add.Goals as goal
