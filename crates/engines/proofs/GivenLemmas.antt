@@ -11,6 +11,12 @@ pub given_on : (listed : List ℕ → Option (Option (List (String Global)))) (p
     → IsGiven path found front → AreGiven listed (paths ++ path ∷ []) (given ++ front)
 given_on listed [] given path found front so_far lists gives =
     (found, front, [], lists, gives, refl, ap (λ these. these ++ front) so_far ∙ sym (append-nil front))
-given_on listed (first ∷ paths) given path found front so_far lists gives =
-    (so_far.0, so_far.1, so_far.2 ++ front, so_far.3, so_far.4, given_on listed paths so_far.2 path found front so_far.5 lists gives,
-    ap (λ these. these ++ front) so_far.6 ∙ append_assoc so_far.1 so_far.2 front)
+given_on listed (first ∷ paths) given path found front so_far lists gives = (
+  so_far.0,
+  so_far.1,
+  so_far.2 ++ front,
+  so_far.3,
+  so_far.4,
+  given_on listed paths so_far.2 path found front so_far.5 lists gives,
+  ap (λ these. these ++ front) so_far.6 ∙ append_assoc so_far.1 so_far.2 front,
+)

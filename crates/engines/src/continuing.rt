@@ -40,7 +40,7 @@ pub fn continue_engine<S: Source, W: Sink>(
     // What the run says is written, and nothing else; and the file is that of its schedule.
     ensures continued { IfOk result (λ status. (text : _)
         × Continues (S.remaining schedule.old) (map S.remaining files.old) limits.now (unwrap_or then_run.now.budget 10000000)
-            text (option_map vec_items file.new) status
+        text (option_map vec_items file.new) status
         × Appends (W.contents report.old) (W.contents report.new) text) }
     ensures asked { IfOk result (λ _. IsTrue (is_some then_run.now.record) → IsTrue (is_some file.new)) }
     ensures faulty { IfErr result (IsUncontinued (S.remaining schedule.old) (map S.remaining files.old) limits.now

@@ -16,9 +16,9 @@ use crate::verification::accepted;
 use command_line::Search;
 use model::{Limits, Sink, Source};
 use program_runs::verified_programs::verified_program;
-use search::{Progress, states_within};
 use search::run_outcomes::Wanted;
 use search::search_reports::{Answer, search_report};
+use search::{Progress, states_within};
 use std::alloc::{AllocError, Global};
 use verifier::Verified;
 
@@ -41,7 +41,7 @@ pub fn search_engine<P: Progress, S: Source, W: Sink>(
     // run's schedule, where it is asked for.
     ensures searched { IfOk result (λ status. (text : _)
         × Searches (map S.remaining files.old) options.now.limits wanted.now (is_some options.now.record)
-            text (option_map vec_items file.new) status
+        text (option_map vec_items file.new) status
         × Appends (W.contents report.old) (W.contents report.new) text) }
     ensures faulty { IfErr result (IsUnsearched (map S.remaining files.old) options.now.limits wanted.now
         (is_some options.now.record) (W.contents report.old) (W.contents report.new)

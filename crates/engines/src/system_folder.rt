@@ -112,11 +112,7 @@ fn make_beside<R: Files>(
 }
 
 /// A new file beside a path, and its name.
-fn new_beside<R: Files>(
-    alloc: Global,
-    files: &R,
-    path: &str,
-) -> io::Result<(R::File, String)> {
+fn new_beside<R: Files>(alloc: Global, files: &R, path: &str) -> io::Result<(R::File, String)> {
     for number in 0..TRIES {
         let name = format!(in alloc; "{path}.{number}.part")?;
         match create_new(files, name.as_str()) {

@@ -38,9 +38,7 @@ pub(crate) fn told_record<F: Folder>(
     most: u64,
 ) -> Option<Vec<u8>> {
     match file {
-        Some(bytes) => {
-            told_threads(alloc, folder, bytes.as_slice(), files, limits, most).ok()?
-        }
+        Some(bytes) => { told_threads(alloc, folder, bytes.as_slice(), files, limits, most).ok()? }
         None => None,
     }
 }

@@ -60,7 +60,7 @@ fn replayed<F: Folder, W: Sink>(
 ) -> Result<Status, Fault>
     ensures replayed { IfOk result (λ status. (text : _)
         × Replays (F.held folder.now (string_bytes options.now.schedule)) (files_at (F.held folder.now) options.now.files.items)
-            options.now.limits text status
+        options.now.limits text status
         × Appends (W.contents output.old) (W.contents output.new) text) }
     ensures faulty { IfErr result (IsFaulty (F.held folder.now (string_bytes options.now.schedule))
         (files_at (F.held folder.now) options.now.files.items) options.now.limits (W.contents output.old) (W.contents output.new)) }
@@ -111,7 +111,7 @@ fn continued<F: Folder, W: Sink>(
 ) -> Result<Status, Fault>
     ensures continued { IfOk result (λ status. (text : _)
         × Continues (F.held folder.now (string_bytes options.now.schedule)) (files_at (F.held folder.now) options.now.files.items)
-            options.now.limits (unwrap_or then_run.now.budget 10000000) text (option_map vec_items file.new) status
+        options.now.limits (unwrap_or then_run.now.budget 10000000) text (option_map vec_items file.new) status
         × Appends (W.contents output.old) (W.contents output.new) text) }
     ensures asked { IfOk result (λ _. IsTrue (is_some then_run.now.record) → IsTrue (is_some file.new)) }
     ensures faulty { IfErr result (IsUncontinued (F.held folder.now (string_bytes options.now.schedule))

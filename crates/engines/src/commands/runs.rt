@@ -58,7 +58,7 @@ fn ran<R: Threads + Wait + Sync, G: Gate + Sync, F: Folder, W: Sink>(
 ) -> Result<Status, Fault>
     ensures ran { IfOk result (λ status. (text : _)
         × Runs (files_at (F.held folder.now) options.now.files.items) options.now.limits options.now.options
-            text (option_map vec_items file.new) status
+        text (option_map vec_items file.new) status
         × Appends (W.contents output.old) (W.contents output.new) text) }
     ensures asked { IfOk result (λ _. IsTrue (is_some options.now.record) → IsTrue (is_some file.new)) }
     ensures faulty { IfErr result (IsUnrun (files_at (F.held folder.now) options.now.files.items)
@@ -66,13 +66,5 @@ fn ran<R: Threads + Wait + Sync, G: Gate + Sync, F: Folder, W: Sink>(
         (option_map vec_items file.old) (option_map vec_items file.new)) }
 {
     let mut files = sources(alloc, folder, &options.files)?;
-    run_engine(
-        rt,
-        alloc,
-        gate,
-        files.as_mut_slice(),
-        options,
-        output,
-        file,
-    )
+    run_engine(rt, alloc, gate, files.as_mut_slice(), options, output, file)
 }

@@ -54,6 +54,12 @@ fn write_schedule<F: Folder, I: Source>(
     let mut file = Counted::new(alloc, Vec::new(alloc));
     let status = write_schedule_engine(alloc, input, &mut file)?;
     let bytes = file.into_inner();
-    store(alloc, folder, options.file.as_str(), bytes.as_slice(), explanation)?;
+    store(
+        alloc,
+        folder,
+        options.file.as_str(),
+        bytes.as_slice(),
+        explanation,
+    )?;
     Ok(status)
 }

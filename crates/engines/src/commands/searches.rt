@@ -39,7 +39,15 @@ pub(crate) fn search<P: Progress, F: Folder, W: Sink>(
         (F.held folder.old) (F.held folder.new)) }
 {
     let wanted = wanted_by(alloc, folder, &options.goal)?;
-    search_for(alloc, progress, folder, options, &wanted, output, explanation)
+    search_for(
+        alloc,
+        progress,
+        folder,
+        options,
+        &wanted,
+        output,
+        explanation,
+    )
 }
 
 /// A search for an outcome.
@@ -76,7 +84,7 @@ fn searched<P: Progress, F: Folder, W: Sink>(
 ) -> Result<Status, Fault>
     ensures searched { IfOk result (λ status. (text : _)
         × Searches (files_at (F.held folder.now) options.now.files.items) options.now.limits wanted.now
-            (is_some options.now.record) text (option_map vec_items file.new) status
+        (is_some options.now.record) text (option_map vec_items file.new) status
         × Appends (W.contents output.old) (W.contents output.new) text) }
     ensures faulty { IfErr result (IsUnsearched (files_at (F.held folder.now) options.now.files.items)
         options.now.limits wanted.now (is_some options.now.record) (W.contents output.old) (W.contents output.new)

@@ -17,9 +17,9 @@ loop-path-preserved g c =
     let lists = subst (λ path. IsListed (listed path) found) c.as_str.ensures.value c.in_ok-names.ensures in
     let gives = subst (λ path. IsGiven path found front) c.as_str-in-loop-path.ensures.value c.in_ok-front.ensures in
     let taken : map string_bytes (take (i + 1) paths) ≡ map string_bytes (take i paths) ++ string_bytes item ∷ [] =
-        ap (map string_bytes) (take_more paths i item within) ∙ map-append string_bytes (take i paths) _ ∙ ap (λ path. map string_bytes (take i paths) ++ string_bytes path ∷ []) (sym c.path-item.is) in
+    ap (map string_bytes) (take_more paths i item within) ∙ map-append string_bytes (take i paths) _ ∙ ap (λ path. map string_bytes (take i paths) ++ string_bytes path ∷ []) (sym c.path-item.is) in
     let given : map string_bytes c.append.new.self.items ≡ map string_bytes c.loop-path.given.items ++ front =
-        ap (map string_bytes) c.in_ok-append.ensures.items ∙ map-append string_bytes c.loop-path.given.items c.in_ok-front.front.items in
+    ap (map string_bytes) c.in_ok-append.ensures.items ∙ map-append string_bytes c.loop-path.given.items c.in_ok-front.front.items in
     subst (λ paths. AreGiven listed paths (map string_bytes c.append.new.self.items)) (sym taken)
     (subst (AreGiven listed (map string_bytes (take i paths) ++ string_bytes item ∷ [])) (sym given)
     (given_on listed (map string_bytes (take i paths)) (map string_bytes c.loop-path.given.items) (string_bytes item) found front c.loop-path.invariant lists gives))
