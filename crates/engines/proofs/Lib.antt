@@ -1,4 +1,3 @@
-pub mod CommandLemmas
 pub mod DeviceLemmas
 pub mod EngineLemmas
 pub mod FileLemmas
@@ -9,6 +8,7 @@ pub mod OpeningLemmas
 pub mod OutcomeLemmas
 pub mod RecordingLemmas
 pub mod RunLemmas
+pub mod ScheduleLemmas
 pub mod SearchLemmas
 pub mod TraceLemmas
 pub mod VerificationLemmas

@@ -6,7 +6,9 @@ ghost use Rattle.engines.specs.Statuses.{complaint_status};
 
 mod progress;
 
-use engines::{Complaint, Counted, Explanation, Fault, Status, SystemFolder, explain_complaint, run};
+use engines::{
+    Complaint, Counted, Explanation, Fault, Status, SystemFolder, explain_complaint, run,
+};
 use progress::{Cleared, Progress};
 use std::io::{ErrorKind, IsTerminal, Write};
 use std::process::ExitCode;

@@ -1,6 +1,6 @@
 //! What each command does over a folder, by its engine.
 
-mod listings;
+mod given_files;
 mod outcome_texts;
 mod replays;
 mod runs;
@@ -9,7 +9,7 @@ mod searches;
 mod storing;
 mod traces;
 
-pub(crate) use listings::{disasm, verify};
+pub(crate) use given_files::{disasm, verify};
 pub(crate) use replays::replay;
 pub(crate) use runs::run_files;
 pub(crate) use schedules::schedule;

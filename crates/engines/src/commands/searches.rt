@@ -87,7 +87,8 @@ fn searched<P: Progress, F: Folder, W: Sink>(
         (most_states options.now) (is_some options.now.record) text (option_map vec_items file.new) status
         × Appends (W.contents output.old) (W.contents output.new) text) }
     ensures faulty { IfErr result (IsUnsearched (files_at (F.held folder.now) options.now.files.items)
-        options.now.limits wanted.now (most_states options.now) (is_some options.now.record) (W.contents output.old) (W.contents output.new)
+        options.now.limits wanted.now (most_states options.now) (is_some options.now.record)
+        (W.contents output.old) (W.contents output.new)
         (option_map vec_items file.old) (option_map vec_items file.new)) }
 {
     let mut files = sources(alloc, folder, &options.files)?;
@@ -112,7 +113,8 @@ fn wanted_by<F: Folder>(alloc: Global, folder: &F, goal: &Option<Goal>) -> Resul
         Some(Goal::Deadlock) => Ok(Wanted::Stuck),
         Some(Goal::Uncaught) => Ok(Wanted::Uncaught),
         Some(Goal::Output(numbers)) => {
-            Ok(Wanted::Printed(printed_lines(alloc, numbers.as_slice())?))
+            let printed = numbers.as_slice();
+            Ok(Wanted::Printed(printed_lines(alloc, printed)?))
         }
         Some(Goal::Differs(path)) => {
             let bytes = source(folder, path.as_str()).read_all(alloc)?;

@@ -1,4 +1,4 @@
-//! `verify` and `disasm`.
+//! `verify` and `disasm`, which take folders of class files, too.
 
 ghost use Rattle.std.specs.Prelude.{◌≡◌, IfErr, IfOk, map};
 ghost use Rattle.std.specs.Io.KnownBytes.{Appends};
