@@ -7,11 +7,11 @@ mod runs;
 mod schedules;
 mod searches;
 mod storing;
-mod traces;
+mod traced_runs;
 
 pub(crate) use given_files::{disasm, verify};
 pub(crate) use replays::replay;
 pub(crate) use runs::run_files;
 pub(crate) use schedules::schedule;
 pub(crate) use searches::search;
-pub(crate) use traces::trace;
+pub(crate) use traced_runs::trace;
