@@ -1,16 +1,19 @@
 //! What is told to a person behind a report or a complaint.
 
 use crate::status::Status;
+use command_line::Command;
 use std::alloc::Global;
 use std::io;
 
 /// How many events are done again, at the most, for what the words don't ask for.
 const MOST_EVENTS: u64 = 100_000_000;
 
-/// What is told to a person: as lines, each ended. It is wanted where the words ask for it, and it may be wanted anyway.
+/// What is told to a person: as lines, each ended. It is wanted where the words ask for it, and it may be wanted anyway; but not
+/// where they ask for quiet.
 #[derive(Drop)]
 pub struct Explanation {
     is_wanted: bool,
+    is_quiet: bool,
     text: Vec<u8>,
     /// The system's reason why a file couldn't be written.
     reason: Option<String>,
@@ -21,9 +24,23 @@ impl Explanation {
     pub fn new(alloc: Global, is_wanted: bool) -> Explanation {
         Explanation {
             is_wanted,
+            is_quiet: false,
             text: Vec::new(alloc),
             reason: None,
         }
+    }
+
+    /// From now on nothing is told, where the command has `--quiet`.
+    pub(crate) fn heed(&mut self, command: &Command) {
+        self.is_quiet = match command {
+            Command::Run(options) => options.quiet,
+            Command::Replay(options) => options.quiet,
+            Command::Trace(options) => options.quiet,
+            Command::Search(options) => options.quiet,
+            Command::Verify(options) => options.quiet,
+            Command::Disasm(options) => options.quiet,
+            Command::Schedule(options) => options.quiet,
+        };
     }
 
     /// Its lines.
@@ -48,7 +65,7 @@ impl Explanation {
 
     /// How many events may be done again to tell why a run ended with this status, if that is to be told.
     pub(crate) fn most_events(&self, status: Status, is_asked: bool) -> Option<u64> {
-        if status == Status::Returned {
+        if self.is_quiet || status == Status::Returned {
             None
         } else if is_asked {
             Some(u64::MAX)
@@ -59,8 +76,11 @@ impl Explanation {
         }
     }
 
-    /// These lines are told, if there are some.
+    /// These lines are told, if there are some, and nobody asked for quiet.
     pub(crate) fn tell(&mut self, lines: Option<Vec<u8>>) {
+        if self.is_quiet {
+            return;
+        }
         if let Some(lines) = lines {
             self.text = lines;
         }

@@ -46,6 +46,7 @@ pub fn run<R: Threads + Wait + Sync, G: Gate + Progress + Sync, F: Folder, I: So
 {
     match command(alloc, words) {
         Ok(command) => {
+            explanation.heed(&command);
             let status = done(
                 rt,
                 alloc,
