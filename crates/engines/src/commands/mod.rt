@@ -1,5 +1,6 @@
 //! What each command does over a folder, by its engine.
 
+mod event_traces;
 mod given_files;
 mod outcome_texts;
 mod replays;
@@ -7,11 +8,10 @@ mod runs;
 mod schedules;
 mod searches;
 mod storing;
-mod traces;
 
+pub(crate) use event_traces::trace;
 pub(crate) use given_files::{disasm, verify};
 pub(crate) use replays::replay;
 pub(crate) use runs::run_files;
 pub(crate) use schedules::schedule;
 pub(crate) use searches::search;
-pub(crate) use traces::trace;

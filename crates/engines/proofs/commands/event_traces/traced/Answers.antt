@@ -1,6 +1,6 @@
 use Rattle.std.proofs.Common.{inl, refl}
 use Rattle.std.proofs.lemmas.Result.{err_from_is_err_and}
-use Rattle.engines.proofs.commands.traces.traced.Goals as goal
+use Rattle.engines.proofs.commands.event_traces.traced.Goals as goal
 
 pub returns-in_err-files-clause-faulty : goal.returns-in_err-files-clause-faulty
 returns-in_err-files-clause-faulty g c =

@@ -56,6 +56,7 @@ fn traced<F: Folder, W: Sink>(
     ensures faulty { IfErr result (λ fault. IsTraceUndone (F.held folder.now) options.now
         (W.contents output.old) (W.contents output.new) fault None) }
 {
+    let limits = &options.limits;
     let window = window_of(options);
     let mut schedule = source(folder, options.schedule.as_str());
     let mut files = sources(alloc, folder, &options.files)?;
@@ -63,7 +64,7 @@ fn traced<F: Folder, W: Sink>(
         alloc,
         &mut schedule,
         files.as_mut_slice(),
-        &options.limits,
+        limits,
         window,
         output,
     )
