@@ -1,4 +1,3 @@
 mod Orders
 mod Lists
 mod Places
-mod PrintedLines
