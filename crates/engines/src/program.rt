@@ -281,7 +281,7 @@ fn wanted_by<F: Folder>(alloc: Global, folder: &F, goal: &Option<Goal>) -> Resul
         None => Wanted::Nothing,
         Some(Goal::Deadlock) => Wanted::Stuck,
         Some(Goal::Uncaught) => Wanted::Uncaught,
-        Some(Goal::Output(numbers)) => Wanted::Printed(printed_lines(alloc, numbers.as_bytes())?),
+        Some(Goal::Output(numbers)) => Wanted::Printed(printed_lines(alloc, numbers.as_slice())?),
         Some(Goal::Differs(path)) => {
             Wanted::PrintedOther(source(alloc, folder, path).read_all(alloc)?)
         }
