@@ -24,11 +24,11 @@ pub fn second_line<F: Folder>(
         return None;
     };
     let command = command(alloc, words).ok()?;
-    if is_wanted || asks(&command) {
-        told_line(alloc, folder, &command, fault, output)
-    } else {
-        None
+    let (is_explained, is_quiet) = flags_of(&command);
+    if is_quiet || !(is_wanted || is_explained) {
+        return None;
     }
+    told_line(alloc, folder, &command, fault, output)
 }
 
 /// What is known of a fault of a command, with two spaces before it and its end.
@@ -43,16 +43,16 @@ fn told_line<F: Folder>(
     indented(alloc, line.as_slice()).ok()
 }
 
-/// Whether the command has `--explain`.
-fn asks(command: &Command) -> bool {
+/// Whether the command has `--explain`, and whether it has `--quiet`.
+fn flags_of(command: &Command) -> (bool, bool) {
     match command {
-        Command::Run(options) => options.explain,
-        Command::Replay(options) => options.explain,
-        Command::Trace(options) => options.explain,
-        Command::Search(options) => options.explain,
-        Command::Verify(options) => options.explain,
-        Command::Disasm(options) => options.explain,
-        Command::Schedule(options) => options.explain,
+        Command::Run(options) => (options.explain, options.quiet),
+        Command::Replay(options) => (options.explain, options.quiet),
+        Command::Trace(options) => (options.explain, options.quiet),
+        Command::Search(options) => (options.explain, options.quiet),
+        Command::Verify(options) => (options.explain, options.quiet),
+        Command::Disasm(options) => (options.explain, options.quiet),
+        Command::Schedule(options) => (options.explain, options.quiet),
     }
 }
 

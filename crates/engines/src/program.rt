@@ -113,7 +113,8 @@ fn run_files<R: Threads + Wait + Sync, G: Gate + Sync, F: Folder, W: Sink>(
     explanation: &mut Vec<u8>,
 ) -> Result<Status, Fault> {
     let mut files = sources(alloc, folder, &options.files)?;
-    let mut record = recorder(alloc, folder, &options.record, options.explain);
+    let is_explained = options.explain && !options.quiet;
+    let mut record = recorder(alloc, folder, &options.record, is_explained);
     let status = run_engine(
         rt,
         alloc,
@@ -124,7 +125,7 @@ fn run_files<R: Threads + Wait + Sync, G: Gate + Sync, F: Folder, W: Sink>(
         output,
         &mut record,
     )?;
-    if options.explain {
+    if is_explained {
         let told = explained_record(alloc, folder, record, &options.files, &options.limits);
         *explanation = told.unwrap_or(Vec::new(alloc));
     }
@@ -146,7 +147,7 @@ fn replay<F: Folder, W: Sink>(
     let mut schedule = source(alloc, folder, &options.schedule);
     let mut files = sources(alloc, folder, &options.files)?;
     let status = replay_engine(alloc, &mut schedule, files.as_mut_slice(), limits, output)?;
-    if options.explain {
+    if options.explain && !options.quiet {
         let told = explained(alloc, folder, &options.schedule, &options.files, limits);
         *explanation = told.unwrap_or(Vec::new(alloc));
     }
@@ -164,7 +165,8 @@ fn replay_on<F: Folder, W: Sink>(
 ) -> Result<Status, Fault> {
     let mut schedule = source(alloc, folder, &options.schedule);
     let mut files = sources(alloc, folder, &options.files)?;
-    let mut record = recorder(alloc, folder, &then_run.record, options.explain);
+    let is_explained = options.explain && !options.quiet;
+    let mut record = recorder(alloc, folder, &then_run.record, is_explained);
     let status = continue_engine(
         alloc,
         &mut schedule,
@@ -174,7 +176,7 @@ fn replay_on<F: Folder, W: Sink>(
         output,
         &mut record,
     )?;
-    if options.explain {
+    if is_explained {
         let told = explained_record(alloc, folder, record, &options.files, &options.limits);
         *explanation = told.unwrap_or(Vec::new(alloc));
     }
@@ -200,7 +202,7 @@ fn trace<F: Folder, W: Sink>(
         window_of(options),
         output,
     )?;
-    if options.explain {
+    if options.explain && !options.quiet {
         let told = explained(alloc, folder, &options.schedule, &options.files, limits);
         *explanation = told.unwrap_or(Vec::new(alloc));
     }
