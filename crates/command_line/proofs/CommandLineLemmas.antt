@@ -1,8 +1,9 @@
 -- What the parser found, and the values of a command.
-use Rattle.std.proofs.Common.{◌≡◌, ℕ, ◌≤◌, ◌<◌, ◌+◌, ◌∷◌, ◌++◌, List, Option, None, Some, option_map, unwrap_or, get_or, eqb, map, take, length, Bor, arith, [], true, false, codes, ◌⊎◌, inl, inr, refl, sym, ap, subst, ◌∙◌, Box, Global}
+use Rattle.std.proofs.Common.{◌≡◌, ℕ, ◌≤◌, ◌<◌, ◌+◌, ◌∷◌, ◌++◌, List, Option, None, Some, Result, Ok, Err, option_map, unwrap_or, get_or, eqb, map, take, length, Bor, arith, [], true, false, codes, ◌⊎◌, inl, inr, refl, sym, ap, subst, ◌∙◌, Box, Global}
 use Rattle.std.proofs.lemmas.List.{get_or-map, length-map, map-append, take_more}
 use Rattle.std.proofs.lemmas.List.Elements.{All-get_or, All-more}
 use Rattle.std.specs.Box.{box_value}
+use Rattle.std.specs.Prelude.{IfErr}
 use Rattle.std.specs.Str.Parse.{IsNumeral, digits_value}
 use Rattle.clap.proofs.OnLiterals.{clap_on_literals}
 use Rattle.clap.proofs.WalkLemmas.{first_value-rows, raw_values-rows}
@@ -435,3 +436,9 @@ pub no_budget : (rows : List Row) → ((number : Option ℕ) → IsNumber 0 4294
     → (then_run : Option ThenRun) → IsThenRun rows then_run → ⊥
 no_budget rows none None are = none None (subst (λ text. IsNumber 0 4294967295 text None) (sym are.1) tt)
 no_budget rows none (Some then_run) are = none then_run.budget are.1.budget
+
+-- so is what a function answers
+pub refused_more : {A : Type 0} (result : Result A Usage) (reason other : Type 0) → (reason → other) → IfErr result (λ usage. Refuses usage reason)
+    → IfErr result (λ usage. Refuses usage other)
+refused_more (Ok value) reason other on known = tt
+refused_more (Err usage) reason other on known = refuses_more usage reason other on known

@@ -1,3 +1,4 @@
 pub mod CommandLineLemmas
 pub mod GoalLemmas
 pub mod ParserLemmas
+pub mod PathLemmas

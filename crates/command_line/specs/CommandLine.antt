@@ -14,13 +14,14 @@ use Rattle.clap.specs.declared.builder.command.Command.TheViews.{out-Command}
 use Rattle.clap.specs.declared.builder.ArgAction.TheVariants.{Set, SetTrue, Append}
 use Rattle.clap.specs.declared.builder.value_parser.ValueParser.TheVariants.{Unsigned}
 use Rattle.command_line.specs.Choices.{IsAlone}
+use Rattle.command_line.specs.Goals.{IsGoalWord}
+use Rattle.command_line.specs.Paths.{IsApart, IsGoalApart}
 use Rattle.command_line.specs.declared.usage.Usage.{Usage}
 use Rattle.command_line.specs.declared.usage.Usage.TheVariants.{Parser, Number, Asked, OutOfMemory}
 use Rattle.command_line.specs.declared.options.Command.{Command}
 use Rattle.command_line.specs.declared.options.Command.TheVariants as commands
 use Rattle.command_line.specs.declared.options.Disasm.{Disasm}
 use Rattle.command_line.specs.declared.options.Goal.{Goal}
-use Rattle.command_line.specs.declared.options.Goal.TheVariants as goals
 use Rattle.command_line.specs.declared.options.LimitOptions.{LimitOptions}
 use Rattle.command_line.specs.declared.options.Replay.{Replay}
 use Rattle.command_line.specs.declared.options.Run.{Run}
@@ -108,9 +109,9 @@ with_then_run app = with_rule (with_rule (with_rule app
     (number_option (codes "budget") 0 4294967295))
     record_option
 
--- `--explain`, and files behind all options
+-- `--explain`, `--quiet`, and files behind all options
 abbrev pub with_files : App → Rule → App
-with_files app files = with_rule (with_rule app (flag (codes "explain"))) files
+with_files app files = with_rule (with_rule (with_rule app (flag (codes "explain"))) (flag (codes "quiet"))) files
 
 abbrev pub jvm_run : App
 jvm_run = with_files (with_limits (with_rule (with_run_options (new_app (codes "run"))) record_option)) class_files
@@ -223,7 +224,9 @@ pub record AreRunValues (rows : List Row) (run : Run) : Type 0 where
   pub recording : first_of (codes "record") rows ≡ option_map string_bytes run.record
   pub limits : AreLimitNumbers rows run.limits
   pub files : all_of (codes "files") rows ≡ Some (map string_bytes run.files.items)
+  pub other_files : All (IsApart (first_of (codes "record") rows)) (map string_bytes run.files.items)
   pub explain : run.explain ≡ is_set (first_of (codes "explain") rows)
+  pub quiet : run.quiet ≡ is_set (first_of (codes "quiet") rows)
 
 -- the values that the words give to a run behind a schedule
 pub record AreThenRunValues (rows : List Row) (then_run : ThenRun) : Type 0 where
@@ -242,7 +245,10 @@ pub record AreValues (rows : List Row) (replay : Replay) : Type 0 where
   pub then_run : IsThenRun rows replay.then_run
   pub limits : AreLimitNumbers rows replay.limits
   pub files : all_of (codes "files") rows ≡ Some (map string_bytes replay.files.items)
+  pub other_schedule : IsApart (first_of (codes "record") rows) (string_bytes replay.schedule)
+  pub other_files : All (IsApart (first_of (codes "record") rows)) (map string_bytes replay.files.items)
   pub explain : replay.explain ≡ is_set (first_of (codes "explain") rows)
+  pub quiet : replay.quiet ≡ is_set (first_of (codes "quiet") rows)
 
 -- the words ask for this form of a trace, and for no other
 abbrev pub IsTraceForm : List Row → TraceForm → Type 0
@@ -261,28 +267,12 @@ pub record AreTraceValues (rows : List Row) (trace : Trace) : Type 0 where
   pub limits : AreLimitNumbers rows trace.limits
   pub files : all_of (codes "files") rows ≡ Some (map string_bytes trace.files.items)
   pub explain : trace.explain ≡ is_set (first_of (codes "explain") rows)
-
--- the word of an outcome that is to be found
-abbrev pub goal_word : Goal → Text
-goal_word goals.Deadlock = codes "deadlock"
-goal_word goals.Uncaught = codes "uncaught"
-goal_word (goals.Output numbers) = codes "output" ++ 0x3d ∷ string_bytes numbers
-goal_word (goals.Differs path) = codes "differs" ++ 0x3d ∷ string_bytes path
-
--- a word names it, or names none
-abbrev pub NamesGoal : Text → Option Goal → Type 0
-NamesGoal word (Some goal) = word ≡ goal_word goal
-NamesGoal word None = (goal : Goal) → word ≡ goal_word goal → ⊥
-
--- so do the words on both sides of a `=`
-abbrev pub NamesGoalWith : (name value : Text) → Option Goal → Type 0
-NamesGoalWith name value (Some goal) = name ++ 0x3d ∷ value ≡ goal_word goal
-NamesGoalWith name value None = (name ≡ codes "output" → ⊥) × (name ≡ codes "differs" → ⊥)
+  pub quiet : trace.quiet ≡ is_set (first_of (codes "quiet") rows)
 
 -- the outcome that is asked for, where one is
 abbrev pub IsGoal : Option Text → Option Goal → Type 0
 IsGoal None None = Unit {0}
-IsGoal (Some word) (Some goal) = word ≡ goal_word goal
+IsGoal (Some word) (Some goal) = IsGoalWord word goal
 IsGoal None (Some goal) = ⊥
 IsGoal (Some word) None = ⊥
 
@@ -294,25 +284,31 @@ pub record AreSearchValues (rows : List Row) (search : Search) : Type 0 where
   pub recording : first_of (codes "record") rows ≡ option_map string_bytes search.record
   pub limits : AreLimitNumbers rows search.limits
   pub files : all_of (codes "files") rows ≡ Some (map string_bytes search.files.items)
+  pub other_text : IsGoalApart (first_of (codes "record") rows) search.goal
+  pub other_files : All (IsApart (first_of (codes "record") rows)) (map string_bytes search.files.items)
   pub explain : search.explain ≡ is_set (first_of (codes "explain") rows)
+  pub quiet : search.quiet ≡ is_set (first_of (codes "quiet") rows)
 
 -- the values that the words give to `jvm verify`
 pub record AreVerifyValues (rows : List Row) (verify : Verify) : Type 0 where
   pub files : all_of (codes "files") rows ≡ Some (map string_bytes verify.files.items)
   pub library : verify.library ≡ is_set (first_of (codes "library") rows)
   pub explain : verify.explain ≡ is_set (first_of (codes "explain") rows)
+  pub quiet : verify.quiet ≡ is_set (first_of (codes "quiet") rows)
 
 -- the values that the words give to `jvm disasm`
 pub record AreDisasmValues (rows : List Row) (disasm : Disasm) : Type 0 where
   pub files : all_of (codes "files") rows ≡ Some (map string_bytes disasm.files.items)
   pub names : disasm.names ≡ is_set (first_of (codes "names") rows)
   pub explain : disasm.explain ≡ is_set (first_of (codes "explain") rows)
+  pub quiet : disasm.quiet ≡ is_set (first_of (codes "quiet") rows)
 
 -- the values that the words give to `jvm schedule`
 pub record AreScheduleValues (rows : List Row) (schedule : Schedule) : Type 0 where
   pub file : first_of (codes "file") rows ≡ Some (string_bytes schedule.file)
   pub write : schedule.write ≡ is_set (first_of (codes "write") rows)
   pub explain : schedule.explain ≡ is_set (first_of (codes "explain") rows)
+  pub quiet : schedule.quiet ≡ is_set (first_of (codes "quiet") rows)
 
 -- the words, the program's name first, spell the command
 abbrev pub Spells : List Text → Command → Type 0

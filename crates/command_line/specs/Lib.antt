@@ -1,2 +1,4 @@
 pub mod Choices
 pub mod CommandLine
+pub mod Goals
+pub mod Paths

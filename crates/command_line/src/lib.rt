@@ -7,6 +7,7 @@ mod numbers;
 mod options;
 mod parse;
 mod parsers;
+mod paths;
 mod usage;
 
 pub use options::{

@@ -279,7 +279,7 @@ pub(crate) fn negative_number(words: &[String]) -> Option<(NumberOption, &str)> 
 }
 
 /// The parts of a text between its commas.
-fn comma_parts(alloc: Global, text: &str) -> Result<Vec<&str>, AllocError>
+pub(crate) fn comma_parts(alloc: Global, text: &str) -> Result<Vec<&str>, AllocError>
     ensures { IfOk result (λ found. map (λ part. part.now) found.items ≡ parts_of text.now) }
 {
     text.split(',').collect(alloc)

@@ -34,8 +34,10 @@ pub struct Run {
     pub limits: LimitOptions,
     /// The paths of the class files. The first holds the class whose `main` is run.
     pub files: Vec<String>,
-    /// Whether a refusal is explained, and what threads are about.
+    /// Whether a refusal is explained, and what threads are about, whatever that costs.
     pub explain: bool,
+    /// Whether standard error tells no more than why there is no report.
+    pub quiet: bool,
 }
 
 /// How class files are run: the numbers that are asked for, each in its range, and `None` for the usual one.
@@ -100,8 +102,10 @@ pub struct Replay {
     pub limits: LimitOptions,
     /// The paths of the class files. The first holds the class whose `main` is run.
     pub files: Vec<String>,
-    /// Whether a refusal is explained, and what threads are about.
+    /// Whether a refusal is explained, and what threads are about, whatever that costs.
     pub explain: bool,
+    /// Whether standard error tells no more than why there is no report.
+    pub quiet: bool,
 }
 
 /// `jvm trace`: class files are run under a schedule, and the run is told event by event.
@@ -121,8 +125,10 @@ pub struct Trace {
     pub limits: LimitOptions,
     /// The paths of the class files. The first holds the class whose `main` is run.
     pub files: Vec<String>,
-    /// Whether a refusal is explained, and what threads are about.
+    /// Whether a refusal is explained, and what threads are about, whatever that costs.
     pub explain: bool,
+    /// Whether standard error tells no more than why there is no report.
+    pub quiet: bool,
 }
 
 /// How a trace tells each event.
@@ -152,6 +158,8 @@ pub struct Search {
     pub files: Vec<String>,
     /// Whether a refusal is explained.
     pub explain: bool,
+    /// Whether standard error tells no more than why there is no output.
+    pub quiet: bool,
 }
 
 /// Which outcome of a run a search is to find.
@@ -161,8 +169,8 @@ pub enum Goal {
     Deadlock,
     /// An exception that nothing caught ended a thread.
     Uncaught,
-    /// These numbers were printed. Commas stand between them.
-    Output(String),
+    /// These numbers were printed, in this order, and no others.
+    Output(Vec<i32>),
     /// Something else was printed than the file with this path has.
     Differs(String),
 }
@@ -210,6 +218,8 @@ pub struct Verify {
     pub library: bool,
     /// Whether a refusal is explained.
     pub explain: bool,
+    /// Whether standard error tells no more than why there is no output.
+    pub quiet: bool,
 }
 
 /// `jvm disasm`: the listings of class files are written.
@@ -221,6 +231,8 @@ pub struct Disasm {
     pub names: bool,
     /// Whether a refusal is explained.
     pub explain: bool,
+    /// Whether standard error tells no more than why there is no output.
+    pub quiet: bool,
 }
 
 /// `jvm schedule`: a schedule is printed as text, or with `--write` a schedule file is made of the text on standard
@@ -233,6 +245,8 @@ pub struct Schedule {
     pub write: bool,
     /// Whether a refusal is explained.
     pub explain: bool,
+    /// Whether standard error tells no more than why there is no output.
+    pub quiet: bool,
 }
 
 /// The limits that are asked for, each in its range, and `None` for the usual one.

@@ -17,6 +17,7 @@ use crate::options::{
     TraceForm, Verify,
 };
 use crate::parsers::program;
+use crate::paths::{check_file, check_files, check_goal};
 use crate::usage::Usage;
 use clap::ArgMatches;
 use clap::error::ErrorKind;
@@ -117,12 +118,14 @@ fn run_of(alloc: Global, matches: &ArgMatches<'_>) -> Result<Run, Usage>
     let record = path_of(alloc, matches, "record")?;
     let limits = limits_of(alloc, matches)?;
     let files = files_of(alloc, matches)?;
+    check_files(alloc, matches, &files)?;
     Ok(Run {
         options,
         record,
         limits,
         files,
         explain: is_set(matches, "explain"),
+        quiet: is_set(matches, "quiet"),
     })
 }
 
@@ -135,12 +138,15 @@ fn replay_of(alloc: Global, matches: &ArgMatches<'_>) -> Result<Replay, Usage>
     let then_run = then_run_of(alloc, matches)?;
     let limits = limits_of(alloc, matches)?;
     let files = files_of(alloc, matches)?;
+    check_file(alloc, matches, schedule.as_str())?;
+    check_files(alloc, matches, &files)?;
     Ok(Replay {
         schedule,
         then_run,
         limits,
         files,
         explain: is_set(matches, "explain"),
+        quiet: is_set(matches, "quiet"),
     })
 }
 
@@ -166,6 +172,7 @@ fn trace_of(alloc: Global, matches: &ArgMatches<'_>) -> Result<Trace, Usage>
         limits,
         files,
         explain: is_set(matches, "explain"),
+        quiet: is_set(matches, "quiet"),
     })
 }
 
@@ -180,6 +187,8 @@ fn search_of(alloc: Global, matches: &ArgMatches<'_>) -> Result<Search, Usage>
     let record = path_of(alloc, matches, "record")?;
     let limits = limits_of(alloc, matches)?;
     let files = files_of(alloc, matches)?;
+    check_goal(alloc, matches, &goal)?;
+    check_files(alloc, matches, &files)?;
     Ok(Search {
         goal,
         states,
@@ -188,6 +197,7 @@ fn search_of(alloc: Global, matches: &ArgMatches<'_>) -> Result<Search, Usage>
         limits,
         files,
         explain: is_set(matches, "explain"),
+        quiet: is_set(matches, "quiet"),
     })
 }
 
@@ -199,10 +209,7 @@ fn goal_of(alloc: Global, matches: &ArgMatches<'_>) -> Result<Option<Goal>, Usag
 {
     match matches.get_str("for") {
         None => Ok(None),
-        Some(word) => match goal_by(alloc, word)? {
-            Some(goal) => Ok(Some(goal)),
-            None => Err(Usage::no_goal(alloc, word)),
-        },
+        Some(word) => Ok(Some(goal_by(alloc, word)?)),
     }
 }
 
@@ -216,6 +223,7 @@ fn verify_of(alloc: Global, matches: &ArgMatches<'_>) -> Result<Verify, Usage>
         files,
         library: is_set(matches, "library"),
         explain: is_set(matches, "explain"),
+        quiet: is_set(matches, "quiet"),
     })
 }
 
@@ -229,6 +237,7 @@ fn disasm_of(alloc: Global, matches: &ArgMatches<'_>) -> Result<Disasm, Usage>
         files,
         names: is_set(matches, "names"),
         explain: is_set(matches, "explain"),
+        quiet: is_set(matches, "quiet"),
     })
 }
 
@@ -242,6 +251,7 @@ fn schedule_of(alloc: Global, matches: &ArgMatches<'_>) -> Result<Schedule, Usag
         file,
         write: is_set(matches, "write"),
         explain: is_set(matches, "explain"),
+        quiet: is_set(matches, "quiet"),
     })
 }
 

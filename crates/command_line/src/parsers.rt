@@ -292,7 +292,7 @@ fn with_limits<'a>(
         .arg(FRAMES.argument(alloc))
 }
 
-/// The command with the flag that asks for an explanation, and with files behind all options.
+/// The command with the flags that say how much standard error tells, and with files behind all options.
 fn with_files<'a>(
     alloc: Global,
     command: clap::Command<'a>,
@@ -304,7 +304,12 @@ fn with_files<'a>(
     let explain = flag_argument(
         alloc,
         "explain",
-        "Tells why files are refused, or what threads wait for",
+        "Tells what threads wait for, however long that takes",
     );
-    command.arg(explain)?.arg(files)
+    let quiet = flag_argument(
+        alloc,
+        "quiet",
+        "Adds no words on why files are refused or what threads wait for",
+    );
+    command.arg(explain)?.arg(quiet)?.arg(files)
 }

@@ -63,12 +63,30 @@ impl Usage {
         ))
     }
 
+    /// That a file is to be written which is read, too, in the parser's words for a value that it refuses.
+    pub(crate) fn read_too(alloc: Global, path: &str) -> Usage
+        ensures { Asks result → ⊥ }
+    {
+        Usage::told(format!(in alloc;
+            "error: invalid value '{path}' for '--record <FILE>': this file is read, too\n\n{MORE}\n"
+        ))
+    }
+
     /// That a search can find no such outcome, in the parser's words for a value that isn't one of a few.
     pub(crate) fn no_goal(alloc: Global, text: &str) -> Usage
         ensures { Asks result → ⊥ }
     {
         Usage::told(format!(in alloc;
             "error: invalid value '{text}' for '--for <OUTCOME>'\n  [possible values: deadlock, uncaught, output=NUMBERS, differs=FILE]\n\n{MORE}\n"
+        ))
+    }
+
+    /// That a text is none of the ints that may be printed, in the parser's words for a value that it refuses.
+    pub(crate) fn no_int(alloc: Global, text: &str) -> Usage
+        ensures { Asks result → ⊥ }
+    {
+        Usage::told(format!(in alloc;
+            "error: invalid value '{text}' for '--for output=<NUMBERS>': not an int in its shortest decimal form\n\n{MORE}\n"
         ))
     }
 

@@ -32,7 +32,7 @@ use Rattle.engines.specs.Libraries.{IsUnacceptedLibrary, VerifiesLibrary}
 use Rattle.engines.specs.Listings.{AreClassFiles, IsUnlisted, IsUnnamed, Lists}
 use Rattle.engines.specs.Replays.{IsFaulty, Replays}
 use Rattle.engines.specs.Runs.{IsUnrun, Runs}
-use Rattle.engines.specs.Searches.{IsUnsearched, Searches}
+use Rattle.engines.specs.Searches.{IsUnsearched, Searches, most_states}
 use Rattle.engines.specs.Traces.{IsUntraced, Traces}
 use Rattle.engines.specs.Transcriptions.{IsUnprinted, IsUntranscribed, Prints, Transcribes}
 use Rattle.engines.specs.Verifications.{IsUnaccepted, Verifies}
@@ -129,14 +129,14 @@ pub record IsSearchDone (held : Held) (search : Search) (text : List ℕ) (writt
   pub want : Wanted
   pub asked : IsAskedFor held search.goal want
   pub file : Option (List ℕ)
-  pub searches : Searches (files_at held search.files.items) search.limits want (is_some search.record) text file status
+  pub searches : Searches (files_at held search.files.items) search.limits want (most_states search) (is_some search.record) text file status
   pub recorded : written ≡ written_at search.record file
 
 pub record IsSearchUndone (held : Held) (search : Search) (old new : Option (List ℕ)) (fault : Fault) (written : Written) : Type 0 where
   pub want : Wanted
   pub asked : IsAskedFor held search.goal want
   pub file : Option (List ℕ)
-  pub unsearched : IsUnsearched (files_at held search.files.items) search.limits want (is_some search.record) old new None file fault
+  pub unsearched : IsUnsearched (files_at held search.files.items) search.limits want (most_states search) (is_some search.record) old new None file fault
   pub recorded : (written ≡ None) ⊎ (written ≡ written_at search.record file)
 
 -- ---- verify and disasm, which take folders of class files, too

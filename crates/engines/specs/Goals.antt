@@ -1,5 +1,5 @@
 -- What a search is to find, by the words that ask for it (own).
-use Rattle.std.specs.Prelude.{◌≡◌, ℕ, ◌==◌, ◌&&◌, Bool, not, List, [], ◌∷◌, ◌++◌, length, map, Option, Some, None, if◌then◌else◌, string_bytes}
+use Rattle.std.specs.Prelude.{◌≡◌, ℕ, ◌==◌, ◌&&◌, Bool, not, List, [], ◌∷◌, ◌++◌, length, Option, Some, None, if◌then◌else◌, string_bytes}
 use Rattle.std.specs.List.{ends_with, starts_with}
 use Rattle.std.specs.declared.vec.Vec.{Vec}
 use Rattle.std.specs.Global.{Global}
@@ -7,16 +7,8 @@ use Rattle.command_line.specs.declared.options.Goal.{Goal}
 use Rattle.command_line.specs.declared.options.Goal.TheVariants as goals
 use Rattle.search.specs.declared.run_outcomes.wanted.Wanted.{Wanted}
 use Rattle.search.specs.declared.run_outcomes.wanted.Wanted.TheVariants as wanted
+use Rattle.search.specs.run_outcomes.Outcomes.{printed_text}
 use Rattle.engines.specs.Engines.{Reads}
-
--- the byte in the place of one of a list of numbers: a comma ends a line
-abbrev pub line_byte : ℕ → ℕ
-line_byte byte = if byte == 0x2c then 0x0a else byte
-
--- the lines of numbers between which commas stand, and none where there is no number
-abbrev pub lines_of : List ℕ → List ℕ
-lines_of [] = []
-lines_of (byte ∷ bytes) = map line_byte (byte ∷ bytes) ++ 0x0a ∷ []
 
 -- a carriage return, and a line feed behind it
 abbrev pub begins_return : List ℕ → Bool
@@ -40,6 +32,6 @@ abbrev pub IsAskedFor : (List ℕ → Option (List ℕ)) → Option Goal → Wan
 IsAskedFor held None want = want ≡ wanted.Nothing
 IsAskedFor held (Some goals.Deadlock) want = want ≡ wanted.Stuck
 IsAskedFor held (Some goals.Uncaught) want = want ≡ wanted.Uncaught
-IsAskedFor held (Some (goals.Output numbers)) want = (text : Vec ℕ Global) × (want ≡ wanted.Printed text) × (text.items ≡ lines_of (string_bytes numbers))
+IsAskedFor held (Some (goals.Output numbers)) want = (text : Vec ℕ Global) × (want ≡ wanted.Printed text) × (text.items ≡ printed_text numbers.items)
 IsAskedFor held (Some (goals.Differs path)) want = (text : Vec ℕ Global) × (bytes : List ℕ) × (want ≡ wanted.PrintedOther text)
     × Reads (held (string_bytes path)) bytes × (text.items ≡ text_of_file bytes)

@@ -13,7 +13,7 @@ use std::io;
 use std::io::ErrorKind;
 
 /// Tells why a command was not done, in a line with two spaces before it, where more is known than the complaint says: where the
-/// words ask for it by `--explain`, or it is wanted anyway. The kind is that of the first failure of the output.
+/// words ask for it by `--explain`, or it is wanted anyway; and nothing with `--quiet`. The kind is that of the first failure of the output.
 pub fn explain_complaint<F: Folder>(
     alloc: Global,
     folder: &F,
@@ -28,7 +28,8 @@ pub fn explain_complaint<F: Folder>(
     let Ok(command) = command(alloc, words) else {
         return;
     };
-    if explanation.is_wanted() || asks(&command) {
+    let (is_explained, is_quiet) = flags_of(&command);
+    if !is_quiet && (is_explained || explanation.is_wanted()) {
         let line = told_line(alloc, folder, &command, fault, output, explanation.reason());
         explanation.tell(line);
     }
@@ -50,16 +51,16 @@ fn told_line<F: Folder>(
     indented(alloc, line.ok()??.as_slice()).ok()
 }
 
-/// Whether the command has `--explain`.
-fn asks(command: &Command) -> bool {
+/// Whether the command has `--explain`, and whether it has `--quiet`.
+fn flags_of(command: &Command) -> (bool, bool) {
     match command {
-        Command::Run(options) => options.explain,
-        Command::Replay(options) => options.explain,
-        Command::Trace(options) => options.explain,
-        Command::Search(options) => options.explain,
-        Command::Verify(options) => options.explain,
-        Command::Disasm(options) => options.explain,
-        Command::Schedule(options) => options.explain,
+        Command::Run(options) => (options.explain, options.quiet),
+        Command::Replay(options) => (options.explain, options.quiet),
+        Command::Trace(options) => (options.explain, options.quiet),
+        Command::Search(options) => (options.explain, options.quiet),
+        Command::Verify(options) => (options.explain, options.quiet),
+        Command::Disasm(options) => (options.explain, options.quiet),
+        Command::Schedule(options) => (options.explain, options.quiet),
     }
 }
 

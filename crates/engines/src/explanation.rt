@@ -47,8 +47,13 @@ impl Explanation {
     }
 
     /// How many events may be done again to tell why a run ended with this status, if that is to be told.
-    pub(crate) fn most_events(&self, status: Status, is_asked: bool) -> Option<u64> {
-        if status == Status::Returned {
+    pub(crate) fn most_events(
+        &self,
+        status: Status,
+        is_asked: bool,
+        is_quiet: bool,
+    ) -> Option<u64> {
+        if is_quiet || status == Status::Returned {
             None
         } else if is_asked {
             Some(u64::MAX)

@@ -1,12 +1,12 @@
 //! A search over all schedules, over any readers and writers.
 
-ghost use Rattle.std.specs.Prelude.{◌+◌, ◌<◌, ◌^◌, IfOk, IfErr, length, map, is_some, sum_by, vec_items};
+ghost use Rattle.std.specs.Prelude.{◌≡◌, ◌+◌, ◌<◌, ◌^◌, IfOk, IfErr, length, map, is_some, sum_by, vec_items};
 ghost use Rattle.std.specs.Option.{option_map};
 ghost use Rattle.std.specs.Io.KnownBytes.{Appends};
 ghost use Rattle.model.specs.Accepted.{IsAccepted};
 ghost use Rattle.engines.specs.Engines.{CountsFailure};
 ghost use Rattle.engines.specs.Runs.{recording_of};
-ghost use Rattle.engines.specs.Searches.{IsFileOf, IsSearched, IsUnsearched, Searches};
+ghost use Rattle.engines.specs.Searches.{IsFileOf, IsSearched, IsUnsearched, Searches, most_states};
 
 use crate::class_files::read_class_files;
 use crate::fault::Fault;
@@ -40,10 +40,10 @@ pub fn search_engine<P: Progress, S: Source, W: Sink>(
     // What can come of the class files is written, or a run whose outcome is wanted, and nothing else; and the file is that of the
     // run's schedule, where it is asked for.
     ensures searched { IfOk result (λ status. (text : _)
-        × Searches (map S.remaining files.old) options.now.limits wanted.now (is_some options.now.record)
+        × Searches (map S.remaining files.old) options.now.limits wanted.now (most_states options.now) (is_some options.now.record)
         text (option_map vec_items file.new) status
         × Appends (W.contents report.old) (W.contents report.new) text) }
-    ensures faulty { IfErr result (IsUnsearched (map S.remaining files.old) options.now.limits wanted.now
+    ensures faulty { IfErr result (IsUnsearched (map S.remaining files.old) options.now.limits wanted.now (most_states options.now)
         (is_some options.now.record) (W.contents report.old) (W.contents report.new)
         (option_map vec_items file.old) (option_map vec_items file.new)) }
     ensures counted { CountsFailure result
@@ -69,7 +69,7 @@ fn searched<P: Progress>(
     wanted: &Wanted,
 ) -> Result<Outcome, AllocError>
     requires { IsAccepted (map vec_items files.now) verified }
-    ensures { IfOk result (λ searched. IsSearched (map vec_items files.now) options.now.limits wanted.now
+    ensures { IfOk result (λ searched. IsSearched (map vec_items files.now) options.now.limits wanted.now (most_states options.now)
         (is_some options.now.record) searched.text.items (option_map vec_items searched.file) searched.status) }
 {
     search_of(alloc, progress, &verified, files, options, wanted)
@@ -85,19 +85,28 @@ fn search_of<P: Progress>(
     wanted: &Wanted,
 ) -> Result<Outcome, AllocError>
     requires { IsAccepted (map vec_items files.now) verified.now }
-    ensures { IfOk result (λ searched. IsSearched (map vec_items files.now) options.now.limits wanted.now
+    ensures { IfOk result (λ searched. IsSearched (map vec_items files.now) options.now.limits wanted.now (most_states options.now)
         (is_some options.now.record) searched.text.items (option_map vec_items searched.file) searched.status) }
 {
     let limits = options.limits.limits();
     let program = verified_program(alloc, verified)?;
     let classes = verified.linked().set();
-    let most = options.states().min(states_within(options.memory()));
+    let most = most_states(options);
     let searched = search_report(alloc, progress, classes, program, limits, wanted, most)?;
     let text = searched.text(alloc)?;
     let is_recorded = options.record.is_some();
     let file = found_file(alloc, is_recorded, files, limits, &searched.answer)?;
     let status = Status::of_search(&searched.answer);
     Ok(Outcome { text, file, status })
+}
+
+/// How many states there may be.
+fn most_states(options: &Search) -> u32
+    ensures { result ≡ most_states options.now }
+{
+    let states = options.states();
+    let room = states_within(options.memory());
+    if room < states { room } else { states }
 }
 
 /// The schedule file of the run that a search of the class files has found, where one is asked for.

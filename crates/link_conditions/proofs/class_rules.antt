@@ -3,3 +3,4 @@ pub mod Packages
 pub mod Declared
 pub mod Redeclared
 pub mod Found
+pub mod Suspected

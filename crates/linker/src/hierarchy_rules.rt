@@ -5,12 +5,13 @@ ghost use Rattle.std.specs.List.{list_any};
 ghost use Rattle.model.specs.Hierarchy.{in_cycle, has_bad_hierarchy};
 ghost use Rattle.model.specs.Linkable.{stands, before_links, earlier, DuplicateClass, Unresolved};
 ghost use Rattle.classfile.specs.View.{file_of};
+ghost use Rattle.link_conditions.specs.class_rules.Declared.{AreDeclaredIn};
 ghost use Rattle.linker.specs.Linking.{RefusesTrees, RefusesFor};
 
 use crate::place::method_text;
 use classfile::ClassFile;
 use hierarchy::{ClassSet, Hierarchy, first_in_cycle};
-use link_conditions::class_rules::{RulePlace, first_broken_rule};
+use link_conditions::class_rules::{DeclaredMethods, RulePlace, first_broken_rule};
 use link_conditions::refusal::{Refusal, RefusalKind};
 use std::alloc::{AllocError, Global};
 
@@ -38,22 +39,30 @@ fn refusal_of(
 }
 
 /// That the class of the file with this number breaks no rule.
-fn check_file(alloc: Global, set: &ClassSet, number: usize, file: &ClassFile) -> Result<(), Refusal>
+fn check_file(
+    alloc: Global,
+    set: &ClassSet,
+    methods: &DeclaredMethods,
+    number: usize,
+    file: &ClassFile,
+) -> Result<(), Refusal>
     requires differ { IsFalse (stands set.now DuplicateClass) }
+    requires declared { AreDeclaredIn set.now methods.now }
     requires acyclic { in_cycle set.now (file_of file.now) ≡ false }
     ensures passed { OnOk result (has_bad_hierarchy set.now (file_of file.now) ≡ false) }
     ensures refused { IfErr result (λ r. RefusesFor RefusalKind.BadHierarchy (has_bad_hierarchy set.now (file_of file.now)) number r.kind
         r.file) }
 {
-    match first_broken_rule(set, file) {
+    match first_broken_rule(set, methods, file) {
         Some(place) => Err(refusal_of(alloc, number, file, place)?),
         None => Ok(()),
     }
 }
 
 /// That no class breaks a rule, where none is above itself.
-fn check_rules(alloc: Global, set: &ClassSet) -> Result<(), Refusal>
+fn check_rules(alloc: Global, set: &ClassSet, methods: &DeclaredMethods) -> Result<(), Refusal>
     requires passed { list_any (stands set.now) before_links ≡ false }
+    requires declared { AreDeclaredIn set.now methods.now }
     requires acyclic { list_any (in_cycle set.now) set.now ≡ false }
     ensures passed { OnOk result (list_any (stands set.now) (earlier Unresolved) ≡ false) }
     ensures refused { IfErr result (λ r. RefusesTrees set.now r.kind r.file r.cause) }
@@ -62,7 +71,7 @@ fn check_rules(alloc: Global, set: &ClassSet) -> Result<(), Refusal>
         let Some(file) = set.file_at(number) else {
             return Ok(());
         };
-        check_file(alloc, set, number, file)?;
+        check_file(alloc, set, methods, number, file)?;
     }
     Ok(())
 }
@@ -77,7 +86,8 @@ fn check_hierarchy(alloc: Global, set: &ClassSet) -> Result<(), Refusal>
     if let Some(number) = found {
         return Err(Refusal::of_file(RefusalKind::BadHierarchy, number));
     }
-    check_rules(alloc, set)
+    let methods = DeclaredMethods::of_set(alloc, set)?;
+    check_rules(alloc, set, &methods)
 }
 
 /// A set with what is above each of its classes, where they are to one another as they have to be: BadHierarchy.

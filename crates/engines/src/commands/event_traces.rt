@@ -30,7 +30,7 @@ pub(crate) fn trace<F: Folder, W: Sink>(
         (W.contents output.old) (W.contents output.new) fault None) }
 {
     let status = traced(alloc, folder, options, output)?;
-    if let Some(most) = explanation.most_events(status, options.explain) {
+    if let Some(most) = explanation.most_events(status, options.explain, options.quiet) {
         let lines = told_schedule(
             alloc,
             folder,

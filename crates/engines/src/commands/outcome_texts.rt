@@ -1,7 +1,7 @@
-//! Texts of what a search is to find printed.
+//! Texts of files with which a search compares what was printed.
 
 ghost use Rattle.std.specs.Prelude.{◌≡◌, IfOk};
-ghost use Rattle.engines.specs.Goals.{begins_return, is_unended, line_byte, lines_of, text_of_file, without_returns};
+ghost use Rattle.engines.specs.Goals.{begins_return, is_unended, text_of_file, without_returns};
 
 use std::alloc::{AllocError, Global};
 
@@ -10,28 +10,6 @@ const LINE_END: &[u8] = b"\n";
 
 /// The same, and what may stand before it.
 const RETURN_AND_END: &[u8] = b"\r\n";
-
-/// The lines of numbers between which commas stand.
-pub(crate) fn printed_lines(alloc: Global, numbers: &[u8]) -> Result<Vec<u8>, AllocError>
-    ensures { IfOk result (λ lines. lines.items ≡ lines_of numbers.now) }
-{
-    let mut lines = Vec::new(alloc);
-    if numbers.is_empty() {
-        return Ok(lines);
-    }
-    'bytes: for byte in numbers {
-        lines.push(line_byte(*byte))?;
-    }
-    lines.push(b'\n')?;
-    Ok(lines)
-}
-
-/// The byte in the place of one of a list of numbers: a comma ends a line.
-fn line_byte(byte: u8) -> u8
-    ensures { result ≡ line_byte byte }
-{
-    if byte == b',' { b'\n' } else { byte }
-}
 
 /// The text of a file: a carriage return before a line feed doesn't count, and the last line has a line feed at its end.
 pub(crate) fn text_of_file(alloc: Global, bytes: &[u8]) -> Result<Vec<u8>, AllocError>

@@ -37,7 +37,7 @@ pub(crate) fn replay<F: Folder, W: Sink>(
         return replay_on(alloc, folder, options, then_run, output, explanation);
     }
     let status = replayed(alloc, folder, options, output)?;
-    if let Some(most) = explanation.most_events(status, options.explain) {
+    if let Some(most) = explanation.most_events(status, options.explain, options.quiet) {
         let lines = told_schedule(
             alloc,
             folder,
@@ -93,7 +93,7 @@ fn replay_on<F: Folder, W: Sink>(
     let mut file = None;
     let outcome = continued(alloc, folder, options, then_run, output, &mut file);
     let status = recorded(alloc, folder, &then_run.record, &file, outcome, explanation)?;
-    if let Some(most) = explanation.most_events(status, options.explain) {
+    if let Some(most) = explanation.most_events(status, options.explain, options.quiet) {
         let lines = told_record(alloc, folder, &file, &options.files, &options.limits, most);
         explanation.tell(lines);
     }

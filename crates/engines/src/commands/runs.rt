@@ -39,7 +39,7 @@ pub(crate) fn run_files<R: Threads + Wait + Sync, G: Gate + Sync, F: Folder, W: 
     let mut file = None;
     let outcome = ran(rt, alloc, gate, folder, options, output, &mut file);
     let status = recorded(alloc, folder, &options.record, &file, outcome, explanation)?;
-    if let Some(most) = explanation.most_events(status, options.explain) {
+    if let Some(most) = explanation.most_events(status, options.explain, options.quiet) {
         let lines = told_record(alloc, folder, &file, &options.files, &options.limits, most);
         explanation.tell(lines);
     }

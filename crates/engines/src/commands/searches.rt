@@ -6,9 +6,9 @@ ghost use Rattle.std.specs.Io.KnownBytes.{Appends};
 ghost use Rattle.engines.specs.Commands.{IsSearchDone, IsSearchUndone, Leaves, LeavesAt, files_at};
 ghost use Rattle.engines.specs.Devices.{IsUnable};
 ghost use Rattle.engines.specs.Goals.{IsAskedFor};
-ghost use Rattle.engines.specs.Searches.{IsUnsearched, Searches};
+ghost use Rattle.engines.specs.Searches.{IsUnsearched, Searches, most_states};
 
-use crate::commands::outcome_texts::{printed_lines, text_of_file};
+use crate::commands::outcome_texts::text_of_file;
 use crate::commands::storing::recorded;
 use crate::explanation::Explanation;
 use crate::fault::Fault;
@@ -19,7 +19,7 @@ use crate::status::Status;
 use command_line::{Goal, Search};
 use model::{Sink, Source};
 use search::Progress;
-use search::run_outcomes::Wanted;
+use search::run_outcomes::{Wanted, printed_lines};
 use std::alloc::Global;
 
 /// `search`.
@@ -83,11 +83,11 @@ fn searched<P: Progress, F: Folder, W: Sink>(
     file: &mut Option<Vec<u8>>,
 ) -> Result<Status, Fault>
     ensures searched { IfOk result (λ status. (text : _)
-        × Searches (files_at (F.held folder.now) options.now.files.items) options.now.limits wanted.now
+        × Searches (files_at (F.held folder.now) options.now.files.items) options.now.limits wanted.now (most_states options.now)
         (is_some options.now.record) text (option_map vec_items file.new) status
         × Appends (W.contents output.old) (W.contents output.new) text) }
     ensures faulty { IfErr result (IsUnsearched (files_at (F.held folder.now) options.now.files.items)
-        options.now.limits wanted.now (is_some options.now.record) (W.contents output.old) (W.contents output.new)
+        options.now.limits wanted.now (most_states options.now) (is_some options.now.record) (W.contents output.old) (W.contents output.new)
         (option_map vec_items file.old) (option_map vec_items file.new)) }
 {
     let mut files = sources(alloc, folder, &options.files)?;
@@ -112,7 +112,7 @@ fn wanted_by<F: Folder>(alloc: Global, folder: &F, goal: &Option<Goal>) -> Resul
         Some(Goal::Deadlock) => Ok(Wanted::Stuck),
         Some(Goal::Uncaught) => Ok(Wanted::Uncaught),
         Some(Goal::Output(numbers)) => {
-            Ok(Wanted::Printed(printed_lines(alloc, numbers.as_bytes())?))
+            Ok(Wanted::Printed(printed_lines(alloc, numbers.as_slice())?))
         }
         Some(Goal::Differs(path)) => {
             let bytes = source(folder, path.as_str()).read_all(alloc)?;

@@ -2,11 +2,16 @@
 //! with the other classes of its program. That no class is above itself is asked elsewhere.
 
 mod class;
+mod declared_methods;
 mod exception;
+mod flags;
 mod method;
+mod method_table;
 mod name;
 mod place;
 mod rule;
+mod suspects;
 
+pub use declared_methods::DeclaredMethods;
 pub use place::RulePlace;
 pub use rule::first_broken_rule;

@@ -5,8 +5,10 @@ ghost use Rattle.model.specs.Hierarchy.{in_cycle, has_bad_hierarchy};
 ghost use Rattle.model.specs.Linkable.{stands, DuplicateClass};
 ghost use Rattle.classfile.specs.View.{file_of};
 ghost use Rattle.link_conditions.specs.class_rules.Rules.{breaks_rules, IsFirstBroken};
+ghost use Rattle.link_conditions.specs.class_rules.Declared.{AreDeclaredIn};
 
 use crate::class_rules::class::class_breaks_rule;
+use crate::class_rules::declared_methods::DeclaredMethods;
 use crate::class_rules::exception::first_exception;
 use crate::class_rules::method::first_method;
 use crate::class_rules::place::RulePlace;
@@ -26,9 +28,15 @@ use hierarchy::ClassSet;
 /// `None` where there is none. A superclass, a superinterface or a catch type that is not found breaks no rule, but that an
 /// interface has to be below Object. Nor does a cycle, which has to be asked for apart. The file need not be one of the set.
 /// Takes no memory.
-pub fn first_broken_rule(set: &ClassSet, file: &ClassFile) -> Option<RulePlace>
+pub fn first_broken_rule(
+    set: &ClassSet,
+    methods: &DeclaredMethods,
+    file: &ClassFile,
+) -> Option<RulePlace>
     // as of each set that `ClassSet::new` makes
     requires names_differ { IsFalse (stands set.now DuplicateClass) }
+    // as `DeclaredMethods::of_set` makes them
+    requires declared { AreDeclaredIn set.now methods.now }
     ensures found { is_some result ≡ breaks_rules set.now (file_of file.now) }
     ensures first { IfSome result (IsFirstBroken set.now (file_of file.now)) }
     ensures refused { has_bad_hierarchy set.now (file_of file.now) ≡ (in_cycle set.now (file_of file.now) || is_some result) }
@@ -36,7 +44,7 @@ pub fn first_broken_rule(set: &ClassSet, file: &ClassFile) -> Option<RulePlace>
     if class_breaks_rule(set, file) {
         return Some(RulePlace::Class);
     }
-    if let Some(method) = first_method(set, file) {
+    if let Some(method) = first_method(set, methods, file) {
         return Some(RulePlace::Method { method });
     }
     match first_exception(set, file) {

@@ -61,7 +61,7 @@ impl TextSet {
     }
 
     /// Adds a text, unless it is there.
-    fn add(&mut self, alloc: Global, text: &[u8]) -> Result<(), AllocError>
+    pub fn add(&mut self, alloc: Global, text: &[u8]) -> Result<(), AllocError>
         ensures { OnOk result (self.new ≡ with_text self.old text.now) }
     {
         if self.contains(text) {

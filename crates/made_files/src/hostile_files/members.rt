@@ -13,8 +13,10 @@ const PUBLIC: u16 = 0x0001;
 
 const PUBLIC_STATIC: u16 = 0x0009;
 
-/// Adds so many methods that do nothing.
-pub fn add_getters(class: &mut ClassBuilder, number: u32) -> Result<(), AllocError> {
+const PUBLIC_FINAL: u16 = 0x0011;
+
+/// Adds so many methods of these access flags, which do nothing.
+fn add_idle_methods(class: &mut ClassBuilder, flags: u16, number: u32) -> Result<(), AllocError> {
     let parts = CodeParts {
         max_stack: 0,
         max_locals: 1,
@@ -22,7 +24,22 @@ pub fn add_getters(class: &mut ClassBuilder, number: u32) -> Result<(), AllocErr
         exceptions: &[],
     };
     for place in 0..number {
-        class.add_method(PUBLIC, &numbered(b'm', place), b"()V", Some(parts))?;
+        class.add_method(flags, &numbered(b'm', place), b"()V", Some(parts))?;
+    }
+    Ok(())
+}
+
+/// Adds so many methods that do nothing.
+pub fn add_getters(class: &mut ClassBuilder, number: u32) -> Result<(), AllocError> {
+    add_idle_methods(class, PUBLIC, number)
+}
+
+/// Adds so many classes below each other, with as many methods each, which override those of the class above.
+fn add_overriding_classes(set: &mut Set, number: u32) -> Result<(), AllocError> {
+    for place in 0..number {
+        let mut class = set.chained(b'C', place, OBJECT)?;
+        add_getters(&mut class, number)?;
+        set.add(class)?;
     }
     Ok(())
 }
@@ -32,11 +49,17 @@ pub fn overriding_methods(alloc: Global, number: u32) -> Result<Vec<Vec<u8>>, Al
     let mut set = Set::new(alloc);
     let main = set.idle_main()?;
     set.add(main)?;
-    for place in 0..number {
-        let mut class = set.chained(b'C', place, OBJECT)?;
-        add_getters(&mut class, number)?;
-        set.add(class)?;
-    }
+    add_overriding_classes(&mut set, number)?;
+    Ok(set.finish())
+}
+
+/// The same, beside a class that has final methods of the same names.
+pub fn overriding_beside_finals(alloc: Global, number: u32) -> Result<Vec<Vec<u8>>, AllocError> {
+    let mut set = Set::new(alloc);
+    let mut main = set.idle_main()?;
+    add_idle_methods(&mut main, PUBLIC_FINAL, number)?;
+    set.add(main)?;
+    add_overriding_classes(&mut set, number)?;
     Ok(set.finish())
 }
 

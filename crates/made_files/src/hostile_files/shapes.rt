@@ -12,13 +12,13 @@ use crate::hostile_files::loops::{
     calls_up_a_chain, descriptors_up_a_chain, loop_up_a_chain, many_loops, objects_up_a_chain,
 };
 use crate::hostile_files::members::{
-    long_descriptor, overriding_methods, read_fields, redeclared_fields,
+    long_descriptor, overriding_beside_finals, overriding_methods, read_fields, redeclared_fields,
 };
 use crate::hostile_files::variables::{deep_stack, slow_loop};
 use std::alloc::{AllocError, Global};
 
 /// Their names, in the order of the alphabet.
-pub const SHAPES: [&str; 23] = [
+pub const SHAPES: [&str; 24] = [
     "alternating-handlers",
     "calls-up-a-chain",
     "catch-chain",
@@ -37,6 +37,7 @@ pub const SHAPES: [&str; 23] = [
     "methods-of-interfaces",
     "methods-up-a-chain",
     "objects-up-a-chain",
+    "overriding-beside-finals",
     "overriding-methods",
     "raised-handlers",
     "read-fields",
@@ -108,6 +109,7 @@ fn with_members(
         "long-class-name" => long_class_name(alloc, number),
         "long-descriptor" => long_descriptor(alloc, number),
         "long-method-name" => long_method_name(alloc, number),
+        "overriding-beside-finals" => overriding_beside_finals(alloc, number),
         "overriding-methods" => overriding_methods(alloc, number),
         "read-fields" => read_fields(alloc, number),
         _ => return Ok(None),

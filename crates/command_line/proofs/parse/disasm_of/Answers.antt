@@ -12,4 +12,5 @@ returns-clause-values c = record {
   files = c.in_ok-files.ensures.files;
   names = c.is_set.ensures;
   explain = c.is_set-2.ensures;
+  quiet = c.is_set-3.ensures;
 }

@@ -12,4 +12,5 @@ returns-clause-values c = record {
   file = c.in_ok-file.ensures.path;
   write = c.is_set.ensures;
   explain = c.is_set-2.ensures;
+  quiet = c.is_set-3.ensures;
 }

@@ -18,4 +18,5 @@ returns-clause-values c = record {
   limits = c.in_ok-limits.ensures.limits;
   files = c.in_ok-files.ensures.files;
   explain = c.is_set-2.ensures;
+  quiet = c.is_set-3.ensures;
 }
