@@ -115,7 +115,19 @@ fn agree(
     )
 }
 
-/// What each call answered, or `None` where a caller may not make it.
+/// What a call answered, or `None` where a caller may not make it.
+fn reply_to<M: MonitorCalls>(
+    monitors: &mut M,
+    call: Call,
+) -> Option<Result<MonitorAnswer, MonitorRefusal>> {
+    if monitors.allows(call) {
+        Some(monitors.apply(call))
+    } else {
+        None
+    }
+}
+
+/// What each call answered.
 fn make_calls<M: MonitorCalls>(
     alloc: Global,
     monitors: &mut M,
@@ -123,12 +135,7 @@ fn make_calls<M: MonitorCalls>(
 ) -> Result<Vec<Option<Result<MonitorAnswer, MonitorRefusal>>>, AllocError> {
     let mut replies = Vec::new(alloc);
     for call in calls {
-        let reply = if monitors.allows(*call) {
-            Some(monitors.apply(*call))
-        } else {
-            None
-        };
-        replies.push(reply)?;
+        replies.push(reply_to(monitors, *call))?;
     }
     Ok(replies)
 }
