@@ -10,6 +10,10 @@ use Rattle.types.specs.method_code.View.{shown_in, shown_at}
 use Rattle.run_laws.specs.typing_search.Weights.{places}
 use Rattle.run_laws.specs.typing_search.Decided.{IsBounded}
 
+-- how many steps the verification of a set of classes may take (own)
+abbrev pub most_steps : ℕ
+most_steps = 2000000000
+
 -- ---- of a search over a method
 
 -- a turn: it reads a frame type, and merges one at each offset to which an instruction leads, its handlers included

@@ -5,7 +5,7 @@ ghost use Rattle.model.specs.Typing.{AreTyped};
 ghost use Rattle.types.specs.method_code.Linked.{IsLinked};
 ghost use Rattle.types.specs.method_code.View.{member_of};
 ghost use Rattle.link_conditions.specs.declared.refusal.why.RefusalKind.TheVariants as kinds;
-ghost use Rattle.verifier.specs.Steps.{steps_at, steps_of_class, all_steps, TakesAtMost};
+ghost use Rattle.verifier.specs.Steps.{most_steps, steps_at, steps_of_class, all_steps, TakesAtMost};
 ghost use Rattle.verifier.specs.Places.{file_number, IsTypedAt, AreTypedIn, IsRefusalOf, RefusesPart, Refuses};
 
 use crate::fault::MethodFault;
@@ -185,7 +185,7 @@ pub fn verify_within(alloc: Global, linked: Linked, most: u64) -> Result<Verifie
 /// The same within `MOST_STEPS`.
 pub fn verify(alloc: Global, linked: Linked) -> Result<Verified, Refusal>
     ensures verified { IfOk result (λ verified. verified ≡ linked) }
-    ensures refused { IfErr result (Refuses linked MOST_STEPS) }
+    ensures refused { IfErr result (Refuses linked most_steps) }
 {
     verify_within(alloc, linked, MOST_STEPS)
 }
