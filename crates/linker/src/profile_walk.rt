@@ -7,6 +7,7 @@ ghost use Rattle.model.specs.CodeConditions.{has_malformed_code};
 ghost use Rattle.model.specs.Linkable.{stands, before_walk, before_links};
 ghost use Rattle.classfile.specs.View.{file_of};
 ghost use Rattle.linker.specs.Linking.{RefusesTrees, WalkRefuses, IsFaultRefusal};
+ghost use Rattle.linker.specs.Telling.{NamesMethodOf, TellsOf, TellsLine};
 
 use crate::aside::class_aside;
 use crate::place::method_text;
@@ -34,6 +35,7 @@ fn outside_profile(
 ) -> Result<Refusal, AllocError>
     ensures kind { IfOk result (λ r. r.kind ≡ RefusalKind.OutsideProfile) }
     ensures file { IfOk result (λ r. r.file ≡ Some number) }
+    ensures method { IfOk result (λ r. NamesMethodOf (file_of file.now) r.method) }
 {
     match place {
         Place::Field { .. } => Ok(Refusal::of_file(RefusalKind::OutsideProfile, number)),
@@ -53,7 +55,8 @@ fn refusal_of(
     file: &ClassFile,
     fault: Fault,
 ) -> Result<Refusal, AllocError>
-    ensures { IfOk result (λ r. IsFaultRefusal fault.flaw number r.kind r.file r.cause) }
+    ensures told { IfOk result (λ r. IsFaultRefusal fault.flaw number r.kind r.file r.cause) }
+    ensures line { IfOk result (λ r. TellsOf (file_of file.now) r.kind r.method r.offset) }
 {
     match fault.flaw {
         Flaw::OutsideProfile => outside_profile(alloc, number, file, fault.place),
@@ -69,6 +72,7 @@ fn check_file(alloc: Global, set: &ClassSet, number: usize, file: &ClassFile) ->
     ensures inside { OnOk result (is_outside_profile (file_of file.now) ≡ false) }
     ensures whole { OnOk result (has_malformed_code set.now (file_of file.now) ≡ false) }
     ensures refused { IfErr result (λ r. WalkRefuses set.now (file_of file.now) number r.kind r.file r.cause) }
+    ensures line { IfErr result (λ r. TellsOf (file_of file.now) r.kind r.method r.offset) }
 {
     let aside = class_aside(alloc, set, file)?;
     match first_fault(alloc, file, &aside)? {
@@ -82,6 +86,7 @@ pub(crate) fn check_profile(alloc: Global, set: &ClassSet) -> Result<(), Refusal
     requires { list_any (stands set.now) before_walk ≡ false }
     ensures passed { OnOk result (list_any (stands set.now) before_links ≡ false) }
     ensures refused { IfErr result (λ r. RefusesTrees set.now r.kind r.file r.cause) }
+    ensures line { IfErr result (λ r. TellsLine set.now r.kind r.file r.method r.offset) }
 {
     for number in 0..set.file_count() {
         let Some(file) = set.file_at(number) else {

@@ -1,8 +1,9 @@
-use Rattle.std.proofs.Common.{◌∙◌, sym}
+use Rattle.std.proofs.Common.{◌∙◌, sym, inr}
 use Rattle.model.specs.Hierarchy.{in_cycle}
 use Rattle.hierarchy.proofs.Indices.{no_position}
 use Rattle.linker.proofs.Lists.{position_passes}
 use Rattle.linker.proofs.Stages.{cycle_refused}
+use Rattle.linker.proofs.Telling.{file_tells, class_tells}
 use Rattle.linker.proofs.hierarchy_rules.check_hierarchy.Goals as goal
 
 pub returns-in-Some-clause-refused : goal.returns-in-Some-clause-refused
@@ -15,3 +16,12 @@ returns-in-Some-clause-refused c =
 pub check_rules-requires-clause-acyclic : goal.check_rules-requires-clause-acyclic
 check_rules-requires-clause-acyclic c =
     no_position (in_cycle c.args.set.now) c.args.set.now (sym c.in_ok-found.ensures ∙ c.in_default.is)
+
+pub returns-in-Some-clause-line : goal.returns-in-Some-clause-line
+returns-in-Some-clause-line c =
+    let trees = c.args.set.now in
+    let n = c.in-Some.number in
+    let r = c.of_file.result in
+    let found = position_passes (in_cycle trees) trees n (sym c.in_ok-found.ensures ∙ c.in-Some.is) in
+    file_tells trees found.0 n r.kind r.file r.method r.offset found.1 (inr c.of_file.ensures.file)
+    (class_tells found.0 r.kind r.method r.offset c.of_file.ensures.kind c.of_file.ensures.method c.of_file.ensures.offset)

@@ -10,4 +10,4 @@ returns-in-Some-clause-refused c =
     let r = c.in_ok-refusal_of-in-Some.field-0 in
     let h = c.in_ok-fault.ensures c.args.set.now (λ index. ap (λ l. row_of l index) c.deref.ensures.value ∙ c.in_ok-aside.ensures index) in
     let found = subst (λ (o : Option Fault). Finds c.args.set.now (file_of c.args.file.now) o) c.in-Some.is h in
-    fault_refused c.args.set.now (file_of c.args.file.now) c.args.number c.in-Some.fault.flaw r.kind r.file r.cause found.1 c.in_ok-refusal_of-in-Some.ensures
+    fault_refused c.args.set.now (file_of c.args.file.now) c.args.number c.in-Some.fault.flaw r.kind r.file r.cause found.1 c.in_ok-refusal_of-in-Some.ensures.told
