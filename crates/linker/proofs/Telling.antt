@@ -1,70 +1,102 @@
--- What the lines of refusals name, from the parts of linking to the whole.
-use Rattle.std.proofs.Common.{◌≡◌, ◌⊎◌, ℕ, List, refl, sym, subst, inl, inr, ap, ◌∙◌, Option, Some, None, Vec, Global, vec_items}
-use Rattle.std.specs.Prelude.{Bool, slice_get, option_map}
+-- What the lines of refusals tell, from the parts of linking to the whole.
+use Rattle.std.proofs.Common.{◌≡◌, ◌⊎◌, ◌<◌, ℕ, List, length, true, refl, sym, subst, inl, inr, ap, ◌∙◌, get_or, map, take, Option, Some, None, Vec, Global, vec_items}
+use Rattle.std.specs.Prelude.{slice_get}
+use Rattle.std.proofs.lemmas.List.{take-map}
 use Rattle.model.specs.Tree.{FileTree}
 use Rattle.model.specs.Classes.{Program}
-use Rattle.model.specs.Linkable.{AreSpelled}
+use Rattle.model.specs.Hierarchy.{in_cycle, has_bad_hierarchy}
+use Rattle.model.specs.Resolution.{is_unresolved}
+use Rattle.model.specs.Linkable.{AreSpelled, too_many_fields}
+use Rattle.link_conditions.specs.refusal.Memory.{memory_wanted}
+use Rattle.link_conditions.specs.declared.refusal.why.Refusal.{Refusal}
 use Rattle.link_conditions.specs.declared.refusal.why.RefusalKind.{RefusalKind}
 use Rattle.link_conditions.specs.declared.refusal.why.RefusalKind.TheVariants as kinds
-use Rattle.constant_pool.specs.declared.reading.fault.Cause.{Cause}
-use Rattle.model.specs.Profile.{is_outside_profile}
-use Rattle.model.specs.CodeConditions.{has_malformed_code}
-use Rattle.linker.specs.Linking.{method_text, RefusesFor, WalkRefuses}
-use Rattle.linker.specs.Telling.{NamesMethodOf, TellsOf, TellsLine, TellsLineOf}
+use Rattle.classfile.specs.profile.Faults.{Finds}
+use Rattle.classfile.specs.declared.profile.fault.Fault.{Fault}
+use Rattle.classfile.specs.declared.profile.fault.Flaw.{Flaw}
+use Rattle.classfile.specs.declared.profile.fault.Flaw.TheVariants as flaws
+use Rattle.linker.specs.Linking.{IsUnreadable, IsFaultRefusal}
+use Rattle.linker.specs.Telling.{Tells, TellsNoMethod, TellsFault, TellsUnread, TellsWalk, TellsRuleOf, TellsNameOf, NoneOf, NoFault, MayBeRead, IsOf, IsFirstTooLarge, TellsLine, TellsLineOf}
+use Rattle.linker.proofs.Decoded.{bytes_at}
 
-pub method_named : (tree : FileTree) (k : ℕ) (text : Option (Vec ℕ Global)) → option_map vec_items text ≡ method_text tree k
-    → NamesMethodOf tree text
-method_named tree k None e = tt
-method_named tree k (Some text) e = (k, sym e)
+-- ---- a file that is read
 
-pub memory_tells : (trees : Program) (kind : RefusalKind) (file : Option ℕ) (method : Option (Vec ℕ Global)) (offset : Option ℕ)
-    → kind ≡ kinds.OutOfMemory → TellsLine trees kind file method offset
-memory_tells trees kind file method offset e = subst (λ k. TellsLine trees k file method offset) (sym e) tt
+pub unread_tells : (files : List (Vec ℕ Global)) (i : ℕ) (file : Vec ℕ Global) (bytes : List ℕ) (trees : Program) (r : Refusal)
+    → i < length files → file ≡ get_or files i file → bytes ≡ file.items → AreSpelled (map vec_items (take i files)) trees
+    → IsUnreadable (map vec_items files) r.kind r.file r.offset r.cause → TellsUnread i r → TellsLineOf (map vec_items files) r.kind r
+unread_tells files i file bytes trees r lt at e found unread (inl s) =
+    let before = subst (λ (l : List (List ℕ)). AreSpelled l trees) (sym (take-map vec_items i files)) found in
+    subst (λ k. TellsLineOf (map vec_items files) k r) (sym s.0.0)
+    (subst (MayBeRead (map vec_items files)) (sym s.0.1) (bytes, trees, bytes_at files i file bytes lt at e, before), s.1)
+unread_tells files i file bytes trees r lt at e found (inl memory) (inr s) = let no : kinds.OutOfMemory ≡ kinds.Malformed = sym memory ∙ s.0.0 in absurd cc
+unread_tells files i file bytes trees r lt at e found (inr u) (inr s) = subst (λ k. TellsLineOf (map vec_items files) k r) (sym u.0) (inl (u.1, s.1))
 
-pub memory_tells_of : (tree : FileTree) (kind : RefusalKind) (method : Option (Vec ℕ Global)) (offset : Option ℕ)
-    → kind ≡ kinds.OutOfMemory → TellsOf tree kind method offset
-memory_tells_of tree kind method offset e = subst (λ k. TellsOf tree k method offset) (sym e) tt
+-- ---- the class of a file
 
--- of the file with a number
-pub file_tells : (trees : Program) (tree : FileTree) (number : ℕ) (kind : RefusalKind) (file : Option ℕ) (method : Option (Vec ℕ Global)) (offset : Option ℕ)
-    → slice_get trees number ≡ Some tree → (kind ≡ kinds.OutOfMemory) ⊎ (file ≡ Some number) → TellsOf tree kind method offset
-    → TellsLine trees kind file method offset
-file_tells trees tree number kind file method offset at (inl e) t = memory_tells trees kind file method offset e
-file_tells trees tree number kinds.OutsideProfile file method offset at (inr n) t = record { number = number; tree = tree; named = n; stands = at; tells = t }
-file_tells trees tree number kinds.Unresolved file method offset at (inr n) t = record { number = number; tree = tree; named = n; stands = at; tells = t }
-file_tells trees tree number kinds.BadHierarchy file method offset at (inr n) t = record { number = number; tree = tree; named = n; stands = at; tells = t }
-file_tells trees tree number kinds.Malformed file method offset at (inr n) t = t
-file_tells trees tree number kinds.DuplicateClass file method offset at (inr n) t = t
-file_tells trees tree number kinds.TooLarge file method offset at (inr n) t = t
-file_tells trees tree number kinds.NoMain file method offset at (inr n) t = t
-file_tells trees tree number kinds.Unverified file method offset at (inr n) t = t
-file_tells trees tree number kinds.OutOfMemory file method offset at (inr n) t = tt
+pub memory_tells : (trees : Program) (r : Refusal) → r ≡ memory_wanted → TellsLine trees r.kind r
+memory_tells trees r e = subst (λ x. TellsLine trees x.kind x) (sym e) refl
 
--- the file that a refusal of it names
-pub names_it : (wanted : RefusalKind) (stands : Bool) (number : ℕ) (kind : RefusalKind) (file : Option ℕ)
-    → RefusesFor wanted stands number kind file → (kind ≡ kinds.OutOfMemory) ⊎ (file ≡ Some number)
-names_it wanted stands number kind file (inl e) = inl e
-names_it wanted stands number kind file (inr r) = inr r.1
+-- a fault that is found
+pub fault_tells : (trees : Program) (number : ℕ) (tree : FileTree) (fault : Fault) (r : Refusal) → Finds trees tree (Some fault)
+    → IsFaultRefusal fault.flaw number r.kind r.file r.cause → TellsFault tree fault.flaw fault.place r → TellsWalk trees number tree r
+fault_tells trees number tree fault r found = by fault.flaw refl
+  where
+    by : (flaw : Flaw) → fault.flaw ≡ flaw → IsFaultRefusal flaw number r.kind r.file r.cause → TellsFault tree flaw fault.place r
+        → TellsWalk trees number tree r
+    by flaws.OutsideProfile is s t = inr (inl ((s.0, s.1), record { fault = fault; flawed = is; first = found.0; told = t }))
+    by flaws.MalformedCode is s t = inr (inr ((s.0, s.1), record { fault = fault; flawed = is; first = found.0; told = t }))
 
-pub walk_names_it : (trees : Program) (tree : FileTree) (number : ℕ) (kind : RefusalKind) (file : Option ℕ) (cause : Option Cause)
-    → WalkRefuses trees tree number kind file cause → (kind ≡ kinds.OutOfMemory) ⊎ (file ≡ Some number)
-walk_names_it trees tree number kind file cause (inl r) = names_it kinds.OutsideProfile (is_outside_profile tree) number kind file r
-walk_names_it trees tree number kind file cause (inr r) = names_it kinds.Malformed (has_malformed_code trees tree) number kind file r.1
+pub walk_tells : (trees : Program) (number : ℕ) (tree : FileTree) (r : Refusal) → slice_get trees number ≡ Some tree
+    → NoFault trees (take number trees) → TellsWalk trees number tree r → TellsLine trees r.kind r
+walk_tells trees number tree r at before (inl e) = memory_tells trees r e
+walk_tells trees number tree r at before (inr (inl s)) =
+    subst (λ k. TellsLine trees k r) (sym s.0.0)
+    (record { number = number; tree = tree; named = s.0.1; stands = at; before = before; told = s.1 })
+walk_tells trees number tree r at before (inr (inr s)) =
+    subst (λ k. TellsLine trees k r) (sym s.0.0)
+    (record { number = number; tree = tree; named = s.0.1; stands = at; before = before; told = s.1 })
 
--- of a class, with no method of it
-pub class_tells : (tree : FileTree) (kind : RefusalKind) (method : Option (Vec ℕ Global)) (offset : Option ℕ)
-    → kind ≡ kinds.BadHierarchy → method ≡ None → offset ≡ None → TellsOf tree kind method offset
-class_tells tree kind method offset k m o =
-    subst (λ x. TellsOf tree x method offset) (sym k) (subst (λ x. NamesMethodOf tree x) (sym m) tt, o)
+pub rules_tell : (trees : Program) (number : ℕ) (tree : FileTree) (r : Refusal) → slice_get trees number ≡ Some tree
+    → NoneOf (in_cycle trees) trees → NoneOf (has_bad_hierarchy trees) (take number trees) → TellsRuleOf trees number tree r
+    → TellsLine trees r.kind r
+rules_tell trees number tree r at acyclic before (inl e) = memory_tells trees r e
+rules_tell trees number tree r at acyclic before (inr s) =
+    subst (λ k. TellsLine trees k r) (sym s.0.0)
+    (inr (acyclic, record { number = number; tree = tree; named = s.0.1; stands = at; before = before; told = s.1 }))
 
-pub of_files : (files : List (List ℕ)) (trees : Program) (kind : RefusalKind) (file : Option ℕ) (method : Option (Vec ℕ Global)) (offset : Option ℕ)
-    → AreSpelled files trees → TellsLine trees kind file method offset → TellsLineOf files kind file method offset
-of_files files trees kinds.Malformed file method offset spelled t = t
-of_files files trees kinds.OutOfMemory file method offset spelled t = tt
-of_files files trees kinds.OutsideProfile file method offset spelled t = (trees, spelled, t)
-of_files files trees kinds.Unresolved file method offset spelled t = (trees, spelled, t)
-of_files files trees kinds.BadHierarchy file method offset spelled t = (trees, spelled, t)
-of_files files trees kinds.DuplicateClass file method offset spelled t = (trees, spelled, t)
-of_files files trees kinds.TooLarge file method offset spelled t = (trees, spelled, t)
-of_files files trees kinds.NoMain file method offset spelled t = (trees, spelled, t)
-of_files files trees kinds.Unverified file method offset spelled t = absurd t
+pub cycle_tells : (trees : Program) (number : ℕ) (tree : FileTree) (r : Refusal) → slice_get trees number ≡ Some tree
+    → NoneOf (in_cycle trees) (take number trees) → in_cycle trees tree ≡ true → IsOf kinds.BadHierarchy number r → Tells None None r
+    → TellsLine trees r.kind r
+cycle_tells trees number tree r at before h s t =
+    subst (λ k. TellsLine trees k r) (sym s.0)
+    (inl (record { number = number; tree = tree; named = s.1; stands = at; before = before; told = (h, t) }))
+
+pub names_tell : (trees : Program) (number : ℕ) (tree : FileTree) (r : Refusal) → slice_get trees number ≡ Some tree
+    → NoneOf (is_unresolved trees) (take number trees) → TellsNameOf trees number tree r → TellsLine trees r.kind r
+names_tell trees number tree r at before (inl e) = memory_tells trees r e
+names_tell trees number tree r at before (inr s) =
+    subst (λ k. TellsLine trees k r) (sym s.0.0)
+    (record { number = number; tree = tree; named = s.0.1; stands = at; before = before; told = s.1 })
+
+pub fields_tell : (trees : Program) (number : ℕ) (r : Refusal) → NoneOf (too_many_fields trees) (take number trees)
+    → IsOf kinds.TooLarge number r → Tells None None r → TellsLine trees r.kind r
+fields_tell trees number r before s t =
+    subst (λ k. TellsLine trees k r) (sym s.0) (t, subst (λ f. IsFirstTooLarge trees f) (sym s.1) before)
+
+-- ---- files
+
+pub of_files : (files : List (List ℕ)) (trees : Program) (r : Refusal) → AreSpelled files trees → TellsLine trees r.kind r
+    → TellsLineOf files r.kind r
+of_files files trees r spelled = by r.kind
+  where
+    by : (kind : RefusalKind) → TellsLine trees kind r → TellsLineOf files kind r
+    by kinds.Malformed t = inr (trees, spelled, t)
+    by kinds.OutsideProfile t = (trees, spelled, t)
+    by kinds.DuplicateClass t = (trees, spelled, t)
+    by kinds.Unresolved t = (trees, spelled, t)
+    by kinds.BadHierarchy t = (trees, spelled, t)
+    by kinds.Unverified t = absurd t
+    by kinds.NoMain t = (trees, spelled, t)
+    by kinds.TooLarge t = (trees, spelled, t)
+    by kinds.OutOfMemory t =
+        (subst (λ (x : Refusal). MayBeRead files x.file) (sym t) tt, subst (Tells None None) (sym t) (record { method = refl; offset = refl; cause = refl }))

@@ -7,7 +7,7 @@ ghost use Rattle.model.specs.Linkable.{stands, before_links, earlier, DuplicateC
 ghost use Rattle.classfile.specs.View.{file_of};
 ghost use Rattle.link_conditions.specs.class_rules.Declared.{AreDeclaredIn};
 ghost use Rattle.linker.specs.Linking.{RefusesTrees, RefusesFor};
-ghost use Rattle.linker.specs.Telling.{NamesMethodOf, TellsOf, TellsLine};
+ghost use Rattle.linker.specs.Telling.{rule_method, TellsMethod, TellsRuleOf, TellsLine};
 
 use crate::place::method_text;
 use classfile::ClassFile;
@@ -25,8 +25,7 @@ fn refusal_of(
 ) -> Result<Refusal, AllocError>
     ensures kind { IfOk result (λ r. r.kind ≡ RefusalKind.BadHierarchy) }
     ensures file { IfOk result (λ r. r.file ≡ Some number) }
-    ensures method { IfOk result (λ r. NamesMethodOf (file_of file.now) r.method) }
-    ensures offset { IfOk result (λ r. r.offset ≡ None) }
+    ensures line { IfOk result (TellsMethod (file_of file.now) (rule_method place) None) }
 {
     match place {
         RulePlace::Class => Ok(Refusal::of_file(RefusalKind::BadHierarchy, number)),
@@ -55,7 +54,7 @@ fn check_file(
     ensures passed { OnOk result (has_bad_hierarchy set.now (file_of file.now) ≡ false) }
     ensures refused { IfErr result (λ r. RefusesFor RefusalKind.BadHierarchy (has_bad_hierarchy set.now (file_of file.now)) number r.kind
         r.file) }
-    ensures line { IfErr result (λ r. TellsOf (file_of file.now) r.kind r.method r.offset) }
+    ensures line { IfErr result (TellsRuleOf set.now number (file_of file.now)) }
 {
     match first_broken_rule(set, methods, file) {
         Some(place) => Err(refusal_of(alloc, number, file, place)?),
@@ -70,7 +69,7 @@ fn check_rules(alloc: Global, set: &ClassSet, methods: &DeclaredMethods) -> Resu
     requires acyclic { list_any (in_cycle set.now) set.now ≡ false }
     ensures passed { OnOk result (list_any (stands set.now) (earlier Unresolved) ≡ false) }
     ensures refused { IfErr result (λ r. RefusesTrees set.now r.kind r.file r.cause) }
-    ensures line { IfErr result (λ r. TellsLine set.now r.kind r.file r.method r.offset) }
+    ensures line { IfErr result (λ r. TellsLine set.now r.kind r) }
 {
     for number in 0..set.file_count() {
         let Some(file) = set.file_at(number) else {
@@ -86,7 +85,7 @@ fn check_hierarchy(alloc: Global, set: &ClassSet) -> Result<(), Refusal>
     requires { list_any (stands set.now) before_links ≡ false }
     ensures passed { OnOk result (list_any (stands set.now) (earlier Unresolved) ≡ false) }
     ensures refused { IfErr result (λ r. RefusesTrees set.now r.kind r.file r.cause) }
-    ensures line { IfErr result (λ r. TellsLine set.now r.kind r.file r.method r.offset) }
+    ensures line { IfErr result (λ r. TellsLine set.now r.kind r) }
 {
     let found = first_in_cycle(alloc, set)?;
     if let Some(number) = found {
@@ -102,7 +101,7 @@ pub(crate) fn hierarchy_of(alloc: Global, set: ClassSet) -> Result<Hierarchy, Re
     ensures set { IfOk result (λ hierarchy. hierarchy ≡ set) }
     ensures passed { OnOk result (list_any (stands set) (earlier Unresolved) ≡ false) }
     ensures refused { IfErr result (λ r. RefusesTrees set r.kind r.file r.cause) }
-    ensures line { IfErr result (λ r. TellsLine set r.kind r.file r.method r.offset) }
+    ensures line { IfErr result (λ r. TellsLine set r.kind r) }
 {
     check_hierarchy(alloc, &set)?;
     let hierarchy = Hierarchy::new(alloc, set)?;

@@ -4,7 +4,6 @@ ghost use Rattle.std.specs.Prelude.{◌≡◌, ◌++◌, IfOk, option_map, vec_i
 ghost use Rattle.model.specs.Conditions.{text_at};
 ghost use Rattle.classfile.specs.View.{file_of};
 ghost use Rattle.linker.specs.Linking.{method_text};
-ghost use Rattle.linker.specs.Telling.{NamesMethodOf};
 
 use classfile::{ClassFile, Method};
 use std::alloc::{AllocError, Global};
@@ -24,8 +23,7 @@ pub(crate) fn method_text(
     file: &ClassFile,
     method: usize,
 ) -> Result<Option<Vec<u8>>, AllocError>
-    ensures text { IfOk result (λ t. option_map vec_items t ≡ method_text (file_of file.now) method) }
-    ensures named { IfOk result (NamesMethodOf (file_of file.now)) }
+    ensures { IfOk result (λ t. option_map vec_items t ≡ method_text (file_of file.now) method) }
 {
     match file.methods.get(method) {
         Some(method) => Ok(Some(text_of(alloc, file, method)?)),

@@ -2,9 +2,8 @@ use Rattle.std.proofs.Common.{sym}
 use Rattle.classfile.specs.View.{file_of}
 use Rattle.model.specs.Hierarchy.{in_cycle, has_bad_hierarchy}
 use Rattle.std.proofs.lemmas.Result.{err_from_is_err_and}
-use Rattle.link_conditions.specs.declared.refusal.why.RefusalKind.TheVariants as kinds
 use Rattle.linker.proofs.Stages.{rules_refused}
-use Rattle.linker.proofs.Telling.{file_tells, names_it}
+use Rattle.linker.proofs.Telling.{rules_tell}
 use Rattle.linker.proofs.hierarchy_rules.check_rules.Goals as goal
 use Rattle.hierarchy.proofs.Indices.{none_more}
 use Rattle.hierarchy.proofs.Finding.{none_at}
@@ -25,7 +24,5 @@ pub returns-in_err-check_file-clause-line : goal.returns-in_err-check_file-claus
 returns-in_err-check_file-clause-line c =
     let p = err_from_is_err_and c.from_residual.result c.from_residual.ensures.1 in
     let e = c.in_err-check_file.field-0.0 in
-    let trees = c.args.set.now in
-    let tree = file_of c.in-Some.file.now in
     rw (p.1, p.2)
-    (file_tells trees tree c.loop-number.number e.kind e.file e.method e.offset (sym c.in-Some.ensures) (names_it kinds.BadHierarchy (has_bad_hierarchy trees tree) c.loop-number.number e.kind e.file c.in_err-check_file.ensures.refused) c.in_err-check_file.ensures.line)
+    (rules_tell c.args.set.now c.loop-number.number (file_of c.in-Some.file.now) e (sym c.in-Some.ensures) c.requires.acyclic c.loop-number.invariant c.in_err-check_file.ensures.line)

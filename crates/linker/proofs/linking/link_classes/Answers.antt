@@ -20,10 +20,10 @@ pub returns-in_err-check_profile-clause-line : goal.returns-in_err-check_profile
 returns-in_err-check_profile-clause-line c =
     let e = c.in_err-check_profile.field-0.0 in
     let p = err_from_is_err_and c.from_residual-in_err-check_profile.result c.from_residual-in_err-check_profile.ensures.1 in
-    rw (p.1, p.2) (subst (λ files. TellsLine files e.kind e.file e.method e.offset) (c.in_ok-set.ensures.set) c.in_err-check_profile.ensures.line)
+    rw (p.1, p.2) (subst (λ files. TellsLine files e.kind e) (c.in_ok-set.ensures.set) c.in_err-check_profile.ensures.line)
 
 pub returns-in_err-check_links-clause-line : goal.returns-in_err-check_links-clause-line
 returns-in_err-check_links-clause-line c =
     let e = c.in_err-check_links.field-0.0 in
     let p = err_from_is_err_and c.from_residual-in_err-check_links.result c.from_residual-in_err-check_links.ensures.1 in
-    rw (p.1, p.2) (subst (λ files. TellsLine files e.kind e.file e.method e.offset) (c.in_ok-hierarchy.ensures.set ∙ c.in_ok-set.ensures.set) c.in_err-check_links.ensures.line)
+    rw (p.1, p.2) (subst (λ files. TellsLine files e.kind e) (c.in_ok-hierarchy.ensures.set ∙ c.in_ok-set.ensures.set) c.in_err-check_links.ensures.line)

@@ -3,9 +3,8 @@ use Rattle.std.specs.Prelude.{slice_get}
 use Rattle.classfile.specs.View.{file_of}
 use Rattle.model.specs.Resolution.{is_unresolved}
 use Rattle.std.proofs.lemmas.Result.{err_from_is_err_and}
-use Rattle.link_conditions.specs.declared.refusal.why.RefusalKind.TheVariants as kinds
 use Rattle.linker.proofs.Stages.{names_refused}
-use Rattle.linker.proofs.Telling.{file_tells, names_it}
+use Rattle.linker.proofs.Telling.{names_tell}
 use Rattle.linker.proofs.names.check_names.Goals as goal
 use Rattle.hierarchy.proofs.Indices.{none_more}
 
@@ -25,8 +24,6 @@ pub returns-in_err-check_file-clause-line : goal.returns-in_err-check_file-claus
 returns-in_err-check_file-clause-line c =
     let p = err_from_is_err_and c.from_residual.result c.from_residual.ensures.1 in
     let e = c.in_err-check_file.field-0.0 in
-    let trees = c.args.hierarchy.now in
-    let tree = file_of c.in-Some.file.now in
     let at = sym (c.in-Some.ensures ∙ ap (λ s. slice_get s c.loop-number.number) c.set-set.ensures) in
     rw (p.1, p.2)
-    (file_tells trees tree c.loop-number.number e.kind e.file e.method e.offset at (names_it kinds.Unresolved (is_unresolved trees tree) c.loop-number.number e.kind e.file c.in_err-check_file.ensures.refused) c.in_err-check_file.ensures.line)
+    (names_tell c.args.hierarchy.now c.loop-number.number (file_of c.in-Some.file.now) e at c.loop-number.invariant c.in_err-check_file.ensures.line)
