@@ -1,6 +1,7 @@
 -- Lists, and tests of what stands in them.
-use Rattle.std.proofs.Common.{◌≡◌, ℕ, Bool, true, false, not, ◌&&◌, List, length, map, get_or, refl, sym, ap, ◌∙◌, arith, ⊎_elim, Option, Some, None}
+use Rattle.std.proofs.Common.{◌≡◌, ℕ, Bool, true, zero, suc, false, not, ltb, cond, ◌&&◌, ◌||◌, List, [], ◌∷◌, length, map, take, get_or, refl, sym, ap, subst, ◌∙◌, arith, ⊎_elim, Option, Some, None}
 use Rattle.std.specs.Prelude.{position, slice_get, slice_index_or}
+use Rattle.std.specs.List.{position_or_len, list_any}
 use Rattle.std.proofs.lemmas.List.{get_or-map, get_or_past, length-map}
 use Rattle.std.proofs.lemmas.Bool.{cases_lt}
 use Rattle.hierarchy.proofs.Finding.{position_within, find_passes, passes_at}
@@ -31,3 +32,21 @@ position_passes p xs k e = by (slice_get xs k) refl
     by : (o : Option _) → slice_get xs k ≡ o → (x : _) × (slice_get xs k ≡ Some x) × (p x ≡ true)
     by None at = absurd (no_item xs k (position_within p xs k e) at)
     by (Some x) at = (x, at, find_passes p xs x (passes_at p xs k x e at))
+
+-- none before it does
+pub none_before : {A : Type 0} (p : A → Bool) (xs : List A) (k : ℕ) → position p xs ≡ Some k → list_any p (take k xs) ≡ false
+none_before p xs k e = subst (λ n. list_any p (take n xs) ≡ false) (at e) (fails p xs)
+  where
+    at : position p xs ≡ Some k → position_or_len p xs ≡ k
+    at = by (ltb (position_or_len p xs) (length xs))
+      where
+        by : (b : Bool) → cond b (Some (position_or_len p xs)) None ≡ Some k → position_or_len p xs ≡ k
+        by true e = cc
+        by false e = absurd cc
+    fails : {A : Type 0} (p : A → Bool) (xs : List A) → list_any p (take (position_or_len p xs) xs) ≡ false
+    fails p [] = refl
+    fails p (y ∷ ys) = here (p y) refl
+      where
+        here : (b : Bool) → p y ≡ b → list_any p (take (cond b zero (suc (position_or_len p ys))) (y ∷ ys)) ≡ false
+        here true h = refl
+        here false h = rw h (fails p ys)
