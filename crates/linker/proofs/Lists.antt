@@ -43,6 +43,7 @@ none_before p xs k e = subst (λ n. list_any p (take n xs) ≡ false) (at e) (fa
         by : (b : Bool) → cond b (Some (position_or_len p xs)) None ≡ Some k → position_or_len p xs ≡ k
         by true e = cc
         by false e = absurd cc
+
     fails : {A : Type 0} (p : A → Bool) (xs : List A) → list_any p (take (position_or_len p xs) xs) ≡ false
     fails p [] = refl
     fails p (y ∷ ys) = here (p y) refl
