@@ -1,5 +1,5 @@
 -- What the lines of refusals tell, from the parts of linking to the whole.
-use Rattle.std.proofs.Common.{◌≡◌, ◌⊎◌, ◌<◌, ℕ, List, length, true, refl, sym, subst, inl, inr, ap, ◌∙◌, get_or, map, take, Option, Some, None, Vec, Global, vec_items}
+use Rattle.std.proofs.Common.{◌≡◌, ◌<◌, ℕ, List, length, true, refl, sym, subst, inl, inr, ◌∙◌, get_or, map, take, Some, None, Vec, Global, vec_items}
 use Rattle.std.specs.Prelude.{slice_get}
 use Rattle.std.proofs.lemmas.List.{take-map}
 use Rattle.model.specs.Tree.{FileTree}
@@ -16,7 +16,7 @@ use Rattle.classfile.specs.declared.profile.fault.Fault.{Fault}
 use Rattle.classfile.specs.declared.profile.fault.Flaw.{Flaw}
 use Rattle.classfile.specs.declared.profile.fault.Flaw.TheVariants as flaws
 use Rattle.linker.specs.Linking.{IsUnreadable, IsFaultRefusal}
-use Rattle.linker.specs.Telling.{Tells, TellsNoMethod, TellsFault, TellsUnread, TellsWalk, TellsRuleOf, TellsNameOf, NoneOf, NoFault, MayBeRead, IsOf, IsFirstTooLarge, TellsLine, TellsLineOf}
+use Rattle.linker.specs.Telling.{Tells, TellsFault, TellsUnread, TellsWalk, TellsRuleOf, TellsNameOf, NoneOf, NoFault, MayBeRead, IsOf, IsFirstTooLarge, TellsLine, TellsLineOf}
 use Rattle.linker.proofs.Decoded.{bytes_at}
 
 -- ---- a file that is read

@@ -1,18 +1,17 @@
 -- Classes that may declare a method which another one redeclares as it must not: what a table tells of those that do.
 use Rattle.std.proofs.Common.{◌≡◌, ℕ, ◌+◌, ◌<◌, ◌≤◌, arith, length, ltb, Bool, true, false, not, ◌||◌, ◌&&◌, cond, List, [], ◌∷◌, refl, sym, ap, ◌∙◌, subst, Option, Some, None}
-use Rattle.std.specs.Prelude.{◌==◌, find, position, slice_get}
+use Rattle.std.specs.Prelude.{◌==◌, position, slice_get}
 use Rattle.std.specs.Option.{option_and_then, option_map_or}
 use Rattle.std.specs.List.{list_any}
 use Rattle.std.proofs.lemmas.Bool.{and_parts, or_parts, eqb-true}
 use Rattle.std.proofs.lemmas.Option.{slice_get_past}
 use borrow.Author.Tests.{ltb-true, ltb-false}
-use Rattle.model.specs.Names.{Name, name_eq, spells}
+use Rattle.model.specs.Names.{Name, spells}
 use Rattle.model.specs.Tree.{Entry, Utf8, Integer, Float, Long, Double, Class, String, Field, Method, InterfaceMethod, NameAndType, Unusable, FileTree, MethodTree}
 use Rattle.model.specs.Spelling.{entry_at, text_of}
 use Rattle.model.specs.Pool.{utf8_of}
-use Rattle.model.specs.Conditions.{text_at}
 use Rattle.model.specs.AccessFlags.{is_private, is_final, is_package_private, is_private_method, is_static_method}
-use Rattle.model.specs.Classes.{Program, name_of, classes_of, class_of, is_named, is_method, declared_in, same_package}
+use Rattle.model.specs.Classes.{Program, name_of, classes_of, is_named, is_method, declared_in, same_package}
 use Rattle.model.specs.Lookup.{method_of}
 use Rattle.model.specs.Hierarchy.{redeclares_in}
 use Rattle.model.specs.Profile.{method_name, method_descriptor}

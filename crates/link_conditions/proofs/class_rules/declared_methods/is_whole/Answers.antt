@@ -1,7 +1,6 @@
-use Rattle.std.proofs.Common.{◌≡◌, ℕ, false, length, arith, ap, sym, ◌∙◌, Option}
+use Rattle.std.proofs.Common.{false, arith, ap, sym, ◌∙◌, Option}
 use Rattle.std.specs.Option.{option_map_or}
 use Rattle.model.specs.Tree.{FileTree}
-use Rattle.model.specs.Classes.{classes_of}
 use Rattle.hierarchy.specs.Places.{class_at}
 use Rattle.link_conditions.specs.class_rules.Declared.{has_untold}
 use Rattle.link_conditions.proofs.class_rules.Suspected.{one_more, all_told}

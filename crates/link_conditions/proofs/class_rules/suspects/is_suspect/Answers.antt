@@ -1,4 +1,4 @@
-use Rattle.std.proofs.Common.{◌≡◌, ◌∙◌, not, sym, ap, subst}
+use Rattle.std.proofs.Common.{◌∙◌, not, sym, ap, subst}
 use Rattle.model.specs.AccessFlags.{is_private}
 use Rattle.model.specs.Names.{Name}
 use Rattle.classfile.specs.View.{file_of, method_of}

@@ -1,7 +1,7 @@
-use Rattle.std.proofs.Common.{◌≡◌, ◌∙◌, ℕ, List, sym, ap}
+use Rattle.std.proofs.Common.{◌∙◌, ℕ, List, sym, ap}
 use Rattle.std.specs.List.{list_any}
 use Rattle.model.specs.Names.{Name}
-use Rattle.model.specs.Profile.{method_name, method_descriptor}
+use Rattle.model.specs.Profile.{method_name}
 use Rattle.classfile.specs.View.{file_of, method_of}
 use Rattle.link_conditions.specs.class_rules.Declared.{number_of, may_be_bad}
 use Rattle.link_conditions.proofs.class_rules.Suspected.{none_numbered, none_flagged}
