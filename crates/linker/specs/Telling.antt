@@ -91,7 +91,9 @@ name_offset (names.Exception k entry) = None
 -- a place at which a name is not found
 abbrev pub TellsName : Program → Refusal → FileTree → Type 0
 TellsName trees r tree =
-    (place : UnresolvedPlace) × (stands_at trees tree place ≡ true) × TellsMethod tree (name_method place) (name_offset place) r
+    (place : UnresolvedPlace)
+    × (stands_at trees tree place ≡ true)
+    × TellsMethod tree (name_method place) (name_offset place) r
 
 abbrev pub rule_method : RulePlace → Option ℕ
 rule_method rules.Class = None
@@ -100,7 +102,8 @@ rule_method (rules.Exception k entry) = Some k
 
 -- the first rule of a class that is broken
 abbrev pub TellsRule : Program → Refusal → FileTree → Type 0
-TellsRule trees r tree = (place : RulePlace) × IsFirstBroken trees tree place × TellsMethod tree (rule_method place) None r
+TellsRule trees r tree =
+    (place : RulePlace) × IsFirstBroken trees tree place × TellsMethod tree (rule_method place) None r
 
 -- a class that is above itself
 abbrev pub TellsCycle : Program → Refusal → FileTree → Type 0
@@ -113,7 +116,8 @@ abbrev pub IsOf : RefusalKind → ℕ → Refusal → Type 0
 IsOf kind number r = (r.kind ≡ kind) × (r.file ≡ Some number)
 
 -- the file that is named, what is so of its tree, and what of those before it
-pub record NamesFirst (trees : Program) (Before : Program → Type 0) (P : FileTree → Type 0) (file : Option ℕ) : Type 0 where
+pub record NamesFirst (trees : Program) (Before : Program → Type 0) (P : FileTree → Type 0) (file : Option ℕ)
+    : Type 0 where
   pub number : ℕ
   pub tree : FileTree
   pub named : file ≡ Some number
@@ -129,6 +133,10 @@ NoneOf test files = list_any test files ≡ false
 abbrev pub NoFault : Program → Program → Type 0
 NoFault trees files = NoneOf is_outside_profile files × NoneOf (has_malformed_code trees) files
 
+-- the walk goes over the files in their order
+abbrev pub TellsFlaw : Program → Flaw → Refusal → Type 0
+TellsFlaw trees flaw r = NamesFirst trees (NoFault trees) (TellsFirstFault trees flaw r) r.file
+
 -- a cycle comes first, of whichever file
 abbrev pub TellsHierarchy : Program → Refusal → Type 0
 TellsHierarchy trees r =
@@ -142,8 +150,8 @@ IsFirstTooLarge trees (Some number) = NoneOf (too_many_fields trees) (take numbe
 
 -- of the trees that files spell, by the kind
 abbrev pub TellsLine : Program → RefusalKind → Refusal → Type 0
-TellsLine trees kinds.Malformed r = NamesFirst trees (NoFault trees) (TellsFirstFault trees flaws.MalformedCode r) r.file
-TellsLine trees kinds.OutsideProfile r = NamesFirst trees (NoFault trees) (TellsFirstFault trees flaws.OutsideProfile r) r.file
+TellsLine trees kinds.Malformed r = TellsFlaw trees flaws.MalformedCode r
+TellsLine trees kinds.OutsideProfile r = TellsFlaw trees flaws.OutsideProfile r
 TellsLine trees kinds.DuplicateClass r = Tells None None r
 TellsLine trees kinds.Unresolved r = NamesFirst trees (NoneOf (is_unresolved trees)) (TellsName trees r) r.file
 TellsLine trees kinds.BadHierarchy r = TellsHierarchy trees r
@@ -156,7 +164,8 @@ TellsLine trees kinds.OutOfMemory r = r ≡ memory_wanted
 
 -- of a file that is decoded
 abbrev pub TellsUnread : ℕ → Refusal → Type 0
-TellsUnread number r = (IsOf kinds.OutOfMemory number r × Tells None None r) ⊎ (IsOf kinds.Malformed number r × TellsNoMethod r)
+TellsUnread number r =
+    (IsOf kinds.OutOfMemory number r × Tells None None r) ⊎ (IsOf kinds.Malformed number r × TellsNoMethod r)
 
 -- of the class of a file with a number: memory ran out, or a fault of it is told
 abbrev pub TellsWalk : Program → ℕ → FileTree → Refusal → Type 0
@@ -176,7 +185,8 @@ TellsNameOf trees number tree r = (r ≡ memory_wanted) ⊎ (IsOf kinds.Unresolv
 -- memory ran out where no file was at hand, or while this one was read behind those that are class files
 abbrev pub MayBeRead : List (List ℕ) → Option ℕ → Type 0
 MayBeRead files None = Unit {0}
-MayBeRead files (Some number) = (bytes : List ℕ) × (trees : Program) × (slice_get files number ≡ Some bytes) × AreSpelled (take number files) trees
+MayBeRead files (Some number) =
+    (bytes : List ℕ) × (trees : Program) × (slice_get files number ≡ Some bytes) × AreSpelled (take number files) trees
 
 -- of the trees that files spell
 abbrev pub TellsOfTrees : List (List ℕ) → RefusalKind → Refusal → Type 0
@@ -184,7 +194,8 @@ TellsOfTrees files kind r = (trees : Program) × AreSpelled files trees × Tells
 
 -- of files, by the kind
 abbrev pub TellsLineOf : List (List ℕ) → RefusalKind → Refusal → Type 0
-TellsLineOf files kinds.Malformed r = (IsFirstUnread files r.file r.offset r.cause × TellsNoMethod r) ⊎ TellsOfTrees files kinds.Malformed r
+TellsLineOf files kinds.Malformed r =
+    (IsFirstUnread files r.file r.offset r.cause × TellsNoMethod r) ⊎ TellsOfTrees files kinds.Malformed r
 TellsLineOf files kinds.OutsideProfile r = TellsOfTrees files kinds.OutsideProfile r
 TellsLineOf files kinds.DuplicateClass r = TellsOfTrees files kinds.DuplicateClass r
 TellsLineOf files kinds.Unresolved r = TellsOfTrees files kinds.Unresolved r

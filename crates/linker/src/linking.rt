@@ -62,8 +62,8 @@ pub fn link(alloc: Global, files: &[Vec<u8>]) -> Result<Linked, Refusal>
     // A refusal is answered only where it stands, and none stands that comes before it. Of a file that is no class file the
     // cause stands at the offset.
     ensures refused { IfErr result (λ r. MayRefuse (map vec_items files.now) r.kind r.file r.offset r.cause) }
-    // Of the files in which the condition stands the first is named, and by the fault that stands in it a method, an offset of
-    // its code or of the file, or none. Want of memory names no more than a file that was being read.
+    // Of the files in which the condition stands the first is named, but for DuplicateClass; and of the fault in it the
+    // method and the offset, where it has them. Want of memory names no more than a file that was being read.
     ensures line { IfErr result (λ r. TellsLineOf (map vec_items files.now) r.kind r) }
 {
     let classes = decode_all(alloc, files)?;

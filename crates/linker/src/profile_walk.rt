@@ -7,7 +7,8 @@ ghost use Rattle.model.specs.CodeConditions.{has_malformed_code};
 ghost use Rattle.model.specs.Linkable.{stands, before_walk, before_links};
 ghost use Rattle.classfile.specs.View.{file_of};
 ghost use Rattle.linker.specs.Linking.{RefusesTrees, WalkRefuses, IsFaultRefusal};
-ghost use Rattle.linker.specs.Telling.{spot_offset, place_method, offset_in_method, TellsMethod, TellsFault, TellsWalk, TellsLine};
+ghost use Rattle.linker.specs.Telling.{spot_offset, place_method, offset_in_method};
+ghost use Rattle.linker.specs.Telling.{TellsMethod, TellsFault, TellsWalk, TellsLine};
 
 use crate::aside::class_aside;
 use crate::place::method_text;
