@@ -1,10 +1,7 @@
-pub mod Commands
 pub mod Complaints
 pub mod Continuations
 pub mod Devices
 pub mod Engines
-pub mod Files
-pub mod Goals
 pub mod Libraries
 pub mod LibraryMain
 pub mod Listings

@@ -1,38 +1,34 @@
 //! The line that tells a person why a command was not done. For it the files are read a second time.
 
 use crate::complaint::Complaint;
-use crate::explanation::Explanation;
 use crate::fault::Fault;
 use crate::folder::Folder;
 use crate::given_paths::given_paths;
 use command_line::{Command, Goal, command};
 use explanations::refusal_explanations::{GivenFile, explain, explain_schedule, explain_text};
 use std::alloc::{AllocError, Global};
-use std::fmt::Display;
 use std::io;
-use std::io::ErrorKind;
+use std::io::{ErrorKind, Read};
 
-/// Tells why a command was not done, in a line with two spaces before it, where more is known than the complaint says: where the
-/// words ask for it by `--explain`, or it is wanted anyway; and nothing with `--quiet`. The kind is that of the first failure of the output.
-pub fn explain_complaint<F: Folder>(
+/// The line with two spaces before it and its end, where there is one to tell: the words ask for it by `--explain`, or it
+/// is wanted anyway, and more is known than the complaint says. The kind is that of the first failure of the output.
+pub fn second_line<F: Folder>(
     alloc: Global,
     folder: &F,
     words: &[String],
+    is_wanted: bool,
     complaint: &Complaint,
     output: Option<ErrorKind>,
-    explanation: &mut Explanation,
-) {
+) -> Option<Vec<u8>> {
     let Complaint::Fault(fault) = complaint else {
-        return;
+        return None;
     };
-    let Ok(command) = command(alloc, words) else {
-        return;
-    };
+    let command = command(alloc, words).ok()?;
     let (is_explained, is_quiet) = flags_of(&command);
-    if !is_quiet && (is_explained || explanation.is_wanted()) {
-        let line = told_line(alloc, folder, &command, fault, output, explanation.reason());
-        explanation.tell(line);
+    if is_quiet || !(is_wanted || is_explained) {
+        return None;
     }
+    told_line(alloc, folder, &command, fault, output)
 }
 
 /// What is known of a fault of a command, with two spaces before it and its end.
@@ -42,13 +38,9 @@ fn told_line<F: Folder>(
     command: &Command,
     fault: &Fault,
     output: Option<ErrorKind>,
-    recording: Option<&str>,
 ) -> Option<Vec<u8>> {
-    let line = match fault {
-        Fault::Device => of_device(alloc, folder, command, output, recording),
-        _ => line_of(alloc, folder, command, fault),
-    };
-    indented(alloc, line.ok()??.as_slice()).ok()
+    let line = line_of(alloc, folder, command, fault, output).ok()??;
+    indented(alloc, line.as_slice()).ok()
 }
 
 /// Whether the command has `--explain`, and whether it has `--quiet`.
@@ -133,16 +125,30 @@ fn given_or_same<F: Folder>(
     }
 }
 
-/// What is known of a fault that is no failure of a device.
+/// The bytes of the file at a path.
+fn bytes_of<F: Folder>(alloc: Global, folder: &F, path: &str) -> io::Result<Vec<u8>> {
+    let mut file = folder.open(path)?;
+    let mut bytes = Vec::new(alloc);
+    file.read_to_end(&mut bytes)?;
+    Ok(bytes)
+}
+
+/// What is known of a fault.
 fn line_of<F: Folder>(
     alloc: Global,
     folder: &F,
     command: &Command,
     fault: &Fault,
+    output: Option<ErrorKind>,
 ) -> Result<Option<Vec<u8>>, AllocError> {
+    let paths = files_of(alloc, folder, command)?;
     let schedule = schedule_of(command);
     match fault {
-        Fault::Device | Fault::Memory => Ok(None),
+        Fault::Device => match of_device(alloc, folder, first_of(command), &paths, output)? {
+            Some(line) => Ok(Some(line)),
+            None => unrecorded(alloc, record_of(command)),
+        },
+        Fault::Memory => Ok(None),
         Fault::Schedule(fault) => match schedule {
             Some(path) => Ok(Some(explain_schedule(alloc, path, *fault)?)),
             None => Ok(None),
@@ -151,13 +157,21 @@ fn line_of<F: Folder>(
             let name = schedule.unwrap_or("standard input");
             Ok(Some(explain_text(alloc, name, *fault)?))
         }
-        Fault::Refusal(refusal) => {
-            let paths = files_of(alloc, folder, command)?;
-            match given(alloc, folder, &paths) {
-                Ok(files) => Ok(Some(explain(alloc, refusal, &files)?)),
-                Err(_) => Ok(None),
-            }
+        Fault::Refusal(refusal) => match given(alloc, folder, &paths) {
+            Ok(files) => Ok(Some(explain(alloc, refusal, &files)?)),
+            Err(_) => Ok(None),
+        },
+    }
+}
+
+/// That the file that is to be recorded can't be written.
+fn unrecorded(alloc: Global, path: Option<&str>) -> Result<Option<Vec<u8>>, AllocError> {
+    match path {
+        Some(path) => {
+            let line = format!(in alloc; "{path}: the schedule can't be written")?;
+            Ok(Some(line.into_bytes()))
         }
+        None => Ok(None),
     }
 }
 
@@ -169,54 +183,34 @@ fn given<'a, F: Folder>(
 ) -> io::Result<Vec<GivenFile<'a>>> {
     let mut files = Vec::new(alloc);
     for path in paths {
-        let bytes = folder.read(alloc, path.as_str())?;
+        let bytes = bytes_of(alloc, folder, path.as_str())?;
         let name = path.as_str();
         files.push(GivenFile { name, bytes })?;
     }
     Ok(files)
 }
 
-/// What failed, and the system's reason: the output, the file that was to be written, or the first file that can't be read.
+/// The first file that can't be read with the system's reason, or what failed the output.
 fn of_device<F: Folder>(
     alloc: Global,
     folder: &F,
-    command: &Command,
+    first: Option<&str>,
+    paths: &[String],
     output: Option<ErrorKind>,
-    recording: Option<&str>,
 ) -> Result<Option<Vec<u8>>, AllocError> {
     if let Some(kind) = output {
-        return line_with(alloc, "the output", &kind);
+        let line = format!(in alloc; "the output: {kind}")?;
+        return Ok(Some(line.into_bytes()));
     }
-    if let (Some(path), Some(reason)) = (record_of(command), recording) {
-        return line_with(alloc, path, &reason);
-    }
-    if let Some(path) = first_of(command) {
-        if let Err(error) = folder.read(alloc, path) {
-            return line_with(alloc, path, &error);
+    if let Some(path) = first {
+        if let Err(error) = bytes_of(alloc, folder, path) {
+            return Ok(Some(format!(in alloc; "{path}: {error}")?.into_bytes()));
         }
     }
-    unread(alloc, folder, files_of(alloc, folder, command)?.as_slice())
-}
-
-/// The first of the files that can't be read, and why.
-fn unread<F: Folder>(
-    alloc: Global,
-    folder: &F,
-    paths: &[String],
-) -> Result<Option<Vec<u8>>, AllocError> {
     for path in paths {
-        if let Err(error) = folder.read(alloc, path.as_str()) {
-            return line_with(alloc, path.as_str(), &error);
+        if let Err(error) = bytes_of(alloc, folder, path.as_str()) {
+            return Ok(Some(format!(in alloc; "{path}: {error}")?.into_bytes()));
         }
     }
     Ok(None)
-}
-
-/// A name, and the reason why it failed.
-fn line_with<E: Display>(
-    alloc: Global,
-    name: &str,
-    reason: &E,
-) -> Result<Option<Vec<u8>>, AllocError> {
-    Ok(Some(format!(in alloc; "{name}: {reason}")?.into_bytes()))
 }

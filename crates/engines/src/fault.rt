@@ -3,7 +3,7 @@
 ghost use Rattle.std.specs.Prelude.{◌≡◌, OnOk};
 ghost use Rattle.std.specs.Io.KnownBytes.{Appends};
 ghost use Rattle.engines.specs.declared.fault.Fault.TheVariants.{Memory, Refusal, Schedule, Text};
-ghost use Rattle.engines.specs.Devices.{IsUnable, either_fault, fault_of};
+ghost use Rattle.engines.specs.Devices.{either_fault, fault_of};
 ghost use Rattle.engines.specs.Complaints.{fault_line};
 
 use model::DeviceFault;
@@ -91,10 +91,11 @@ impl From<DeviceFault> for Fault {
 
 /// Where a folder can't be read.
 impl From<io::Error> for Fault {
-    ghost from_gives = { λ _ fault. IsUnable fault };
-
     fn from(error: io::Error) -> Fault {
-        Fault::from(device_fault(&error))
+        match error.kind() {
+            ErrorKind::OutOfMemory => Fault::Memory,
+            _ => Fault::Device,
+        }
     }
 }
 
@@ -111,13 +112,5 @@ impl<T: Drop> From<AllocFailed<T>> for Fault {
 
     fn from(_error: AllocFailed<T>) -> Fault {
         Fault::Memory
-    }
-}
-
-/// What the system's reason comes to: a want of memory, or a failure.
-pub(crate) fn device_fault(error: &io::Error) -> DeviceFault {
-    match error.kind() {
-        ErrorKind::OutOfMemory => DeviceFault::Memory,
-        _ => DeviceFault::Device,
     }
 }

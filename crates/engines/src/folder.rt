@@ -1,34 +1,149 @@
 //! Files by their paths.
 
-ghost use Rattle.std.specs.Prelude.{List, None, Option, Some, ℕ, IfOk, OnErr, OnOk, vec_items};
-ghost use Rattle.std.specs.Option.{option_map};
-ghost use Rattle.std.specs.declared.string.String.{String as Text};
-ghost use Rattle.std.specs.Global.{Global as System};
-ghost use Rattle.engines.specs.Engines.{Reads};
-ghost use Rattle.engines.specs.Files.{IsWith, IsListed};
-
 use std::alloc::Global;
-use std::io;
+use std::io::{Read, Write};
+use std::rt::Files;
+use std::{fs, io};
 
 /// A place whose files are found by their paths.
 pub trait Folder {
-    /// What the file at a path holds, where that is known. Of a file of the system it isn't.
-    ghost held: { Self → List ℕ → Option (List ℕ) };
+    /// A file that is open for reading.
+    type File: Read + Drop;
 
-    /// The names of what lies in the folder at a path, in any order, where that is known; none where there is no folder.
-    ghost listed: { Self → List ℕ → Option (Option (List (Text System))) };
+    /// A file that is open for writing.
+    type Created: Write + Drop;
 
-    /// Reads the file at a path. Where there is none, or it can't be read, that is an error.
-    fn read(&self, alloc: Global, path: &str) -> io::Result<Vec<u8>>
-        ensures { IfOk result (λ bytes. Reads (held self.now path.now) bytes.items) };
+    /// Opens the file at a path. Where there is none, that is an error.
+    fn open(&self, path: &str) -> io::Result<Self::File>;
 
-    /// The names of what lies in the folder at a path, in any order, or `None` where there is no folder.
-    fn names(&self, alloc: Global, path: &str) -> io::Result<Option<Vec<String>>>
-        ensures { IfOk result (λ names. IsListed (listed self.now path.now) (option_map vec_items names)) };
+    /// Makes a file at a path, in place of one that is there.
+    fn create(&self, path: &str) -> io::Result<Self::Created>;
 
-    /// Makes a file of these bytes at a path, in place of one that is there. Every other file stays as it is, and after an
-    /// error this one does, too.
-    fn write(&mut self, alloc: Global, path: &str, bytes: &[u8]) -> io::Result<()>
-        ensures written { OnOk result (IsWith (held self.old) (held self.new) (Some (path.now, bytes.now))) }
-        ensures same { OnErr result (IsWith (held self.old) (held self.new) None) };
+    /// The names of what lies in the folder at a path, in any order, or `None` where there is no folder. A place that
+    /// has files alone leaves this as it is.
+    fn names(&self, _alloc: Global, _path: &str) -> io::Result<Option<Vec<String>>> {
+        Ok(None)
+    }
+}
+
+/// The files of the system, from the folder on that the program runs in.
+#[derive(Drop)]
+pub struct SystemFolder<'a, R> {
+    files: &'a R,
+}
+
+impl<'a, R> SystemFolder<'a, R> {
+    pub fn new(files: &'a R) -> SystemFolder<'a, R> {
+        SystemFolder { files }
+    }
+}
+
+impl<R: Files> Folder for SystemFolder<'_, R> {
+    type File = R::File;
+
+    type Created = R::File;
+
+    fn open(&self, path: &str) -> io::Result<R::File> {
+        fs::open(self.files, path)
+    }
+
+    fn create(&self, path: &str) -> io::Result<R::File> {
+        fs::create(self.files, path)
+    }
+
+    fn names(&self, alloc: Global, path: &str) -> io::Result<Option<Vec<String>>> {
+        match fs::metadata(self.files, path) {
+            Ok(found) if found.is_dir() => Ok(Some(names_in(alloc, self.files, path)?)),
+            _ => Ok(None),
+        }
+    }
+}
+
+/// The names of what lies in a folder of the system.
+fn names_in<R: Files>(alloc: Global, files: &R, path: &str) -> io::Result<Vec<String>> {
+    let mut names = Vec::new(alloc);
+    for entry in fs::read_dir(&(files, alloc), path)? {
+        names.push(String::from_str(alloc, entry?.file_name())?)?;
+    }
+    Ok(names)
+}
+
+/// The file at a path of a folder, which is opened by the first read and closed at its end.
+#[derive(Drop)]
+pub struct NamedFile<'a, F: Folder> {
+    folder: &'a F,
+    path: &'a str,
+    opened: Opened<F::File>,
+}
+
+#[derive(Drop)]
+enum Opened<T> {
+    Never,
+    Now(T),
+    Before,
+}
+
+impl<'a, F: Folder> NamedFile<'a, F> {
+    /// The file at this path, or none: a read shows that.
+    pub fn new(folder: &'a F, path: &'a str) -> NamedFile<'a, F> {
+        NamedFile {
+            folder,
+            path,
+            opened: Opened::Never,
+        }
+    }
+}
+
+impl<F: Folder> Read for NamedFile<'_, F> {
+    fn read(&mut self, buf: &mut [u8]) -> io::Result<usize> {
+        if let Opened::Never = &self.opened {
+            self.opened = Opened::Now(self.folder.open(self.path)?);
+        }
+        let count = match &mut self.opened {
+            Opened::Now(file) => file.read(buf)?,
+            _ => 0,
+        };
+        if count == 0 && !buf.is_empty() {
+            self.opened = Opened::Before;
+        }
+        Ok(count)
+    }
+}
+
+/// The file at a path of a folder, which is made by the first write.
+#[derive(Drop)]
+pub struct CreatedFile<'a, F: Folder> {
+    folder: &'a F,
+    path: &'a str,
+    created: Option<F::Created>,
+}
+
+impl<'a, F: Folder> CreatedFile<'a, F> {
+    /// The file at this path, so far not made.
+    pub fn new(folder: &'a F, path: &'a str) -> CreatedFile<'a, F> {
+        CreatedFile {
+            folder,
+            path,
+            created: None,
+        }
+    }
+}
+
+impl<F: Folder> Write for CreatedFile<'_, F> {
+    fn write(&mut self, buf: &[u8]) -> io::Result<usize> {
+        if self.created.is_none() {
+            self.created = Some(self.folder.create(self.path)?);
+        }
+        match &mut self.created {
+            Some(file) => file.write(buf),
+            None => Ok(0),
+        }
+    }
+
+    fn flush(&mut self) -> io::Result<()> {
+        match &mut self.created {
+            Some(file) => file.flush(),
+            None => Ok(()),
+        }
+    }
 }

@@ -6,9 +6,7 @@ ghost use Rattle.engines.specs.Statuses.{complaint_status};
 
 mod progress;
 
-use engines::{
-    Complaint, Counted, Explanation, Fault, Status, SystemFolder, explain_complaint, run,
-};
+use engines::{Complaint, Counted, Fault, Status, SystemFolder, run, second_line};
 use progress::{Cleared, Progress};
 use std::io::{ErrorKind, IsTerminal, Write};
 use std::process::ExitCode;
@@ -17,19 +15,15 @@ use std::sync::Wait;
 use std::thread::Threads;
 use std::{env, io};
 
-/// The status of a program that ended since nobody reads its output, as a shell shows the signal SIGPIPE.
-const CLOSED_PIPE: u8 = 141;
-
 fn main(rt: HostRuntime) -> ExitCode {
-    let words = match words(&rt) {
-        Ok(words) => words,
-        Err(error) => return ExitCode::from(without_words(&rt, &error).code()),
+    let status = match words(&rt) {
+        Ok(words) => {
+            let (outcome, explanation) = done(&rt, words.as_slice(), rt.stderr().is_terminal());
+            told(&rt, outcome, explanation)
+        }
+        Err(error) => without_words(&rt, &error),
     };
-    let ending = done(&rt, words.as_slice(), rt.stderr().is_terminal());
-    if ending.is_closed {
-        return ExitCode::from(CLOSED_PIPE);
-    }
-    ExitCode::from(told(&rt, ending.outcome, ending.explanation.text()).code())
+    ExitCode::from(status.code())
 }
 
 /// The words of the command line, the program's name first.
@@ -38,60 +32,48 @@ fn words(rt: &HostRuntime) -> io::Result<Vec<String>> {
     Ok(words.collect(rt.alloc())?)
 }
 
-/// What comes of the words.
-#[derive(Drop)]
-struct Ending {
-    outcome: Result<Status, Complaint>,
-    explanation: Explanation,
-    /// Whether the output is a pipe that nobody reads.
-    is_closed: bool,
-}
-
-/// Does what the words say over the files of the system, the standard input and the standard output. The standard error shows
-/// how far a run or a search is, if it is a terminal.
+/// What comes of the words, which are done over the files of the system, the standard input and the standard output, with the
+/// explanation that there may be: the second line of a complaint, or what threads are about. A person reads the standard error if it
+/// is a terminal.
 fn done<R: Files + Input + Print + Eprint + Clock + AllocGlobal + Threads + Wait + Sync>(
     rt: &R,
     words: &[String],
     is_terminal: bool,
-) -> Ending {
+) -> (Result<Status, Complaint>, Option<Vec<u8>>) {
     let progress = Progress::new(rt, is_terminal);
     let mut output = Counted::new(rt.alloc(), Cleared::new(&progress, io::writer(rt)));
     let mut input = Counted::new(rt.alloc(), rt.reader());
-    let mut folder = SystemFolder::new(rt);
-    let mut explanation = Explanation::new(rt.alloc(), true);
+    let folder = SystemFolder::new(rt);
+    let mut threads = Vec::new(rt.alloc());
     let outcome = run(
         rt,
         rt.alloc(),
         &progress,
-        &mut folder,
+        &folder,
         words,
         &mut input,
         &mut output,
-        &mut explanation,
+        &mut threads,
     );
     progress.clear();
-    let failure = output.failure();
-    if let Err(complaint) = &outcome {
-        explain_complaint(
+    let explanation = match &outcome {
+        Ok(_) => Some(threads),
+        Err(complaint) => second_line(
             rt.alloc(),
             &folder,
             words,
+            is_terminal,
             complaint,
-            failure,
-            &mut explanation,
-        );
-    }
-    Ending {
-        outcome,
-        explanation,
-        is_closed: failure == Some(ErrorKind::BrokenPipe),
-    }
+            output.failure(),
+        ),
+    };
+    (outcome, explanation)
 }
 
 /// The status where the words can't be had: they aren't text, or there is no memory for them.
 fn without_words(rt: &HostRuntime, error: &io::Error) -> Status {
     match error.kind() {
-        ErrorKind::OutOfMemory => return told(rt, Err(Complaint::Fault(Fault::Memory)), &[]),
+        ErrorKind::OutOfMemory => return told(rt, Err(Complaint::Fault(Fault::Memory)), None),
         ErrorKind::InvalidData => {
             let _ = rt.eprintln("error: a word of the command line is no UTF-8");
         }
@@ -102,9 +84,13 @@ fn without_words(rt: &HostRuntime, error: &io::Error) -> Status {
     Status::Unusable
 }
 
-/// The status, after a complaint has been told, and the lines of the explanation. Where the standard error fails, the status
-/// alone tells the complaint.
-fn told(rt: &HostRuntime, outcome: Result<Status, Complaint>, explanation: &[u8]) -> Status
+/// The status, after a complaint has been told, and the explanation that there may be. Where the standard error fails, the status alone
+/// tells the complaint.
+fn told(
+    rt: &HostRuntime,
+    outcome: Result<Status, Complaint>,
+    explanation: Option<Vec<u8>>,
+) -> Status
     ensures { MatchResult outcome (λ status. result ≡ status) (λ complaint. result ≡ complaint_status complaint) }
 {
     let status = match outcome {
@@ -114,6 +100,8 @@ fn told(rt: &HostRuntime, outcome: Result<Status, Complaint>, explanation: &[u8]
             Status::of_complaint(&complaint)
         }
     };
-    let _ = Write::write_all(&mut rt.stderr(), explanation);
+    if let Some(text) = explanation {
+        let _ = Write::write_all(&mut rt.stderr(), &text);
+    }
     status
 }

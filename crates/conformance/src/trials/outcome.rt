@@ -2,8 +2,9 @@
 
 use crate::trials::counts::last_line;
 use crate::trials::folder::{File, MemoryFolder};
-use engines::{Counted, Explanation, Open, Status, run};
+use engines::{Counted, Open, Status, run};
 use std::alloc::{AllocError, Global};
+use std::cell::RefCell;
 use std::io;
 use std::sync::Wait;
 use std::thread::Threads;
@@ -52,7 +53,8 @@ pub fn outcome_of<R: Threads + Wait + Sync>(
     words: &[&str],
 ) -> io::Result<Outcome> {
     let words = words_of(alloc, words)?;
-    let mut folder = MemoryFolder::new(files);
+    let made = RefCell::new(None);
+    let folder = MemoryFolder::new(alloc, files, &made);
     let mut input = Counted::new(alloc, b"".as_slice());
     let mut output = Counted::new(alloc, Vec::new(alloc));
     let mut said = Vec::new(alloc);
@@ -60,11 +62,11 @@ pub fn outcome_of<R: Threads + Wait + Sync>(
         rt,
         alloc,
         &Open,
-        &mut folder,
+        &folder,
         words.as_slice(),
         &mut input,
         &mut output,
-        &mut Explanation::new(alloc, false),
+        &mut said,
     );
     let status = match answer {
         Ok(status) => status,
@@ -77,7 +79,7 @@ pub fn outcome_of<R: Threads + Wait + Sync>(
         status,
         written: output.into_inner(),
         said,
-        made: folder.made,
+        made: made.into_inner(),
     })
 }
 

@@ -32,17 +32,16 @@ pub returns-in_err-write_all-clause-faulty : goal.returns-in_err-write_all-claus
 returns-in_err-write_all-clause-faulty g c =
     let p = err_from_is_err_and c.from_residual-in_err-write_all.result c.from_residual-in_err-write_all.ensures.1 in
     let ran = c.in_ok-ran.ran in
-    let options = c.args.options.now in
-    let run = subst (λ files. IsRun (map vec_items files) options.limits options.options ran.text.items (option_map vec_items ran.file) ran.status) c.as_slice-files.ensures.value c.in_ok-ran.ensures.run in
+    let run = subst (λ files. IsRun (map vec_items files) c.args.limits.now c.args.options.now ran.text.items (option_map vec_items ran.file) ran.status) c.as_slice-files.ensures.value c.in_ok-ran.ensures.run in
     let contents = g.W.Sink.contents in
     let written = subst (AppendsFront (contents c.args.report.now) (contents c.write_all.new.self)) c.as_slice.ensures.value c.in_err-write_all.ensures.part in
-    rw (p.1, p.2) (part_is_unrun _ _ _ _ _ _ _ _ (inr (_, _, (_, c.in_ok-read.ensures.read, run), written)))
+    rw (p.1, p.2) (part_is_unrun _ _ _ _ _ _ _ _ (inr (_, _, _, (_, c.in_ok-read.ensures.read, run), inl (written, refl))))
 
-pub returns-clause-ran : goal.returns-clause-ran
-returns-clause-ran g c =
+pub returns-in_err-write_record-clause-faulty : goal.returns-in_err-write_record-clause-faulty
+returns-in_err-write_record-clause-faulty g c =
+    let p = err_from_is_err_and c.from_residual-in_err-write_record.result c.from_residual-in_err-write_record.ensures.1 in
     let ran = c.in_ok-ran.ran in
-    let options = c.args.options.now in
-    let run = subst (λ files. IsRun (map vec_items files) options.limits options.options ran.text.items (option_map vec_items ran.file) ran.status) c.as_slice-files.ensures.value c.in_ok-ran.ensures.run in
+    let run = subst (λ files. IsRun (map vec_items files) c.args.limits.now c.args.options.now ran.text.items (option_map vec_items ran.file) ran.status) c.as_slice-files.ensures.value c.in_ok-ran.ensures.run in
     let contents = g.W.Sink.contents in
     let written = subst (Appends (contents c.args.report.now) (contents c.write_all.new.self)) c.as_slice.ensures.value c.in_ok-write_all.ensures.written in
-    (_, (_, c.in_ok-read.ensures.read, run), written)
+    rw (p.1, p.2) (part_is_unrun _ _ _ _ _ _ _ _ (inr (_, _, _, (_, c.in_ok-read.ensures.read, run), inr (written, c.in_err-write_record.ensures.part))))
