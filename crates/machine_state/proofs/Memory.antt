@@ -19,7 +19,7 @@ use Rattle.machine_state.specs.shown_stacks.Shown.{ShowsStack}
 use Rattle.machine_state.specs.declared.refusals.EventRefusal.{EventRefusal}
 use Rattle.machine_state.specs.declared.refusals.EventRefusal.TheVariants as refusal
 use Rattle.machine_state.specs.Events.{MayBeRefused, IsRefused}
-use Rattle.machine_state.specs.Memory.{takes_shared, operand_counts, shown_counts, has_grown, takes_memory, takes_memory_by, takes_memory_at, stack_at}
+use Rattle.machine_state.specs.Memory.{takes_shared, operand_counts, shown_counts, has_grown, takes_memory, takes_memory_by}
 
 -- ---- one of them
 
