@@ -18,7 +18,7 @@ use Rattle.model.specs.Worlds.{has_ended, no_thread, thread_at}
 use Rattle.model.specs.Calls.{is_nothing, is_reference_returned, returned_by, return_of}
 use Rattle.model.specs.LimitStands.{Bounds}
 use Rattle.model.specs.Outcomes.{Free}
-use Rattle.model.specs.Step.{SteppedOf, PartOf, on_to, leaving}
+use Rattle.model.specs.Step.{SteppedOf, PartOf, part, on_to, leaving}
 use Rattle.model.specs.Step as step
 use Rattle.run_laws.specs.word_runs.Words.{AreInCode}
 use Rattle.run_laws.proofs.word_runs.InCode.{in_code}

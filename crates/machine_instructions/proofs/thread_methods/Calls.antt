@@ -144,6 +144,31 @@ module _ (trees : Program) (p : LinkedProgram) (bounds : Bounds) (inflated : Lis
       → IsDone trees p bounds inflated world (Next Free (part world (gone_on results))) old old to
   same = free world old represented refl refl refl
 
+  -- there is no memory for its result, whatever is shared with it
+  pub lacks : (word : ℕ) (why : EventRefusal) (to : List ShownEntry) → Answers (Err why) count word next from to
+      → (shared : WorldOf ℕ) (value : ℕ) (result : Result Effect EventRefusal) → IsErrAnd result (λ told. told ≡ why)
+      → Does trees p bounds inflated t world (model.Invocation frame
+      ∷ rest) (Next Free (part shared (gone_on (value ∷ [])))) result old old from to
+  lacks word why to h shared value (Ok told) e = absurd e
+  lacks word refusal.Objects to h shared value (Err told) e = absurd h
+  lacks word refusal.Cells to h shared value (Err told) e = absurd h
+  lacks word refusal.Monitors to h shared value (Err told) e = absurd h
+  lacks word refusal.Threads to h shared value (Err told) e = absurd h
+  lacks word refusal.LockCount to h shared value (Err told) e = absurd h
+  lacks word refusal.Memory to h shared value (Err told) e = (
+    record { cost = Free; next = after; is = refl; may = subst (MayBeRefused trees bounds inflated world Free takes) (sym e) (takes_by_growth world (shown_counts from) Free after grown) },
+    record { shared = refl; stack = h.0 },
+  )
+    where
+      after : PartOf ℕ
+      after = part shared (gone_on (value ∷ []))
+
+      takes : Bool
+      takes = takes_memory world (shown_counts from) Free after
+
+      grown : has_grown (shown_counts from) (operand_counts after.stack) ≡ true
+      grown = grows value h.1
+
   -- it has a result, or there is no memory for it
   with_result : (result : Result Effect EventRefusal) (word : ℕ) (to : List ShownEntry) → Answers result count word next from to
       → Does trees p bounds inflated t world (model.Invocation frame
@@ -153,18 +178,7 @@ module _ (trees : Program) (p : LinkedProgram) (bounds : Bounds) (inflated : Lis
   with_result (Ok (effect.Throws thrown)) word to e = absurd e
   with_result (Ok effect.Interrupts) word to e = absurd e
   with_result (Ok effect.NotEnabled) word to e = absurd e
-  with_result (Err refusal.Objects) word to e = absurd e
-  with_result (Err refusal.Cells) word to e = absurd e
-  with_result (Err refusal.Monitors) word to e = absurd e
-  with_result (Err refusal.Threads) word to e = absurd e
-  with_result (Err refusal.LockCount) word to e = absurd e
-  with_result (Err refusal.Memory) word to e = (record { cost = Free; next = after; is = refl; may = takes_by_growth world (shown_counts from) Free after grown }, record { shared = refl; stack = e.0 })
-    where
-      after : PartOf ℕ
-      after = part world (gone_on (word ∷ []))
-
-      grown : has_grown (shown_counts from) (operand_counts after.stack) ≡ true
-      grown = grows word e.1
+  with_result (Err why) word to e = lacks word why to e world word (Err why) refl
 
   pub answered : (word value : ℕ) → word ≡ value → (result : Result Effect EventRefusal) (to : List ShownEntry)
       → Answers result count word next from to
