@@ -1,5 +1,5 @@
 -- Whether a value is returned to an invoker.
-use Rattle.std.proofs.Common.{◌≡◌, ℕ, suc, List, [], ◌∷◌, ◌++◌, true, Some, None, length, drop, refl, sym, ap, subst, ◌∙◌, arith}
+use Rattle.std.proofs.Common.{◌≡◌, ℕ, suc, List, [], ◌∷◌, true, Some, None, length, drop, refl, sym, ap, subst, ◌∙◌, arith}
 use Rattle.model.specs.Classes.{Program}
 use Rattle.model.specs.State as model
 use Rattle.model.specs.State.{StackOf}
