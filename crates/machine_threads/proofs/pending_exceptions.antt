@@ -1,3 +1,4 @@
+pub mod Catching
 pub mod Handled
 pub mod Caught
 pub mod Tops
