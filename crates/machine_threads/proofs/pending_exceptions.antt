@@ -1,4 +1,4 @@
-pub mod Catching
+pub mod NoRoom
 pub mod Handled
 pub mod Caught
 pub mod Tops

@@ -8,7 +8,7 @@ use Rattle.model.specs.State.{Monitor, Waiter, WakeCause, Notified, Thread, Stac
 use Rattle.model.specs.Monitors as monitors
 use Rattle.model.specs.Monitors.{unlocked, monitor_at}
 use Rattle.model.specs.LimitStands.{Bounds}
-use Rattle.model.specs.Worlds.{all_woken, woken, thread_at, with_thread, with_monitors}
+use Rattle.model.specs.Worlds.{all_woken, woken, waiters_of, thread_at, with_thread, with_monitors}
 use Rattle.model.specs.Step.{SteppedOf, Next, PartOf, part, is_over, ended, with_waiters_woken, with_end, end_of, settled}
 use Rattle.heap.specs.Heap.{Heap}
 use Rattle.heap.specs.java_threads.Table.{ThreadTable}
@@ -105,7 +105,10 @@ woken_printed object cause world [] = refl
 woken_printed object cause world (waiter ∷ waiters) = woken_printed object cause (woken object cause world waiter) waiters
 
 end_printed : (t : ℕ) (world : WorldOf ℕ) (over : Bool) → (with_end world t over).printed ≡ world.printed
-end_printed t world true = woken_printed (thread_at world t).object Notified _ _
+end_printed t world true =
+    let over : WorldOf ℕ = with_thread world t (ended (thread_at world t)) in
+    let object = (thread_at world t).object in
+    woken_printed object Notified (with_monitors over (monitors.wake_all object over.monitors)) (waiters_of over object)
 end_printed t world false = refl
 
 printed_same : (t : ℕ) (world : WorldOf ℕ) (own : StackOf ℕ) → (end_of t world own).printed ≡ world.printed

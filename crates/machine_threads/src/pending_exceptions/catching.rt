@@ -22,7 +22,7 @@ fn word_of(heap: &Heap, object: u32) -> u32
 /// A frame goes on at a handler, with one word alone on its stack. It takes memory only where it had no operand. On an error nothing has
 /// changed.
 #[inline]
-#[tactic(auto, using(linked_code::proofs::thread_stacks::Turned::drop_all, crate::proofs::pending_exceptions::Catching::no_operand))]
+#[tactic(auto, using(linked_code::proofs::thread_stacks::Turned::drop_all, crate::proofs::pending_exceptions::NoRoom::no_operand))]
 fn catch_in_frame(frame: &mut Frame, handler: u16, word: u32) -> Result<(), AllocError>
     ensures ok { OnOk result (shown_frame frame.new ≡ caught handler word (shown_frame frame.old)) }
     ensures err { OnErr result (shown_frame frame.new ≡ shown_frame frame.old) }
