@@ -4,7 +4,6 @@ use Rattle.std.specs.Prelude.{replicate, slice_get}
 use Rattle.std.specs.Option.{option_and_then, option_map_or}
 use Rattle.std.specs.List.{sum_by}
 use Rattle.std.proofs.Math.Nat.{suc-mul}
-use Rattle.std.proofs.lemmas.Nat.{mul-le}
 use Rattle.std.proofs.lemmas.List.Sums.{sum_by-cons, sum_by-take-le}
 use Rattle.model.specs.Tree.{FileTree, MethodTree}
 use Rattle.model.specs.Classes.{Program, Body, classes_of}

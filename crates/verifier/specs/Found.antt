@@ -1,5 +1,5 @@
 -- The tables of a search: a frame type or none for each offset of a method's code, and whether the offset waits.
-use Rattle.std.specs.Prelude.{◌≡◌, ℕ, ◌≤◌, List, [], ◌∷◌, Option, Some, None, Bool, true, false, replicate, slice_get, length, map, option_map}
+use Rattle.std.specs.Prelude.{◌≡◌, ℕ, ◌≤◌, List, [], ◌∷◌, Option, Some, None, true, false, replicate, slice_get, length, map, option_map}
 use Rattle.std.specs.List.{AllByRecursion}
 use Rattle.model.specs.Names.{Member}
 use Rattle.model.specs.Classes.{Program, Body}

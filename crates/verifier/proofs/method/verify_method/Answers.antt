@@ -4,7 +4,7 @@ use Rattle.run_laws.specs.typing_search.Search.{HasNoTyping}
 use Rattle.run_laws.proofs.typing_search.Bounds.{bounded}
 use Rattle.run_laws.proofs.typing_search.Linking.{ordered_from}
 use Rattle.types.specs.method_code.View.{files_of, member_of, body_of}
-use Rattle.verifier.specs.Found.{tables_in, work_left}
+use Rattle.verifier.specs.Found.{tables_in}
 use Rattle.verifier.specs.Looks.{AreLooks}
 use Rattle.verifier.specs.flow.Meanings.{AreMeanings}
 use Rattle.verifier.specs.Steps.{method_steps, MayTakeMore}
