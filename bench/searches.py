@@ -191,7 +191,8 @@ def search(files, goal, most):
 
 
 def last_lines(states, word):
-    return f"states {len(states)}\nsearch {word}\n"
+    scope = "of runs that end\n" if word == "complete" else ""
+    return f"states {len(states)}\n{scope}search {word}\n"
 
 
 # The lessons that are searched: folder, class files, and options.

@@ -21,10 +21,10 @@ use Rattle.engines.specs.declared.fault.Fault.{Fault}
 use Rattle.engines.specs.declared.fault.Fault.TheVariants as faults
 use Rattle.engines.specs.declared.status.Status.{Status}
 
-module _ (lefts : List (Option (List ℕ))) (asked : LimitOptions) (want : Wanted) (recorded : Bool) where
+module _ (lefts : List (Option (List ℕ))) (asked : LimitOptions) (want : Wanted) (most : ℕ) (recorded : Bool) where
   -- a class file isn't read, and nothing is written
   pub unread_is_unsearched : (fault : Fault) (held : Option (List ℕ)) (kept : Option (Option (List ℕ))) (file : ℕ) → file < length lefts → IsOfFile file fault
-      → IsUnsearched lefts asked want recorded held held kept kept fault
+      → IsUnsearched lefts asked want most recorded held held kept kept fault
   unread_is_unsearched faults.Device held kept file within of_file = inl (refl, refl)
   unread_is_unsearched faults.Memory held kept file within of_file = absurd of_file
   unread_is_unsearched (faults.Schedule fault) held kept file within of_file = absurd of_file
@@ -33,16 +33,16 @@ module _ (lefts : List (Option (List ℕ))) (asked : LimitOptions) (want : Wante
 
   -- the writing stops
   pub part_is_unsearched : (fault : DeviceFault) (old new : Option (List ℕ)) (kept made : Option (Option (List ℕ)))
-      → SearchesPart lefts asked want recorded old new kept made → IsUnsearched lefts asked want recorded old new kept made (fault_of fault)
+      → SearchesPart lefts asked want most recorded old new kept made → IsUnsearched lefts asked want most recorded old new kept made (fault_of fault)
   part_is_unsearched devices.Device old new kept made part = part
   part_is_unsearched devices.Memory old new kept made part = part
 
   -- the class files that were read are searched
   pub is_searches : {F : Type 0} (bytes : F → List ℕ) (read files : List F) (given : Bool) (text : List ℕ) (file : Option (List ℕ)) (status : Status)
-      → ReadsEach lefts (map bytes read) → files ≡ read → given ≡ recorded → IsSearched (map bytes files) asked want given text file status → Searches lefts asked want recorded text file status
+      → ReadsEach lefts (map bytes read) → files ≡ read → given ≡ recorded → IsSearched (map bytes files) asked want most given text file status → Searches lefts asked want most recorded text file status
   is_searches bytes read files given text file status each of_files of_given searched =
-      let by_files = subst (λ these. IsSearched (map bytes these) asked want given text file status) of_files searched in
-      (map bytes read, each, subst (λ this. IsSearched (map bytes read) asked want this text file status) of_given by_files)
+      let by_files = subst (λ these. IsSearched (map bytes these) asked want most given text file status) of_files searched in
+      (map bytes read, each, subst (λ this. IsSearched (map bytes read) asked want most this text file status) of_given by_files)
 
 -- where there is a file it is asked for
 pub asked_for : (recording : Recording) (recorded : Bool) (answer : Answer) (file : Option (List ℕ)) → IsFileOf recording recorded answer file → IsTrue (is_some file) → IsTrue recorded
@@ -52,9 +52,9 @@ asked_for recording recorded (answers.Complete outcomes) None none there = absur
 asked_for recording recorded answers.GaveUp (Some bytes) none there = absurd (none-some bytes (sym none))
 asked_for recording recorded answers.GaveUp None none there = absurd (false≢true there)
 
-pub file_is_asked_for : (files : List (List ℕ)) (asked : LimitOptions) (want : Wanted) (recorded : Bool) (text : List ℕ) (file : Option (List ℕ)) (status : Status)
-    → IsSearched files asked want recorded text file status → IsTrue (is_some file) → IsTrue recorded
-file_is_asked_for files asked want recorded text file status searched there = asked_for (recording_of searched.limits files) recorded searched.answer file searched.spelled there
+pub file_is_asked_for : (files : List (List ℕ)) (asked : LimitOptions) (want : Wanted) (most : ℕ) (recorded : Bool) (text : List ℕ) (file : Option (List ℕ)) (status : Status)
+    → IsSearched files asked want most recorded text file status → IsTrue (is_some file) → IsTrue recorded
+file_is_asked_for files asked want most recorded text file status searched there = asked_for (recording_of searched.limits files) recorded searched.answer file searched.spelled there
 
 -- a file's bytes are there where the file is
 pub is_there : {F : Type 0} (bytes : F → List ℕ) (file : Option F) → IsTrue (is_some file) → IsTrue (is_some (option_map bytes file))

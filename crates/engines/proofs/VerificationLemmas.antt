@@ -17,8 +17,7 @@ use Rattle.types.specs.method_code.Linked.{IsLinked}
 use Rattle.types.specs.method_code.View.{member_named, shown_in, shown_at}
 use Rattle.types.proofs.method_code.Declared.{declared_at}
 use Rattle.linker.specs.Linking.{MayRefuse}
-use Rattle.verifier.specs.declared.steps.TheConstants.{MOST_STEPS}
-use Rattle.verifier.specs.Steps.{all_steps}
+use Rattle.verifier.specs.Steps.{most_steps, all_steps}
 use Rattle.verifier.specs.Places.{IsUnverified, IsTooLong, Refuses}
 use Rattle.link_conditions.specs.declared.refusal.why.Refusal.{Refusal}
 use Rattle.link_conditions.specs.declared.refusal.why.RefusalKind.TheVariants as kinds
@@ -93,18 +92,18 @@ linking_refuses files refusal only may = record {
 }
 
 -- of linked classes: memory is wanted, or a method has no typing, or their verification may take too many steps
-refused_of_typed : (linked : Program) (refusal : Refusal) → IsLinked linked → AreTyped linked → Refuses linked MOST_STEPS refusal
-    → (refusal.kind ≡ kinds.OutOfMemory) ⊎ IsTooLong linked (all_steps linked) MOST_STEPS refusal
+refused_of_typed : (linked : Program) (refusal : Refusal) → IsLinked linked → AreTyped linked → Refuses linked most_steps refusal
+    → (refusal.kind ≡ kinds.OutOfMemory) ⊎ IsTooLong linked (all_steps linked) most_steps refusal
 refused_of_typed linked refusal is_linked typed (inl kind) = inl kind
 refused_of_typed linked refusal is_linked typed (inr (inl of_method)) = absurd (untyped linked refusal is_linked of_method typed)
 refused_of_typed linked refusal is_linked typed (inr (inr long)) = inr long
 
 pub verification_refuses : (files : List (List ℕ)) (linked : Program) (refusal : Refusal) → IsLinkable files linked
-    → ((trees : Program) → IsLinkable files trees → linked ≡ trees) → Refuses linked MOST_STEPS refusal → IsRefused files refusal
+    → ((trees : Program) → IsLinkable files trees → linked ≡ trees) → Refuses linked most_steps refusal → IsRefused files refusal
 verification_refuses files linked refusal linkable sole refused = record {
   accepted = λ trees accepted.
       let same = sole trees accepted.linkable in
-      subst (λ trees. (refusal.kind ≡ kinds.OutOfMemory) ⊎ IsTooLong trees (all_steps trees) MOST_STEPS refusal) same
+      subst (λ trees. (refusal.kind ≡ kinds.OutOfMemory) ⊎ IsTooLong trees (all_steps trees) most_steps refusal) same
       (refused_of_typed linked refusal (files, linkable) (subst AreTyped (sym same) accepted.typed) refused);
   stands = inr (linked, linkable, refused);
 }

@@ -4,8 +4,7 @@ use Rattle.model.specs.Accepted.{IsAccepted}
 use Rattle.model.specs.Classes.{Program}
 use Rattle.model.specs.Linkable.{IsLinkable}
 use Rattle.linker.specs.Linking.{MayRefuse}
-use Rattle.verifier.specs.declared.steps.TheConstants.{MOST_STEPS}
-use Rattle.verifier.specs.Steps.{all_steps}
+use Rattle.verifier.specs.Steps.{most_steps, all_steps}
 use Rattle.verifier.specs.Places.{IsTooLong, Refuses}
 use Rattle.link_conditions.specs.declared.refusal.why.Refusal.{Refusal}
 use Rattle.link_conditions.specs.declared.refusal.why.RefusalKind.TheVariants as kinds
@@ -14,6 +13,6 @@ use Rattle.link_conditions.specs.declared.refusal.why.RefusalKind.TheVariants as
 -- nothing else. Others are refused as linking refuses them, or as verification refuses what is linked.
 pub record IsRefused (files : List (List ℕ)) (refusal : Refusal) : Type 0 where
   pub accepted : (trees : Program) → IsAccepted files trees
-      → (refusal.kind ≡ kinds.OutOfMemory) ⊎ IsTooLong trees (all_steps trees) MOST_STEPS refusal
+      → (refusal.kind ≡ kinds.OutOfMemory) ⊎ IsTooLong trees (all_steps trees) most_steps refusal
   pub stands : MayRefuse files refusal.kind refusal.file refusal.offset refusal.cause
-      ⊎ ((trees : Program) × IsLinkable files trees × Refuses trees MOST_STEPS refusal)
+      ⊎ ((trees : Program) × IsLinkable files trees × Refuses trees most_steps refusal)

@@ -1,6 +1,6 @@
 -- What the engine of searches answers and writes, by the bytes that its devices hold. Where a device says nothing of its bytes,
 -- they are any that it may have handed over.
-use Rattle.std.specs.Prelude.{◌≡◌, ◌⊎◌, ℕ, Bool, List, length, Option, Some, None, IfSome, is_some}
+use Rattle.std.specs.Prelude.{◌≡◌, ◌⊎◌, ◌≤◌, ℕ, Bool, List, length, Option, Some, None, IfSome, is_some}
 use Rattle.model.specs.declared.limits.Limits.{Limits}
 use Rattle.model.specs.Accepted.{IsAccepted}
 use Rattle.model.specs.Classes.{Program}
@@ -30,9 +30,9 @@ IsFileOf recording asked (answers.Found schedule report) file = (is_some file �
 IsFileOf recording asked (answers.Complete outcomes) file = file ≡ None
 IsFileOf recording asked answers.GaveUp file = file ≡ None
 
--- The class files are accepted. A search over all schedules of their program, within the limits, has this answer; and this is its
--- text, the file of the schedule, and the status.
-pub record IsSearched (files : List (List ℕ)) (asked : LimitOptions) (want : Wanted) (recorded : Bool) (text : List ℕ)
+-- The class files are accepted. A search over all schedules of their program, within the limits, has this answer, with so many states
+-- met, and no more than may be; and this is its text, the file of the schedule, and the status.
+pub record IsSearched (files : List (List ℕ)) (asked : LimitOptions) (want : Wanted) (most : ℕ) (recorded : Bool) (text : List ℕ)
     (file : Option (List ℕ)) (status : Status) : Type 0 where
   pub trees : Program
   pub accepted : IsAccepted files trees
@@ -40,14 +40,15 @@ pub record IsSearched (files : List (List ℕ)) (asked : LimitOptions) (want : W
   pub chosen : AreChosen asked limits
   pub answer : Answer
   pub states : ℕ
-  pub answers : Answers trees limits want answer
+  pub few : 1 ≤ most → states ≤ most
+  pub answers : Answers trees limits want most states answer
   pub told : text ≡ search_text answer states
   pub spelled : IsFileOf (recording_of limits files) recorded answer file
   pub ended : status ≡ search_status answer
 
 -- the same of what these sources hold
-abbrev pub Searches : List (Option (List ℕ)) → LimitOptions → Wanted → (recorded : Bool) → List ℕ → Option (List ℕ) → Status → Type 0
-Searches lefts asked want recorded text file status = (files : List (List ℕ)) × ReadsEach lefts files × IsSearched files asked want recorded text file status
+abbrev pub Searches : List (Option (List ℕ)) → LimitOptions → Wanted → (most : ℕ) → (recorded : Bool) → List ℕ → Option (List ℕ) → Status → Type 0
+Searches lefts asked want most recorded text file status = (files : List (List ℕ)) × ReadsEach lefts files × IsSearched files asked want most recorded text file status
 
 -- what a writer held and holds now, where there is one: the bytes of the file behind it, if there is a file
 abbrev pub RecordsFound : Option (Option (List ℕ)) → Option (Option (List ℕ)) → Option (List ℕ) → Type 0
@@ -57,19 +58,19 @@ RecordsFound kept made (Some bytes) = Records kept made (Some bytes)
 -- ---- what is written where there is a fault
 
 -- nothing is written, or a part of what a search says
-abbrev pub SearchesPart : List (Option (List ℕ)) → LimitOptions → Wanted → (recorded : Bool) → (old new : Option (List ℕ))
+abbrev pub SearchesPart : List (Option (List ℕ)) → LimitOptions → Wanted → (most : ℕ) → (recorded : Bool) → (old new : Option (List ℕ))
     → (kept made : Option (Option (List ℕ))) → Type 0
-SearchesPart lefts asked want recorded old new kept made = ((new ≡ old) × (made ≡ kept))
-    ⊎ ((text : List ℕ) × (file : Option (List ℕ)) × (status : Status) × Searches lefts asked want recorded text file status
+SearchesPart lefts asked want most recorded old new kept made = ((new ≡ old) × (made ≡ kept))
+    ⊎ ((text : List ℕ) × (file : Option (List ℕ)) × (status : Status) × Searches lefts asked want most recorded text file status
     × StopsWithin text file old new kept made)
 
 -- When a fault is answered, and what is written then.
-abbrev pub IsUnsearched : List (Option (List ℕ)) → LimitOptions → Wanted → (recorded : Bool) → (old new : Option (List ℕ))
+abbrev pub IsUnsearched : List (Option (List ℕ)) → LimitOptions → Wanted → (most : ℕ) → (recorded : Bool) → (old new : Option (List ℕ))
     → (kept made : Option (Option (List ℕ))) → Fault → Type 0
-IsUnsearched lefts asked want recorded old new kept made faults.Device = SearchesPart lefts asked want recorded old new kept made
-IsUnsearched lefts asked want recorded old new kept made faults.Memory = SearchesPart lefts asked want recorded old new kept made
+IsUnsearched lefts asked want most recorded old new kept made faults.Device = SearchesPart lefts asked want most recorded old new kept made
+IsUnsearched lefts asked want most recorded old new kept made faults.Memory = SearchesPart lefts asked want most recorded old new kept made
 -- memory for the reading aside, the class files are refused
-IsUnsearched lefts asked want recorded old new kept made (faults.Refusal refusal) = (new ≡ old) × (made ≡ kept) × (IsUnread (length lefts) refusal
+IsUnsearched lefts asked want most recorded old new kept made (faults.Refusal refusal) = (new ≡ old) × (made ≡ kept) × (IsUnread (length lefts) refusal
     ⊎ ((files : List (List ℕ)) × ReadsEach lefts files × IsRefused files refusal))
-IsUnsearched lefts asked want recorded old new kept made (faults.Schedule fault) = ⊥
-IsUnsearched lefts asked want recorded old new kept made (faults.Text fault) = ⊥
+IsUnsearched lefts asked want most recorded old new kept made (faults.Schedule fault) = ⊥
+IsUnsearched lefts asked want most recorded old new kept made (faults.Text fault) = ⊥

@@ -27,8 +27,8 @@ use verifier::Verified;
 ///
 /// Behind the events of the schedule each further event is that of the next thread in turn which has an enabled one, from
 /// thread 0 on, and picks the first waiter. All together are at most as many as the budget. Where an event of the schedule
-/// is not enabled or is refused, the report is that of its replay, and the schedule is the whole that is recorded. What
-/// comes before the run, and its faults, are those of `replay_engine`.
+/// that the budget allows is not enabled, or a limit refuses it, the report is that of its replay, and the schedule is the whole
+/// that is recorded. What comes before the run, and its faults, are those of `replay_engine`.
 pub fn continue_engine<S: Source, W: Sink, V: Sink>(
     alloc: Global,
     schedule: &mut S,

@@ -11,7 +11,7 @@ use crate::listing::disasm_engine;
 use crate::names::names_engine;
 use crate::replaying::replay_engine;
 use crate::running::run_engine;
-use crate::searching::{printed_lines, search_engine};
+use crate::searching::search_engine;
 use crate::status::Status;
 use crate::telling::{KeptFile, told_record, told_threads};
 use crate::tracing::trace_engine;
@@ -24,7 +24,7 @@ use command_line::{
 use model::{DeviceFault, Sink, Source};
 use program_runs::traced_runs::{Form, Window};
 use program_runs::workers::Gate;
-use search::run_outcomes::Wanted;
+use search::run_outcomes::{Wanted, printed_lines};
 use search::{Progress, states_within};
 use std::alloc::{AllocError, Global};
 use std::sync::Wait;

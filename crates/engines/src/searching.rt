@@ -17,7 +17,6 @@ use crate::verification::accepted;
 use command_line::LimitOptions;
 use model::{DeviceFault, Limits, Sink, Source};
 use program_runs::verified_programs::verified_program;
-use schedule::report::push_printed;
 use search::Progress;
 use search::run_outcomes::Wanted;
 use search::search_reports::{Answer, search_report};
@@ -42,10 +41,10 @@ pub fn search_engine<P: Progress, S: Source, W: Sink, V: Sink>(
     // What can come of the class files is written, or a run whose outcome is wanted and the file of its schedule where it is asked for;
     // and nothing else.
     ensures searched { IfOk result (λ status. (text : _) × (file : _)
-        × Searches (map S.remaining files.old) limits.now wanted.now (is_some recorder.old) text file status
+        × Searches (map S.remaining files.old) limits.now wanted.now most (is_some recorder.old) text file status
         × Appends (W.contents report.old) (W.contents report.new) text
         × RecordsFound (option_map V.contents recorder.old) (option_map V.contents recorder.new) file) }
-    ensures faulty { IfErr result (IsUnsearched (map S.remaining files.old) limits.now wanted.now (is_some recorder.old)
+    ensures faulty { IfErr result (IsUnsearched (map S.remaining files.old) limits.now wanted.now most (is_some recorder.old)
         (W.contents report.old) (W.contents report.new)
         (option_map V.contents recorder.old) (option_map V.contents recorder.new)) }
     ensures counted { CountsFailure result
@@ -83,7 +82,7 @@ fn searched<P: Progress>(
     is_recorded: bool,
 ) -> Result<Outcome, AllocError>
     requires { IsAccepted (map vec_items files.now) verified }
-    ensures { IfOk result (λ searched. IsSearched (map vec_items files.now) limits.now wanted.now is_recorded
+    ensures { IfOk result (λ searched. IsSearched (map vec_items files.now) limits.now wanted.now most is_recorded
         searched.text.items (option_map vec_items searched.file) searched.status) }
 {
     search_of(
@@ -110,7 +109,7 @@ fn search_of<P: Progress>(
     is_recorded: bool,
 ) -> Result<Outcome, AllocError>
     requires { IsAccepted (map vec_items files.now) verified.now }
-    ensures { IfOk result (λ searched. IsSearched (map vec_items files.now) limits.now wanted.now is_recorded
+    ensures { IfOk result (λ searched. IsSearched (map vec_items files.now) limits.now wanted.now most is_recorded
         searched.text.items (option_map vec_items searched.file) searched.status) }
 {
     let limits = limits.limits();
@@ -155,11 +154,4 @@ fn write_found<V: Sink>(recorder: &mut Option<V>, file: &Option<Vec<u8>>) -> Res
     } else {
         Ok(())
     }
-}
-
-/// The text of printed numbers, each on a line.
-pub(crate) fn printed_lines(alloc: Global, numbers: &[i32]) -> Result<Vec<u8>, AllocError> {
-    let mut lines = Vec::new(alloc);
-    push_printed(alloc, &mut lines, numbers)?;
-    Ok(lines)
 }

@@ -1,2 +1,4 @@
-mod Threads
 mod Paths
+mod Runs
+mod Threads
+mod Waiting

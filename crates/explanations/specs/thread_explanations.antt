@@ -1,3 +1,6 @@
-pub mod Explained
-pub mod Details
 pub mod Cycles
+pub mod Deadlocks
+pub mod Details
+pub mod Explained
+pub mod Found
+pub mod Waits

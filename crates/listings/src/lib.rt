@@ -5,3 +5,4 @@ pub mod class_listings;
 pub mod disasm;
 pub mod left_out_opcodes;
 pub mod named_listing;
+pub mod printed_names;

@@ -1,17 +1,18 @@
 -- States that have grown in number.
-use Rattle.std.proofs.Common.{ℕ, ◌<◌, List, [], ◌∷◌, ◌++◌, length, get_or, replicate, true, false, Some, refl, sym, ap, subst, ◌∙◌}
-use Rattle.std.proofs.lemmas.Bool.{false≢true}
+use Rattle.std.proofs.Common.{◌≡◌, ◌⊎◌, ℕ, ◌<◌, ◌≤◌, List, [], ◌∷◌, ◌++◌, length, get_or, replicate, true, false, Some, refl, sym, ap, subst, ◌∙◌, arith}
+use Rattle.std.proofs.lemmas.Bool.{false≢true, true≢false}
 use Rattle.std.proofs.lemmas.Option.{same_Some, slice_get-get_or, slice_get_within}
 use Rattle.model.specs.declared.event.Event.{Event}
 use Rattle.model.specs.declared.event.ScheduleEntry.{ScheduleEntry}
 use Rattle.model.specs.declared.limits.Limits.{Limits}
+use Rattle.model.specs.Run.{run}
 use Rattle.run_laws.specs.interleavings.Ends.{Has}
 use Rattle.machine_state.specs.Shown.{IsProgram}
 use Rattle.machine.specs.Machines.{MachineOf}
 use Rattle.search.specs.local_runs.Local.{AreLocalAfter}
 use Rattle.search.specs.met_states.Met.{IsNextMet, AreListed, AreNewStatesMet, AreMetStatesKept}
 use Rattle.search.specs.Machines.{IsAt}
-use Rattle.search.specs.States.{StatesOf, IsSchedule, IsInState, IsMetFrom, Grows, GrowsTo, IsLocalFrom, IsPushed}
+use Rattle.search.specs.States.{StatesOf, IsSchedule, IsInState, IsMetFrom, LeadsOnFrom, CantGoOn, Grows, GrowsTo, IsLocalFrom, IsPushed}
 
 pub stays : (s : StatesOf) → Grows s s
 stays s = record { program = refl; limits_are = refl; kept = λ number events is. is }
@@ -48,17 +49,32 @@ module _ (old new : StatesOf) (grows : Grows old new) (number : ℕ) (lt : numbe
       subst (λ (l : Limits). IsNextMet trees l.frames new.schedules events event) (sym grows.limits_are)
       (kept trees old.limits.frames old.schedules new.schedules events event listed before)
 
+pub still_leads : (old new : StatesOf) (grows : Grows old new) (number : ℕ) → number < length old.schedules → (event : Event)
+    → LeadsOnFrom old number event → LeadsOnFrom new number event
+still_leads old new grows number lt event led events is files trees accepted program =
+    let before = led events (earlier old new grows number lt events is) files trees accepted (subst (IsProgram trees) grows.program program) in
+    (before.0, subst (λ (l : Limits). run trees l.frames (events ++ event ∷ []) ≡ Some before.0) (sym grows.limits_are) before.1)
+
 -- ---- one more
 
-pub gave_up : (P : StatesOf → Type 0) (old new : StatesOf) → Grows old new → GrowsTo P old new false
-gave_up P old new grows = record { grows = grows; then = λ e. absurd (false≢true e) }
+-- there were no more than so many, and there are no more
+abbrev pub IsFew : (most : ℕ) → (old new : StatesOf) → Type 0
+IsFew most old new = length old.schedules ≤ most → length new.schedules ≤ most
 
-pub went_on : (P : StatesOf → Type 0) (old new : StatesOf) → Grows old new → P new → GrowsTo P old new true
-went_on P old new grows holds = record { grows = grows; then = λ e. holds }
+-- why it gave up
+abbrev pub IsWhy : (most : ℕ) → StatesOf → Type 0
+IsWhy most s = (most ≤ length s.schedules) ⊎ CantGoOn s
 
-pub new_met : AreNewStatesMet → (number : ℕ) (entry : ScheduleEntry) (old new : StatesOf) → number < length old.schedules → IsLocalFrom old number entry → IsPushed number entry old new
-    → GrowsTo (λ s. IsMetFrom s number entry.event) old new true
-new_met holds number entry old new lt local pushed = went_on (λ s. IsMetFrom s number entry.event) old new pushed.grows met
+pub gave_up : (P : StatesOf → Type 0) (most : ℕ) (old new : StatesOf) → Grows old new → IsFew most old new → IsWhy most new → GrowsTo P most old new false
+gave_up P most old new grows few why = record { grows = grows; few = few; then = λ e. absurd (false≢true e); gave_up = λ e. why }
+
+pub went_on : (P : StatesOf → Type 0) (most : ℕ) (old new : StatesOf) → Grows old new → IsFew most old new → P new → GrowsTo P most old new true
+went_on P most old new grows few holds = record { grows = grows; few = few; then = λ e. holds; gave_up = λ e. absurd (true≢false e) }
+
+pub new_met : AreNewStatesMet → (most number : ℕ) (entry : ScheduleEntry) (old new : StatesOf) → length old.schedules < most → number < length old.schedules
+    → IsLocalFrom old number entry → IsPushed number entry old new → GrowsTo (λ s. IsMetFrom s number entry.event) most old new true
+new_met holds most number entry old new room lt local pushed =
+    went_on (λ s. IsMetFrom s number entry.event) most old new pushed.grows (λ le. omega (arith, room, pushed.count)) met
   where
     met : IsMetFrom new number entry.event
     met events is files trees accepted program =

@@ -2,7 +2,7 @@
 use Rattle.std.proofs.Common.{◌≡◌, ℕ, zero, suc, ◌<◌, List, [], ◌∷◌, ◌++◌, length, map, get_or, replicate, Some, Result, Ok, Err, refl, sym, ap, subst, ◌∙◌}
 use Rattle.std.specs.Prelude.{slice_get, IfOk, OnOk}
 use Rattle.std.specs.Option.{option_map}
-use Rattle.std.proofs.lemmas.List.{append-nil, append_assoc, map_push, length-map}
+use Rattle.std.proofs.lemmas.List.{append-nil, append_assoc, map_push, length-append, length-map}
 use Rattle.std.proofs.lemmas.List.Concat.{flat_map-append}
 use Rattle.std.proofs.lemmas.Option.{same_Some, none-some, slice_get-map, slice_get-get_or}
 use Rattle.model.specs.declared.event.Event.{Event}
@@ -145,7 +145,11 @@ module _ (ways : List (List ScheduleEntry)) (number : ℕ) (lt : number < length
 
       here : IsPushed number entry (record { program = p; limits = limits; schedules = map events_of ways })
           (record { program = p; limits = limits; schedules = map events_of (with_way ways number entry) })
-      here = record { grows = record { program = refl; limits_are = refl; kept = kept }; has = has }
+      here = record {
+        grows = record { program = refl; limits_are = refl; kept = kept };
+        count = ap length same ∙ length-append (map events_of ways) (with_entry (events_of way) entry ∷ []);
+        has = has;
+      }
 
 -- where there was memory for it
 pub pushed_if : (ways ways_new : List (List ScheduleEntry)) (number : ℕ) (entry : ScheduleEntry) (p : LinkedProgram) (limits : Limits)

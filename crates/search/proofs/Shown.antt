@@ -3,6 +3,7 @@ use Rattle.std.proofs.Common.{◌≡◌, ◌<◌, ◌+◌, ℕ, List, [], ◌∷
 use Rattle.std.specs.Prelude.{IfOk}
 use Rattle.std.proofs.lemmas.List.{append-nil}
 use Rattle.std.proofs.lemmas.Option.{same_Some}
+use Rattle.model.specs.declared.end.RunCause.TheVariants as cause
 use Rattle.model.specs.declared.event.Event.{Event}
 use Rattle.model.specs.declared.limits.Limits.{Limits}
 use Rattle.model.specs.declared.report.Report.{Report}
@@ -19,6 +20,7 @@ use Rattle.linked_code.specs.declared.program.LinkedProgram.{LinkedProgram}
 use Rattle.machine_state.specs.declared.answers.Answer.{Answer}
 use Rattle.machine_state.specs.declared.answers.Answer.TheVariants as answer
 use Rattle.machine_state.specs.declared.refusals.EventRefusal.{EventRefusal}
+use Rattle.machine_state.specs.declared.refusals.EventRefusal.TheVariants as refusal
 use Rattle.machine_state.specs.declared.state.Shared.{Shared}
 use Rattle.machine_state.specs.Shown.{IsProgram}
 use Rattle.machine_state.specs.shown_runs.Runs.{HasRun, AreRunsOpened, AreRunsGoingOn}
@@ -30,7 +32,7 @@ use Rattle.machine.specs.machine_reports.Told.{AreQuietAt, Reports}
 use Rattle.machine.proofs.schedule_runs.Repeated.{entry_gone}
 use Rattle.machine_state.specs.thread_bursts.Threads.{event_of}
 use Rattle.search.specs.local_runs.Local.{AreLocalAfter, AreNextLocal}
-use Rattle.search.specs.Machines.{IsAt, GoesBy, HasDoneMore, AreLocalBehind, GoesPast, TellsOutcome}
+use Rattle.search.specs.Machines.{IsAt, GoesBy, GoesOrStops, HasDoneMore, AreLocalBehind, GoesPast, TellsOutcome}
 
 -- ---- before any event
 
@@ -119,6 +121,15 @@ goes_by goes result event old new steps = (
       goes files trees has.accepted old.program (bounds_of old.limits) events old.shared new.shared has.run event result
       (steps.1 files trees (inflated trees old.limits.frames events) has.run.at (record { accepted = has.accepted; program = has.program; shown = has.run.shown })),
 )
+
+-- a limit forbids it
+pub stops : (told : EventRefusal) (event : Event) (old new : MachineOf) → (told ≡ refusal.Memory → ⊥) → GoesBy (Err told) event old new → GoesOrStops None event old new
+stops refusal.Objects event old new no_want goes files trees events has = let h = goes.1 files trees events has in (h.0, (cause.Objects, h.1))
+stops refusal.Cells event old new no_want goes files trees events has = let h = goes.1 files trees events has in (h.0, (cause.Cells, h.1))
+stops refusal.Monitors event old new no_want goes files trees events has = let h = goes.1 files trees events has in (h.0, (cause.Monitors, h.1))
+stops refusal.Threads event old new no_want goes files trees events has = let h = goes.1 files trees events has in (h.0, (cause.Threads, h.1))
+stops refusal.LockCount event old new no_want goes files trees events has = let h = goes.1 files trees events has in (h.0, (cause.LockCount, h.1))
+stops refusal.Memory event old new no_want goes files trees events has = absurd (no_want refl)
 
 -- ---- local events
 

@@ -17,6 +17,7 @@ use Rattle.search.specs.met_states.Met.{AreMetStatesKept}
 use Rattle.search.specs.declared.run_outcomes.outcomes.Outcome.{Outcome as TheOutcome}
 use Rattle.search.specs.declared.run_outcomes.wanted.Wanted.{Wanted}
 use Rattle.search.specs.run_outcomes.Outcomes.{told_by, IsWanted, IsAdded}
+use Rattle.search.specs.GivingUp.{GivesUp, IsStopped}
 use Rattle.search.specs.Machines.{IsAt, TellsOutcome}
 use Rattle.search.specs.States.{StatesOf, IsSchedule, IsInState, AreAllMet, GrowsTo}
 use Rattle.search.specs.Verdicts.{IsFound}
@@ -147,9 +148,9 @@ module _ (trees : Program) (limits : Limits) (want : Wanted) (s : StatesOf) (out
 
     -- ---- and the states to which events lead from it are met
 
-    visited_too : AreMetStatesKept → (o : Option TheOutcome) → TellsOutcome trees m o → ListsOr want o false outcomes new
-        → (s_new : StatesOf) → GrowsTo (λ x. AreAllMet x number) s s_new true → HasVisited trees limits want s_new new (suc number)
-    visited_too kept o tells lists s_new grown =
+    visited_too : AreMetStatesKept → (most : ℕ) (o : Option TheOutcome) → TellsOutcome trees m o → ListsOr want o false outcomes new
+        → (s_new : StatesOf) → GrowsTo (λ x. AreAllMet x number) most s s_new true → HasVisited trees limits want s_new new (suc number)
+    visited_too kept most o tells lists s_new grown =
         record {
           program = subst (IsProgramOf trees) (sym grown.grows.program) visited.program;
           limits_are = grown.grows.limits_are ∙ visited.limits_are;
@@ -183,9 +184,19 @@ module _ (trees : Program) (limits : Limits) (want : Wanted) (s : StatesOf) (out
       let at = subst (λ a. ListsAt trees want s number a outcomes new) e lists in
       found trees limits want s outcomes number visited lt at.0 at.2 at.1 new at.3 at.4
 
-  pub visited_if : AreMetStatesKept → (answer : Option MachineOf) (m : MachineOf) → ListsAt trees want s number answer outcomes new → answer ≡ Some m
-      → (s_new : StatesOf) (went_on : Bool) → GrowsTo (λ x. AreAllMet x number) s s_new went_on → went_on ≡ true
+  pub visited_if : AreMetStatesKept → (most : ℕ) (answer : Option MachineOf) (m : MachineOf) → ListsAt trees want s number answer outcomes new → answer ≡ Some m
+      → (s_new : StatesOf) (went_on : Bool) → GrowsTo (λ x. AreAllMet x number) most s s_new went_on → went_on ≡ true
       → HasVisited trees limits want s_new new (suc number)
-  visited_if kept answer m lists e s_new went_on grown went =
+  visited_if kept most answer m lists e s_new went_on grown went =
       let at = subst (λ a. ListsAt trees want s number a outcomes new) e lists in
-      visited_too trees limits want s outcomes number visited lt m at.1 new kept at.0 at.2 at.3 s_new (subst (GrowsTo (λ x. AreAllMet x number) s s_new) went grown)
+      visited_too trees limits want s outcomes number visited lt m at.1 new kept most at.0 at.2 at.3 s_new (subst (GrowsTo (λ x. AreAllMet x number) most s s_new) went grown)
+
+  -- it gave up
+  pub gave_up_if : (most : ℕ) (s_new : StatesOf) (went_on : Bool) → GrowsTo (λ x. AreAllMet x number) most s s_new went_on → went_on ≡ false
+      → GivesUp trees limits most (length s_new.schedules)
+  gave_up_if most s_new went_on grown stopped = elim (grown.gave_up stopped) [
+    | inl full ↦ inl full
+    | inr cant ↦
+        let program : IsProgramOf trees s_new.program = subst (IsProgramOf trees) (sym grown.grows.program) visited.program in
+        inr (subst (IsStopped trees) (grown.grows.limits_are ∙ visited.limits_are) (cant program.files trees program.accepted program.program))
+  ]

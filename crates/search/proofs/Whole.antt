@@ -11,6 +11,7 @@ use Rattle.linked_code.specs.declared.program.LinkedProgram.{LinkedProgram}
 use Rattle.machine.specs.Machines.{IsOfAccepted, IsProgramOf}
 use Rattle.search.specs.met_states.Met.{IsNextMet, HasMetAll, AreSearchesWhole}
 use Rattle.search.specs.declared.run_outcomes.wanted.Wanted.{Wanted}
+use Rattle.search.specs.GivingUp.{GivesUp}
 use Rattle.search.specs.States.{StatesOf, one_state}
 use Rattle.search.specs.Verdicts.{IsFound, IsComplete, Says}
 use Rattle.search.specs.declared.searching.Verdict.{Verdict}
@@ -45,11 +46,14 @@ module _ (trees : Program) (limits : Limits) (want : Wanted) (s : StatesOf) (out
     only = visited.outcomes_are.only;
   }
 
-  pub complete : AreSearchesWhole → AreSearchesComplete → IsComplete trees limits want outcomes
+  pub complete : AreSearchesWhole → AreSearchesComplete → IsComplete trees limits want (length s.schedules) outcomes
   complete is_whole are_complete =
       record {
         all = are_complete visited.program.files trees visited.program.accepted limits.frames s.schedules outcomes (is_whole trees limits.frames s.schedules outcomes met_all);
         none = visited.outcomes_are.none;
+        schedules = s.schedules;
+        count = refl;
+        met = met_all;
       }
 
 -- ---- the limits are those of the states
@@ -59,21 +63,25 @@ module _ (trees : Program) (limits : Limits) (want : Wanted) (s : StatesOf) (out
   pub by_own_limits : HasVisited trees s.limits want s outcomes number
   by_own_limits = subst (λ l. HasVisited trees l want s outcomes number) (sym visited.limits_are) visited
 
-  pub visits_by : (v : Visit) (s_new : StatesOf) (new : List Outcome) → Visits trees s.limits want number v s_new new
-      → Visits trees limits want number v s_new new
-  visits_by v s_new new visits = subst (λ l. Visits trees l want number v s_new new) visited.limits_are visits
+  pub visits_by : (most : ℕ) (v : Visit) (s_new : StatesOf) (new : List Outcome) → Visits trees s.limits want most number v s_new new
+      → Visits trees limits want most number v s_new new
+  visits_by most v s_new new visits = subst (λ l. Visits trees l want most number v s_new new) visited.limits_are visits
 
-  pub visited_by : (v : Visit) (s_new : StatesOf) (new : List Outcome) → Visits trees s.limits want number v s_new new → v ≡ visit.Visited
+  pub visited_by : (most : ℕ) (v : Visit) (s_new : StatesOf) (new : List Outcome) → Visits trees s.limits want most number v s_new new → v ≡ visit.Visited
       → HasVisited trees limits want s_new new (number + 1)
-  visited_by v s_new new visits is =
-      let visited_it : HasVisited trees limits want s_new new (suc number) = subst (λ x. Visits trees limits want number x s_new new) is (visits_by v s_new new visits) in
+  visited_by most v s_new new visits is =
+      let visited_it : HasVisited trees limits want s_new new (suc number) = subst (λ x. Visits trees limits want most number x s_new new) is (visits_by most v s_new new visits) in
       let next : suc number ≡ number + 1 = omega arith in
       subst (HasVisited trees limits want s_new new) next visited_it
 
-  pub found_by : (v : Visit) (s_new : StatesOf) (new : List Outcome) (schedule : List ScheduleEntry)
-      → Visits trees s.limits want number v s_new new → v ≡ visit.Found schedule
+  pub found_by : (most : ℕ) (v : Visit) (s_new : StatesOf) (new : List Outcome) (schedule : List ScheduleEntry)
+      → Visits trees s.limits want most number v s_new new → v ≡ visit.Found schedule
       → IsFound trees limits want (events_of schedule)
-  found_by v s_new new schedule visits is = subst (λ x. Visits trees limits want number x s_new new) is (visits_by v s_new new visits)
+  found_by most v s_new new schedule visits is = subst (λ x. Visits trees limits want most number x s_new new) is (visits_by most v s_new new visits)
+
+  pub gave_up_by : (most : ℕ) (v : Visit) (s_new : StatesOf) (new : List Outcome) → Visits trees s.limits want most number v s_new new → v ≡ visit.GaveUp
+      → GivesUp trees limits most (length s_new.schedules)
+  gave_up_by most v s_new new visits is = subst (λ x. Visits trees limits want most number x s_new new) is (visits_by most v s_new new visits)
 
 -- ---- the opening state of a program
 
@@ -85,5 +93,10 @@ module _ (trees : Program) (limits : Limits) (want : Wanted) (p : LinkedProgram)
   none_visited_in program =
       subst (λ (x : StatesOf). HasVisited trees x.limits want x [] 0) (sym s_is) (none_visited trees limits want p program)
 
-  pub says_in : (v : Verdict) → Says trees s.limits want v → Says trees limits want v
-  says_in v says = subst (λ l. Says trees l want v) (ap (λ (x : StatesOf). x.limits) s_is) says
+  pub says_in : (most states told : ℕ) → told ≡ states → (v : Verdict) → Says trees s.limits want most states v → Says trees limits want most told v
+  says_in most states told is v says =
+      subst (λ n. Says trees limits want most n v) (sym is) (subst (λ l. Says trees l want most states v) (ap (λ (x : StatesOf). x.limits) s_is) says)
+
+  -- the opening state is one
+  pub one_in : (most : ℕ) → 1 ≤ most → length s.schedules ≤ most
+  one_in most le = subst (λ (x : StatesOf). length x.schedules ≤ most) (sym s_is) le

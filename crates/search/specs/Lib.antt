@@ -1,3 +1,4 @@
+pub mod GivingUp
 pub mod Machines
 pub mod States
 pub mod Verdicts

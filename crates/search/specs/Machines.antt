@@ -1,13 +1,15 @@
 -- Machines that show where a schedule led (own).
-use Rattle.std.specs.Prelude.{◌≡◌, ◌<◌, ℕ, suc, List, ◌++◌, Option, Some, None, Result, IsTrue, IsFalse, replicate}
+use Rattle.std.specs.Prelude.{◌≡◌, ◌<◌, ℕ, suc, List, ◌++◌, Option, Some, None, Result, Ok, IsTrue, IsFalse, replicate}
+use Rattle.model.specs.declared.end.RunCause.{RunCause}
 use Rattle.model.specs.declared.event.Event.{Event}
 use Rattle.model.specs.declared.event.ScheduleEntry.{ScheduleEntry}
 use Rattle.model.specs.declared.limits.Limits.{Limits}
 use Rattle.model.specs.Accepted.{IsAccepted}
 use Rattle.model.specs.Classes.{Program}
-use Rattle.model.specs.LimitStands.{bounds_of}
+use Rattle.model.specs.LimitStands.{bounds_of, limit_after}
 use Rattle.model.specs.Run.{run, is_quiet}
 use Rattle.model.specs.State.{State}
+use Rattle.model.specs.Step.{is_enabled}
 use Rattle.run_laws.specs.interleavings.Ends.{outcome_of}
 use Rattle.linked_code.specs.declared.program.LinkedProgram.{LinkedProgram}
 use Rattle.machine_state.specs.declared.answers.Answer.{Answer}
@@ -33,6 +35,14 @@ GoesBy result event old new =
     (new ≡ record old { shared = new.shared })
     × ((files : List (List ℕ)) (trees : Program) (events : List Event) (has : HasDone old files trees events)
     → GoesOn trees old.program (bounds_of old.limits) events has.run.lead.state event result new.shared)
+
+-- the same of one that isn't refused for want of memory; none, where it is enabled and a limit forbids it
+abbrev pub GoesOrStops : Option Answer → Event → (old new : MachineOf) → Type 0
+GoesOrStops (Some answer) event old new = GoesBy (Ok answer) event old new
+GoesOrStops None event old new =
+    (files : List (List ℕ)) (trees : Program) (events : List Event) (has : HasDone old files trees events)
+    → IsTrue (is_enabled trees old.limits.frames has.run.lead.state event)
+    × ((cause : RunCause) × (limit_after trees (bounds_of old.limits) events event ≡ Some cause))
 
 -- so many events like this one have been done
 pub record HasDoneMore (event : Event) (n : ℕ) (old new : MachineOf) : Type 0 where

@@ -1,10 +1,12 @@
 -- The states that a search has met, each by a schedule that leads there (own).
-use Rattle.std.specs.Prelude.{◌≡◌, ◌<◌, ℕ, suc, List, [], ◌∷◌, ◌++◌, Option, Some, Bool, IsTrue, Ok, replicate, slice_get}
+use Rattle.std.specs.Prelude.{◌≡◌, ◌⊎◌, ◌<◌, ◌≤◌, ◌+◌, ℕ, suc, List, [], ◌∷◌, ◌++◌, Some, Bool, IsTrue, IsFalse, Ok, length, replicate, slice_get}
 use Rattle.model.specs.declared.event.Event.{Event}
 use Rattle.model.specs.declared.event.ScheduleEntry.{ScheduleEntry}
 use Rattle.model.specs.declared.limits.Limits.{Limits}
 use Rattle.model.specs.Accepted.{IsAccepted}
 use Rattle.model.specs.Classes.{Program}
+use Rattle.model.specs.Run.{run}
+use Rattle.model.specs.State.{State}
 use Rattle.run_laws.specs.interleavings.Ends.{Has}
 use Rattle.linked_code.specs.declared.program.LinkedProgram.{LinkedProgram}
 use Rattle.machine_state.specs.declared.answers.Answer.TheVariants.{Done}
@@ -12,6 +14,7 @@ use Rattle.machine_state.specs.Shown.{IsProgram}
 use Rattle.machine.specs.Machines.{MachineOf}
 use Rattle.search.specs.local_runs.Local.{AreLocalAfter}
 use Rattle.search.specs.met_states.Met.{IsNextMet}
+use Rattle.search.specs.GivingUp.{IsStopped}
 use Rattle.search.specs.Machines.{IsAt, GoesBy}
 
 -- a program, the limits of its runs, and the schedules by their numbers
@@ -54,10 +57,23 @@ pub record Grows (old new : StatesOf) : Type 0 where
   pub limits_are : new.limits ≡ old.limits
   pub kept : (number : ℕ) (events : List Event) → IsSchedule old number events → IsSchedule new number events
 
--- it has grown, and where it didn't give up, this is so
-pub record GrowsTo (P : StatesOf → Type 0) (old new : StatesOf) (went_on : Bool) : Type 0 where
+-- some run of whatever files the program was linked from can't be gone on with
+abbrev pub CantGoOn : StatesOf → Type 0
+CantGoOn s = (files : List (List ℕ)) (trees : Program) → IsAccepted files trees → IsProgram trees s.program → IsStopped trees s.limits
+
+-- It has grown, to no more than so many. Where it didn't give up, this is so; and where it did, there are as many, or some run can't be
+-- gone on with.
+pub record GrowsTo (P : StatesOf → Type 0) (most : ℕ) (old new : StatesOf) (went_on : Bool) : Type 0 where
   pub grows : Grows old new
+  pub few : length old.schedules ≤ most → length new.schedules ≤ most
   pub then : IsTrue went_on → P new
+  pub gave_up : IsFalse went_on → (most ≤ length new.schedules) ⊎ CantGoOn new
+
+-- the event leads on from the state of this number
+abbrev pub LeadsOnFrom : StatesOf → (number : ℕ) → Event → Type 0
+LeadsOnFrom s number event =
+    (events : List Event) → IsSchedule s number events → (files : List (List ℕ)) (trees : Program) → IsAccepted files trees → IsProgram trees s.program
+    → (state : State) × (run trees s.limits.frames (events ++ event ∷ []) ≡ Some state)
 
 -- the machine has done the event in the state of this number
 abbrev pub HasGoneFrom : StatesOf → (number : ℕ) → Event → MachineOf → Type 0
@@ -84,4 +100,5 @@ IsAfter s number entry m = (events : List Event) → IsSchedule s number events 
 -- the schedule that goes on by the entry has been added
 pub record IsPushed (number : ℕ) (entry : ScheduleEntry) (old new : StatesOf) : Type 0 where
   pub grows : Grows old new
+  pub count : length new.schedules ≡ length old.schedules + 1
   pub has : (events : List Event) → IsSchedule new number events → Has new.schedules (with_entry events entry)

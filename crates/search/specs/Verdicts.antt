@@ -1,5 +1,5 @@
 -- What a search over all schedules answers (own; JLS 17).
-use Rattle.std.specs.Prelude.{List, IsTrue}
+use Rattle.std.specs.Prelude.{◌≡◌, ℕ, List, IsTrue, length}
 use Rattle.model.specs.declared.event.Event.{Event}
 use Rattle.model.specs.declared.limits.Limits.{Limits}
 use Rattle.model.specs.Classes.{Program}
@@ -7,6 +7,8 @@ use Rattle.model.specs.LimitStands.{bounds_of, within_limits}
 use Rattle.model.specs.Schedule.{events_of}
 use Rattle.run_laws.specs.interleavings.Ends.{Outcome, EndsWith, Has, AreAllOutcomes}
 use Rattle.search.specs.declared.run_outcomes.wanted.Wanted.{Wanted}
+use Rattle.search.specs.GivingUp.{GivesUp}
+use Rattle.search.specs.met_states.Met.{HasMetAll}
 use Rattle.search.specs.run_outcomes.Outcomes.{IsWanted}
 use Rattle.search.specs.declared.searching.Verdict.{Verdict}
 use Rattle.search.specs.declared.searching.Verdict.TheVariants as verdict
@@ -19,12 +21,16 @@ pub record IsFound (trees : Program) (limits : Limits) (want : Wanted) (events :
   pub is_wanted : IsWanted want outcome
 
 -- These are the outcomes of all runs that come to an end, whatever the limits on objects, cells, monitors and threads, and none is wanted.
-pub record IsComplete (trees : Program) (limits : Limits) (want : Wanted) (outcomes : List Outcome) : Type 0 where
+-- So many states were met: each event from one of them leads to another one, and those that are quiet have these outcomes.
+pub record IsComplete (trees : Program) (limits : Limits) (want : Wanted) (states : ℕ) (outcomes : List Outcome) : Type 0 where
   pub all : AreAllOutcomes trees limits.frames outcomes
   pub none : (outcome : Outcome) → Has outcomes outcome → IsWanted want outcome → ⊥
+  pub schedules : List (List Event)
+  pub count : length schedules ≡ states
+  pub met : HasMetAll trees limits.frames schedules outcomes
 
--- of runs that never end nothing is said, and nothing where the search gave up
-abbrev pub Says : Program → Limits → Wanted → Verdict → Type 0
-Says trees limits want (verdict.Found schedule) = IsFound trees limits want (events_of schedule)
-Says trees limits want (verdict.Complete outcomes) = IsComplete trees limits want outcomes
-Says trees limits want verdict.GaveUp = Unit {0}
+-- what is said where so many states may be met, and so many were; of runs that never end nothing is
+abbrev pub Says : Program → Limits → Wanted → (most states : ℕ) → Verdict → Type 0
+Says trees limits want most states (verdict.Found schedule) = IsFound trees limits want (events_of schedule)
+Says trees limits want most states (verdict.Complete outcomes) = IsComplete trees limits want states outcomes
+Says trees limits want most states verdict.GaveUp = GivesUp trees limits most states

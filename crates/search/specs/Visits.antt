@@ -1,5 +1,5 @@
 -- How far a search has come (own).
-use Rattle.std.specs.Prelude.{◌≡◌, ◌<◌, ℕ, suc, List, [], Option, Some, None, Bool, false, IsTrue, IsFalse, slice_get}
+use Rattle.std.specs.Prelude.{◌≡◌, ◌<◌, ℕ, suc, List, [], Option, Some, None, Bool, false, IsTrue, IsFalse, length, slice_get}
 use Rattle.model.specs.declared.event.Event.{Event}
 use Rattle.model.specs.declared.limits.Limits.{Limits}
 use Rattle.model.specs.Classes.{Program}
@@ -13,6 +13,7 @@ use Rattle.search.specs.declared.run_outcomes.outcomes.Outcome.{Outcome as TheOu
 use Rattle.search.specs.run_outcomes.Outcomes.{told_by, IsWanted, IsAdded}
 use Rattle.search.specs.declared.searching.Visit.{Visit}
 use Rattle.search.specs.declared.searching.Visit.TheVariants as visit
+use Rattle.search.specs.GivingUp.{GivesUp}
 use Rattle.search.specs.Machines.{TellsOutcome}
 use Rattle.search.specs.States.{StatesOf, IsSchedule, IsInState, AreAllMet}
 use Rattle.search.specs.Verdicts.{IsFound}
@@ -35,11 +36,11 @@ pub record HasVisited (trees : Program) (limits : Limits) (want : Wanted) (s : S
   pub met : (number : ℕ) → number < below → AreAllMet s number
   pub outcomes_are : AreListed trees limits.frames want s.schedules outcomes below
 
--- so has the next one; or its outcome is wanted; or nothing is said
-abbrev pub Visits : Program → Limits → Wanted → (number : ℕ) → Visit → StatesOf → List Outcome → Type 0
-Visits trees limits want number visit.Visited s outcomes = HasVisited trees limits want s outcomes (suc number)
-Visits trees limits want number (visit.Found schedule) s outcomes = IsFound trees limits want (events_of schedule)
-Visits trees limits want number visit.GaveUp s outcomes = Unit {0}
+-- so has the next one; or its outcome is wanted; or the search gives up, where so many states may be met
+abbrev pub Visits : Program → Limits → Wanted → (most number : ℕ) → Visit → StatesOf → List Outcome → Type 0
+Visits trees limits want most number visit.Visited s outcomes = HasVisited trees limits want s outcomes (suc number)
+Visits trees limits want most number (visit.Found schedule) s outcomes = IsFound trees limits want (events_of schedule)
+Visits trees limits want most number visit.GaveUp s outcomes = GivesUp trees limits most (length s.schedules)
 
 -- ---- an outcome, if there is one
 

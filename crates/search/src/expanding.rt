@@ -24,7 +24,7 @@ fn meet(
 ) -> Result<bool, AllocError>
     requires number { number < length states.old.schedules }
     requires has_gone { HasGoneFrom states.old number event machine.old }
-    ensures { IfOk result (GrowsTo (λ s. IsMetFrom s number event × IsInState s number machine.new) states.old states.new) }
+    ensures { IfOk result (GrowsTo (λ s. IsMetFrom s number event × IsInState s number machine.new) most states.old states.new) }
 {
     let entry = go_past(alloc, machine, event)?;
     let again = states.machine(number)?;
@@ -33,7 +33,7 @@ fn meet(
 }
 
 /// Adds the states to which the events of a thread lead from a state, in which this machine is, and is again at the end. Answers false where
-/// it gives up: there would be more states than so many, an event is refused, or each of the first 65,535 picks is enabled. The only error
+/// it gives up: there would be more states than so many, a limit forbids an event, or each of the first 65,535 picks is enabled. The only error
 /// is a want of memory.
 fn expand_thread(
     alloc: Global,
@@ -45,20 +45,20 @@ fn expand_thread(
 ) -> Result<bool, AllocError>
     requires number { number < length states.old.schedules }
     requires is_in { IsInState states.old number machine.old }
-    ensures { IfOk result (GrowsTo (λ s. AreMetByThread s number thread × IsInState s number machine.new) states.old states.new) }
+    ensures { IfOk result (GrowsTo (λ s. AreMetByThread s number thread × IsInState s number machine.new) most states.old states.new) }
 {
     higher_picks_are_left();
     met_states_are_kept();
     'picks: for pick in 0..u16::MAX {
         let event = Event { thread, pick };
-        match go_on(machine, event) {
-            Ok(Answer::Done) => {
+        match go_on(machine, event)? {
+            Some(Answer::Done) => {
                 if !meet(alloc, states, number, event, machine, most)? {
                     return Ok(false);
                 }
             }
-            Ok(Answer::NotEnabled) => return Ok(true),
-            Err(_) => return Ok(false),
+            Some(Answer::NotEnabled) => return Ok(true),
+            None => return Ok(false),
         }
     }
     Ok(false)
@@ -76,7 +76,7 @@ fn expand_threads(
 ) -> Result<bool, AllocError>
     requires number { number < length states.old.schedules }
     requires is_in { IsInState states.old number machine.old }
-    ensures { IfOk result (GrowsTo (λ s. AreMetByThreads s number threads) states.old states.new) }
+    ensures { IfOk result (GrowsTo (λ s. AreMetByThreads s number threads) most states.old states.new) }
 {
     met_states_are_kept();
     'threads: for thread in 0..threads {
@@ -97,7 +97,7 @@ pub(crate) fn expand(
 ) -> Result<bool, AllocError>
     requires number { number < length states.old.schedules }
     requires is_in { IsInState states.old number machine }
-    ensures { IfOk result (GrowsTo (λ s. AreAllMet s number) states.old states.new) }
+    ensures { IfOk result (GrowsTo (λ s. AreAllMet s number) most states.old states.new) }
 {
     other_threads_are_left();
     let mut machine = machine;

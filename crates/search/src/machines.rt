@@ -4,7 +4,8 @@ ghost use Rattle.std.specs.Prelude.{◌≡◌, ◌<◌, ◌≤◌, [], IfOk, OnO
 ghost use Rattle.std.specs.Arc.{arc_value};
 ghost use Rattle.model.specs.Schedule.{events_of};
 ghost use Rattle.machine.specs.Machines.{IsOfAccepted};
-ghost use Rattle.search.specs.Machines.{IsAt, GoesBy, HasDoneMore, AreLocalBehind, GoesPast, TellsOutcome};
+ghost use Rattle.machine_state.specs.declared.refusals.EventRefusal.TheVariants as refusals;
+ghost use Rattle.search.specs.Machines.{IsAt, GoesOrStops, HasDoneMore, AreLocalBehind, GoesPast, TellsOutcome};
 
 use crate::local_runs::local_count;
 use crate::run_outcomes::Outcome;
@@ -52,12 +53,28 @@ pub(crate) fn at_schedule(
     }
 }
 
-/// Does an event, if it is enabled.
-pub(crate) fn go_on(machine: &mut Machine, event: Event) -> Result<Answer, EventRefusal>
-    ensures { GoesBy result event machine.old machine.new }
+/// An error where an event was refused for want of memory.
+fn unless_memory(refusal: EventRefusal) -> Result<(), AllocError>
+    ensures { OnOk result (refusal ≡ refusals.Memory → ⊥) }
+{
+    match refusal {
+        EventRefusal::Memory => Err(AllocError),
+        _ => Ok(()),
+    }
+}
+
+/// Does an event, if it is enabled. Answers none where it is, and a limit forbids it. The only error is a want of memory.
+pub(crate) fn go_on(machine: &mut Machine, event: Event) -> Result<Option<Answer>, AllocError>
+    ensures { IfOk result (λ answer. GoesOrStops answer event machine.old machine.new) }
 {
     runs_go_on();
-    machine.step(event)
+    match machine.step(event) {
+        Ok(answer) => Ok(Some(answer)),
+        Err(refusal) => {
+            unless_memory(refusal)?;
+            Ok(None)
+        }
+    }
 }
 
 /// Does so many events like this one, which can be done, so that the only error is a want of memory.

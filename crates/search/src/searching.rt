@@ -1,6 +1,6 @@
 //! The search.
 
-ghost use Rattle.std.specs.Prelude.{◌<◌, [], length, IfOk};
+ghost use Rattle.std.specs.Prelude.{◌<◌, ◌≤◌, [], length, IfOk};
 ghost use Rattle.std.specs.Arc.{arc_value};
 ghost use Rattle.machine.specs.Machines.{IsProgramOf};
 ghost use Rattle.search.specs.Machines.{TellsOutcome};
@@ -29,7 +29,7 @@ pub enum Verdict {
     Found(Schedule),
     /// The outcomes of all runs that end, none of which is wanted.
     Complete(Outcomes),
-    /// Nothing: there are more states than were allowed, or an event was refused at a limit.
+    /// Nothing: there are more states than were allowed, a limit forbids an event, or 65,535 threads wait to be picked.
     GaveUp,
 }
 
@@ -116,7 +116,8 @@ fn visit_state(
 ) -> Result<Visit, AllocError>
     requires visited { HasVisited classes.now states.old.limits wanted.now states.old outcomes.old number }
     requires number { number < length states.old.schedules }
-    ensures { IfOk result (λ v. Visits classes.now states.old.limits wanted.now number v states.new outcomes.new) }
+    ensures visits { IfOk result (λ v. Visits classes.now states.old.limits wanted.now most number v states.new outcomes.new) }
+    ensures few { IfOk result (λ _. length states.old.schedules ≤ most → length states.new.schedules ≤ most) }
 {
     met_states_are_kept();
     let Some(machine) = listed_at(alloc, classes, wanted, states, outcomes, number)? else {
@@ -138,8 +139,10 @@ fn visit_all<P: Progress>(
     states: &mut States,
     most: u32,
 ) -> Result<Verdict, AllocError>
-    requires { HasVisited classes.now states.old.limits wanted.now states.old [] 0 }
-    ensures { IfOk result (Says classes.now states.old.limits wanted.now) }
+    requires visited { HasVisited classes.now states.old.limits wanted.now states.old [] 0 }
+    requires few { 1 ≤ most → length states.old.schedules ≤ most }
+    ensures says { IfOk result (Says classes.now states.old.limits wanted.now most (length states.new.schedules)) }
+    ensures few { IfOk result (λ _. 1 ≤ most → length states.new.schedules ≤ most) }
 {
     searches_are_whole();
     searches_are_complete();
@@ -175,7 +178,8 @@ pub fn search<P: Progress>(
     most: u32,
 ) -> Result<Searched, AllocError>
     requires { IsProgramOf classes.now (arc_value program) }
-    ensures { IfOk result (λ s. Says classes.now limits wanted.now s.verdict) }
+    ensures says { IfOk result (λ s. Says classes.now limits wanted.now most s.states s.verdict) }
+    ensures few { IfOk result (λ s. 1 ≤ most → s.states ≤ most) }
 {
     let mut states = States::new(alloc, program, limits)?;
     let verdict = visit_all(alloc, progress, classes, wanted, &mut states, most)?;

@@ -1,6 +1,6 @@
 //! The states that a search has met, each by a schedule that leads there.
 
-ghost use Rattle.std.specs.Prelude.{◌≡◌, ◌<◌, ◌+◌, ◌^◌, length, IfOk, OnOk, IsTrue};
+ghost use Rattle.std.specs.Prelude.{◌≡◌, ◌<◌, ◌+◌, ◌/◌, ◌^◌, length, IfOk, OnOk, IsTrue};
 ghost use Rattle.std.specs.Arc.{arc_value};
 ghost use Rattle.model.specs.Schedule.{EntryFits, events_of};
 ghost use Rattle.machine.specs.Machines.{IsOfAccepted};
@@ -24,7 +24,9 @@ use std::sync::Arc;
 const STATE_BYTES: u32 = 128;
 
 /// How many states there may be, so that they don't take more than so many bytes.
-pub fn states_within(bytes: u32) -> u32 {
+pub fn states_within(bytes: u32) -> u32
+    ensures { result ≡ bytes / 128 }
+{
     bytes / STATE_BYTES
 }
 
@@ -213,7 +215,7 @@ impl States {
         requires number { number < length self.old.schedules }
         requires local { IsLocalFrom self.old number entry }
         requires is_after { IsAfter self.old number entry machine }
-        ensures { IfOk result (GrowsTo (λ s. IsMetFrom s number entry.event) self.old self.new) }
+        ensures { IfOk result (GrowsTo (λ s. IsMetFrom s number entry.event) most self.old self.new) }
     {
         new_states_are_met();
         let hash = hash_of(machine.shared());

@@ -4,7 +4,9 @@ use Rattle.std.specs.Prelude.{slice_get, OnOk}
 use Rattle.std.specs.Option.{option_and_then, option_map, option_map_or}
 use Rattle.std.specs.List.{list_all}
 use Rattle.std.proofs.lemmas.Bool.{and_parts}
+use Rattle.std.proofs.lemmas.Grind.{flat_map-append}
 use Rattle.model.specs.Names.{Member, Name}
+use Rattle.listings.specs.printed_names.Printed.{printed, printed_byte}
 use Rattle.model.specs.Tree.{FileTree, MethodTree, CodeTree}
 use Rattle.model.specs.Conditions.{names_utf8, text_at}
 use Rattle.model.specs.Classes.{Program, Body, name_of, classes_of, declared_in, code_in, with_pool, body_in}
@@ -29,8 +31,9 @@ use Rattle.traces.specs.traced_events.Places.{Sees}
 use Rattle.traces.specs.declared.traced_events.frames.FrameBefore.{FrameBefore}
 use Rattle.traces.specs.declared.form.Form.{Form}
 use Rattle.traces.specs.JsonTexts.{text_member}
-use Rattle.traces.specs.Lines.{AddsLine, class_in, end_words, frame_in, head_words, instruction_words, line_words, meaning_in, method_members, nowhere_in, part, place_in}
+use Rattle.traces.specs.Lines.{AddsLine, class_in, end_words, frame_in, head_words, instruction_words, line_words, meaning_in, method_members, method_words, nowhere_in, part, place_in}
 use Rattle.traces.specs.Methods.{IsPlaceOf, name_in, IsBodyOf}
+use Rattle.traces.proofs.OneLine.{is_one_line}
 
 -- ---- the place of a number
 
@@ -105,6 +108,36 @@ members_told (Ok value) files numbered place p old mid new class name of_class o
     ∙ append_assoc old (text_member (codes "class") class) (text_member (codes "method") name)
     ∙ ap (λ (l : List ℕ). old ++ (text_member (codes "class") l ++ text_member (codes "method") name)) same_class
     ∙ ap (λ (l : List ℕ). old ++ (text_member (codes "class") method.class ++ text_member (codes "method") l)) same_name
+
+-- ---- a method as it stands in a line
+
+printed_parts : (a b : List ℕ) → printed (a ++ b) ≡ printed a ++ printed b
+unfolding printed
+printed_parts a b = flat_map-append printed_byte a b
+
+pub printed_told : {A E : Type 0} (result : Result A E) (files : Program) (numbered : ℕ) (place : MemberPlace)
+    → IsPlaceOf files numbered place → (old mid point new class name : List ℕ)
+    → class ≡ name_at files place.class → name ≡ name_in files place → mid ≡ old ++ printed class → point ≡ mid ++ printed (codes ".")
+    → OnOk result (new ≡ point ++ printed name)
+    → (method : Member) → IsMethodAt files numbered method → OnOk result (new ≡ old ++ printed (method_words method))
+printed_told (Err fault) files numbered place p old mid point new class name of_class of_name first second third method at = tt
+printed_told (Ok value) files numbered place p old mid point new class name of_class of_name first second third method at =
+    let same_class : class ≡ method.class = of_class ∙ class_named files place method (p method at) in
+    let same_name : name ≡ method.name = of_name ∙ method_named files place method (p method at) in
+    let parts : printed (class ++ (codes "." ++ name)) ≡ printed class ++ (printed (codes ".") ++ printed name) =
+    printed_parts class (codes "." ++ name) ∙ ap (λ (l : List ℕ). printed class ++ l) (printed_parts (codes ".") name)
+    in
+    let all : new ≡ old ++ printed (class ++ (codes "." ++ name)) =
+    third
+    ∙ ap (λ (l : List ℕ). l ++ printed name) (second ∙ ap (λ (l : List ℕ). l ++ printed (codes ".")) first)
+    ∙ ap (λ (l : List ℕ). l ++ printed name) (append_assoc old (printed class) (printed (codes ".")))
+    ∙ append_assoc old (printed class ++ printed (codes ".")) (printed name)
+    ∙ ap (λ (l : List ℕ). old ++ l) (append_assoc (printed class) (printed (codes ".")) (printed name))
+    ∙ ap (λ (l : List ℕ). old ++ l) (sym parts)
+    in
+    all
+    ∙ ap (λ (l : List ℕ). old ++ printed (l ++ (codes "." ++ name))) same_class
+    ∙ ap (λ (l : List ℕ). old ++ printed (method.class ++ (codes "." ++ l))) same_name
 
 -- ---- its body
 
@@ -228,7 +261,7 @@ pub told_line : {A E : Type 0} (result : Result A E) (form : Form) (trees : Prog
     → e ≡ d ++ part form (codes " | ") (codes "did") deed
     → OnOk result (new ≡ e ++ end_words form) → OnOk result (AddsLine form trees n t stack old new)
 told_line (Err fault) form trees n t stack old a b c d e new source words deed ha hb hc hd told he h = tt
-told_line (Ok value) form trees n t stack old a b c d e new source words deed ha hb hc hd told he h = (line_words form trees n t stack source deed, all, (source, deed, refl))
+told_line (Ok value) form trees n t stack old a b c d e new source words deed ha hb hc hd told he h = (line_words form trees n t stack source deed, all, (is_one_line form trees n t stack source deed, source, deed, refl))
   where
     six : (u v w x y z : List ℕ) → a ≡ old ++ u → b ≡ a ++ v → c ≡ b ++ w → d ≡ c ++ x → e ≡ d ++ y → new ≡ e ++ z
         → new ≡ old ++ (u ++ (v ++ (w ++ (x ++ (y ++ z)))))

@@ -1,12 +1,14 @@
 -- The line of an event: where its thread stood, and its instruction (own; JVMS 2.6, 5.5).
-use Rattle.std.specs.Prelude.{◌≡◌, ℕ, ◌+◌, ◌-◌, ◌*◌, List, [], ◌∷◌, ◌++◌, length, replicate, codes, min, nat_lt, if◌then◌else◌}
+use Rattle.std.specs.Prelude.{◌≡◌, ℕ, ◌+◌, ◌-◌, ◌*◌, List, [], ◌∷◌, ◌++◌, Bool, IsTrue, length, replicate, codes, min, nat_lt, not, ◌==◌, if◌then◌else◌}
+use Rattle.std.specs.List.{list_all}
 use Rattle.std.specs.Option.{option_map_or}
 use Rattle.model.specs.Classes.{Program, Body, body_of}
 use Rattle.model.specs.Instruction.{sized_at}
 use Rattle.model.specs.Listing.{meaning}
 use Rattle.model.specs.Names.{Name, Member}
-use Rattle.model.specs.Report.{number}
+use Rattle.model.specs.Report.{number, line}
 use Rattle.model.specs.State.{Invocation, Initialisation, StackOf}
+use Rattle.listings.specs.printed_names.Printed.{printed}
 use Rattle.traces.specs.declared.form.Form.{Form}
 use Rattle.traces.specs.declared.form.Form.TheVariants.{Plain, Columns, Json}
 use Rattle.traces.specs.JsonTexts.{member, text_member}
@@ -27,6 +29,10 @@ head_words Plain n t = number n ++ (codes " " ++ number t)
 head_words Columns n t = in_seven n ++ (codes " " ++ (indent t ++ number t))
 head_words Json n t = codes "{\"event\":" ++ (number n ++ member (codes "thread") (number t))
 
+-- a thread by its number
+abbrev pub thread_words : ℕ → List ℕ
+thread_words t = codes "thread " ++ number t
+
 -- ---- where its thread stood
 
 -- a method by its class and its name
@@ -40,11 +46,11 @@ method_members method = text_member (codes "class") method.class ++ text_member 
 -- a method and the offset of an instruction
 abbrev pub frame_in : Form → Member → ℕ → List ℕ
 frame_in Json method offset = method_members method ++ member (codes "offset") (number offset)
-frame_in form method offset = codes " " ++ (method_words method ++ (codes " " ++ number offset))
+frame_in form method offset = codes " " ++ (printed (method_words method) ++ (codes " " ++ number offset))
 
 abbrev pub class_in : Form → Name → List ℕ
 class_in Json class = text_member (codes "class") class
-class_in form class = codes " " ++ class
+class_in form class = codes " " ++ printed class
 
 abbrev pub nowhere_in : Form → List ℕ
 nowhere_in Json = []
@@ -74,7 +80,7 @@ instruction_words trees (Initialisation class phase ∷ stack) = []
 abbrev pub part : Form → (mark key words : List ℕ) → List ℕ
 part form mark key [] = []
 part Json mark key (x ∷ words) = text_member key (x ∷ words)
-part form mark key (x ∷ words) = mark ++ x ∷ words
+part form mark key (x ∷ words) = mark ++ printed (x ∷ words)
 
 abbrev pub end_words : Form → List ℕ
 end_words Json = codes "}\n"
@@ -90,13 +96,21 @@ line_words form trees n t stack source deed =
     ++ (part form (codes " | ") (codes "did") deed
     ++ end_words form))))
 
--- the line of an event of a thread with this stack, whatever is said of the source and of what was done
+-- no byte of a text is a line feed
+abbrev pub is_within_line : List ℕ → Bool
+is_within_line text = list_all (λ b. not (b == 10)) text
+
+-- a line feed at the end, and no other
+abbrev pub IsOneLine : List ℕ → Type 0
+IsOneLine text = (words : List ℕ) × (text ≡ line words) × IsTrue (is_within_line words)
+
+-- the one line of an event of a thread with this stack, whatever is said of the source and of what was done
 abbrev pub IsLine : {A : Type 0} → Form → Program → (n t : ℕ) → StackOf A → List ℕ → Type 0
-IsLine form trees n t stack line = (source deed : List ℕ) × (line ≡ line_words form trees n t stack source deed)
+IsLine form trees n t stack text = IsOneLine text × (source deed : List ℕ) × (text ≡ line_words form trees n t stack source deed)
 
 -- it stands behind a text now
 abbrev pub AddsLine : {A : Type 0} → Form → Program → (n t : ℕ) → StackOf A → (old new : List ℕ) → Type 0
-AddsLine form trees n t stack old new = (line : List ℕ) × (new ≡ old ++ line) × IsLine form trees n t stack line
+AddsLine form trees n t stack old new = (added : List ℕ) × (new ≡ old ++ added) × IsLine form trees n t stack added
 
 -- ---- the line of a run of local instructions
 

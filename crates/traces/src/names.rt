@@ -3,6 +3,7 @@
 ghost use Rattle.std.specs.Prelude.{◌≡◌, ◌++◌, IfOk, OnOk};
 ghost use Rattle.hierarchy.specs.Places.{name_at};
 ghost use Rattle.linked_code.specs.Numbers.{IsMethodAt};
+ghost use Rattle.listings.specs.printed_names.Printed.{printed};
 ghost use Rattle.method_tables.specs.method_links.Numbers.{AreNumbersOf};
 ghost use Rattle.traces.specs.Lines.{method_members, method_words};
 ghost use Rattle.traces.specs.Methods.{IsPlaceOf, IsBodyOf, name_in};
@@ -11,6 +12,7 @@ use crate::json::push_text_member;
 use hierarchy::{ClassSet, MemberPlace};
 use linked_code::LinkedProgram;
 use linker::Linked;
+use listings::printed_names::push_printed;
 use method_tables::method_links::MethodNumbers;
 use std::alloc::{AllocError, Global};
 use types::method_code::MethodCode;
@@ -93,6 +95,22 @@ impl<'a> ProgramNames<'a> {
         text.extend_from_slice(b".")?;
         text.extend_from_slice(method_name(set, place))?;
         Ok(())
+    }
+
+    /// The same as it stands in a line.
+    pub(crate) fn push_printed_method(
+        &self,
+        text: &mut Vec<u8>,
+        number: u32,
+    ) -> Result<(), AllocError>
+        ensures { (method : _) → IsMethodAt self.now.linked.now number method
+            → OnOk result (text.new.items ≡ text.old.items ++ printed (method_words method)) }
+    {
+        let place = self.place(number);
+        let set = self.linked.set();
+        push_printed(text, set.name_at(place.class))?;
+        push_printed(text, b".")?;
+        push_printed(text, method_name(set, place))
     }
 
     /// The same as members of an object of JSON.

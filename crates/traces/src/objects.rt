@@ -1,5 +1,7 @@
 //! Objects by their types and numbers.
 
+ghost use Rattle.std.specs.Prelude.{◌≡◌, ◌+◌};
+
 use crate::names::ProgramNames;
 use crate::numbers::{push_number, push_words};
 use heap::{Heap, NarrowKind, ObjectKind};
@@ -35,7 +37,9 @@ fn primitive_name(primitive: Primitive) -> &'static str {
 }
 
 /// The Class object of a class, by its number.
-pub fn class_object_of(class: u16) -> u32 {
+pub fn class_object_of(class: u16) -> u32
+    ensures { result ≡ 3 + class }
+{
     FIRST_CLASS_OBJECT + u32::from(class)
 }
 

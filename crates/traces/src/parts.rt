@@ -7,6 +7,7 @@ use crate::form::Form;
 use crate::json::{push_number_member, push_text_member};
 use crate::line::Line;
 use crate::numbers::{push_in_seven, push_number, push_spaces, push_words};
+use listings::printed_names::push_printed;
 use std::alloc::AllocError;
 
 /// How many threads have a column of their own, but for the last.
@@ -50,7 +51,7 @@ pub(crate) struct Part {
     pub(crate) key: &'static str,
 }
 
-/// A part of a line, if it is there.
+/// A part of a line, if it is there. No line feed in it stands in the line.
 pub(crate) fn push_part(
     text: &mut Vec<u8>,
     form: Form,
@@ -66,7 +67,7 @@ pub(crate) fn push_part(
         return push_text_member(text, of.key, words);
     }
     push_words(text, of.mark)?;
-    Ok(text.extend_from_slice(words)?)
+    push_printed(text, words)
 }
 
 /// The end of a line.

@@ -12,6 +12,7 @@ use crate::names::ProgramNames;
 use crate::numbers::{push_number, push_words};
 use crate::traced_events::{Before, FrameBefore};
 use listings::disasm::push_meaning;
+use listings::printed_names::push_printed;
 use std::alloc::AllocError;
 use types::method_code::MethodCode;
 
@@ -30,7 +31,7 @@ pub(crate) fn push_frame(
         return push_number_member(text, "offset", u64::from(frame.offset));
     }
     push_words(text, " ")?;
-    names.push_method(text, frame.method)?;
+    names.push_printed_method(text, frame.method)?;
     push_words(text, " ")?;
     push_number(text, u64::from(frame.offset))
 }
@@ -43,7 +44,7 @@ fn push_class(text: &mut Vec<u8>, form: Form, class: &[u8]) -> Result<(), AllocE
         return push_text_member(text, "class", class);
     }
     push_words(text, " ")?;
-    Ok(text.extend_from_slice(class)?)
+    push_printed(text, class)
 }
 
 /// ` -`, of a thread with an empty stack.

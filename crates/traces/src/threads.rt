@@ -1,12 +1,17 @@
 //! Threads.
 
+ghost use Rattle.std.specs.Prelude.{◌≡◌, ◌++◌, OnOk};
+ghost use Rattle.traces.specs.Lines.{thread_words};
+
 use crate::names::ProgramNames;
 use crate::numbers::{push_number, push_words};
 use machine_state::Shared;
 use std::alloc::AllocError;
 
 /// Writes a thread by its number behind a text: `thread 1`.
-pub fn push_thread(text: &mut Vec<u8>, thread: u16) -> Result<(), AllocError> {
+pub fn push_thread(text: &mut Vec<u8>, thread: u16) -> Result<(), AllocError>
+    ensures { OnOk result (text.new.items ≡ text.old.items ++ thread_words thread) }
+{
     push_words(text, "thread ")?;
     push_number(text, u64::from(thread))
 }

@@ -12,25 +12,12 @@ use Rattle.hierarchy.specs.Places.{class_at}
 use Rattle.types.specs.method_code.View.{shown_in}
 use Rattle.run_laws.specs.typing_search.Weights.{table_weight, marks_weight, places}
 use Rattle.link_conditions.specs.declared.refusal.why.Refusal.{Refusal}
-use Rattle.verifier.specs.Found.{Tables, work_left}
-use Rattle.verifier.specs.Steps.{Limits, AreLimits, most_turns, shown_steps, class_steps, all_steps, steps_at, steps_of_class}
+use Rattle.verifier.specs.Found.{work_left}
+use Rattle.verifier.specs.Worklist.{Tables}
+use Rattle.verifier.specs.Steps.{Costs, AreCosts, most_turns, shown_steps, class_steps, all_steps, steps_at, steps_of_class}
 use Rattle.verifier.specs.Places.{RefusesPart}
 
--- ---- turns
-
--- a turn lessens the work that is left, and takes no more than the most
-pub turn_taken : (start work less left after cost most all : ℕ) → start + work * most ≤ left + all → after + cost ≡ left → cost ≤ most
-    → less < work → start + less * most ≤ after + all
-turn_taken start work less left after cost most all h e c l =
-    let m = mul-le (suc less) most work most (omega (arith, l)) (omega arith) in
-    let s = suc-mul less most in
-    omega (arith, h, e, c, m, s)
-
-pub turn_missing : (start work less left cost most all : ℕ) → start + work * most ≤ left + all → left < cost → cost ≤ most → less < work
-    → start < all
-turn_missing start work less left cost most all h f c l =
-    let m = mul-le 1 most work most (omega (arith, l)) (omega arith) in
-    omega (arith, h, f, c, m)
+-- ---- where nothing is found yet
 
 module _ (files : Program) (body : Body) (limit : ℕ) where
   none_weight : (n : ℕ) → table_weight files limit (places body) (replicate n None) ≡ n * (places body * suc limit + 2)
@@ -66,53 +53,53 @@ sum_next f xs i = let n : suc i ≡ i + 1 = omega arith in sym (ap (λ k. sum_by
 
 -- ---- methods of a class
 
-abbrev front_steps : ℕ → Limits → FileTree → ℕ
-front_steps n limits file = sum_by (λ (m : MethodTree). shown_steps (shown_in file m) limits) (take n file.methods)
+abbrev front_steps : ℕ → Costs → FileTree → ℕ
+front_steps n costs file = sum_by (λ (m : MethodTree). shown_steps (shown_in file m) costs) (take n file.methods)
 
 -- of the first methods of the class at a place
-abbrev pub methods_steps : Program → ℕ → ℕ → Limits → ℕ
-methods_steps files class n limits = option_map_or (front_steps n limits) (class_at files class) 0
+abbrev pub methods_steps : Program → ℕ → ℕ → Costs → ℕ
+methods_steps files class n costs = option_map_or (front_steps n costs) (class_at files class) 0
 
-module _ (limits : Limits) where
-  shown_or_none : (file : FileTree) (o : Option MethodTree) → option_map_or (λ (m : MethodTree). shown_steps (shown_in file m) limits) o 0
-      ≡ shown_steps (option_and_then (shown_in file) o) limits
+module _ (costs : Costs) where
+  shown_or_none : (file : FileTree) (o : Option MethodTree) → option_map_or (λ (m : MethodTree). shown_steps (shown_in file m) costs) o 0
+      ≡ shown_steps (option_and_then (shown_in file) o) costs
   shown_or_none file None = refl
   shown_or_none file (Some m) = refl
 
-  more_in : (k : ℕ) (o : Option FileTree) → option_map_or (front_steps (k + 1) limits) o 0
-      ≡ option_map_or (front_steps k limits) o 0 + shown_steps (option_and_then (λ (file : FileTree). option_and_then (shown_in file) (slice_get file.methods k)) o) limits
+  more_in : (k : ℕ) (o : Option FileTree) → option_map_or (front_steps (k + 1) costs) o 0
+      ≡ option_map_or (front_steps k costs) o 0 + shown_steps (option_and_then (λ (file : FileTree). option_and_then (shown_in file) (slice_get file.methods k)) o) costs
   more_in k None = omega arith
   more_in k (Some file) =
-      sum_next (λ (m : MethodTree). shown_steps (shown_in file m) limits) file.methods k ∙ ap (λ n. front_steps k limits file + n) (shown_or_none file (slice_get file.methods k))
+      sum_next (λ (m : MethodTree). shown_steps (shown_in file m) costs) file.methods k ∙ ap (λ n. front_steps k costs file + n) (shown_or_none file (slice_get file.methods k))
 
   within : (k : ℕ) (o : Option FileTree)
-      → option_map_or (front_steps k limits) o 0 ≤ option_map_or (λ (file : FileTree). class_steps file limits) o 0
+      → option_map_or (front_steps k costs) o 0 ≤ option_map_or (λ (file : FileTree). class_steps file costs) o 0
   within k None = omega arith
-  within k (Some file) = sum_by-take-le (λ (m : MethodTree). shown_steps (shown_in file m) limits) file.methods k
+  within k (Some file) = sum_by-take-le (λ (m : MethodTree). shown_steps (shown_in file m) costs) file.methods k
 
   pub method_more : (files : Program) (class k : ℕ)
-      → methods_steps files class (k + 1) limits ≡ methods_steps files class k limits + steps_at files class k limits
+      → methods_steps files class (k + 1) costs ≡ methods_steps files class k costs + steps_at files class k costs
   method_more files class k = more_in k (class_at files class)
 
-  pub methods_within : (files : Program) (class k : ℕ) → methods_steps files class k limits ≤ steps_of_class files class limits
+  pub methods_within : (files : Program) (class k : ℕ) → methods_steps files class k costs ≤ steps_of_class files class costs
   methods_within files class k = within k (class_at files class)
 
 -- ---- classes
 
-abbrev pub classes_steps : Program → ℕ → Limits → ℕ
-classes_steps files n limits = sum_by (λ (file : FileTree). class_steps file limits) (take n (classes_of files))
+abbrev pub classes_steps : Program → ℕ → Costs → ℕ
+classes_steps files n costs = sum_by (λ (file : FileTree). class_steps file costs) (take n (classes_of files))
 
-module _ (files : Program) (limits : Limits) where
-  pub class_more : (k : ℕ) → classes_steps files (k + 1) limits ≡ classes_steps files k limits + steps_of_class files k limits
-  class_more k = sum_next (λ (file : FileTree). class_steps file limits) (classes_of files) k
+module _ (files : Program) (costs : Costs) where
+  pub class_more : (k : ℕ) → classes_steps files (k + 1) costs ≡ classes_steps files k costs + steps_of_class files k costs
+  class_more k = sum_next (λ (file : FileTree). class_steps file costs) (classes_of files) k
 
-  pub classes_within : (k : ℕ) → classes_steps files k limits ≤ all_steps files limits
-  classes_within k = sum_by-take-le (λ (file : FileTree). class_steps file limits) (classes_of files) k
+  pub classes_within : (k : ℕ) → classes_steps files k costs ≤ all_steps files costs
+  classes_within k = sum_by-take-le (λ (file : FileTree). class_steps file costs) (classes_of files) k
 
 -- ---- refusals of a part, and of the whole
 
-pub refuses_more : (files : Program) (part whole : Limits → ℕ) (left first : ℕ) (refusal : Refusal)
-    → ((limits : Limits) → AreLimits files limits → left < part limits → first < whole limits) → RefusesPart files part left refusal
+pub refuses_more : (files : Program) (part whole : Costs → ℕ) (left first : ℕ) (refusal : Refusal)
+    → ((costs : Costs) → AreCosts files costs → left < part costs → first < whole costs) → RefusesPart files part left refusal
     → RefusesPart files whole first refusal
 refuses_more files part whole left first refusal more (inl kind) = inl kind
 refuses_more files part whole left first refusal more (inr (inl unverified)) = inr (inl unverified)
@@ -123,7 +110,7 @@ refuses_more files part whole left first refusal more (inr (inr long)) =
       member = long.member;
       body = long.body;
       stands = long.stands;
-      long = λ limits are. more limits are (long.long limits are);
+      long = λ costs are. more costs are (long.long costs are);
       named = long.named;
       nowhere = long.nowhere;
     }))

@@ -23,7 +23,8 @@ use Rattle.verifier.specs.Packed.{Parts, parts_of, parts_in}
 use Rattle.types.specs.declared.verification_type.VerificationType.{VerificationType}
 use Rattle.run_laws.specs.typing_search.Tables.{waits, found_at, waiting_at, taken_off}
 use Rattle.verifier.specs.flow.Leads.{frame_at, lead_in, has_handlers}
-use Rattle.verifier.specs.Found.{Tables, tables_in, led_to, leads_in, AreOver, IsEmpty, StandsBefore}
+use Rattle.verifier.specs.Found.{tables_in, led_to, leads_in, AreOver, IsEmpty, StandsBefore}
+use Rattle.verifier.specs.Worklist.{Tables}
 use Rattle.verifier.specs.Verified.{OnUnverified, OnFault}
 use Rattle.verifier.specs.declared.fault.MethodFault.{MethodFault}
 use Rattle.verifier.specs.declared.fault.MethodFault.TheVariants.{Unverified, TooLong, OutOfMemory}

@@ -7,6 +7,7 @@ pub mod Raising
 pub mod Untouched
 pub mod Nears
 pub mod Entries
+pub mod Worklists
 pub mod Merges
 pub mod Looked
 pub mod Puts
@@ -15,3 +16,4 @@ pub mod Counting
 pub mod Turns
 pub mod Turned
 pub mod Members
+pub mod Limited

@@ -1,5 +1,5 @@
 -- One frame type merged into tables; and merges that follow one another.
-use Rattle.std.proofs.Common.{◌≡◌, ℕ, List, [], ◌∷◌, ◌++◌, length, true, Option, Some, None, sym, ap, ◌∙◌, subst, ⊎_elim, arith}
+use Rattle.std.proofs.Common.{◌≡◌, ℕ, List, [], ◌∷◌, ◌++◌, length, true, Option, Some, None, refl, sym, ap, ◌∙◌, subst, ⊎_elim, arith}
 use Rattle.std.specs.Prelude.{slice_get}
 use Rattle.std.specs.List.{AllByRecursion}
 use Rattle.std.proofs.lemmas.Bool.{cases_eq}
@@ -18,8 +18,10 @@ use Rattle.run_laws.specs.typing_search.Weights.{IsLowFrame}
 use Rattle.run_laws.proofs.typing_search.Searching.{merged_nothing, merged_then, clash_then}
 use Rattle.run_laws.proofs.typing_search.Merging.{get_set_here, get_set_other, merged_same, merged_first, merged_joined}
 use Rattle.run_laws.proofs.typing_search.Weights.{raised_lighter, first_lighter, work_merged}
-use Rattle.verifier.specs.Found.{Tables, AreOver, AreLow, HasMerged}
+use Rattle.verifier.specs.Found.{AreOver, AreLow, HasMerged}
+use Rattle.verifier.specs.Worklist.{Tables}
 use Rattle.verifier.proofs.Entries.{tables_same}
+use Rattle.verifier.proofs.Worklists.{first_whole, joined_whole, fits_whole, whole_then}
 
 pub low_parts : (files : Program) (limit : ℕ) (xs ys : List (ℕ × FrameType))
     → AllByRecursion (λ lead. IsLowFrame files limit lead.1) (xs ++ ys)
@@ -54,6 +56,7 @@ module _ (files : Program) (ordered : IsOrdered files) (body : Body) where
     first_put at start size =
         record {
           over = over_put t;
+          whole = first_whole files body before to t at start size;
           merged = merged_first files body before.types before.waiting to t both at start size;
           no_heavier = λ limit low l. let w = work_merged files ordered.rooted limit body before.types before.waiting to None t at (first_lighter files ordered.rooted limit body t size l.0) in record { low = low_put limit None t at low l.0; lighter = omega (arith, w) };
         }
@@ -63,6 +66,7 @@ module _ (files : Program) (ordered : IsOrdered files) (body : Body) where
     joined_put there join at misfit e =
         record {
           over = over_put join;
+          whole = joined_whole files body before to t there join at misfit e;
           merged = merged_joined files body ordered.rooted before.types before.waiting to t there join both at e;
           no_heavier = λ limit low l. let r = raised_lighter files ordered.rooted limit there t join e misfit (low to there (ap entry_of at)) l.0 in let w = work_merged files ordered.rooted limit body before.types before.waiting to (Some there) join at r.1 in record { low = low_put limit (Some there) join at low r.0; lighter = omega (arith, w) };
         }
@@ -72,6 +76,7 @@ module _ (files : Program) (ordered : IsOrdered files) (body : Body) where
     fits there at f =
         record {
           over = over;
+          whole = fits_whole files body before to t there at f;
           merged = merged_same files body (typing_of before.types) (waits before.waiting) to t there (ap entry_of at) f;
           no_heavier = λ limit low l. record { low = low; lighter = omega arith };
         }
@@ -95,6 +100,7 @@ module _ (files : Program) (ordered : IsOrdered files) (body : Body) where
   nothing tables over =
       record {
         over = over;
+        whole = refl;
         merged = merged_nothing files ordered.rooted body (typing_of tables.types) (waits tables.waiting);
         no_heavier = λ limit low l. record { low = low; lighter = omega arith };
       }
@@ -104,6 +110,7 @@ module _ (files : Program) (ordered : IsOrdered files) (body : Body) where
   follows a b c xs ys p q =
       record {
         over = q.over;
+        whole = whole_then files body a b xs ys p.whole ∙ q.whole;
         merged = merged_then files ordered.rooted body _ _ _ _ _ _ xs ys p.merged q.merged;
         no_heavier = λ limit low l. let parts = low_parts files limit xs ys l in let r = p.no_heavier limit low parts.0 in let s = q.no_heavier limit r.low parts.1 in let m = r.lighter in let n = s.lighter in record { low = s.low; lighter = omega (arith, m, n) };
       }

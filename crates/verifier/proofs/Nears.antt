@@ -30,7 +30,8 @@ use Rattle.verifier.specs.declared.flow.lead.Lead.{Lead}
 use Rattle.verifier.specs.flow.Handlers.{AreHandlers}
 use Rattle.verifier.specs.flow.Leads.{lead_on, lead_to, handler_leads, LeadOn}
 use Rattle.verifier.specs.Packed.{Parts, parts_in, unpacked}
-use Rattle.verifier.specs.Found.{Tables, tables_in, led_to, leads_in, MergesInto, IsSearch, waiting_again}
+use Rattle.verifier.specs.Found.{tables_in, led_to, leads_in, MergesInto, IsSearch, waiting_again}
+use Rattle.verifier.specs.Worklist.{Tables}
 use Rattle.verifier.specs.Agreeing.{AgreeBut}
 use Rattle.verifier.specs.Looks.{KeepsLooks, RaisesTo}
 use Rattle.verifier.specs.Near.{IsNear, IsReachedBy, IsReachedFrom, AreKnown, IsSameOrigin}

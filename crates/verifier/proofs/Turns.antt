@@ -17,7 +17,8 @@ use Rattle.run_laws.proofs.typing_search.Weights.{work_taken_off}
 use Rattle.verifier.proofs.Entries.{tables_same, marked_again}
 use Rattle.verifier.proofs.Counting.{work_at_first}
 use Rattle.verifier.specs.Steps.{most_turns}
-use Rattle.verifier.specs.Found.{Tables, AreOver, work_left, HasMerged, IsSearch, waiting_again, HasTurned}
+use Rattle.verifier.specs.Found.{AreOver, work_left, HasMerged, IsSearch, waiting_again, HasTurned}
+use Rattle.verifier.specs.Worklist.{Tables}
 
 none_some : {A : Type 0} (x : A) → None ≡ Some x → ⊥
 none_some x e = absurd cc
@@ -56,7 +57,7 @@ module _ (files : Program) (ordered : IsOrdered files) (method : Member) (body :
     off : IsTakenOff offset (waits (waiting_at before.waiting offset)) (waits before.waiting)
     off k = ⊎_elim (λ q. inl q) (λ n. inr (sym (waits_other before.waiting offset k true n))) (cases_eq k offset)
 
-    over_off : AreOver body before
+    pub over_off : AreOver body before
     over_off = record { types = s.over.types; waiting = sym (length-set before.waiting offset true) ∙ s.over.waiting }
 
     pub turns : (t : FrameType) (leads : List (ℕ × FrameType)) (after : Tables) → typing_of before.types offset ≡ Some t

@@ -10,6 +10,7 @@ use Rattle.run_laws.specs.typing_search.Search.{Search, Merged, Clashes}
 use Rattle.run_laws.specs.typing_search.Tables.{typing_of, waits, waiting_at}
 use Rattle.run_laws.specs.typing_search.Weights.{IsLowFrame, work, places}
 use Rattle.run_laws.specs.typing_search.Decided.{IsBounded}
+use Rattle.verifier.specs.Worklist.{Tables, Turn, all_merged}
 use Rattle.verifier.specs.declared.found.Found.{Found}
 use Rattle.verifier.specs.declared.found.Origin.{Origin}
 use Rattle.verifier.specs.declared.flow.handler.Handler.{Handler}
@@ -20,10 +21,6 @@ use Rattle.types.specs.method_code.View.{files_of, member_of, body_of}
 use Rattle.verifier.specs.Packed.{Parts, parts_in}
 use Rattle.verifier.specs.Verified.{OnUnverified}
 use Rattle.verifier.specs.declared.fault.MethodFault.{MethodFault}
-
-pub record Tables : Type 0 where
-  pub types : List (Option frames.FrameType)
-  pub waiting : List Bool
 
 abbrev pub tables_in : Program → Found → Tables
 tables_in files found = record { types = map (option_map (parts_in files)) found.types.items; waiting = found.waiting }
@@ -69,6 +66,7 @@ pub record IsNoHeavier (files : Program) (body : Body) (limit : ℕ) (before aft
 pub record HasMerged (files : Program) (body : Body) (before : Tables) (leads : List (ℕ × frames.FrameType)) (after : Tables) : Type 0 where
   pub over : AreOver body after
   pub merged : Merged files body (typing_of before.types) (waits before.waiting) leads (typing_of after.types) (waits after.waiting)
+  pub whole : all_merged files body before leads ≡ Some after
   pub no_heavier : (limit : ℕ) → AreLow files limit before → AllByRecursion (λ lead. IsLowFrame files limit lead.1) leads
       → IsNoHeavier files body limit before after
 
@@ -86,6 +84,13 @@ waiting_again tables offset = record tables { waiting = waiting_at tables.waitin
 pub record HasTurned (files : Program) (method : Member) (body : Body) (before after : Tables) : Type 0 where
   pub search : IsSearch files method body after
   pub lighter : (limit : ℕ) → IsBounded files method body limit → work_left files body limit after ≤ work_left files body limit before
+
+-- a turn was done, which takes so many steps or more
+pub record DoesTurn (turn : Option Turn) (steps : ℕ) (after : Tables) : Type 0 where
+  pub done : Turn
+  pub is : turn ≡ Some done
+  pub tables : done.tables ≡ after
+  pub within : steps ≤ done.steps
 
 -- ---- of the tables of a method
 

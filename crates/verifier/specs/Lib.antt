@@ -1,3 +1,4 @@
+pub mod Worklist
 pub mod Waiting
 pub mod Packed
 pub mod Raised

@@ -1,6 +1,6 @@
 -- What is known of an instruction that was looked at: where it led from a frame type, and in which local variables that before it
 -- differs by now.
-use Rattle.std.specs.Prelude.{◌≡◌, ℕ, List, [], ◌∷◌, Option, Some, true, false, map, slice_get, slice_set, IfSome}
+use Rattle.std.specs.Prelude.{◌≡◌, ℕ, ◌≤◌, length, List, [], ◌∷◌, Option, Some, true, false, map, slice_get, slice_set, IfSome}
 use Rattle.std.specs.Global.{Vec}
 use Rattle.model.specs.Sites.{Site, site_at}
 use Rattle.model.specs.Typing.{Typing, Reaches, flow}
@@ -18,6 +18,7 @@ use Rattle.verifier.specs.flow.Untouched.{leaves}
 use Rattle.verifier.specs.Agreeing.{is_among, AgreeAt, DifferIn, HaveMoved}
 use Rattle.verifier.specs.Changes.{PartsDiffer}
 use Rattle.verifier.specs.Packed.{Parts, parts_in}
+use Rattle.verifier.specs.Worklist.{look_steps}
 use Rattle.verifier.specs.Found.{tables_in, MergesInto}
 
 abbrev pub offset_of : Lead → ℕ
@@ -117,8 +118,13 @@ pub record HasLed (m : MethodCode) (hs : List Handler) (before : Found) (offset 
   pub merged : MergesInto m before leads after
   pub looks : KeepsLooks m before after
 
--- so it was to some offsets, which are told or not
-pub record HasLedTo (m : MethodCode) (hs : List Handler) (before : Found) (offset : ℕ) (told : Option (Vec ℕ)) (after : Found) : Type 0 where
+-- so many steps are no more than a look takes that leads to these offsets and to the handlers
+abbrev pub IsLookOver : MethodCode → List Handler → ℕ → List ℕ → ℕ → Type 0
+IsLookOver m hs offset targets steps = steps ≤ look_steps (body_of m) offset (length (all_leads offset hs targets))
+
+-- so it was to some offsets, which are told or not, by a look
+pub record HasLedTo (m : MethodCode) (hs : List Handler) (before : Found) (offset : ℕ) (told : Option (Vec ℕ)) (steps : ℕ) (after : Found) : Type 0 where
   pub targets : List ℕ
   pub led : HasLed m hs before offset targets after
   pub are : IfSome told (λ v. v.items ≡ targets)
+  pub within : IsLookOver m hs offset targets steps

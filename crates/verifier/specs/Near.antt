@@ -11,7 +11,8 @@ use Rattle.verifier.specs.declared.found.Found.{Found}
 use Rattle.verifier.specs.declared.found.Origin.{Origin}
 use Rattle.verifier.specs.declared.near.Near.{Near}
 use Rattle.verifier.specs.Agreeing.{AgreeBut}
-use Rattle.verifier.specs.Found.{Tables, tables_in, led_to}
+use Rattle.verifier.specs.Found.{tables_in, led_to}
+use Rattle.verifier.specs.Worklist.{Tables}
 use Rattle.types.specs.declared.method_code.declaration.MethodCode.{MethodCode}
 use Rattle.types.specs.method_code.View.{files_of}
 use Rattle.verifier.specs.Packed.{Parts}

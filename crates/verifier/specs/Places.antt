@@ -1,6 +1,6 @@
 -- Methods by their places: the place of their class in a program, and their own among the methods of the class. And what a
 -- refusal says of such a method.
-use Rattle.std.specs.Prelude.{◌≡◌, ◌⊎◌, ℕ, ◌-◌, ◌++◌, nat_lt, if◌then◌else◌, length, Option, Some, None, option_map, vec_items}
+use Rattle.std.specs.Prelude.{◌≡◌, ◌⊎◌, ℕ, ◌-◌, ◌++◌, ◌<◌, nat_lt, if◌then◌else◌, length, Option, Some, None, option_map, vec_items}
 use Rattle.model.specs.Names.{Member}
 use Rattle.model.specs.BuiltIn.{built_in_classes}
 use Rattle.model.specs.Classes.{Program, Body}
@@ -10,7 +10,7 @@ use Rattle.link_conditions.specs.declared.refusal.why.Refusal.{Refusal}
 use Rattle.link_conditions.specs.declared.refusal.why.RefusalKind.TheVariants as kinds
 use Rattle.link_conditions.specs.declared.refusal.why.RefusalKind.{RefusalKind}
 use Rattle.run_laws.specs.typing_search.Search.{HasNoTyping}
-use Rattle.verifier.specs.Steps.{Limits, all_steps, MayTakeMore}
+use Rattle.verifier.specs.Steps.{Costs, all_steps, MayTakeMore, Limits, AreLimits, limited_costs}
 
 -- ---- methods that pass verification
 
@@ -44,8 +44,8 @@ pub record IsUnverified (files : Program) (refusal : Refusal) : Type 0 where
   pub none : HasNoTyping files member body
   pub named : IsRefusalOf kinds.Unverified class member refusal
 
--- Fewer steps are left than some part of the verification may take, and the refusal is of a method with code, at no offset of it.
-pub record IsTooLong (files : Program) (most : Limits → ℕ) (left : ℕ) (refusal : Refusal) : Type 0 where
+-- Fewer steps are left than the searches over some methods take, and the refusal is of a method with code, at no offset of it.
+pub record IsTooLong (files : Program) (most : Costs → ℕ) (left : ℕ) (refusal : Refusal) : Type 0 where
   pub class : ℕ
   pub method : ℕ
   pub member : Member
@@ -56,9 +56,14 @@ pub record IsTooLong (files : Program) (most : Limits → ℕ) (left : ℕ) (ref
   pub nowhere : refusal.offset ≡ None
 
 -- when that part may be refused
-abbrev pub RefusesPart : Program → (Limits → ℕ) → ℕ → Refusal → Type 0
+abbrev pub RefusesPart : Program → (Costs → ℕ) → ℕ → Refusal → Type 0
 RefusesPart files most left refusal = (refusal.kind ≡ kinds.OutOfMemory) ⊎ (IsUnverified files refusal ⊎ IsTooLong files most left refusal)
 
 -- when linked classes may be refused that are verified in so many steps
 abbrev pub Refuses : Program → ℕ → Refusal → Type 0
 Refuses files steps refusal = RefusesPart files (all_steps files) steps refusal
+
+-- Where it is for steps, fewer are given than all turns may take that limits on the types of each method leave room for.
+abbrev pub IsLimited : Program → ℕ → Refusal → Type 0
+IsLimited files steps refusal =
+    refusal.kind ≡ kinds.TooLarge → (limits : Limits) → AreLimits files limits → steps < all_steps files (limited_costs limits)

@@ -34,8 +34,6 @@ pub(crate) struct Found {
     pub turns: usize,
     /// The last instruction with handlers that was looked at.
     pub last: usize,
-    /// What the last turn merged, in types.
-    pub merged: u64,
 }
 
 /// The instruction at an offset leads to another offset.
@@ -80,7 +78,6 @@ impl Found {
             looks: Vec::new(alloc),
             turns: 0,
             last: 0,
-            merged: 0,
         })
     }
 

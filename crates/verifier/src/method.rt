@@ -1,21 +1,21 @@
 //! The worklist (JVMS 4.10.2.2): it takes the lowest offset that waits, and merges what its instruction leads to.
 
-ghost use Rattle.std.specs.Prelude.{◌≡◌, ℕ, ◌<◌, ◌≤◌, List, length, Some, OnOk, IfOk, IfErr, IfSome, slice_get};
+ghost use Rattle.std.specs.Prelude.{◌≡◌, ◌<◌, List, length, Some, OnOk, IfOk, IfErr, IfSome, slice_get};
 ghost use Rattle.model.specs.InstructionStarts.{starts as starts_of};
 ghost use Rattle.model.specs.Typing.{HasTyping};
 ghost use Rattle.run_laws.specs.typing_search.Search.{HasNoTyping};
-ghost use Rattle.run_laws.specs.typing_search.Decided.{IsBounded};
 ghost use Rattle.types.specs.method_code.Linked.{IsLinked};
 ghost use Rattle.types.specs.method_code.View.{files_of, member_of, body_of};
 ghost use Rattle.verifier.specs.declared.flow.handler.Handler.{Handler as SpecHandler};
 ghost use Rattle.verifier.specs.flow.Handlers.{AreHandlers};
 ghost use Rattle.verifier.specs.Packed.{parts_of};
-ghost use Rattle.verifier.specs.Found.{tables_in, waiting_again, work_left, AreOver, IsSearch, HasTurned};
-ghost use Rattle.verifier.specs.Looks.{MayPass, AreLooks, HasLed, HasLedTo};
+ghost use Rattle.verifier.specs.Found.{tables_in, waiting_again, AreOver, IsSearch, HasTurned, DoesTurn};
+ghost use Rattle.verifier.specs.Worklist.{begun, turn_at};
+ghost use Rattle.verifier.specs.Looks.{MayPass, AreLooks, HasLed, HasLedTo, IsLookOver};
 ghost use Rattle.verifier.specs.flow.Leads.{targets_in};
 ghost use Rattle.verifier.specs.flow.Meanings.{AreMeanings};
 ghost use Rattle.verifier.specs.Near.{IsNear};
-ghost use Rattle.verifier.specs.Steps.{most_turns, method_steps, TakesAtMost, MayTakeMore};
+ghost use Rattle.verifier.specs.Steps.{method_steps, TakesAtMost, MayTakeMore};
 ghost use Rattle.verifier.specs.Verified.{OnUnverified, OnFault};
 
 use crate::fault::MethodFault;
@@ -27,7 +27,7 @@ use crate::found::{Edge, Found, Origin};
 use crate::look::Look;
 use crate::near::{Near, near_found};
 use crate::packed::PackedFrame;
-use crate::steps::{Steps, bytes_read, merged, steps_of_look, steps_of_turn};
+use crate::steps::{Steps, bytes_read, steps_of_changes, steps_of_look, steps_of_turn};
 use opcodes::starts;
 use std::alloc::{AllocError, Global};
 use types::FrameType;
@@ -39,9 +39,8 @@ fn begin(alloc: Global, method: &MethodCode<'_>, starts: &[bool]) -> Result<Foun
     requires starts { starts.now ≡ starts_of (body_of method.now).code.code }
     ensures search { IfOk result (λ found. IsSearch (files_of method.now) (member_of method.now) (body_of method.now)
         (tables_in (files_of method.now) found)) }
-    ensures work { IfOk result (λ found. (limit : ℕ) → IsBounded (files_of method.now) (member_of method.now) (body_of method.now) limit
-        → work_left (files_of method.now) (body_of method.now) limit (tables_in (files_of method.now) found)
-        ≤ most_turns (body_of method.now) limit) }
+    ensures begun { IfOk result (λ found. begun (files_of method.now) (member_of method.now) (body_of method.now)
+        ≡ Some (tables_in (files_of method.now) found)) }
     ensures looks { IfOk result (λ found. (hs : List SpecHandler) → AreLooks method.now hs found) }
     ensures exact { IfErr result (λ fault. OnUnverified
         fault (HasNoTyping (files_of method.now) (member_of method.now) (body_of method.now))) }
@@ -79,7 +78,7 @@ fn last_if_near(
 }
 
 /// Merges what changed before the instruction at an offset since it was looked at, which has nothing to do with it: what a
-/// frame type holds in these local variables.
+/// frame type holds in these local variables. Answers how many steps that takes.
 fn pass_on(
     alloc: Global,
     method: &MethodCode<'_>,
@@ -88,16 +87,17 @@ fn pass_on(
     offset: usize,
     frame: &PackedFrame,
     look: &Look,
-) -> Result<(), AllocError>
+) -> Result<u64, AllocError>
     requires linked { IsLinked (files_of method.now) }
     requires over { AreOver (body_of method.now) (tables_in (files_of method.now) found.old) }
     requires passes { MayPass method.now handlers.now found.old offset frame.now look.now }
-    ensures { OnOk result (HasLed method.now handlers.now found.old offset look.now.targets.items found.new) }
+    ensures led { OnOk result (HasLed method.now handlers.now found.old offset look.now.targets.items found.new) }
+    ensures steps { IfOk result (IsLookOver method.now handlers.now offset look.now.targets.items) }
 {
     let leads = all_leads(alloc, handlers, offset, &look.targets)?;
-    found.merged = merged(leads.len(), look.changed.len());
     found.raise_all(alloc, method, &leads, frame, &look.changed)?;
-    Ok(())
+    let steps = steps_of_changes(method, leads.len(), look.changed.len());
+    Ok(steps)
 }
 
 /// The offsets to which an instruction leads, its handlers aside, if looks are kept.
@@ -132,8 +132,16 @@ fn keep_meanings(
     Ok(())
 }
 
-/// Merges what the instruction at an offset leads to, as if it was not looked at before. Answers the offsets to which it leads,
-/// its handlers aside, if looks are kept.
+/// What is told of a look at an instruction.
+#[derive(Drop)]
+struct Looked {
+    /// The offsets to which it leads, its handlers aside, if looks are kept.
+    targets: Option<Vec<usize>>,
+    /// How many steps the look takes.
+    steps: u64,
+}
+
+/// Merges what the instruction at an offset leads to, as if it was not looked at before.
 fn look_at(
     alloc: Global,
     method: &MethodCode<'_>,
@@ -143,7 +151,7 @@ fn look_at(
     found: &mut Found,
     offset: usize,
     frame: FrameType,
-) -> Result<Option<Vec<usize>>, MethodFault>
+) -> Result<Looked, MethodFault>
     requires linked { IsLinked (files_of method.now) }
     requires starts { starts.now ≡ starts_of (body_of method.now).code.code }
     requires handlers { AreHandlers method.now handlers.now }
@@ -153,7 +161,7 @@ fn look_at(
         (waiting_again (tables_in (files_of method.now) found.old) offset) }
     requires meanings { AreMeanings method.now meanings.old }
     ensures meanings { OnOk result (AreMeanings method.now meanings.new) }
-    ensures led { IfOk result (λ told. HasLedTo method.now handlers.now found.old offset told found.new) }
+    ensures led { IfOk result (λ looked. HasLedTo method.now handlers.now found.old offset looked.targets looked.steps found.new) }
     ensures exact { IfErr result (λ fault. OnUnverified
         fault (HasNoTyping (files_of method.now) (member_of method.now) (body_of method.now))) }
 {
@@ -169,7 +177,7 @@ fn look_at(
             let before = found.before(alloc, offset, &leads)?;
             let near = last_if_near(alloc, found, &before, offset, &leads)?;
             found.last = last_after(found.last, offset, &leads);
-            found.merged = steps_of_look(method, leads.len(), read);
+            let steps = steps_of_look(method, leads.len(), read);
             let origin = Origin {
                 offset,
                 before,
@@ -177,14 +185,14 @@ fn look_at(
                 near,
             };
             match found.merge_all(alloc, method, starts, origin, &leads) {
-                Ok(()) => Ok(targets),
+                Ok(()) => Ok(Looked { targets, steps }),
                 Err(fault) => Err(fault),
             }
         }
     }
 }
 
-/// Merges what the instruction at an offset leads to, which has been taken off.
+/// Merges what the instruction at an offset leads to, which has been taken off. Answers how many steps that takes.
 fn turn(
     alloc: Global,
     method: &MethodCode<'_>,
@@ -193,7 +201,7 @@ fn turn(
     meanings: &mut Meanings,
     found: &mut Found,
     offset: usize,
-) -> Result<(), MethodFault>
+) -> Result<u64, MethodFault>
     requires linked { IsLinked (files_of method.now) }
     requires starts { starts.now ≡ starts_of (body_of method.now).code.code }
     requires handlers { AreHandlers method.now handlers.now }
@@ -206,30 +214,37 @@ fn turn(
     ensures turned { OnOk result (HasTurned (files_of method.now) (member_of method.now) (body_of method.now)
         (tables_in (files_of method.now) found.old) (tables_in (files_of method.now) found.new)) }
     ensures looks { OnOk result (AreLooks method.now handlers.now found.new) }
+    ensures done { IfOk result (λ steps. DoesTurn (turn_at (files_of method.now) (member_of method.now) (body_of method.now)
+        (tables_in (files_of method.now) found.old) offset) steps (tables_in (files_of method.now) found.new)) }
     ensures exact { IfErr result (λ fault. OnUnverified
         fault (HasNoTyping (files_of method.now) (member_of method.now) (body_of method.now))) }
 {
     let taken = found.begin_turn(alloc, offset)?;
     let Some(packed) = &found.types[offset] else {
-        return Ok(());
+        return Ok(0);
     };
     if let Some(look) = taken {
         if leaves_at(method, offset, &look.changed) {
             let frame = packed.only(alloc, &look.changed)?;
-            pass_on(alloc, method, handlers, found, offset, &frame, &look)?;
+            let steps = pass_on(alloc, method, handlers, found, offset, &frame, &look)?;
             found.settle(alloc, offset, look.targets);
-            return Ok(());
+            return Ok(steps_of_turn(method, steps));
         }
     }
     let before = packed.unpack(alloc)?;
     match look_at(
         alloc, method, starts, handlers, meanings, found, offset, before,
     ) {
-        Ok(Some(targets)) => {
-            found.settle(alloc, offset, targets);
-            Ok(())
+        Ok(looked) => {
+            let steps = steps_of_turn(method, looked.steps);
+            match looked.targets {
+                Some(targets) => {
+                    found.settle(alloc, offset, targets);
+                    Ok(steps)
+                }
+                None => Ok(steps),
+            }
         }
-        Ok(None) => Ok(()),
         Err(fault) => Err(fault),
     }
 }
@@ -256,7 +271,7 @@ pub(crate) fn verify_method(
         Err(fault) => return Err(fault),
     };
     while let Some(offset) = found.waiting.take_lowest() {
-        if let Err(fault) = turn(
+        let taken = match turn(
             alloc,
             method,
             &starts,
@@ -265,9 +280,10 @@ pub(crate) fn verify_method(
             &mut found,
             offset,
         ) {
-            return Err(fault);
-        }
-        if let Err(fault) = steps.take(steps_of_turn(method, found.merged)) {
+            Ok(taken) => taken,
+            Err(fault) => return Err(fault),
+        };
+        if let Err(fault) = steps.take(taken) {
             return Err(fault);
         }
     }

@@ -5,8 +5,8 @@ ghost use Rattle.model.specs.Typing.{AreTyped};
 ghost use Rattle.types.specs.method_code.Linked.{IsLinked};
 ghost use Rattle.types.specs.method_code.View.{member_of};
 ghost use Rattle.link_conditions.specs.declared.refusal.why.RefusalKind.TheVariants as kinds;
-ghost use Rattle.verifier.specs.Steps.{steps_at, steps_of_class, all_steps, TakesAtMost};
-ghost use Rattle.verifier.specs.Places.{file_number, IsTypedAt, AreTypedIn, IsRefusalOf, RefusesPart, Refuses};
+ghost use Rattle.verifier.specs.Steps.{most_steps, steps_at, steps_of_class, all_steps, TakesAtMost};
+ghost use Rattle.verifier.specs.Places.{file_number, IsTypedAt, AreTypedIn, IsRefusalOf, RefusesPart, Refuses, IsLimited};
 
 use crate::fault::MethodFault;
 use crate::method::verify_method;
@@ -172,8 +172,9 @@ fn verify_classes(alloc: Global, hierarchy: &Hierarchy, steps: &mut Steps) -> Re
 /// that takes the lowest first. `TooLarge` names the method in whose search the steps end, with its file, and no offset.
 pub fn verify_within(alloc: Global, linked: Linked, most: u64) -> Result<Verified, Refusal>
     ensures verified { IfOk result (λ verified. verified ≡ linked) }
-    // A method is refused only where it has no typing, or where the searches over all may take more steps.
+    // A method is refused only where it has no typing, or where the searches over all take more steps.
     ensures refused { IfErr result (Refuses linked most) }
+    ensures limited { IfErr result (IsLimited linked most) }
 {
     let mut steps = Steps::new(most);
     match verify_classes(alloc, linked.hierarchy(), &mut steps) {
@@ -185,7 +186,8 @@ pub fn verify_within(alloc: Global, linked: Linked, most: u64) -> Result<Verifie
 /// The same within `MOST_STEPS`.
 pub fn verify(alloc: Global, linked: Linked) -> Result<Verified, Refusal>
     ensures verified { IfOk result (λ verified. verified ≡ linked) }
-    ensures refused { IfErr result (Refuses linked MOST_STEPS) }
+    ensures refused { IfErr result (Refuses linked most_steps) }
+    ensures limited { IfErr result (IsLimited linked most_steps) }
 {
     verify_within(alloc, linked, MOST_STEPS)
 }

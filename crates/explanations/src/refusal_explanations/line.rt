@@ -1,5 +1,6 @@
 //! A line that is written piece by piece.
 
+use listings::printed_names::push_printed;
 use std::alloc::{AllocError, Global};
 
 /// A line without its end. Names in it are the bytes of the files, but that no control character parts the line.
@@ -23,19 +24,9 @@ impl Line {
         Ok(self.bytes.extend_from_slice(words.as_bytes())?)
     }
 
-    /// Adds a name. A backslash in it is doubled, and a control character of ASCII becomes `\x` and its two hexadecimal digits.
+    /// Adds a name, in which no control character stands.
     pub(crate) fn name(&mut self, name: &[u8]) -> Result<(), AllocError> {
-        for byte in name {
-            match *byte {
-                b'\\' => self.say("\\\\")?,
-                0..32 | 127 => {
-                    self.say("\\x")?;
-                    self.byte(*byte)?;
-                }
-                other => self.bytes.push(other)?,
-            }
-        }
-        Ok(())
+        push_printed(&mut self.bytes, name)
     }
 
     /// Adds a number.

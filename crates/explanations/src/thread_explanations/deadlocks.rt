@@ -1,74 +1,157 @@
 //! Deadlocks in words.
 
+ghost use Rattle.std.specs.Prelude.{◌≡◌, ◌++◌, [], if◌then◌else◌, OnOk, codes, map, vec_items};
+ghost use Rattle.std.specs.List.{flat_map, list_any};
+ghost use Rattle.machine.specs.machine_reports.Told.{is_runnable};
+ghost use Rattle.model.specs.Report.{end_state_of, line};
+ghost use Rattle.explanations.specs.thread_explanations.Deadlocks as words;
+
 use crate::thread_explanations::awaited::Awaited;
-use crate::thread_explanations::cycles::cycles;
-use crate::thread_explanations::lines::ThreadFacts;
+use crate::thread_explanations::cycles::next_of;
+use crate::thread_explanations::waits::Wait;
 use model::EndState;
-use std::alloc::{AllocError, Global};
+use std::alloc::AllocError;
 use traces::{push_thread, push_words};
 
-/// For which thread each one waits.
-fn waits_of(alloc: Global, threads: &[ThreadFacts]) -> Result<Vec<Option<u16>>, AllocError> {
-    let mut waits = Vec::new(alloc);
-    for thread in threads {
-        waits.push(thread.waits_for)?;
-    }
-    Ok(waits)
+fn is_end(awaited: Awaited) -> bool
+    ensures { result ≡ words.is_end awaited }
+{
+    matches!(awaited, Awaited::End(_))
 }
 
 /// Whether a thread waits in a call of `Thread.join`, which an interrupt ends (JLS 17.2.3).
-fn joins(threads: &[ThreadFacts], thread: u16) -> bool {
-    match threads.get(usize::from(thread)) {
-        Some(facts) => matches!(facts.awaited, Awaited::End(_)),
+fn joins(waits: &[Wait], thread: u16) -> bool
+    ensures { result ≡ words.joins waits.now thread }
+{
+    match waits.get(usize::from(thread)) {
+        Some(wait) => is_end(wait.awaited),
         None => false,
     }
 }
 
-/// Whether a thread that goes on could end a wait of the cycle by an interrupt.
-fn may_be_ended(threads: &[ThreadFacts], ends: &[EndState], cycle: &[u16]) -> bool {
-    cycle.iter().any(|thread| joins(threads, *thread))
-        && ends.iter().any(|end| matches!(end, EndState::Runnable))
+/// Whether one of these threads does.
+fn any_joins(waits: &[Wait], cycle: &[u16]) -> bool
+    ensures { result ≡ list_any (words.joins waits.now) cycle.now }
+{
+    cycle.iter().any(|thread| joins(waits, *thread))
 }
 
-/// `thread 1 waits for thread 2`.
-fn push_wait(line: &mut Vec<u8>, thread: u16, next: u16) -> Result<(), AllocError> {
-    push_thread(line, thread)?;
-    push_words(line, " waits for ")?;
-    if next == thread {
-        push_words(line, "itself")
-    } else {
-        push_thread(line, next)
+/// Whether a thread that stands so goes on.
+fn goes_on(end: &EndState) -> bool
+    ensures { result ≡ is_runnable (end_state_of end.now) }
+{
+    matches!(end, EndState::Runnable)
+}
+
+/// Whether one of these does.
+fn any_goes_on(ends: &[EndState]) -> bool
+    ensures { result ≡ list_any (λ end. is_runnable (end_state_of end)) ends.now }
+{
+    ends.iter().any(goes_on)
+}
+
+/// Whether a thread that goes on could end a wait of the cycle by an interrupt.
+fn may_be_ended(waits: &[Wait], ends: &[EndState], cycle: &[u16]) -> bool
+    ensures { result ≡ words.may_be_ended waits.now ends.now cycle.now }
+{
+    any_joins(waits, cycle) && any_goes_on(ends)
+}
+
+/// `thread 2`, or `itself`.
+fn push_next(line: &mut Vec<u8>, thread: u16, next: Option<u16>) -> Result<(), AllocError>
+    ensures { OnOk result (line.new.items ≡ line.old.items ++ words.next_words thread next) }
+{
+    match next {
+        None => Ok(()),
+        Some(next) => {
+            if next == thread {
+                push_words(line, "itself")
+            } else {
+                push_thread(line, next)
+            }
+        }
     }
 }
 
-/// `thread 1 waits for thread 2, thread 2 waits for thread 1`.
-fn push_cycle(line: &mut Vec<u8>, cycle: &[u16]) -> Result<(), AllocError> {
-    let nexts = cycle.iter().skip(1).chain(cycle.iter().take(1));
-    for (place, (thread, next)) in cycle.iter().zip(nexts).enumerate() {
-        if place > 0 {
-            push_words(line, ", ")?;
-        }
-        push_wait(line, *thread, *next)?;
+/// `thread 1 waits for thread 2`.
+fn push_wait(line: &mut Vec<u8>, waits: &[Wait], thread: u16) -> Result<(), AllocError>
+    ensures { OnOk result (line.new.items ≡ line.old.items ++ words.wait_words waits.now thread) }
+{
+    push_thread(line, thread)?;
+    push_words(line, " waits for ")?;
+    push_next(line, thread, next_of(waits, thread))
+}
+
+/// The same behind a comma.
+fn push_other(line: &mut Vec<u8>, waits: &[Wait], thread: u16) -> Result<(), AllocError>
+    ensures { OnOk result (line.new.items ≡ line.old.items ++ (codes ", " ++ words.wait_words waits.now thread)) }
+{
+    push_words(line, ", ")?;
+    push_wait(line, waits, thread)
+}
+
+/// The same of these threads.
+fn push_others(line: &mut Vec<u8>, waits: &[Wait], threads: &[u16]) -> Result<(), AllocError>
+    ensures { OnOk result (line.new.items ≡ line.old.items
+        ++ flat_map (λ thread. codes ", " ++ words.wait_words waits.now thread) threads.now) }
+{
+    for thread in threads {
+        push_other(line, waits, *thread)?;
     }
     Ok(())
 }
 
-/// A line for each deadlock: threads that wait for each other.
-pub(crate) fn deadlock_lines(
-    alloc: Global,
-    threads: &[ThreadFacts],
-    ends: &[EndState],
-) -> Result<Vec<Vec<u8>>, AllocError> {
-    let mut lines = Vec::new(alloc);
-    let waits = waits_of(alloc, threads)?;
-    for cycle in cycles(alloc, &waits)? {
-        let mut line = Vec::from_slice(alloc, b"deadlock")?;
-        if may_be_ended(threads, ends, &cycle) {
-            push_words(&mut line, " that an interrupt may end")?;
+/// `thread 1 waits for thread 2, thread 2 waits for thread 1`.
+fn push_cycle(line: &mut Vec<u8>, waits: &[Wait], cycle: &[u16]) -> Result<(), AllocError>
+    ensures { OnOk result (line.new.items ≡ line.old.items ++ words.cycle_words waits.now cycle.now) }
+{
+    match cycle {
+        [] => Ok(()),
+        [first, others @ ..] => {
+            push_wait(line, waits, *first)?;
+            push_others(line, waits, others)
         }
-        push_words(&mut line, ": ")?;
-        push_cycle(&mut line, &cycle)?;
-        lines.push(line)?;
     }
-    Ok(lines)
+}
+
+/// ` that an interrupt may end`, where it may.
+fn push_end(line: &mut Vec<u8>, may_be_ended: bool) -> Result<(), AllocError>
+    ensures { OnOk result (line.new.items ≡ line.old.items ++ (if may_be_ended then codes " that an interrupt may end" else [])) }
+{
+    if may_be_ended {
+        push_words(line, " that an interrupt may end")?;
+    }
+    Ok(())
+}
+
+/// The line of a deadlock: a cycle of threads that wait for each other.
+fn push_deadlock(
+    text: &mut Vec<u8>,
+    waits: &[Wait],
+    ends: &[EndState],
+    cycle: &[u16],
+) -> Result<(), AllocError>
+    ensures { OnOk result (text.new.items ≡ text.old.items ++ line (words.deadlock_words waits.now ends.now cycle.now)) }
+{
+    push_words(text, "deadlock")?;
+    push_end(text, may_be_ended(waits, ends, cycle))?;
+    push_words(text, ": ")?;
+    push_cycle(text, waits, cycle)?;
+    push_words(text, "\n")
+}
+
+/// The lines of these cycles.
+pub(crate) fn push_deadlocks(
+    text: &mut Vec<u8>,
+    waits: &[Wait],
+    ends: &[EndState],
+    cycles: &[Vec<u16>],
+) -> Result<(), AllocError>
+    ensures { OnOk result (text.new.items ≡ text.old.items
+        ++ flat_map (λ cycle. line (words.deadlock_words waits.now ends.now cycle)) (map vec_items cycles.now)) }
+{
+    for cycle in cycles {
+        push_deadlock(text, waits, ends, cycle)?;
+    }
+    Ok(())
 }

@@ -1,18 +1,18 @@
 //! What is told below the lines of a report.
 
+ghost use Rattle.std.specs.Prelude.{IfOk};
 ghost use Rattle.std.specs.Arc.{arc_value};
 ghost use Rattle.machine.specs.Machines.{IsOfAccepted};
+ghost use Rattle.explanations.specs.thread_explanations.Details.{HasWaits};
 
-use crate::thread_explanations::awaited::{Awaited, awaited_by};
-use crate::thread_explanations::deadlocks::deadlock_lines;
+use crate::thread_explanations::cycles::cycles;
 use crate::thread_explanations::lines::{Facts, ThreadFacts};
 use crate::thread_explanations::stacks::StackPlaces;
 use crate::thread_explanations::throws::{Thrown, throws_of};
+use crate::thread_explanations::waits::{Wait, each_wait};
 use linked_code::LinkedProgram;
 use linked_code::thread_stacks::ThreadStack;
 use linker::Linked;
-use machine::Machine;
-use machine::schedule_runs::run_schedule;
 use machine_state::Shared;
 use model::{EndState, Limits};
 use schedule::Schedule;
@@ -25,23 +25,10 @@ use traces::ProgramNames;
 pub(crate) struct Details {
     /// Of each thread, by its number.
     pub(crate) threads: Vec<Vec<Vec<u8>>>,
-    /// A line for each deadlock.
-    pub(crate) deadlocks: Vec<Vec<u8>>,
-}
-
-/// For what each thread waits.
-fn each_awaited(
-    alloc: Global,
-    shared: &Shared,
-    program: &LinkedProgram,
-    ends: &[EndState],
-) -> Result<Vec<Awaited>, AllocError> {
-    let mut awaited = Vec::new(alloc);
-    for (thread, end) in ends.iter().enumerate() {
-        let number = u16::try_from(thread).unwrap_or(u16::MAX);
-        awaited.push(awaited_by(shared, program, number, end))?;
-    }
-    Ok(awaited)
+    /// For what each thread waits, by its number.
+    pub(crate) waits: Vec<Wait>,
+    /// The cycles of threads that wait for each other.
+    pub(crate) cycles: Vec<Vec<u16>>,
 }
 
 /// The stack of the thread of a number, whose entries are taken away.
@@ -56,41 +43,28 @@ fn taken_stack(
     }
 }
 
-/// What is known of a thread. Its stack is empty then.
-fn facts_at(
-    alloc: Global,
-    shared: &mut Shared,
-    program: &LinkedProgram,
-    thread: usize,
-    awaited: Awaited,
-    thrown: Option<Thrown>,
-) -> Result<ThreadFacts, AllocError> {
-    Ok(ThreadFacts {
-        awaited,
-        waits_for: awaited.thread(shared, program),
-        stack: taken_stack(alloc, &mut shared.stacks, thread)?,
-        thrown,
-    })
-}
-
 /// What is known of each thread. Their stacks are empty then.
 fn facts_of(
     alloc: Global,
-    shared: &mut Shared,
-    program: &LinkedProgram,
+    stacks: &mut Vec<ThreadStack>,
     ends: &[EndState],
+    waits: &[Wait],
     throws: Vec<Thrown>,
 ) -> Result<Vec<ThreadFacts>, AllocError> {
-    let awaited = each_awaited(alloc, shared, program, ends)?;
     let mut throws = throws.into_iter();
     let mut facts = Vec::new(alloc);
-    for (thread, awaited) in awaited.iter().enumerate() {
+    for (thread, wait) in waits.iter().enumerate() {
         let thrown = throws.next();
         let thrown = match ends.get(thread) {
             Some(EndState::Threw(_)) => thrown,
             _ => None,
         };
-        facts.push(facts_at(alloc, shared, program, thread, *awaited, thrown)?)?;
+        let stack = taken_stack(alloc, stacks, thread)?;
+        facts.push(ThreadFacts {
+            wait: *wait,
+            stack,
+            thrown,
+        })?;
     }
     Ok(facts)
 }
@@ -112,22 +86,15 @@ fn thread_lines(
     Ok(threads)
 }
 
-/// What is told of threads of which this is known.
-fn details_by(alloc: Global, facts: Facts<'_>) -> Result<Details, AllocError> {
-    let threads = thread_lines(alloc, facts, facts.ends)?;
-    let deadlocks = deadlock_lines(alloc, facts.threads, facts.ends)?;
-    Ok(Details { threads, deadlocks })
-}
-
-/// What is told of threads that share this, of which this is known, and that stand so.
-fn details_in<'a>(
+/// The lines of each thread of those that share this, of which this is known, and that stand so.
+fn lines_in<'a>(
     alloc: Global,
     linked: &'a Linked,
     program: &'a Arc<LinkedProgram>,
     shared: &'a Shared,
     threads: &'a [ThreadFacts],
     ends: &'a [EndState],
-) -> Result<Details, AllocError> {
+) -> Result<Vec<Vec<Vec<u8>>>, AllocError> {
     let names = ProgramNames::new(alloc, linked, program)?;
     let facts = Facts {
         alloc,
@@ -136,36 +103,45 @@ fn details_in<'a>(
         threads,
         ends,
     };
-    details_by(alloc, facts)
+    thread_lines(alloc, facts, ends)
 }
 
-/// What the threads share after the events of the schedule.
-fn shared_after(
+/// What is told of threads that share this, and that stand so. Their stacks are empty then.
+fn details_in(
     alloc: Global,
+    linked: &Linked,
     program: &Arc<LinkedProgram>,
-    schedule: &Schedule,
-    limits: Limits,
-) -> Result<Shared, AllocError>
-    requires { IsOfAccepted (arc_value program.now) }
+    shared: &mut Shared,
+    ends: &[EndState],
+    throws: Vec<Thrown>,
+) -> Result<Details, AllocError>
+    ensures { IfOk result (HasWaits (arc_value program.now) shared.old ends.now) }
 {
-    let mut machine = Machine::open(alloc, Arc::try_clone(program)?, limits)?;
-    let _ = run_schedule(&mut machine, schedule);
-    Ok(machine.into_shared())
+    let waits = each_wait(alloc, shared, program, ends)?;
+    let found = cycles(alloc, &waits)?;
+    let facts = facts_of(alloc, &mut shared.stacks, ends, &waits, throws)?;
+    let threads = lines_in(alloc, linked, program, shared, &facts, ends)?;
+    Ok(Details {
+        threads,
+        waits,
+        cycles: found,
+    })
 }
 
-/// What is told of threads that stand so after the events of the schedule, for which these are done again.
+/// What is told of threads that share this after the events of the schedule, and that stand so. The events are done again where an
+/// exception ended a thread.
 pub(crate) fn details_of(
     alloc: Global,
     linked: &Linked,
     program: &Arc<LinkedProgram>,
     schedule: &Schedule,
     limits: Limits,
+    mut shared: Shared,
     ends: &[EndState],
 ) -> Result<Details, AllocError>
     requires { IsOfAccepted (arc_value program.now) }
+    ensures { IfOk result (HasWaits (arc_value program.now) shared ends.now) }
 {
-    let mut shared = shared_after(alloc, program, schedule, limits)?;
     let throws = throws_of(alloc, program, schedule, limits, &shared)?;
-    let threads = facts_of(alloc, &mut shared, program, ends, throws)?;
-    details_in(alloc, linked, program, &shared, &threads, ends)
+    details_in(alloc, linked, program, &mut shared, ends, throws)
 }

@@ -3,6 +3,7 @@
 use crate::thread_explanations::awaited::Awaited;
 use crate::thread_explanations::stacks::{FramePlace, StackPlaces};
 use crate::thread_explanations::throws::{Cause, Thrown};
+use crate::thread_explanations::waits::Wait;
 use machine_state::Shared;
 use machine_state::method_selection::class_of_kind;
 use model::EndState;
@@ -12,9 +13,7 @@ use traces::{ProgramNames, push_number, push_thread, push_words};
 /// A thread in the state to which a run came.
 #[derive(Drop)]
 pub(crate) struct ThreadFacts {
-    pub(crate) awaited: Awaited,
-    /// The thread that has to do something for that.
-    pub(crate) waits_for: Option<u16>,
+    pub(crate) wait: Wait,
     /// Its stack.
     pub(crate) stack: StackPlaces,
     /// The exception that ended it.
@@ -110,8 +109,8 @@ impl Facts<'_> {
         facts: &ThreadFacts,
     ) -> Result<(), AllocError> {
         let mut line = Vec::new(self.alloc);
-        let by = facts.waits_for;
-        match facts.awaited {
+        let by = facts.wait.thread;
+        match facts.wait.awaited {
             Awaited::Nothing => return Ok(()),
             Awaited::Monitor(object) => {
                 self.monitor(&mut line, "waits for the monitor of ", object, by)?;

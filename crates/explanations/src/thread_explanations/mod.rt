@@ -10,6 +10,7 @@ mod following;
 mod lines;
 mod stacks;
 mod throws;
+mod waits;
 mod watch;
 
 pub use explain::explain_threads;

@@ -15,7 +15,8 @@ fn hex_digit(n: u8) -> u8
     if n < 10 { b'0' + n } else { b'a' - 10 + n }
 }
 
-fn push_hex_byte(text: &mut Vec<u8>, byte: u8) -> Result<(), AllocError>
+/// A byte in two hexadecimal digits.
+pub(crate) fn push_hex_byte(text: &mut Vec<u8>, byte: u8) -> Result<(), AllocError>
     ensures { OnOk result (text.new.items ≡ text.old.items ++ hex_byte byte) }
 {
     text.extend_from_slice(&[hex_digit(byte / 16), hex_digit(byte % 16)])?;

@@ -1,9 +1,10 @@
 //! The line of an instruction.
 
-use crate::disasm::instruction_line;
+use crate::disasm::{instruction_line, push_hex_byte};
 use crate::left_out_opcodes::{LeftOut, Operands, left_out_at, mnemonic};
 use crate::named_listing::debug::{line_at, variable_at};
-use crate::named_listing::text::{Comment, push_hex, push_number, push_quoted};
+use crate::named_listing::text::{Comment, push_number, push_quoted};
+use crate::printed_names::push_printed;
 use classfile::{ClassFile, Code, Constant};
 use model::Instr;
 use opcodes::sized_at;
@@ -102,7 +103,7 @@ fn push_variable(
     pc: usize,
 ) -> Result<(), AllocError> {
     if let Some(name) = variable_at(file, code, local, pc) {
-        comment.part()?.extend_from_slice(name)?;
+        push_printed(comment.part()?, name)?;
     }
     Ok(())
 }
@@ -135,7 +136,7 @@ fn push_bits(comment: &mut Comment<'_>, kind: &[u8], bytes: &[u8]) -> Result<(),
     let text = comment.part()?;
     text.extend_from_slice(kind)?;
     for byte in bytes {
-        push_hex(text, *byte)?;
+        push_hex_byte(text, *byte)?;
     }
     Ok(())
 }
@@ -152,7 +153,7 @@ fn push_left_out(
     text.push(b' ')?;
     let end = pc.saturating_add(left_out.length);
     for byte in code.code.get(pc..end).unwrap_or(&[]) {
-        push_hex(text, *byte)?;
+        push_hex_byte(text, *byte)?;
     }
     text.push(b' ')?;
     if left_out.is_wide {

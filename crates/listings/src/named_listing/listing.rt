@@ -4,6 +4,7 @@ use crate::disasm::{bare_method_line, catch_line, class_line, field_line, method
 use crate::named_listing::debug::source_of;
 use crate::named_listing::instruction::{push_instruction, without_end};
 use crate::named_listing::text::Comment;
+use crate::printed_names::push_printed;
 use classfile::{ClassFile, Code, Method, MethodAttribute};
 use std::alloc::{AllocError, Global};
 
@@ -24,7 +25,7 @@ fn named_listing(alloc: Global, file: &ClassFile) -> Result<Vec<u8>, AllocError>
     let line = class_line(alloc, file)?;
     text.extend_from_slice(without_end(&line))?;
     if let Some(source) = source_of(file) {
-        Comment::new(&mut text).part()?.extend_from_slice(source)?;
+        push_printed(Comment::new(&mut text).part()?, source)?;
     }
     text.push(b'\n')?;
     for field in &file.fields {

@@ -33,21 +33,6 @@ pub(crate) fn push_number(text: &mut Vec<u8>, number: i64) -> Result<(), AllocEr
     Ok(())
 }
 
-fn hex_digit(digit: u8) -> u8 {
-    if digit < 10 {
-        b'0' + digit
-    } else {
-        b'a' + digit % 16 - 10
-    }
-}
-
-/// The byte in two hexadecimal digits.
-pub(crate) fn push_hex(text: &mut Vec<u8>, byte: u8) -> Result<(), AllocError> {
-    text.push(hex_digit(byte / 16))?;
-    text.push(hex_digit(byte % 16))?;
-    Ok(())
-}
-
 /// The text of a String constant in quotes. Quotes, backslashes, line feeds and carriage returns have a backslash.
 pub(crate) fn push_quoted(text: &mut Vec<u8>, string: &[u8]) -> Result<(), AllocError> {
     text.push(b'"')?;

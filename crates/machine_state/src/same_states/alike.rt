@@ -1,6 +1,6 @@
 //! All that is kept of two states.
 
-ghost use Rattle.std.specs.Prelude.{◌≡◌, IsTrue};
+ghost use Rattle.std.specs.Prelude.{◌≡◌, ◌↔◌, IsTrue};
 ghost use Rattle.machine_state.specs.same_states.Same.{AreAlike};
 
 use crate::same_states::heaps::same_heap;
@@ -10,13 +10,13 @@ use crate::same_states::threads::same_threads;
 use crate::{ClassStatus, Shared};
 
 fn same_status(one: ClassStatus, other: ClassStatus) -> bool
-    ensures { IsTrue result → one ≡ other }
+    ensures { IsTrue result ↔ (one ≡ other) }
 {
     one == other
 }
 
 fn same_statuses(one: &[ClassStatus], other: &[ClassStatus]) -> bool
-    ensures { IsTrue result → one.now ≡ other.now }
+    ensures { IsTrue result ↔ (one.now ≡ other.now) }
 {
     let count = one.len();
     if other.len() != count {
@@ -31,7 +31,7 @@ fn same_statuses(one: &[ClassStatus], other: &[ClassStatus]) -> bool
 }
 
 fn same_printed(one: &[i32], other: &[i32]) -> bool
-    ensures { IsTrue result → one.now ≡ other.now }
+    ensures { IsTrue result ↔ (one.now ≡ other.now) }
 {
     one == other
 }
@@ -44,6 +44,7 @@ fn same_worlds(one: &Shared, other: &Shared) -> bool
     ensures statics { IsTrue result → one.now.statics.items ≡ other.now.statics.items }
     ensures statuses { IsTrue result → one.now.statuses.items ≡ other.now.statuses.items }
     ensures printed { IsTrue result → one.now.printed.items ≡ other.now.printed.items }
+    ensures told { AreAlike one.now other.now → IsTrue result }
 {
     same_heap(&one.heap, &other.heap)
         && same_threads(&one.threads, &other.threads)
@@ -54,7 +55,7 @@ fn same_worlds(one: &Shared, other: &Shared) -> bool
 
 /// Whether two states are the same, but for which locks are inflated and how many events led there (JVMS 2.5; JLS 17). Both are used up.
 pub fn are_alike(one: Shared, other: Shared) -> bool
-    ensures { IsTrue result → AreAlike one other }
+    ensures { IsTrue result ↔ AreAlike one other }
 {
     if !same_worlds(&one, &other) {
         return false;

@@ -1,6 +1,6 @@
 //! Objects and their monitors.
 
-ghost use Rattle.std.specs.Prelude.{◌≡◌, ◌<◌, IsTrue, length, slice_get};
+ghost use Rattle.std.specs.Prelude.{◌≡◌, ◌<◌, ◌↔◌, IsTrue, length, slice_get};
 ghost use Rattle.model.specs.Monitors.{monitor_at};
 ghost use Rattle.heap.specs.Heap.{words_at};
 
@@ -9,7 +9,7 @@ use heap::monitor::Waiter;
 
 /// Whether an object has the same words in both heaps.
 fn same_words(one: &Heap, other: &Heap, object: u32) -> bool
-    ensures { IsTrue result → words_at one.now.objects object ≡ words_at other.now.objects object }
+    ensures { IsTrue result ↔ (words_at one.now.objects object ≡ words_at other.now.objects object) }
 {
     let count = one.length(object);
     if other.length(object) != count {
@@ -25,7 +25,7 @@ fn same_words(one: &Heap, other: &Heap, object: u32) -> bool
 
 /// Whether an object is the same in both heaps.
 fn same_object(one: &Heap, other: &Heap, object: u32) -> bool
-    ensures { IsTrue result → slice_get one.now.objects object ≡ slice_get other.now.objects object }
+    ensures { IsTrue result ↔ (slice_get one.now.objects object ≡ slice_get other.now.objects object) }
 {
     if one.class_of(object) != other.class_of(object) {
         return false;
@@ -34,7 +34,7 @@ fn same_object(one: &Heap, other: &Heap, object: u32) -> bool
 }
 
 fn same_waiter(one: Option<Waiter>, other: Option<Waiter>) -> bool
-    ensures { IsTrue result → one ≡ other }
+    ensures { IsTrue result ↔ (one ≡ other) }
 {
     match (one, other) {
         (Some(one), Some(other)) => one.thread == other.thread && one.count == other.count,
@@ -47,7 +47,7 @@ fn same_waiter(one: Option<Waiter>, other: Option<Waiter>) -> bool
 fn same_waiters(one: &Heap, other: &Heap, object: u32) -> bool
     requires one { object < length one.now.locks.monitors }
     requires other { object < length other.now.locks.monitors }
-    ensures { IsTrue result → (monitor_at one.now.locks.monitors object).waiters ≡ (monitor_at other.now.locks.monitors object).waiters }
+    ensures { IsTrue result ↔ ((monitor_at one.now.locks.monitors object).waiters ≡ (monitor_at other.now.locks.monitors object).waiters) }
 {
     let count = one.waiter_count(object);
     if other.waiter_count(object) != count {
@@ -65,7 +65,7 @@ fn same_waiters(one: &Heap, other: &Heap, object: u32) -> bool
 fn same_monitor(one: &Heap, other: &Heap, object: u32) -> bool
     requires one { object < length one.now.locks.monitors }
     requires other { object < length other.now.locks.monitors }
-    ensures { IsTrue result → monitor_at one.now.locks.monitors object ≡ monitor_at other.now.locks.monitors object }
+    ensures { IsTrue result ↔ (monitor_at one.now.locks.monitors object ≡ monitor_at other.now.locks.monitors object) }
 {
     if one.owner(object) != other.owner(object) {
         return false;
@@ -80,6 +80,7 @@ fn same_monitor(one: &Heap, other: &Heap, object: u32) -> bool
 pub(crate) fn same_heap(one: &Heap, other: &Heap) -> bool
     ensures objects { IsTrue result → one.now.objects ≡ other.now.objects }
     ensures monitors { IsTrue result → one.now.locks.monitors ≡ other.now.locks.monitors }
+    ensures told { one.now.objects ≡ other.now.objects → one.now.locks.monitors ≡ other.now.locks.monitors → IsTrue result }
 {
     let count = one.len();
     if other.len() != count {

@@ -1,6 +1,6 @@
 //! Stacks, entry by entry. A stack that is compared is used up.
 
-ghost use Rattle.std.specs.Prelude.{◌≡◌, IsTrue, take};
+ghost use Rattle.std.specs.Prelude.{◌≡◌, ◌↔◌, IsTrue, take};
 ghost use Rattle.linked_code.specs.thread_stacks.Stacks.{shown_frame};
 
 use crate::same_states::numbers::{same_numbers, same_reference};
@@ -8,7 +8,7 @@ use linked_code::thread_stacks::{Frame, ThreadStack};
 
 /// Whether two frames are of the same method, at the same place and with the same words.
 fn same_frame(one: &Frame, other: &Frame) -> bool
-    ensures { IsTrue result → shown_frame one.now ≡ shown_frame other.now }
+    ensures { IsTrue result ↔ (shown_frame one.now ≡ shown_frame other.now) }
 {
     if one.method != other.method || one.place != other.place {
         return false;
@@ -27,7 +27,7 @@ fn same_frame(one: &Frame, other: &Frame) -> bool
 
 /// Whether the same is on top of both stacks.
 fn same_top(one: &ThreadStack, other: &ThreadStack) -> bool
-    ensures { IsTrue result → take 1 one.now ≡ take 1 other.now }
+    ensures { IsTrue result ↔ (take 1 one.now ≡ take 1 other.now) }
 {
     match (one.frame(), other.frame()) {
         (Some(one), Some(other)) => same_frame(one, other),
@@ -38,7 +38,7 @@ fn same_top(one: &ThreadStack, other: &ThreadStack) -> bool
 
 /// Whether two stacks are the same.
 fn same_stack(one: ThreadStack, other: ThreadStack) -> bool
-    ensures { IsTrue result → one ≡ other }
+    ensures { IsTrue result ↔ (one ≡ other) }
 {
     let mut left = one;
     let mut right = other;
@@ -54,7 +54,7 @@ fn same_stack(one: ThreadStack, other: ThreadStack) -> bool
 
 /// Whether two lists of stacks are the same.
 pub(crate) fn same_stacks(one: Vec<ThreadStack>, other: Vec<ThreadStack>) -> bool
-    ensures { IsTrue result → one.items ≡ other.items }
+    ensures { IsTrue result ↔ (one.items ≡ other.items) }
 {
     let mut left = one;
     let mut right = other;

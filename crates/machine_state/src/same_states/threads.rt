@@ -1,13 +1,13 @@
 //! Threads but for their stacks.
 
-ghost use Rattle.std.specs.Prelude.{◌≡◌, IsTrue};
+ghost use Rattle.std.specs.Prelude.{◌≡◌, ◌↔◌, IsTrue};
 ghost use Rattle.heap.specs.java_threads.Table.{thread_at};
 
 use heap::java_threads::Threads;
 
 /// Whether a thread is the same in both tables.
 fn same_thread(one: &Threads, other: &Threads, thread: u16) -> bool
-    ensures { IsTrue result → thread_at one.now.threads thread ≡ thread_at other.now.threads thread }
+    ensures { IsTrue result ↔ (thread_at one.now.threads thread ≡ thread_at other.now.threads thread) }
 {
     if one.object(thread) != other.object(thread) || one.begun(thread) != other.begun(thread) {
         return false;
@@ -23,7 +23,7 @@ fn same_thread(one: &Threads, other: &Threads, thread: u16) -> bool
 
 /// Whether both tables have the same threads.
 pub(crate) fn same_threads(one: &Threads, other: &Threads) -> bool
-    ensures { IsTrue result → one.now.threads ≡ other.now.threads }
+    ensures { IsTrue result ↔ (one.now.threads ≡ other.now.threads) }
 {
     let count = one.len();
     if other.len() != count {

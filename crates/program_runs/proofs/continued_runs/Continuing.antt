@@ -1,21 +1,30 @@
 -- A schedule, and a run behind it.
-use Rattle.std.proofs.Common.{◌≡◌, ◌⊎◌, ◌≤◌, ◌+◌, ℕ, List, [], ◌++◌, Some, length, inl, inr, refl, ap, subst, ◌∙◌, arith}
+use Rattle.std.proofs.Common.{◌≡◌, ◌⊎◌, ◌<◌, ◌≤◌, ◌+◌, ℕ, Bool, List, [], ◌++◌, Some, length, inl, inr, refl, sym, ap, subst, ◌∙◌, arith}
 use Rattle.std.proofs.lemmas.List.{length-append}
+use Rattle.model.specs.declared.end.End.{End}
 use Rattle.model.specs.declared.event.Event.{Event}
 use Rattle.model.specs.declared.limits.Limits.{Limits}
+use Rattle.model.specs.declared.report.Report.{Report}
 use Rattle.model.specs.Classes.{Program}
 use Rattle.model.specs.LimitStands.{bounds_of}
 use Rattle.model.specs.Run.{run}
 use Rattle.model.specs.Schedule.{events_of}
+use Rattle.model.specs.State.{StateOf}
+use Rattle.run_laws.specs.soundness.Runs.{IsNoEventWrong}
+use Rattle.run_laws.specs.word_reports.Reports.{AreReportsOfWords}
+use Rattle.machine_state.specs.declared.refusals.EventRefusal.{EventRefusal}
+use Rattle.machine_state.specs.declared.refusals.EventRefusal.TheVariants as refusal
 use Rattle.machine.specs.declared.machine.Stopped.{Stopped}
 use Rattle.machine.specs.declared.machine.Stopped.TheVariants as stopped
+use Rattle.machine.specs.machine_replay.Replays.{EndFits, IsReplay}
+use Rattle.machine.specs.machine_replay.Shown.{Tells, end_of}
+use Rattle.machine.proofs.machine_replay.Replayed.{fits, operands_found, told_of}
 use Rattle.program_runs.specs.declared.worlds.records.Recorded.{Recorded}
 use Rattle.program_runs.specs.worlds.Worlds.{WorldOf, IsNew}
-use Rattle.machine.specs.schedule_runs.Done.{EndsBy}
 use Rattle.program_runs.specs.worlds.Records.{IsRecordOf, Keeps}
-use Rattle.program_runs.specs.continued_runs.Following.{Stands, Follows}
+use Rattle.program_runs.specs.continued_runs.Following.{Stands, Follows, WantsMemory}
 use Rattle.program_runs.specs.continued_runs.Turns.{AreInTurn, TakesTurns}
-use Rattle.program_runs.specs.continued_runs.Continuing.{Continues, IsStuck}
+use Rattle.program_runs.specs.continued_runs.Continuing.{Continues, IsCut, IsCutShort}
 
 module _ (trees : Program) (limits : Limits) (budget : ℕ) (opened : WorldOf) (is_new : IsNew trees limits budget opened)
     (schedule : List Event) (why : Stopped) (w : WorldOf) (follows : Follows schedule why opened w) where
@@ -28,30 +37,62 @@ module _ (trees : Program) (limits : Limits) (budget : ℕ) (opened : WorldOf) (
   front_is : w.events ≡ follows.front
   front_is = follows.done ∙ ap (λ l. l ++ follows.front) is_new.none
 
-  -- ---- stuck
+  budget_is : w.budget ≡ budget
+  budget_is = follows.same.budget ∙ is_new.budget_is
 
-  stuck_by : (why ≡ stopped.Most → ⊥) → Stands why w.machine w.trees w.events follows.left → IsStuck trees schedule limits
-  stuck_by not_all stands =
-      let by_trees : Stands why w.machine trees w.events follows.left = subst (λ (t : Program). Stands why w.machine t w.events follows.left) trees_are stands in
-      let by_front : Stands why w.machine trees follows.front follows.left = subst (λ l. Stands why w.machine trees l follows.left) front_is by_trees in
-      let lead = by_front.1.run.lead in
-      record {
-        front = follows.front;
-        left = follows.left;
-        schedule_is = follows.events_are;
-        state = lead.state;
-        reached = subst (λ (l : Limits). run trees l.frames follows.front ≡ Some lead.state) limits_are lead.reached;
-        why = why;
-        some_left = not_all;
-        stops = subst (λ (l : Limits). EndsBy why trees (bounds_of l) lead.state follows.front follows.left) limits_are by_front.2;
-      }
+  -- ---- cut short
 
-pub stuck : (trees : Program) (limits : Limits) (budget : ℕ) (opened : WorldOf) → IsNew trees limits budget opened
-    → (schedule : List Event) (why : Stopped) (w : WorldOf) → Follows schedule why opened w
-    → (why ≡ stopped.Most → ⊥) → IsStuck trees schedule limits
-stuck trees limits budget opened is_new schedule stopped.Most w follows not_all = absurd (not_all refl)
-stuck trees limits budget opened is_new schedule stopped.NotEnabled w follows not_all = stuck_by trees limits budget opened is_new schedule stopped.NotEnabled w follows not_all follows.stops
-stuck trees limits budget opened is_new schedule (stopped.Refused told) w follows not_all = stuck_by trees limits budget opened is_new schedule (stopped.Refused told) w follows not_all follows.stops
+  module _ (reported : AreReportsOfWords) (sound : IsNoEventWrong) (r : Report) (end : End) (tells : Tells w.trees w.machine (length w.events) why r end)
+      (stands : Stands why w.machine w.trees w.events follows.left) where
+    replayed : IsReplay w.trees schedule w.machine.limits r end
+    replayed =
+        let m = w.machine in
+        let done = stands.1 in
+        let has = done.run in
+        let same = reported stands.0 w.trees done.accepted.linkable m.limits.frames has.at has.lead.state has.lead.are in
+        let on = tells.reports (bounds_of m.limits) _ has.at done.program has.shown in
+        let quiet = tells.quiet_is w.trees m.limits.frames has.at on.threads ∙ same.quiet in
+        record {
+          front = w.events;
+          left = follows.left;
+          events_are = follows.events_are ∙ ap (λ l. l ++ follows.left) (sym front_is);
+          state = has.lead.state;
+          reached = has.lead.reached;
+          within = has.lead.within;
+          printed = on.printed ∙ ap (λ (s : StateOf ℕ). s.world.printed) has.lead.are.are;
+          threads = on.threads ∙ same.ends;
+          count = on.count;
+          means = same.report w.events end has.lead.reached ∙ ap Some (told_of w.trees m.limits.frames has.at w.events (length w.events) r refl on end);
+          ended = subst (EndFits w.trees (bounds_of m.limits) has.lead.state w.events follows.left) (sym tells.end_is)
+              (fits w.trees (bounds_of m.limits) has.lead.state w.events why (length w.events) tells.quiet follows.left refl quiet stands.2);
+          found = operands_found sound stands.0 w.trees done.accepted m.limits.frames schedule;
+        }
+
+    cut_short : length w.events < w.budget → IsCut (end_of why (length w.events) tells.quiet) → IsCutShort trees schedule limits budget r end
+    unfolding replayed
+    cut_short few cut =
+        let here : IsCutShort w.trees schedule w.machine.limits w.budget r end = record { replay = replayed; few = few; cut = subst IsCut (sym tells.end_is) cut } in
+        let by_trees : IsCutShort trees schedule w.machine.limits w.budget r end = subst (λ (t : Program). IsCutShort t schedule w.machine.limits w.budget r end) trees_are here in
+        let by_limits : IsCutShort trees schedule limits w.budget r end = subst (λ (l : Limits). IsCutShort trees schedule l w.budget r end) limits_are by_trees in
+        subst (λ b. IsCutShort trees schedule limits b r end) budget_is by_limits
+
+is_cut : (told : EventRefusal) (n : ℕ) (quiet : Bool) → (WantsMemory (stopped.Refused told) → ⊥) → IsCut (end_of (stopped.Refused told) n quiet)
+is_cut refusal.Objects n quiet no_want = λ e. absurd cc
+is_cut refusal.Cells n quiet no_want = λ e. absurd cc
+is_cut refusal.Monitors n quiet no_want = λ e. absurd cc
+is_cut refusal.Threads n quiet no_want = λ e. absurd cc
+is_cut refusal.LockCount n quiet no_want = λ e. absurd cc
+is_cut refusal.Memory n quiet no_want = absurd (no_want refl)
+
+pub cut : AreReportsOfWords → IsNoEventWrong → (trees : Program) (limits : Limits) (budget : ℕ) (opened : WorldOf) → IsNew trees limits budget opened
+    → (schedule : List Event) (why : Stopped) (w : WorldOf) → Follows schedule why opened w → (why ≡ stopped.Most → ⊥)
+    → (r : Report) (end : End) → Tells w.trees w.machine (length w.events) why r end → IsCutShort trees schedule limits budget r end
+cut reported sound trees limits budget opened is_new schedule stopped.Most w follows not_all r end tells = absurd (not_all refl)
+cut reported sound trees limits budget opened is_new schedule stopped.NotEnabled w follows not_all r end tells =
+    cut_short trees limits budget opened is_new schedule stopped.NotEnabled w follows reported sound r end tells follows.stops.1 follows.stops.0 tt
+cut reported sound trees limits budget opened is_new schedule (stopped.Refused told) w follows not_all r end tells =
+    cut_short trees limits budget opened is_new schedule (stopped.Refused told) w follows reported sound r end tells follows.stops.2 follows.stops.1
+    (is_cut told (length w.events) tells.quiet follows.stops.0)
 
 -- ---- whole
 

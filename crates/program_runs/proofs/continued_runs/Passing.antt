@@ -1,10 +1,10 @@
 -- The entries of a schedule are passed one after another.
-use Rattle.std.proofs.Common.{◌≡◌, ◌⊎◌, ◌<◌, ◌≤◌, ◌+◌, ◌-◌, ℕ, List, [], ◌∷◌, ◌++◌, None, length, replicate, take, inl, inr, refl, sym, ap, subst, ◌∙◌, arith}
-use Rattle.std.specs.Prelude.{min}
+use Rattle.std.proofs.Common.{◌≡◌, ◌⊎◌, ◌<◌, ◌≤◌, ◌+◌, ◌-◌, ℕ, List, [], ◌∷◌, ◌++◌, None, length, replicate, take, inl, inr, refl, sym, ap, subst, ◌∙◌, arith, Result, Ok, Err}
+use Rattle.std.specs.Prelude.{min, IfOk}
 use Rattle.std.proofs.lemmas.Bool.{cases_lt}
 use Rattle.std.proofs.lemmas.List.{append-nil, append_assoc, length-append, length-replicate, replicate-append-replicate, take-replicate}
 use Rattle.std.proofs.Math.Seq.{take-append_seam}
-use Rattle.std.proofs.Math.Nat.{min-le_left, min-eq_left, le-min}
+use Rattle.std.proofs.Math.Nat.{min-le_left, min-le_right, min-eq_left, le-min}
 use Rattle.model.specs.declared.event.Event.{Event}
 use Rattle.model.specs.Classes.{Program}
 use Rattle.model.specs.LimitStands.{bounds_of}
@@ -12,7 +12,7 @@ use Rattle.machine.specs.declared.machine.Stopped.{Stopped}
 use Rattle.machine.specs.declared.machine.Stopped.TheVariants as stopped
 use Rattle.machine.specs.schedule_runs.Done.{OfNext, EndsBy}
 use Rattle.program_runs.specs.worlds.Worlds.{WorldOf, IsOfSame, HasRepeated, RepeatsWithin}
-use Rattle.program_runs.specs.continued_runs.Following.{Stands, StopsBy, Follows}
+use Rattle.program_runs.specs.continued_runs.Following.{Stands, StopsBy, Follows, WantsMemory}
 
 pub joined : (a b c : WorldOf) → IsOfSame a b → IsOfSame b c → IsOfSame a c
 joined a b c ab bc = record { trees = bc.trees ∙ ab.trees; budget = bc.budget ∙ ab.budget; limits = bc.limits ∙ ab.limits }
@@ -32,6 +32,10 @@ all_done schedule first w passed =
 
 -- ---- an end of some left is one of more
 
+some_left : (P : Event → Type 0) (left : List Event) → OfNext left P → 0 < length left
+some_left P [] h = absurd h
+some_left P (e ∷ left) h = omega arith
+
 of_more : (P : Event → Type 0) (left rest : List Event) → OfNext left P → OfNext (left ++ rest) P
 of_more P [] rest h = absurd h
 of_more P (e ∷ left) rest h = h
@@ -50,6 +54,16 @@ module _ (schedule : List Event) (first w new : WorldOf) (passed : HasPassed sch
   front_is =
       sym (take-append_seam at.gone.front at.gone.left) ∙ ap (take (length at.gone.front)) (sym at.gone.schedule_is) ∙ ap (λ k. take k (replicate at.asked event)) (sym at.gone.count)
       ∙ take-replicate n at.asked event within
+
+  all_asked : at.asked ≡ length at.gone.front + length at.gone.left
+  all_asked = sym (length-replicate at.asked event) ∙ ap length at.gone.schedule_is ∙ length-append at.gone.front at.gone.left
+
+  many : length new.events ≡ length w.events + n
+  many = ap length at.events ∙ length-append w.events (replicate n event) ∙ ap (λ k. length w.events + k) (length-replicate n event)
+
+  -- where another one was asked for, the budget allowed it
+  below : (P : Event → Type 0) → OfNext at.gone.left P → length new.events < new.budget
+  below P h = omega (arith, some_left P at.gone.left h, all_asked, at.gone.count, many, at.same.budget, at.asked_is, min-le_right most (w.budget - length w.events))
 
   no_more : at.asked ≤ most
   no_more = omega (arith, at.asked_is, min-le_left most (w.budget - length w.events))
@@ -77,9 +91,6 @@ module _ (schedule : List Event) (first w new : WorldOf) (passed : HasPassed sch
     used_up : at.asked ≡ n → w.budget ≤ length new.events
     used_up as_asked = by_order (cases_lt (w.budget - length w.events) (most))
       where
-        many : length new.events ≡ length w.events + n
-        many = ap length at.events ∙ length-append w.events (replicate n event) ∙ ap (λ k. length w.events + k) (length-replicate n event)
-
         by_order : (w.budget - length w.events < most) ⊎ (most ≤ w.budget - length w.events) → w.budget ≤ length new.events
         by_order (inl lt) =
             let least : w.budget - length w.events ≤ min most (w.budget - length w.events) = le-min (omega (arith, lt)) (omega arith) in
@@ -93,16 +104,16 @@ module _ (schedule : List Event) (first w new : WorldOf) (passed : HasPassed sch
         let by_events : Stands why new.machine w.trees new.events behind = subst (λ l. Stands why new.machine w.trees l behind) (ap (λ l. w.events ++ l) front_is ∙ sym at.events) here in
         subst (λ (t : Program). Stands why new.machine t new.events behind) (sym at.same.trees) by_events
 
-    stops_by : (x : Stopped) → EndsBy x w.trees (bounds_of new.machine.limits) at.gone.done.run.lead.state (w.events
+    stops_by : (x : Stopped) → (WantsMemory x → ⊥) → EndsBy x w.trees (bounds_of new.machine.limits) at.gone.done.run.lead.state (w.events
         ++ at.gone.front) at.gone.left → StopsBy x new behind
-    stops_by stopped.Most none_left =
+    stops_by stopped.Most no_want none_left =
         inr (subst (λ b. b ≤ length new.events) (sym at.same.budget) (used_up (
         let all : at.asked ≡ length (at.gone.front ++ at.gone.left) = sym (length-replicate at.asked event) ∙ ap length at.gone.schedule_is in
         let nothing : length at.gone.left ≡ 0 = ap length none_left in
         omega (arith, all, nothing, at.gone.count, length-append at.gone.front at.gone.left)
         )))
-    stops_by stopped.NotEnabled ends = stands stopped.NotEnabled (of_more _ at.gone.left (replicate (most - at.asked) event ++ rest) ends)
-    stops_by (stopped.Refused told) ends = stands (stopped.Refused told) (of_more _ at.gone.left (replicate (most - at.asked) event ++ rest) ends)
+    stops_by stopped.NotEnabled no_want ends = (below _ ends, stands stopped.NotEnabled (of_more _ at.gone.left (replicate (most - at.asked) event ++ rest) ends))
+    stops_by (stopped.Refused told) no_want ends = (no_want, below _ ends, stands (stopped.Refused told) (of_more _ at.gone.left (replicate (most - at.asked) event ++ rest) ends))
 
     split : replicate most event ++ rest ≡ at.gone.front ++ behind
     split =
@@ -112,8 +123,8 @@ module _ (schedule : List Event) (first w new : WorldOf) (passed : HasPassed sch
         ∙ ap (λ l. l ++ (replicate (most - at.asked) event ++ rest)) at.gone.schedule_is
         ∙ append_assoc at.gone.front at.gone.left (replicate (most - at.asked) event ++ rest)
 
-    pub stops : (all : List Event) → all ≡ schedule ++ (replicate most event ++ rest) → Follows all why first new
-    stops all is =
+    stops : (all : List Event) → all ≡ schedule ++ (replicate most event ++ rest) → (WantsMemory why → ⊥) → Follows all why first new
+    stops all is no_want =
         record {
           same = same;
           on = at.on ∙ passed.on;
@@ -121,5 +132,11 @@ module _ (schedule : List Event) (first w new : WorldOf) (passed : HasPassed sch
           left = behind;
           events_are = is ∙ ap (λ l. schedule ++ l) split ∙ sym (append_assoc schedule at.gone.front behind);
           done = longer ∙ ap (λ l. first.events ++ (schedule ++ l)) (sym front_is);
-          stops = stops_by why at.gone.ends;
+          stops = stops_by why no_want at.gone.ends;
         }
+
+    pub stops_if : (all : List Event) → all ≡ schedule ++ (replicate most event ++ rest)
+        → {E : Type 0} (result : Result Stopped E) → IfOk result (λ told. (told ≡ why) × (WantsMemory why → ⊥))
+        → IfOk result (λ told. Follows all told first new)
+    stops_if all is (Ok told) h = subst (λ x. Follows all x first new) (sym h.0) (stops all is h.1)
+    stops_if all is (Err e) h = tt

@@ -1,16 +1,19 @@
 //! A schedule, and a run behind it.
 
-ghost use Rattle.std.specs.Prelude.{IfOk};
+ghost use Rattle.std.specs.Prelude.{length, IfOk};
 ghost use Rattle.std.specs.Arc.{arc_value};
 ghost use Rattle.model.specs.Schedule.{events_of};
-ghost use Rattle.program_runs.specs.continued_runs.Continuing.{GoesOn, IsWholeOr};
+ghost use Rattle.machine.specs.machine_replay.Shown.{Tells};
+ghost use Rattle.program_runs.specs.continued_runs.Continuing.{GoesOn};
 
 use crate::continued_runs::following::follow;
 use crate::continued_runs::rotation::take_turns;
-use crate::verified_programs::replay;
 use crate::worlds::{Recorded, World};
 use machine::Stopped;
+use machine::machine_replay::report_after;
 use model::{End, Limits, Report};
+use run_laws::soundness::no_event_is_wrong;
+use run_laws::word_reports::reports_of_words;
 use schedule::Schedule;
 use std::alloc::{AllocError, Global};
 use std::sync::Arc;
@@ -21,27 +24,22 @@ use verifier::Verified;
 pub enum Continued {
     /// The events of the schedule were done, as far as the budget allows, and then the threads went on in turn.
     Whole(Recorded),
-    /// One of them is not enabled, or is refused: what a replay of the schedule says.
+    /// One of them within the budget is not enabled, or a limit refuses it: the report of those before it, and the end, which says so.
     Part(Report, End),
 }
 
-/// Does the events of a schedule, and then goes on until there is an end; each further event is that of the next thread in turn which has an
-/// enabled one. Answers none where one of the schedule's is not enabled, or is refused.
-fn goes_on(
-    alloc: Global,
-    verified: &Arc<Verified>,
-    schedule: &Schedule,
-    limits: Limits,
-    budget: u32,
-) -> Result<Option<Recorded>, AllocError>
-    ensures { IfOk result (IsWholeOr (arc_value verified.now) (events_of schedule.now) limits budget) }
+/// The report of where the events of a world have led, and why no more were done. The only error is a want of memory.
+fn report_on(alloc: Global, world: &World, why: Stopped) -> Result<(Report, End), AllocError>
+    ensures { IfOk result (λ r. Tells world.now.trees world.now.machine (length world.now.events) why r.0 r.1) }
 {
-    let mut world = World::open(alloc, Arc::try_clone(verified)?, limits, budget)?;
-    if let Stopped::Most = follow(&mut world, schedule)? {
-        take_turns(&mut world);
-        return Ok(Some(world.into_recorded(alloc)?));
-    }
-    Ok(None)
+    let classes = world.verified().linked().set();
+    report_after(
+        alloc,
+        world.machine(),
+        classes,
+        u64::from(world.count()),
+        why,
+    )
 }
 
 /// Does the events of a schedule over verified class files, and then goes on until there is an end (JVMS 2.5, 2.6, 5.5, chapter 6; JLS
@@ -56,9 +54,14 @@ pub fn run_on(
 ) -> Result<Continued, AllocError>
     ensures { IfOk result (GoesOn (arc_value verified) (events_of schedule.now) limits budget) }
 {
-    if let Some(recorded) = goes_on(alloc, &verified, schedule, limits, budget)? {
-        return Ok(Continued::Whole(recorded));
+    reports_of_words();
+    no_event_is_wrong();
+    let mut world = World::open(alloc, verified, limits, budget)?;
+    let why = follow(&mut world, schedule)?;
+    if let Stopped::Most = why {
+        take_turns(&mut world);
+        return Ok(Continued::Whole(world.into_recorded(alloc)?));
     }
-    let (report, end) = replay(alloc, &verified, schedule, limits)?;
+    let (report, end) = report_on(alloc, &world, why)?;
     Ok(Continued::Part(report, end))
 }

@@ -1,17 +1,28 @@
 -- Words that are written.
-use Rattle.std.proofs.Common.{codes, ◌≡◌, ◌<◌, ◌^◌, ◌+◌, ℕ, suc, Bool, true, false, List, [], ◌∷◌, ◌++◌, length, map, get_or, take, refl, sym, ap, subst, ◌∙◌, arith, decimal, append_assoc, length-append, inl, inr}
-use Rattle.std.specs.Prelude.{◌⊎◌, ◌==◌, ◌||◌, ◌&&◌, nat_lt}
+use Rattle.std.proofs.Common.{codes, ◌≡◌, ◌<◌, ◌^◌, ◌+◌, ◌-◌, ◌%◌, ℕ, suc, Bool, true, false, List, [], ◌∷◌, ◌++◌, length, map, get_or, drop, refl, sym, ap, ◌∙◌, arith, decimal, append_assoc, length-append, inl, inr, Option, Some, None}
+use Rattle.std.specs.Prelude.{◌==◌, ◌||◌, ◌&&◌, nat_lt, if◌then◌else◌}
+use Rattle.std.specs.List.{AllByRecursion}
+use Rattle.std.proofs.Math.Seq.{drop-length}
 use Rattle.std.proofs.lemmas.Bool.{eqb-true, lt-ltb, ltb-true}
 use Rattle.std.proofs.lemmas.Fmt.{decimal_nonempty}
-use Rattle.std.proofs.lemmas.List.{append-nil, map-append, take_more}
-use Rattle.model.specs.Schedule.{EntryFits}
+use Rattle.std.proofs.lemmas.List.{append-nil, drop_more, length-drop, length-map}
+use Rattle.model.specs.Schedule.{AreEntries, EntryFits, RecordedFits, Recording}
 use Rattle.model.specs.declared.event.ScheduleEntry.{ScheduleEntry}
-use Rattle.schedule.specs.schedule_text.Printing.{AddsWords, is_plain}
-use Rattle.schedule.specs.schedule_text.Text.{begins_comment, entry_tail, entry_word, is_blank, with_word, words_from, words_of}
+use Rattle.model.specs.declared.limits.Limits.{Limits}
+use Rattle.schedule.specs.schedule_text.Printing.{gap_after, in_lines, laid_out, printed_recording, printed_schedule}
+use Rattle.schedule.specs.schedule_text.Text.{SpellsSchedule, begins_comment, entry_tail, entry_word, is_blank, limit_words, recording_words, with_word, words_from, words_of}
 use Rattle.schedule.proofs.schedule_text.EntryLaws.{AreDigits, decimal_digits, form_of}
 use Rattle.schedule.proofs.schedule_text.WordLaws.{begun, blank_ends, no_byte, stays_there}
 
 -- ---- plain words
+
+-- whether no byte is white space or `#`, nor one that stands before `$` in ASCII
+abbrev is_plain : List ℕ → Bool
+is_plain [] = true
+is_plain (b ∷ bs) = nat_lt 35 b && is_plain bs
+
+abbrev IsPlainWord : List ℕ → Type 0
+IsPlainWord word = (is_plain word ≡ true) × (0 < length word)
 
 both_true : (p q : Bool) → (p && q) ≡ true → (p ≡ true) × (q ≡ true)
 both_true true q e = (refl, e)
@@ -32,16 +43,8 @@ plain_word (b ∷ bs) begun gap more p blank =
     let q = both_true (nat_lt 35 b) (is_plain bs) p in
     stays_there b begun (bs ++ gap ∷ more) (plain_byte b (bs ++ gap ∷ more) q.0) ∙ plain_word bs (begun ++ b ∷ []) gap more q.1 blank ∙ ap (λ x. with_word x (words_of more)) (append_assoc begun (b ∷ []) bs)
 
-is_gap : (gap : ℕ) → (gap ≡ 32) ⊎ (gap ≡ 10) → is_blank gap ≡ true
-is_gap gap h = elim h [ inl e ↦ rw e refl | inr e ↦ rw e refl ]
-
-pub word_added : (old new w : List ℕ) (gap : ℕ) → is_plain w ≡ true → 0 < length w → (gap ≡ 32) ⊎ (gap ≡ 10) → new ≡ old ++ (w ++ gap ∷ [])
-    → AddsWords old new (w ∷ [])
-word_added old new w gap p some is e = record {
-  added = w ++ gap ∷ [];
-  text = e;
-  spelled = λ more. ap (words_from false []) (append_assoc w (gap ∷ []) more) ∙ plain_word w [] gap more p (is_gap gap is) ∙ begun w (words_of more) some;
-}
+gap_is_blank : (place left : ℕ) → is_blank (gap_after place left) ≡ true
+gap_is_blank place left = elim (place % 16 == 15 || left == 0) as (λ t. is_blank (if t then 10 else 32) ≡ true) [ true ↦ refl | false ↦ refl ]
 
 plain_append : (xs ys : List ℕ) → is_plain xs ≡ true → is_plain ys ≡ true → is_plain (xs ++ ys) ≡ true
 plain_append [] ys p q = q
@@ -68,66 +71,130 @@ plain_tail e fits = elim (form_of e fits) [
   ]
 ]
 
--- ---- parts of a text
+-- ---- words that are laid out
 
-four_parts : (x a b c d n1 n2 n3 n4 : List ℕ) → n1 ≡ x ++ a → n2 ≡ n1 ++ b → n3 ≡ n2 ++ c → n4 ≡ n3 ++ d → n4 ≡ x ++ ((a ++ (b ++ c)) ++ d)
-four_parts x a b c d n1 n2 n3 n4 e1 e2 e3 e4 =
-    let two : n2 ≡ x ++ (a ++ b) = e2 ∙ ap (λ n. n ++ b) e1 ∙ append_assoc x a b in
-    let three : n3 ≡ x ++ (a ++ (b ++ c)) = e3 ∙ ap (λ n. n ++ c) two ∙ append_assoc x (a ++ b) c ∙ ap (λ y. x ++ y) (append_assoc a b c) in
-    e4 ∙ ap (λ n. n ++ d) three ∙ append_assoc x (a ++ (b ++ c)) d
+laid_words : (place : ℕ) (words : List (List ℕ)) (more : List ℕ) → AllByRecursion IsPlainWord words
+    → words_of (laid_out place words ++ more) ≡ words ++ words_of more
+laid_words place [] more plain = refl
+laid_words place (w ∷ ws) more plain =
+    let gap = gap_after place (length ws) in
+    let rest = laid_out (place + 1) ws in
+    ap (words_from false []) (append_assoc w (gap ∷ rest) more) ∙ plain_word w [] gap (rest ++ more) plain.0.0 (gap_is_blank place (length ws))
+    ∙ begun w (words_of (rest ++ more)) plain.0.1 ∙ ap (λ x. w ∷ x) (laid_words (place + 1) ws more plain.1)
 
-three_parts : (x a b d n1 n2 n3 : List ℕ) → n1 ≡ x ++ a → n2 ≡ n1 ++ b → n3 ≡ n2 ++ d → n3 ≡ x ++ ((a ++ b) ++ d)
-three_parts x a b d n1 n2 n3 e1 e2 e3 = e3 ∙ ap (λ n. n ++ d) (e2 ∙ ap (λ n. n ++ b) e1 ∙ append_assoc x a b) ∙ append_assoc x (a ++ b) d
+entry_is_plain : (e : ScheduleEntry) → EntryFits e → IsPlainWord (entry_word e)
+entry_is_plain e fits =
+    let small : e.event.thread < 2 ^ 64 = omega (arith, fits.thread) in (
+      plain_append (decimal e.event.thread) (entry_tail e) (plain_decimal e.event.thread small) (plain_tail e fits),
+      omega (arith, decimal_nonempty e.event.thread small, length-append (decimal e.event.thread) (entry_tail e)),
+    )
 
-pub entry_added : (x n1 n2 n3 n4 b c : List ℕ) (e : ScheduleEntry) (gap : ℕ) → EntryFits e → entry_tail e ≡ b ++ c → (gap ≡ 32) ⊎ (gap ≡ 10)
-    → n1 ≡ x ++ decimal e.event.thread → n2 ≡ n1 ++ b → n3 ≡ n2 ++ c → n4 ≡ n3 ++ gap ∷ [] → AddsWords x n4 (entry_word e ∷ [])
-entry_added x n1 n2 n3 n4 b c e gap fits tail is e1 e2 e3 e4 =
-    let small : e.event.thread < 2 ^ 64 = omega (arith, fits.thread) in
-    let all : n4 ≡ x ++ ((decimal e.event.thread ++ (b ++ c)) ++ gap ∷ []) = four_parts x (decimal e.event.thread) b c (gap ∷ []) n1 n2 n3 n4 e1 e2 e3 e4 in
-    word_added x n4 (entry_word e) gap (plain_append (decimal e.event.thread) (entry_tail e) (plain_decimal e.event.thread small) (plain_tail e fits))
-    (omega (arith, decimal_nonempty e.event.thread small, length-append (decimal e.event.thread) (entry_tail e))) is
-    (all ∙ ap (λ t. x ++ ((decimal e.event.thread ++ t) ++ gap ∷ [])) (sym tail))
+named_is_plain : (name : List ℕ) (n : ℕ) → is_plain name ≡ true → n < 2 ^ 64 → IsPlainWord (name ++ decimal n)
+named_is_plain name n p small =
+    (plain_append name (decimal n) p (plain_decimal n small), omega (arith, decimal_nonempty n small, length-append name (decimal n)))
 
-pub named_added : (x n1 n2 n3 name : List ℕ) (n gap : ℕ) → is_plain name ≡ true → n < 2 ^ 64 → (gap ≡ 32) ⊎ (gap ≡ 10)
-    → n1 ≡ x ++ name → n2 ≡ n1 ++ decimal n → n3 ≡ n2 ++ gap ∷ [] → AddsWords x n3 ((name ++ decimal n) ∷ [])
-named_added x n1 n2 n3 name n gap p small is e1 e2 e3 =
-    word_added x n3 (name ++ decimal n) gap (plain_append name (decimal n) p (plain_decimal n small)) (omega (arith, decimal_nonempty n small, length-append name (decimal n))) is
-    (three_parts x name (decimal n) (gap ∷ []) n1 n2 n3 e1 e2 e3)
+entries_are_plain : (es : List ScheduleEntry) → AllByRecursion EntryFits es → AllByRecursion IsPlainWord (map entry_word es)
+entries_are_plain [] all = tt
+entries_are_plain (e ∷ es) all = (entry_is_plain e all.0, entries_are_plain es all.1)
+
+lengths_are_plain : (ns : List ℕ) → AllByRecursion (λ n. n < 2 ^ 64) ns → AllByRecursion IsPlainWord (map decimal ns)
+lengths_are_plain [] all = tt
+lengths_are_plain (n ∷ ns) all = (named_is_plain [] n refl all.0, lengths_are_plain ns all.1)
+
+limits_are_plain : (l : Limits) → l.cells < 2 ^ 32 → AllByRecursion IsPlainWord (limit_words l)
+limits_are_plain l cells = (
+  named_is_plain (codes "objects=") l.objects refl (omega (arith, l.objects_fit)),
+  (
+    named_is_plain (codes "cells=") l.cells refl (omega (arith, cells)),
+    (
+      named_is_plain (codes "monitors=") l.monitors refl (omega (arith, l.monitors_fit)),
+      (
+        named_is_plain (codes "threads=") l.threads refl (omega (arith, l.threads_fit.1)),
+        (named_is_plain (codes "frames=") l.frames refl (omega (arith, l.frames_fit.1)), tt),
+      ),
+    ),
+  ),
+)
 
 -- ---- the words that are no plain ones
 
-pub limits_added : (old new : List ℕ) → new ≡ old ++ codes "#limits " → AddsWords old new (codes "#limits" ∷ [])
+limits_stand : (more : List ℕ) → words_of (codes "#limits " ++ more) ≡ codes "#limits" ∷ words_of more
 unfolding words_from
-limits_added old new e = record { added = codes "#limits "; text = e; spelled = λ more. refl }
+limits_stand more = refl
 
-pub lengths_added : (old new : List ℕ) → new ≡ old ++ codes "#lengths " → AddsWords old new (codes "#lengths" ∷ [])
+lengths_stand : (more : List ℕ) → words_of (codes "#lengths " ++ more) ≡ codes "#lengths" ∷ words_of more
 unfolding words_from
-lengths_added old new e = record { added = codes "#lengths "; text = e; spelled = λ more. refl }
+lengths_stand more = refl
 
-pub events_added : (old new : List ℕ) → new ≡ old ++ codes "#events\n" → AddsWords old new (codes "#events" ∷ [])
+events_stand : (more : List ℕ) → words_of (codes "#events\n" ++ more) ≡ codes "#events" ∷ words_of more
 unfolding words_from
-events_added old new e = record { added = codes "#events\n"; text = e; spelled = λ more. refl }
+events_stand more = refl
 
--- ---- words behind words
+-- ---- what is printed
 
-pub adds_more : (a b c : List ℕ) (us vs : List (List ℕ)) → AddsWords a b us → AddsWords b c vs → AddsWords a c (us ++ vs)
-adds_more a b c us vs p q = record {
-  added = p.added ++ q.added;
-  text = q.text ∙ ap (λ x. x ++ q.added) p.text ∙ append_assoc a p.added q.added;
-  spelled = λ more. ap words_of (append_assoc p.added q.added more) ∙ p.spelled (q.added ++ more) ∙ ap (λ x. us ++ x) (q.spelled more) ∙ sym (append_assoc us vs (words_of more));
-}
+recording_stands : (recorded : Option Recording) (more : List ℕ) → RecordedFits recorded
+    → words_of (printed_recording recorded ++ more) ≡ recording_words recorded ++ words_of more
+recording_stands None more fits = refl
+recording_stands (Some r) more fits =
+    let limits = in_lines (limit_words r.limits) in
+    let lengths = in_lines (map decimal r.lengths) in
+    let events = codes "#events\n" in
+    let behind = codes "#lengths " ++ (lengths ++ events) in
+    let last : words_of ((lengths ++ events) ++ more) ≡ map decimal r.lengths ++ codes "#events" ∷ words_of more =
+    ap words_of (append_assoc lengths events more) ∙ laid_words 0 (map decimal r.lengths) (events ++ more) (lengths_are_plain r.lengths fits.lengths)
+    ∙ ap (λ x. map decimal r.lengths ++ x) (events_stand more) in
+    let second : words_of (behind ++ more) ≡ codes "#lengths" ∷ (map decimal r.lengths ++ codes "#events" ∷ words_of more) =
+    ap words_of (append_assoc (codes "#lengths ") (lengths ++ events) more) ∙ lengths_stand ((lengths ++ events) ++ more) ∙ ap (λ x. codes "#lengths" ∷ x) last in
+    let first : words_of ((limits ++ behind) ++ more) ≡ limit_words r.limits ++ words_of (behind ++ more) =
+    ap words_of (append_assoc limits behind more) ∙ laid_words 0 (limit_words r.limits) (behind ++ more) (limits_are_plain r.limits fits.cells) in
+    let whole : words_of (printed_recording (Some r) ++ more) ≡ codes "#limits" ∷ (limit_words r.limits ++ words_of (behind ++ more)) =
+    ap words_of (append_assoc (codes "#limits ") (limits ++ behind) more) ∙ limits_stand ((limits ++ behind) ++ more) ∙ ap (λ x. codes "#limits" ∷ x) first in
+    whole ∙ ap (λ x. codes "#limits" ∷ (limit_words r.limits ++ x)) second
+    ∙ ap (λ x. codes "#limits" ∷ (limit_words r.limits ++ codes "#lengths" ∷ x)) (sym (append_assoc (map decimal r.lengths) (codes "#events" ∷ []) (words_of more)))
 
-pub one_more : {X : Type 0} (f : X → List ℕ) (xs : List X) (k : ℕ) (x : X) (a b c : List ℕ) → k < length xs
-    → AddsWords a b (map f (take k xs)) → AddsWords b c (f (get_or xs k x) ∷ []) → AddsWords a c (map f (take (k + 1) xs))
-one_more f xs k x a b c lt p q =
-    let words : map f (take (k + 1) xs) ≡ map f (take k xs) ++ f (get_or xs k x) ∷ [] = ap (map f) (take_more xs k x lt) ∙ map-append f (take k xs) (get_or xs k x ∷ []) in
-    rw words (adds_more a b c (map f (take k xs)) (f (get_or xs k x) ∷ []) p q)
+-- what is printed spells the schedule
+pub printed_spells : (recorded : Option Recording) (entries : List ScheduleEntry) → RecordedFits recorded → AreEntries entries
+    → SpellsSchedule (printed_schedule recorded entries) recorded entries
+printed_spells recorded entries recording_fits fits =
+    let words = map entry_word entries in
+    let ends : words_of (in_lines words) ≡ words =
+    ap words_of (sym (append-nil (in_lines words))) ∙ laid_words 0 words [] (entries_are_plain entries fits.each) ∙ ap (λ x. words ++ x) (no_byte false) ∙ append-nil words in
+    record {
+      fits = fits;
+      recording_fits = recording_fits;
+      spelled = recording_stands recorded (in_lines words) recording_fits ∙ ap (λ x. recording_words recorded ++ x) ends;
+    }
 
-pub whole : (old new : List ℕ) (ws : List (List ℕ)) → old ≡ [] → AddsWords old new ws → words_of new ≡ ws
-whole old new ws none p =
-    let text : new ≡ p.added = p.text ∙ ap (λ x. x ++ p.added) none in
-    ap words_of (text ∙ sym (append-nil p.added)) ∙ p.spelled [] ∙ ap (λ x. ws ++ x) (no_byte false) ∙ append-nil ws
+-- ---- one more word
 
-pub of_number : (old new name : List ℕ) (n m : ℕ) → n ≡ m → AddsWords old new ((name ++ decimal n) ∷ [])
-    → AddsWords old new ((name ++ decimal m) ∷ [])
-of_number old new name n m e = subst (λ k. AddsWords old new ((name ++ decimal k) ∷ [])) e
+pub one_more : {X : Type 0} (f : X → List ℕ) (xs : List X) (k left : ℕ) (x : X) (now new whole : List ℕ) → k < length xs → left ≡ length xs - 1 - k
+    → now ++ laid_out k (map f (drop k xs)) ≡ whole → new ≡ now ++ (f (get_or xs k x) ++ gap_after k left ∷ [])
+    → new ++ laid_out (k + 1) (map f (drop (k + 1) xs)) ≡ whole
+one_more f xs k left x now new whole lt is so_far e =
+    let w = f (get_or xs k x) in
+    let ws = map f (drop (k + 1) xs) in
+    let rest = laid_out (k + 1) ws in
+    let count : length ws ≡ left = length-map (drop (k + 1) xs) f ∙ length-drop (k + 1) xs ∙ omega (arith, is) in
+    let words : map f (drop k xs) ≡ w ∷ ws = ap (map f) (drop_more xs k x lt) in
+    let step : (w ++ gap_after k left ∷ []) ++ rest ≡ laid_out k (map f (drop k xs)) =
+    append_assoc w (gap_after k left ∷ []) rest ∙ ap (λ n. w ++ gap_after k n ∷ rest) (sym count) ∙ sym (ap (laid_out k) words) in
+    ap (λ t. t ++ rest) e ∙ append_assoc now (w ++ gap_after k left ∷ []) rest ∙ ap (λ t. now ++ t) step ∙ so_far
+
+-- no more words
+pub none_left : {X : Type 0} (f : X → List ℕ) (xs : List X) (k : ℕ) (now whole : List ℕ) → k ≡ length xs
+    → now ++ laid_out k (map f (drop k xs)) ≡ whole → now ≡ whole
+none_left f xs k now whole at so_far =
+    let gone : drop k xs ≡ [] = ap (λ j. drop j xs) at ∙ drop-length xs in
+    sym (append-nil now) ∙ sym (ap (λ ys. now ++ laid_out k (map f ys)) gone) ∙ so_far
+
+-- ---- parts behind parts
+
+-- five parts, each behind the other
+pub five_parts : (x a b c d e n1 n2 n3 n4 n5 : List ℕ) → n1 ≡ x ++ a → n2 ≡ n1 ++ b → n3 ≡ n2 ++ c → n4 ≡ n3 ++ d → n5 ≡ n4 ++ e
+    → n5 ≡ x ++ (a ++ (b ++ (c ++ (d ++ e))))
+five_parts x a b c d e n1 n2 n3 n4 n5 e1 e2 e3 e4 e5 =
+    let two : n2 ≡ x ++ (a ++ b) = e2 ∙ ap (λ n. n ++ b) e1 ∙ append_assoc x a b in
+    let three : n3 ≡ x ++ (a ++ (b ++ c)) = e3 ∙ ap (λ n. n ++ c) two ∙ append_assoc x (a ++ b) c ∙ ap (λ y. x ++ y) (append_assoc a b c) in
+    let four : n4 ≡ x ++ (a ++ (b ++ (c ++ d))) = e4 ∙ ap (λ n. n ++ d) three ∙ append_assoc x (a ++ (b ++ c)) d ∙ ap (λ y. x ++ y) (append_assoc a (b ++ c) d ∙ ap (λ y. a ++ y) (append_assoc b c d)) in
+    e5 ∙ ap (λ n. n ++ e) four ∙ append_assoc x (a ++ (b ++ (c ++ d))) e
+    ∙ ap (λ y. x ++ y) (append_assoc a (b ++ (c ++ d)) e ∙ ap (λ y. a ++ y) (append_assoc b (c ++ d) e ∙ ap (λ y. b ++ y) (append_assoc c d e)))

@@ -1,14 +1,37 @@
--- Texts that go on by words.
-use Rattle.std.specs.Prelude.{◌≡◌, ℕ, List, [], ◌∷◌, ◌++◌, Bool, true, nat_lt, ◌&&◌}
-use Rattle.schedule.specs.schedule_text.Text.{words_of}
+-- The text that is printed of a schedule (own).
+use Rattle.std.specs.Prelude.{◌≡◌, ◌+◌, ◌%◌, ℕ, List, [], ◌∷◌, ◌++◌, map, length, codes, Option, Some, None, ◌==◌, ◌||◌, if◌then◌else◌, decimal, refl}
+use Rattle.model.specs.declared.event.ScheduleEntry.{ScheduleEntry}
+use Rattle.model.specs.Schedule.{Recording}
+use Rattle.schedule.specs.schedule_text.Text.{entry_word, limit_words}
 
--- whether no byte is white space or `#`, nor one that stands before `$` in ASCII
-abbrev pub is_plain : List ℕ → Bool
-is_plain [] = true
-is_plain (b ∷ bs) = nat_lt 35 b && is_plain bs
+-- What stands behind a word, by its place, counted from 0, and the number of words left: a line feed behind each 16th
+-- word and the last one, and a space behind each other one.
+abbrev pub gap_after : ℕ → ℕ → ℕ
+gap_after place left = if place % 16 == 15 || left == 0 then 10 else 32
 
--- the new text is the old one with these words behind it, and with what parts them from others
-pub record AddsWords (old new : List ℕ) (words : List (List ℕ)) : Type 0 where
-  pub added : List ℕ
-  pub text : new ≡ old ++ added
-  pub spelled : (more : List ℕ) → words_of (added ++ more) ≡ words ++ words_of more
+-- words from such a place on, each with what stands behind it
+abbrev pub laid_out : ℕ → List (List ℕ) → List ℕ
+laid_out place [] = []
+laid_out place (w ∷ ws) = w ++ gap_after place (length ws) ∷ laid_out (place + 1) ws
+
+-- words in lines of 16
+abbrev pub in_lines : List (List ℕ) → List ℕ
+in_lines words = laid_out 0 words
+
+-- with what a schedule was recorded, if that is told
+abbrev pub printed_recording : Option Recording → List ℕ
+printed_recording None = []
+printed_recording (Some r) =
+    codes "#limits " ++ (in_lines (limit_words r.limits) ++ (codes "#lengths " ++ (in_lines (map decimal r.lengths) ++ codes "#events\n")))
+
+-- the entries, and in front of them with what they were recorded
+abbrev pub printed_schedule : Option Recording → List ScheduleEntry → List ℕ
+printed_schedule recorded entries = printed_recording recorded ++ in_lines (map entry_word entries)
+
+-- ---- examples
+
+-- 17 words take two lines
+two_lines : in_lines (codes "0" ∷ codes "1" ∷ codes "2" ∷ codes "3" ∷ codes "4" ∷ codes "5" ∷ codes "6" ∷ codes "7" ∷ codes "8*2" ∷ codes "9" ∷ codes "10"
+    ∷ codes "11" ∷ codes "12" ∷ codes "13" ∷ codes "14" ∷ codes "15.1" ∷ codes "16" ∷ [])
+    ≡ codes "0 1 2 3 4 5 6 7 8*2 9 10 11 12 13 14 15.1\n16\n"
+two_lines = refl

@@ -1,10 +1,11 @@
 //! Writing the text of a schedule.
 
-ghost use Rattle.std.specs.Prelude.{◌≡◌, ◌⊎◌, ◌++◌, ◌∷◌, [], Some, map, true, IfOk, OnOk, decimal};
+ghost use Rattle.std.specs.Prelude.{◌≡◌, ◌++◌, ◌∷◌, [], Some, map, IfOk, OnOk, decimal};
 ghost use Rattle.std.specs.Option.{option_map};
-ghost use Rattle.model.specs.Schedule.{AreEntries, EntryFits, RecordedFits, RecordingFits};
-ghost use Rattle.schedule.specs.schedule_text.Printing.{AddsWords, is_plain};
-ghost use Rattle.schedule.specs.schedule_text.Text.{SpellsSchedule, entry_word, limit_words, recording_words, unless_usual};
+ghost use Rattle.model.specs.Schedule.{EntryFits, RecordedFits, RecordingFits};
+ghost use Rattle.schedule.specs.schedule_text.Printing as printing;
+ghost use Rattle.schedule.specs.schedule_text.Printing.{in_lines, printed_recording, printed_schedule};
+ghost use Rattle.schedule.specs.schedule_text.Text.{SpellsSchedule, entry_word, limit_words, unless_usual};
 
 use crate::schedule_text::numbers::push_number;
 use crate::{Recording, Schedule};
@@ -14,11 +15,11 @@ use std::alloc::{AllocError, Global};
 /// How many words stand in a line.
 const IN_A_LINE: usize = 16;
 
-/// What stands behind the word at this place of so many: a line feed at the end of a line, and else a space.
-fn gap_after(place: usize, count: usize) -> u8
-    ensures { (result ≡ 32) ⊎ (result ≡ 10) }
+/// What stands behind the word at this place, with so many words left: a line feed at the end of a line, and else a space.
+fn gap_after(place: usize, left: usize) -> u8
+    ensures { result ≡ printing.gap_after place left }
 {
-    if place % IN_A_LINE == IN_A_LINE - 1 || count.saturating_sub(place) == 1 {
+    if place % IN_A_LINE == IN_A_LINE - 1 || left == 0 {
         b'\n'
     } else {
         b' '
@@ -42,9 +43,7 @@ fn push_unless_usual(
 }
 
 fn push_entry(text: &mut Vec<u8>, entry: ScheduleEntry, gap: u8) -> Result<(), AllocError>
-    requires fits { EntryFits entry }
-    requires gap { (gap ≡ 32) ⊎ (gap ≡ 10) }
-    ensures { OnOk result (AddsWords text.old.items text.new.items (entry_word entry ∷ [])) }
+    ensures { OnOk result (text.new.items ≡ text.old.items ++ (entry_word entry ++ gap ∷ [])) }
 {
     push_number(text, u64::from(entry.event.thread))?;
     push_unless_usual(text, 0, b'.', u64::from(entry.event.pick))?;
@@ -54,20 +53,18 @@ fn push_entry(text: &mut Vec<u8>, entry: ScheduleEntry, gap: u8) -> Result<(), A
 }
 
 fn push_entries(text: &mut Vec<u8>, entries: &[ScheduleEntry]) -> Result<(), AllocError>
-    requires { AreEntries entries.now }
-    ensures { OnOk result (AddsWords text.old.items text.new.items (map entry_word entries.now)) }
+    ensures { OnOk result (text.new.items ≡ text.old.items ++ in_lines (map entry_word entries.now)) }
 {
     'entries: for place in 0..entries.len() {
-        push_entry(text, entries[place], gap_after(place, entries.len()))?;
+        let left = entries.len() - 1 - place;
+        push_entry(text, entries[place], gap_after(place, left))?;
     }
     Ok(())
 }
 
 /// A name with a number behind it, as a word.
 fn push_named(text: &mut Vec<u8>, name: &[u8], number: u64, gap: u8) -> Result<(), AllocError>
-    requires plain { is_plain name.now ≡ true }
-    requires gap { (gap ≡ 32) ⊎ (gap ≡ 10) }
-    ensures { OnOk result (AddsWords text.old.items text.new.items ((name.now ++ decimal number) ∷ [])) }
+    ensures { OnOk result (text.new.items ≡ text.old.items ++ ((name.now ++ decimal number) ++ gap ∷ [])) }
 {
     text.extend_from_slice(name)?;
     push_number(text, number)?;
@@ -76,7 +73,7 @@ fn push_named(text: &mut Vec<u8>, name: &[u8], number: u64, gap: u8) -> Result<(
 }
 
 fn push_limits(text: &mut Vec<u8>, limits: Limits) -> Result<(), AllocError>
-    ensures { OnOk result (AddsWords text.old.items text.new.items (limit_words limits)) }
+    ensures { OnOk result (text.new.items ≡ text.old.items ++ in_lines (limit_words limits)) }
 {
     push_named(text, b"objects=", u64::from(limits.objects), b' ')?;
     push_named(text, b"cells=", u64::from(limits.cells), b' ')?;
@@ -87,17 +84,18 @@ fn push_limits(text: &mut Vec<u8>, limits: Limits) -> Result<(), AllocError>
 }
 
 fn push_lengths(text: &mut Vec<u8>, lengths: &[u64]) -> Result<(), AllocError>
-    ensures { OnOk result (AddsWords text.old.items text.new.items (map decimal lengths.now)) }
+    ensures { OnOk result (text.new.items ≡ text.old.items ++ in_lines (map decimal lengths.now)) }
 {
     'lengths: for place in 0..lengths.len() {
-        push_named(text, b"", lengths[place], gap_after(place, lengths.len()))?;
+        let left = lengths.len() - 1 - place;
+        push_named(text, b"", lengths[place], gap_after(place, left))?;
     }
     Ok(())
 }
 
 fn push_recording(text: &mut Vec<u8>, recording: &Recording) -> Result<(), AllocError>
     ensures fits { RecordingFits recording.now }
-    ensures words { OnOk result (AddsWords text.old.items text.new.items (recording_words (Some recording.now))) }
+    ensures added { OnOk result (text.new.items ≡ text.old.items ++ printed_recording (Some recording.now)) }
 {
     let lengths = recording.lengths();
     text.extend_from_slice(b"#limits ")?;
@@ -110,7 +108,7 @@ fn push_recording(text: &mut Vec<u8>, recording: &Recording) -> Result<(), Alloc
 
 fn push_recorded(text: &mut Vec<u8>, recording: Option<&Recording>) -> Result<(), AllocError>
     ensures fits { OnOk result (RecordedFits (option_map (λ r. r.now) recording.entry)) }
-    ensures words { OnOk result (AddsWords text.old.items text.new.items (recording_words (option_map (λ r. r.now) recording.entry))) }
+    ensures added { OnOk result (text.new.items ≡ text.old.items ++ printed_recording (option_map (λ r. r.now) recording.entry)) }
 {
     match recording {
         Some(recording) => push_recording(text, recording),
@@ -118,13 +116,15 @@ fn push_recorded(text: &mut Vec<u8>, recording: Option<&Recording>) -> Result<()
     }
 }
 
-/// The text of a schedule, and of what it was recorded with, where that is given. A line has at most 16 words.
+/// The text of a schedule, and of what it was recorded with, where that is given. A line has at most 16 entries, or
+/// lengths of class files.
 pub fn print(
     alloc: Global,
     schedule: &Schedule,
     recording: Option<&Recording>,
 ) -> Result<Vec<u8>, AllocError>
-    ensures { IfOk result (λ text. SpellsSchedule text.items (option_map (λ r. r.now) recording.entry) schedule.now) }
+    ensures printed { IfOk result (λ text. text.items ≡ printed_schedule (option_map (λ r. r.now) recording.entry) schedule.now) }
+    ensures spells { IfOk result (λ text. SpellsSchedule text.items (option_map (λ r. r.now) recording.entry) schedule.now) }
 {
     let entries = schedule.entries();
     let mut text = Vec::new(alloc);

@@ -10,6 +10,7 @@ use Rattle.model.specs.Schedule.{events_of}
 use Rattle.machine.specs.machine_replay.Replays.{text_of}
 use Rattle.search.specs.declared.run_outcomes.wanted.Wanted.{Wanted}
 use Rattle.search.specs.declared.searching.Verdict.{Verdict}
+use Rattle.search.specs.GivingUp.{GivesUp}
 use Rattle.search.specs.Verdicts.{IsFound, IsComplete, Says}
 use Rattle.search.specs.declared.search_reports.answers.Answer.{Answer}
 use Rattle.search.specs.declared.search_reports.answers.Answer.TheVariants as answer
@@ -19,12 +20,13 @@ abbrev pub IsReportOf : Program → (frames : ℕ) → List Event → Report →
 IsReportOf trees frames events r = meaning trees frames events ends.Quiet ≡ Some (text_of r ends.Quiet)
 
 -- Found: the schedule is that of a run whose outcome is wanted, and the report is the run's. Complete: these are the outcomes of all
--- runs that end, and none is wanted. Of runs that never end nothing is said, and nothing where the search gave up.
-abbrev pub Answers : Program → Limits → Wanted → Answer → Type 0
-Answers trees limits want (answer.Found schedule r) = IsFound trees limits want (events_of schedule) × IsReportOf trees limits.frames (events_of schedule) r
-Answers trees limits want (answer.Complete outcomes) = IsComplete trees limits want outcomes
-Answers trees limits want answer.GaveUp = Unit {0}
+-- runs that end, and none is wanted. Of runs that never end nothing is said. A search gives up only where so many states are met as may be,
+-- or where some run can't be gone on with.
+abbrev pub Answers : Program → Limits → Wanted → (most states : ℕ) → Answer → Type 0
+Answers trees limits want most states (answer.Found schedule r) = IsFound trees limits want (events_of schedule) × IsReportOf trees limits.frames (events_of schedule) r
+Answers trees limits want most states (answer.Complete outcomes) = IsComplete trees limits want states outcomes
+Answers trees limits want most states answer.GaveUp = GivesUp trees limits most states
 
--- if this is what the search says, whatever was wanted, that answers it
+-- if this is what the search says, whatever was wanted, and however many states may be met and were, that answers it
 abbrev pub IsAnswerTo : Program → Limits → Verdict → Answer → Type 0
-IsAnswerTo trees limits v a = (want : Wanted) → Says trees limits want v → Answers trees limits want a
+IsAnswerTo trees limits v a = (want : Wanted) (most states : ℕ) → Says trees limits want most states v → Answers trees limits want most states a

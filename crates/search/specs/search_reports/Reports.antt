@@ -32,9 +32,15 @@ answer_word (answer.Found schedule r) = codes "found"
 answer_word (answer.Complete outcomes) = codes "complete"
 answer_word answer.GaveUp = codes "gave up"
 
--- that, how many states were met, and what the answer is
+-- of which runs a complete answer tells: what never ends has no outcome
+abbrev pub scope_text : Answer → List ℕ
+scope_text (answer.Found schedule r) = []
+scope_text (answer.Complete outcomes) = line (codes "of runs that end")
+scope_text answer.GaveUp = []
+
+-- that, how many states were met, of which runs it is told, and what the answer is
 abbrev pub search_text : Answer → ℕ → List ℕ
-search_text a states = found_text a ++ (line (codes "states " ++ number states) ++ line (codes "search " ++ answer_word a))
+search_text a states = found_text a ++ (line (codes "states " ++ number states) ++ (scope_text a ++ line (codes "search " ++ answer_word a)))
 
 -- ---- examples
 
@@ -42,11 +48,11 @@ two_ended : ℕ → Outcome
 two_ended n = record { printed = pos n ∷ []; ends = Ended ∷ Ended ∷ [] }
 
 lists_both : search_text (answer.Complete (two_ended 1 ∷ two_ended 2 ∷ [])) 40
-    ≡ codes "outcome 1\n1\nthread 0 ended\nthread 1 ended\noutcome 2\n2\nthread 0 ended\nthread 1 ended\noutcomes 2\nstates 40\nsearch complete\n"
+    ≡ codes "outcome 1\n1\nthread 0 ended\nthread 1 ended\noutcome 2\n2\nthread 0 ended\nthread 1 ended\noutcomes 2\nstates 40\nof runs that end\nsearch complete\n"
 unfolding digits two_ended
 lists_both = refl
 
-lists_none : search_text (answer.Complete []) 3 ≡ codes "outcomes 0\nstates 3\nsearch complete\n"
+lists_none : search_text (answer.Complete []) 3 ≡ codes "outcomes 0\nstates 3\nof runs that end\nsearch complete\n"
 unfolding digits
 lists_none = refl
 

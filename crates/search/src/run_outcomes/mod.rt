@@ -2,7 +2,9 @@
 
 mod order;
 mod outcomes;
+mod printed;
 mod wanted;
 
 pub use outcomes::{Outcome, Outcomes};
+pub use printed::printed_lines;
 pub use wanted::Wanted;

@@ -1,6 +1,6 @@
 //! A search, and the report of the run that it finds.
 
-ghost use Rattle.std.specs.Prelude.{IfOk};
+ghost use Rattle.std.specs.Prelude.{◌≤◌, IfOk};
 ghost use Rattle.std.specs.Arc.{arc_value};
 ghost use Rattle.machine.specs.Machines.{IsProgramOf};
 ghost use Rattle.search.specs.declared.searching.Verdict.TheVariants as verdicts;
@@ -67,7 +67,8 @@ pub fn search_report<P: Progress>(
     most: u32,
 ) -> Result<SearchReport, AllocError>
     requires { IsProgramOf classes.now (arc_value program) }
-    ensures { IfOk result (λ r. Answers classes.now limits wanted.now r.answer) }
+    ensures answers { IfOk result (λ r. Answers classes.now limits wanted.now most r.states r.answer) }
+    ensures few { IfOk result (λ r. 1 ≤ most → r.states ≤ most) }
 {
     let searched_program = Arc::try_clone(&program)?;
     let searched = search(

@@ -16,7 +16,7 @@ returns-in_err-read-clause-faulty g c =
     let of_file = c.in_err-read.ensures.of_file in
     let remaining = g.S.Source.remaining in
     let within : of_file.0 < length (map remaining c.args.files.now) = omega (arith, of_file.1, length-map c.args.files.now remaining) in
-    rw (p.1, p.2) (unread_is_unsearched _ _ _ _ _ _ _ of_file.0 within of_file.2)
+    rw (p.1, p.2) (unread_is_unsearched _ _ _ _ _ _ _ _ of_file.0 within of_file.2)
 
 pub returns-in_err-verified-clause-faulty : goal.returns-in_err-verified-clause-faulty
 returns-in_err-verified-clause-faulty g c =
@@ -30,25 +30,25 @@ returns-in_err-searched-clause-faulty g c =
     rw (p.1, p.2) (inl (refl, refl))
 
 pub write_found-requires : goal.write_found-requires
-write_found-requires g c = λ there. subst IsTrue c.is_some-is_recorded.ensures (file_is_asked_for _ _ _ _ _ _ _ c.in_ok-searched.ensures (is_there vec_items c.in_ok-searched.searched.file there))
+write_found-requires g c = λ there. subst IsTrue c.is_some-is_recorded.ensures (file_is_asked_for _ _ _ _ _ _ _ _ c.in_ok-searched.ensures (is_there vec_items c.in_ok-searched.searched.file there))
 
 pub returns-in_err-write_all-clause-faulty : goal.returns-in_err-write_all-clause-faulty
 returns-in_err-write_all-clause-faulty g c =
     let p = err_from_is_err_and c.from_residual-in_err-write_all.result c.from_residual-in_err-write_all.ensures.1 in
     let found = c.in_ok-searched.searched in
-    let searches = is_searches _ _ _ _ vec_items c.in_ok-read.read.items _ _ found.text.items (option_map vec_items found.file) found.status c.in_ok-read.ensures.read c.as_slice-files.ensures.value c.is_some-is_recorded.ensures c.in_ok-searched.ensures in
+    let searches = is_searches _ _ _ _ _ vec_items c.in_ok-read.read.items _ _ found.text.items (option_map vec_items found.file) found.status c.in_ok-read.ensures.read c.as_slice-files.ensures.value c.is_some-is_recorded.ensures c.in_ok-searched.ensures in
     let contents = g.W.Sink.contents in
     let written = subst (AppendsFront (contents c.args.report.now) (contents c.write_all.new.self)) c.as_slice.ensures.value c.in_err-write_all.ensures.part in
-    rw (p.1, p.2) (part_is_unsearched _ _ _ _ _ _ _ _ _ (inr (_, _, _, searches, inl (written, refl))))
+    rw (p.1, p.2) (part_is_unsearched _ _ _ _ _ _ _ _ _ _ (inr (_, _, _, searches, inl (written, refl))))
 
 pub returns-in_err-write_found-clause-faulty : goal.returns-in_err-write_found-clause-faulty
 returns-in_err-write_found-clause-faulty g c =
     let p = err_from_is_err_and c.from_residual-in_err-write_found.result c.from_residual-in_err-write_found.ensures.1 in
     let found = c.in_ok-searched.searched in
-    let searches = is_searches _ _ _ _ vec_items c.in_ok-read.read.items _ _ found.text.items (option_map vec_items found.file) found.status c.in_ok-read.ensures.read c.as_slice-files.ensures.value c.is_some-is_recorded.ensures c.in_ok-searched.ensures in
+    let searches = is_searches _ _ _ _ _ vec_items c.in_ok-read.read.items _ _ found.text.items (option_map vec_items found.file) found.status c.in_ok-read.ensures.read c.as_slice-files.ensures.value c.is_some-is_recorded.ensures c.in_ok-searched.ensures in
     let contents = g.W.Sink.contents in
     let written = subst (Appends (contents c.args.report.now) (contents c.write_all.new.self)) c.as_slice.ensures.value c.in_ok-write_all.ensures.written in
-    rw (p.1, p.2) (part_is_unsearched _ _ _ _ _ _ _ _ _ (inr (_, _, _, searches, inr (written, c.in_err-write_found.ensures.part))))
+    rw (p.1, p.2) (part_is_unsearched _ _ _ _ _ _ _ _ _ _ (inr (_, _, _, searches, inr (written, c.in_err-write_found.ensures.part))))
 
 pub returns-in_err-write_all-clause-counted : goal.returns-in_err-write_all-clause-counted
 returns-in_err-write_all-clause-counted g c =
@@ -63,7 +63,7 @@ returns-in_err-write_found-clause-counted g c =
 pub returns-clause-searched : goal.returns-clause-searched
 returns-clause-searched g c =
     let found = c.in_ok-searched.searched in
-    let searches = is_searches _ _ _ _ vec_items c.in_ok-read.read.items _ _ found.text.items (option_map vec_items found.file) found.status c.in_ok-read.ensures.read c.as_slice-files.ensures.value c.is_some-is_recorded.ensures c.in_ok-searched.ensures in
+    let searches = is_searches _ _ _ _ _ vec_items c.in_ok-read.read.items _ _ found.text.items (option_map vec_items found.file) found.status c.in_ok-read.ensures.read c.as_slice-files.ensures.value c.is_some-is_recorded.ensures c.in_ok-searched.ensures in
     let contents = g.W.Sink.contents in
     let written = subst (Appends (contents c.args.report.now) (contents c.write_all.new.self)) c.as_slice.ensures.value c.in_ok-write_all.ensures.written in
     (_, _, searches, written, c.in_ok-write_found.ensures.written)

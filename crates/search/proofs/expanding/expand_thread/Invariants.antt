@@ -3,4 +3,4 @@ use Rattle.search.proofs.Expanded.{HasGrown, IsPickMet}
 use Rattle.search.proofs.expanding.expand_thread.Given as goal
 
 abbrev pub invariant-picks : goal.invariant-picks
-invariant-picks l = HasGrown (IsPickMet l.number l.thread) l.fn.states l.states l.pick × IsInState l.states l.number l.machine
+invariant-picks l = HasGrown (IsPickMet l.number l.thread) l.most l.fn.states l.states l.pick × IsInState l.states l.number l.machine

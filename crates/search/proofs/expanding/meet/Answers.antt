@@ -17,4 +17,4 @@ add-requires-clause-is_after c =
 pub returns : goal.returns
 returns c =
     let again = subst (IsInState c.args.states.now c.args.number) (sym c.replace-after.ensures.after) c.in_ok-again.ensures in
-    IfOk-weaker c.add.result _ _ (λ went grows. met_again c.args.number c.args.event c.in_ok-entry.entry c.args.states.now c.add.new.self c.replace-after.new.dest c.in_ok-entry.ensures.event_is again c.requires.number went grows) c.add.ensures
+    IfOk-weaker c.add.result _ _ (λ went grows. met_again c.args.most c.args.number c.args.event c.in_ok-entry.entry c.args.states.now c.add.new.self c.replace-after.new.dest c.in_ok-entry.ensures.event_is again c.requires.number went grows) c.add.ensures

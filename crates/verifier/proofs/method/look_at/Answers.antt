@@ -1,4 +1,4 @@
-use Rattle.std.proofs.Common.{◌≡◌, ◌∙◌, true, refl, ap, sym, subst}
+use Rattle.std.proofs.Common.{◌≡◌, ◌∙◌, length, true, refl, ap, sym, subst, arith}
 use Rattle.std.specs.Prelude.{map, option_map, IfSome}
 use Rattle.std.specs.Global.{Vec}
 use Rattle.run_laws.specs.typing_search.Tables.{entry_of}
@@ -11,7 +11,7 @@ use Rattle.verifier.specs.declared.flow.lead.Lead.{Lead}
 use Rattle.verifier.specs.declared.found.Origin.{Origin}
 use Rattle.verifier.proofs.Entries.{flows_from, flows_not, on_unverified}
 use Rattle.verifier.proofs.Turns.{breaks, clashes}
-use Rattle.verifier.proofs.Turned.{leads_to}
+use Rattle.verifier.proofs.Turned.{leads_to, look_over}
 use Rattle.verifier.proofs.Nears.{typed_in, nears_known}
 use Rattle.verifier.proofs.method.look_at.Goals as goal
 
@@ -38,6 +38,9 @@ returns-in-Ok-clause-led c =
     let flows = sym (ap (option_map (λ (v : Vec Lead). map (lead_in files c.args.frame c.flow_at.new.frame) v.items)) c.in-Ok-Some.field-0-is) ∙ c.in-Ok-Some.ensures.flow in
     let stands = subst (λ l. has_handlers l ≡ true → c.in_ok-before-in-Ok-Some.before ≡ parts_of c.args.frame) (c.deref-in-Ok-Some.ensures.value ∙ sym c.deref-in-Ok-Some-4.ensures.value) (c.in_ok-before-in-Ok-Some.ensures (parts_of c.args.frame) c.requires.typed) in
     let leads = flows_from files (member_of m) (body_of m) c.args.offset c.args.frame c.flow_at.new.frame origin c.in-Ok-Some.leads.items c.deref-in-Ok-Some-4.result.now stands c.in_ok-after-in-Ok-Some.ensures flows c.deref-in-Ok-Some-4.ensures.value in
+    let to = leads_to files origin c.args.offset hs c.in-Ok-Some.leads.items c.deref-in-Ok-Some-4.result.now (targets_in c.deref.result.now) on c.deref-in-Ok-Some-4.ensures.value (ap targets_in c.deref.ensures.value) in
+    let long : c.len.result ≡ length c.in-Ok-Some.leads.items = omega arith in
+    let count = long ∙ ap length (sym c.deref-in-Ok-Some-4.ensures.value) in
     record {
       targets = targets_in c.deref.result.now;
       led = record {
@@ -45,11 +48,12 @@ returns-in-Ok-clause-led c =
         leads = leads_in files origin c.deref-in-Ok-Some-4.result.now;
         typed = typed;
         flows = leads;
-        to = leads_to files origin c.args.offset hs c.in-Ok-Some.leads.items c.deref-in-Ok-Some-4.result.now (targets_in c.deref.result.now) on c.deref-in-Ok-Some-4.ensures.value (ap targets_in c.deref.ensures.value);
+        to = to;
         merged = c.in-Ok.ensures.merged;
         looks = c.in-Ok.ensures.looks;
       };
       are = c.in_ok-targets-in-Ok-Some.ensures;
+      within = look_over m hs origin c.args.offset c.deref-in-Ok-Some-4.result.now (targets_in c.deref.result.now) c.len.result c.bytes_read-read.result c.steps_of_look-steps.result count to c.steps_of_look-steps.ensures c.bytes_read-read.ensures;
     }
 
 pub returns-clause-exact : goal.returns-clause-exact

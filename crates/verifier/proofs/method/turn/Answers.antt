@@ -1,14 +1,15 @@
-use Rattle.std.proofs.Common.{◌≡◌, ◌<◌, ◌∙◌, length, refl, ap, sym, subst}
+use Rattle.std.proofs.Common.{◌≡◌, ℕ, ◌<◌, ◌∙◌, length, refl, ap, sym, subst}
+use Rattle.std.specs.Global.{Vec}
 use Rattle.std.specs.Prelude.{Some, slice_get, IfSome}
 use Rattle.verifier.specs.Agreeing.{AgreeAt}
-use Rattle.verifier.specs.Looks.{LeavesAt}
+use Rattle.verifier.specs.Looks.{LeavesAt, SettlesAt}
 use Rattle.run_laws.specs.typing_search.Tables.{entry_of}
 use Rattle.run_laws.proofs.typing_search.Linking.{ordered_from}
 use Rattle.types.specs.method_code.View.{files_of}
 use Rattle.verifier.specs.Packed.{parts_in}
 use Rattle.verifier.proofs.Entries.{read_at}
 use Rattle.verifier.proofs.Puts.{there_at}
-use Rattle.verifier.proofs.Turned.{led_to_told, search_taken, over_taken, passes_taken, looks_taken, may_pass, turned, looked}
+use Rattle.verifier.proofs.Turned.{led_to_told, search_taken, over_taken, passes_taken, nothing_done, turn_done, looks_taken, may_pass, turned, looked}
 use Rattle.verifier.proofs.method.turn.Goals as goal
 
 pub returns-in_default-clause-turned : goal.returns-in_default-clause-turned
@@ -69,38 +70,74 @@ pub returns-then-leaves_at-clause-turned : goal.returns-then-leaves_at-clause-tu
 returns-then-leaves_at-clause-turned c =
     let m = c.args.method.now in
     turned m (ordered_from (files_of m) c.requires.linked.1.no_refusal) c.args.handlers.now c.args.found.now c.begin_turn.new.self c.args.offset c.begin_turn.ensures.types c.begin_turn.ensures.waiting c.requires.search c.requires.looks c.begin_turn.ensures.looks
-    c.pass_on.new.found c.settle.new.self c.in-Some-taken.look.targets.items c.settle.ensures.types c.settle.ensures.waiting c.in_ok-pass_on.ensures
+    c.pass_on.new.found c.settle.new.self c.in-Some-taken.look.targets.items c.settle.ensures.types c.settle.ensures.waiting c.in_ok-steps.ensures.led
 
 pub returns-then-leaves_at-clause-looks : goal.returns-then-leaves_at-clause-looks
 returns-then-leaves_at-clause-looks c =
     let m = c.args.method.now in
     looked m (ordered_from (files_of m) c.requires.linked.1.no_refusal) c.args.handlers.now c.args.found.now c.begin_turn.new.self c.args.offset c.begin_turn.ensures.types c.begin_turn.ensures.waiting c.requires.search c.requires.looks c.begin_turn.ensures.looks
-    c.pass_on.new.found c.settle.new.self c.in-Some-taken.look.targets.items c.settle.ensures.types c.settle.ensures.waiting c.in_ok-pass_on.ensures c.settle.ensures.looks
+    c.pass_on.new.found c.settle.new.self c.in-Some-taken.look.targets.items c.settle.ensures.types c.settle.ensures.waiting c.in_ok-steps.ensures.led c.settle.ensures.looks
 
-pub returns-in-Ok-Some-clause-turned : goal.returns-in-Ok-Some-clause-turned
-returns-in-Ok-Some-clause-turned c =
+pub returns-in_default-clause-done : goal.returns-in_default-clause-done
+returns-in_default-clause-done c =
+    let m = c.args.method.now in
+    let taken = c.begin_turn.new.self in
+    let within = subst (λ types. c.args.offset < length types) (sym c.begin_turn.ensures.types) c.requires.offset in
+    let at = read_at (files_of m) taken.types.items c.args.offset _ _ within c.index.ensures c.in_default.is in
+    nothing_done m (ordered_from (files_of m) c.requires.linked.1.no_refusal) c.args.handlers.now c.args.found.now taken c.args.offset c.begin_turn.ensures.types c.begin_turn.ensures.waiting c.requires.search (ap entry_of at)
+
+pub returns-then-leaves_at-clause-done : goal.returns-then-leaves_at-clause-done
+returns-then-leaves_at-clause-done c =
     let m = c.args.method.now in
     let hs = c.args.handlers.now in
+    turn_done m (ordered_from (files_of m) c.requires.linked.1.no_refusal) hs c.args.found.now c.begin_turn.new.self c.args.offset c.begin_turn.ensures.types c.begin_turn.ensures.waiting c.requires.search
+    c.pass_on.new.found c.settle.new.self c.in-Some-taken.look.targets.items c.settle.ensures.types c.settle.ensures.waiting c.in_ok-steps.ensures.led c.in_ok-steps.steps c.steps_of_turn.result c.in_ok-steps.ensures.steps c.steps_of_turn.ensures
+
+pub returns-in-Some-targets-clause-turned : goal.returns-in-Some-targets-clause-turned
+returns-in-Some-targets-clause-turned c =
+    let m = c.args.method.now in
+    let hs = c.args.handlers.now in
+    let told = led_to_told m hs c.begin_turn.new.self c.args.offset _ _ c.look_at.new.found c.in-Some-targets.targets c.in-Some-targets.is c.in-Ok.ensures.led in
     turned m (ordered_from (files_of m) c.requires.linked.1.no_refusal) hs c.args.found.now c.begin_turn.new.self c.args.offset c.begin_turn.ensures.types c.begin_turn.ensures.waiting c.requires.search c.requires.looks c.begin_turn.ensures.looks
-    c.look_at.new.found c.settle-in-Ok-Some.new.self c.in-Ok-Some.targets.items c.settle-in-Ok-Some.ensures.types c.settle-in-Ok-Some.ensures.waiting (led_to_told m hs c.begin_turn.new.self c.args.offset _ c.look_at.new.found c.in-Ok-Some.targets c.in-Ok-Some.field-0-is c.in-Ok-Some.ensures.led)
+    c.look_at.new.found c.settle-in-Some-targets.new.self c.in-Some-targets.targets.items c.settle-in-Some-targets.ensures.types c.settle-in-Some-targets.ensures.waiting told.0
 
-pub returns-in-Ok-Some-clause-looks : goal.returns-in-Ok-Some-clause-looks
-returns-in-Ok-Some-clause-looks c =
+pub returns-in-Some-targets-clause-looks : goal.returns-in-Some-targets-clause-looks
+returns-in-Some-targets-clause-looks c =
     let m = c.args.method.now in
     let hs = c.args.handlers.now in
+    let told = led_to_told m hs c.begin_turn.new.self c.args.offset _ _ c.look_at.new.found c.in-Some-targets.targets c.in-Some-targets.is c.in-Ok.ensures.led in
     looked m (ordered_from (files_of m) c.requires.linked.1.no_refusal) hs c.args.found.now c.begin_turn.new.self c.args.offset c.begin_turn.ensures.types c.begin_turn.ensures.waiting c.requires.search c.requires.looks c.begin_turn.ensures.looks
-    c.look_at.new.found c.settle-in-Ok-Some.new.self c.in-Ok-Some.targets.items c.settle-in-Ok-Some.ensures.types c.settle-in-Ok-Some.ensures.waiting (led_to_told m hs c.begin_turn.new.self c.args.offset _ c.look_at.new.found c.in-Ok-Some.targets c.in-Ok-Some.field-0-is c.in-Ok-Some.ensures.led) c.settle-in-Ok-Some.ensures.looks
+    c.look_at.new.found c.settle-in-Some-targets.new.self c.in-Some-targets.targets.items c.settle-in-Some-targets.ensures.types c.settle-in-Some-targets.ensures.waiting told.0
+    (subst (λ (v : Vec ℕ). SettlesAt c.args.offset v.items c.look_at.new.found c.settle-in-Some-targets.new.self) c.in-Some-targets.targets-is c.settle-in-Some-targets.ensures.looks)
 
-pub returns-in-Ok-None-clause-turned : goal.returns-in-Ok-None-clause-turned
-returns-in-Ok-None-clause-turned c =
+pub returns-in-Some-targets-clause-done : goal.returns-in-Some-targets-clause-done
+returns-in-Some-targets-clause-done c =
     let m = c.args.method.now in
+    let hs = c.args.handlers.now in
+    let told = led_to_told m hs c.begin_turn.new.self c.args.offset _ _ c.look_at.new.found c.in-Some-targets.targets c.in-Some-targets.is c.in-Ok.ensures.led in
+    turn_done m (ordered_from (files_of m) c.requires.linked.1.no_refusal) hs c.args.found.now c.begin_turn.new.self c.args.offset c.begin_turn.ensures.types c.begin_turn.ensures.waiting c.requires.search
+    c.look_at.new.found c.settle-in-Some-targets.new.self c.in-Some-targets.targets.items c.settle-in-Some-targets.ensures.types c.settle-in-Some-targets.ensures.waiting told.0 c.in-Ok.looked.steps c.steps_of_turn-steps.result told.1 c.steps_of_turn-steps.ensures
+
+pub returns-in-None-clause-turned : goal.returns-in-None-clause-turned
+returns-in-None-clause-turned c =
+    let m = c.args.method.now in
+    let hs = c.args.handlers.now in
     let found = c.look_at.new.found in
-    let of = c.in-Ok-None.ensures.led in
-    turned m (ordered_from (files_of m) c.requires.linked.1.no_refusal) c.args.handlers.now c.args.found.now c.begin_turn.new.self c.args.offset c.begin_turn.ensures.types c.begin_turn.ensures.waiting c.requires.search c.requires.looks c.begin_turn.ensures.looks
+    let of = c.in-Ok.ensures.led in
+    turned m (ordered_from (files_of m) c.requires.linked.1.no_refusal) hs c.args.found.now c.begin_turn.new.self c.args.offset c.begin_turn.ensures.types c.begin_turn.ensures.waiting c.requires.search c.requires.looks c.begin_turn.ensures.looks
     found found of.targets refl refl of.led
 
-pub returns-in-Ok-None-clause-looks : goal.returns-in-Ok-None-clause-looks
-returns-in-Ok-None-clause-looks c =
+pub returns-in-None-clause-looks : goal.returns-in-None-clause-looks
+returns-in-None-clause-looks c =
     let m = c.args.method.now in
-    c.in-Ok-None.ensures.led.led.looks c.args.handlers.now
-    (looks_taken m (ordered_from (files_of m) c.requires.linked.1.no_refusal) c.args.handlers.now c.args.found.now c.begin_turn.new.self c.args.offset c.begin_turn.ensures.types c.begin_turn.ensures.waiting c.requires.search c.requires.looks c.begin_turn.ensures.looks)
+    let hs = c.args.handlers.now in
+    c.in-Ok.ensures.led.led.looks hs (looks_taken m (ordered_from (files_of m) c.requires.linked.1.no_refusal) hs c.args.found.now c.begin_turn.new.self c.args.offset c.begin_turn.ensures.types c.begin_turn.ensures.waiting c.requires.search c.requires.looks c.begin_turn.ensures.looks)
+
+pub returns-in-None-clause-done : goal.returns-in-None-clause-done
+returns-in-None-clause-done c =
+    let m = c.args.method.now in
+    let hs = c.args.handlers.now in
+    let found = c.look_at.new.found in
+    let of = c.in-Ok.ensures.led in
+    turn_done m (ordered_from (files_of m) c.requires.linked.1.no_refusal) hs c.args.found.now c.begin_turn.new.self c.args.offset c.begin_turn.ensures.types c.begin_turn.ensures.waiting c.requires.search
+    found found of.targets refl refl of.led c.in-Ok.looked.steps c.steps_of_turn-steps.result of.within c.steps_of_turn-steps.ensures

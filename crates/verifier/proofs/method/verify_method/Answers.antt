@@ -1,5 +1,5 @@
-use Rattle.std.proofs.Common.{sym, subst, arith}
-use Rattle.std.proofs.lemmas.Nat.{mul-le}
+use Rattle.std.proofs.Common.{◌≤◌, sym, subst, arith}
+use Rattle.std.specs.Option.{option_map_or}
 use Rattle.run_laws.specs.typing_search.Search.{HasNoTyping}
 use Rattle.run_laws.proofs.typing_search.Bounds.{bounded}
 use Rattle.run_laws.proofs.typing_search.Linking.{ordered_from}
@@ -7,11 +7,13 @@ use Rattle.types.specs.method_code.View.{files_of, member_of, body_of}
 use Rattle.verifier.specs.Found.{tables_in, work_left}
 use Rattle.verifier.specs.Looks.{AreLooks}
 use Rattle.verifier.specs.flow.Meanings.{AreMeanings}
-use Rattle.verifier.specs.Steps.{most_a_turn, most_turns, method_steps, MayTakeMore}
+use Rattle.verifier.specs.Steps.{method_steps, MayTakeMore}
+use Rattle.verifier.specs.Worklist.{turns_steps}
 use Rattle.verifier.specs.Verified.{OnFault}
 use Rattle.verifier.proofs.Entries.{waiting_within, on_fault}
 use Rattle.verifier.proofs.flow.Meant.{nothing_meant}
-use Rattle.verifier.proofs.Counting.{turn_taken, turn_missing}
+use Rattle.verifier.proofs.Worklists.{lowest_is, turn_taken, turn_missing}
+use Rattle.verifier.proofs.Turned.{off_taken}
 use Rattle.verifier.proofs.Turns.{again, less, ends}
 use Rattle.verifier.proofs.method.verify_method.Goals as goal
 
@@ -27,10 +29,10 @@ loop-offset-init c =
       search = c.in-Ok.ensures.search;
       looks = c.in-Ok.ensures.looks c.in_ok-handlers.handlers.items;
       meanings = subst (AreMeanings m) (sym c.new-meanings.ensures) (nothing_meant m);
-      taken = λ limits are.
-          let limit = limits (member_of m) body in
-          let work = mul-le (work_left files body limit (tables_in files c.in-Ok.found)) (most_a_turn body) (most_turns body limit) (most_a_turn body) (c.in-Ok.ensures.work limit (are (member_of m) body)) (omega arith) in
-          omega (arith, work);
+      taken = λ costs are turns.
+          let within = are (member_of m) body turns in
+          let counted = subst (λ o. option_map_or (turns_steps files (member_of m) body turns) o 0 ≤ costs (member_of m) body) c.in-Ok.ensures.begun within in
+          omega (arith, counted);
     }
 
 pub turn-requires-clause-offset : goal.turn-requires-clause-offset
@@ -49,7 +51,7 @@ loop-offset-smaller c =
     let m = c.args.method.now in
     let files = files_of m in
     let limit = bounded files (member_of m) (body_of m) in
-    less files (ordered_from files c.requires.1.no_refusal) (member_of m) (body_of m) (tables_in files c.loop-offset.found) c.take_lowest.new.self c.in-Some.offset c.in-Some.ensures.waits c.in-Some.ensures.taken_off limit.0 (tables_in files c.turn.new.found) (c.in_default-turn.ensures.turned.lighter limit.0 limit.1)
+    less files (ordered_from files c.requires.1.no_refusal) (member_of m) (body_of m) (tables_in files c.loop-offset.found) c.take_lowest.new.self c.in-Some.offset c.in-Some.ensures.waits c.in-Some.ensures.taken_off limit.0 (tables_in files c.turn.new.found) (c.in-Ok-turn.ensures.turned.lighter limit.0 limit.1)
 
 pub loop-offset-preserved : goal.loop-offset-preserved
 loop-offset-preserved c =
@@ -57,14 +59,14 @@ loop-offset-preserved c =
     let files = files_of m in
     let body = body_of m in
     record {
-      search = c.in_default-turn.ensures.turned.search;
-      looks = subst (λ hs. AreLooks m hs c.turn.new.found) c.deref-in-Some-2.ensures.value c.in_default-turn.ensures.looks;
-      meanings = c.in_default-turn.ensures.meanings;
-      taken = λ limits are.
-          let limit = limits (member_of m) body in
-          let lighter = less files (ordered_from files c.requires.1.no_refusal) (member_of m) body (tables_in files c.loop-offset.found) c.take_lowest.new.self c.in-Some.offset c.in-Some.ensures.waits c.in-Some.ensures.taken_off limit (tables_in files c.turn.new.found) (c.in_default-turn.ensures.turned.lighter limit (are (member_of m) body)) in
-          turn_taken c.args.steps.now.left (work_left files body limit (tables_in files c.loop-offset.found)) (work_left files body limit (tables_in files c.turn.new.found)) c.loop-offset.steps.left c.take.new.self.left c.steps_of_turn.result (most_a_turn body) (method_steps (member_of m) body limits)
-          (c.loop-offset.invariant.taken limits are) c.in_default-take.ensures.taken c.steps_of_turn.ensures lighter;
+      search = c.in-Ok-turn.ensures.turned.search;
+      looks = subst (λ hs. AreLooks m hs c.turn.new.found) c.deref-in-Some-2.ensures.value c.in-Ok-turn.ensures.looks;
+      meanings = c.in-Ok-turn.ensures.meanings;
+      taken = λ costs are.
+          turn_taken files (member_of m) body (tables_in files c.loop-offset.found) (tables_in files c.turn.new.found) c.in-Some.offset c.in-Ok-turn.taken
+          (lowest_is c.loop-offset.found.waiting c.in-Some.offset c.in-Some.ensures.waits c.in-Some.ensures.lowest)
+          (off_taken files (member_of m) body c.loop-offset.found c.take_lowest.new.self c.in-Some.offset c.in-Ok-turn.taken (tables_in files c.turn.new.found) c.in-Some.ensures.taken_off c.in-Ok-turn.ensures.done)
+          c.args.steps.now.left c.loop-offset.steps.left (costs (member_of m) body) (c.loop-offset.invariant.taken costs are) c.take.new.self.left c.in_default-take.ensures.taken;
     }
 
 pub returns-in-Err-turn-clause-exact : goal.returns-in-Err-turn-clause-exact
@@ -77,11 +79,11 @@ returns-in-Err-take-clause-exact c =
     let body = body_of m in
     let few = c.in-Err-take.ensures.fewer in
     subst (λ fault. OnFault fault (HasNoTyping files (member_of m) body) (MayTakeMore files (method_steps (member_of m) body) c.args.steps.now.left)) (sym few.0)
-    (λ limits are.
-    let limit = limits (member_of m) body in
-    let lighter = less files (ordered_from files c.requires.1.no_refusal) (member_of m) body (tables_in files c.loop-offset.found) c.take_lowest.new.self c.in-Some.offset c.in-Some.ensures.waits c.in-Some.ensures.taken_off limit (tables_in files c.turn.new.found) (c.in_default-turn.ensures.turned.lighter limit (are (member_of m) body)) in
-    turn_missing c.args.steps.now.left (work_left files body limit (tables_in files c.loop-offset.found)) (work_left files body limit (tables_in files c.turn.new.found)) c.loop-offset.steps.left c.steps_of_turn.result (most_a_turn body) (method_steps (member_of m) body limits)
-    (c.loop-offset.invariant.taken limits are) few.1 c.steps_of_turn.ensures lighter)
+    (λ costs are.
+    turn_missing files (member_of m) body (tables_in files c.loop-offset.found) (tables_in files c.turn.new.found) c.in-Some.offset c.in-Ok-turn.taken
+    (lowest_is c.loop-offset.found.waiting c.in-Some.offset c.in-Some.ensures.waits c.in-Some.ensures.lowest)
+    (off_taken files (member_of m) body c.loop-offset.found c.take_lowest.new.self c.in-Some.offset c.in-Ok-turn.taken (tables_in files c.turn.new.found) c.in-Some.ensures.taken_off c.in-Ok-turn.ensures.done)
+    c.args.steps.now.left c.loop-offset.steps.left (costs (member_of m) body) (c.loop-offset.invariant.taken costs are) few.1)
 
 pub returns-clause-typed : goal.returns-clause-typed
 returns-clause-typed c =
@@ -90,4 +92,4 @@ returns-clause-typed c =
     ends files (ordered_from files c.requires.1.no_refusal) (member_of m) (body_of m) (tables_in files c.loop-offset.found) c.loop-offset.invariant.search c.in_default.ensures.none
 
 pub returns-clause-taken : goal.returns-clause-taken
-returns-clause-taken c limits are = omega (arith, c.loop-offset.invariant.taken limits are)
+returns-clause-taken c costs are = let taken = c.loop-offset.invariant.taken costs are 0 in omega (arith, taken)

@@ -8,10 +8,10 @@ use Rattle.verifier.specs.Places.{IsRefusalOf}
 use Rattle.verifier.proofs.verified.verify_at.Goals as goal
 
 pub returns-in-Ok-clause-taken : goal.returns-in-Ok-clause-taken
-returns-in-Ok-clause-taken c limits are =
+returns-in-Ok-clause-taken c costs are =
     let m = c.in-Some.method in
-    let took = subst (λ files. TakesAtMost files (method_steps (member_of m) (body_of m)) c.args.steps.now.left c.verify_method.new.steps.left) c.in-Some.ensures.files c.in-Ok.ensures.taken limits are in
-    let same = ap (λ o. shown_steps o limits) c.in-Some.ensures.value in
+    let took = subst (λ files. TakesAtMost files (method_steps (member_of m) (body_of m)) c.args.steps.now.left c.verify_method.new.steps.left) c.in-Some.ensures.files c.in-Ok.ensures.taken costs are in
+    let same = ap (λ o. shown_steps o costs) c.in-Some.ensures.value in
     omega (arith, took, same)
 
 pub returns-in-Err-Unverified-clause-refused : goal.returns-in-Err-Unverified-clause-refused
@@ -35,7 +35,7 @@ returns-in-Err-TooLong-clause-refused c =
       member = member_of m;
       body = body_of m;
       stands = sym c.in-Some.ensures.value;
-      long = λ limits are. subst (λ o. left < shown_steps o limits) c.in-Some.ensures.value (long limits are);
+      long = λ costs are. subst (λ o. left < shown_steps o costs) c.in-Some.ensures.value (long costs are);
       named = named.0;
       nowhere = named.1;
     })))

@@ -11,14 +11,14 @@ use Rattle.verifier.proofs.verified.verify_class.Goals as goal
 
 pub loop-member-init : goal.loop-member-init
 loop-member-init c =
-    record { typed = below_none (IsTypedAt c.args.hierarchy.now c.args.class); taken = λ limits are. omega arith }
+    record { typed = below_none (IsTypedAt c.args.hierarchy.now c.args.class); taken = λ costs are. omega arith }
 
 pub loop-member-preserved : goal.loop-member-preserved
 loop-member-preserved c =
     let files = c.args.hierarchy.now in
     record {
       typed = below_more (IsTypedAt files c.args.class) _ c.loop-member.invariant.typed c.in_default-verify_at.ensures.typed;
-      taken = λ limits are. omega (arith, c.loop-member.invariant.taken limits are, c.in_default-verify_at.ensures.taken limits are, method_more limits files c.args.class c.loop-member.member);
+      taken = λ costs are. omega (arith, c.loop-member.invariant.taken costs are, c.in_default-verify_at.ensures.taken costs are, method_more costs files c.args.class c.loop-member.member);
     }
 
 pub returns-in-Err-clause-refused : goal.returns-in-Err-clause-refused
@@ -27,7 +27,7 @@ returns-in-Err-clause-refused c =
     let class = c.args.class in
     let member = c.loop-member.member in
     refuses_more files (steps_at files class member) (steps_of_class files class) c.loop-member.steps.left c.args.steps.now.left c.in-Err.refusal
-    (λ limits are fewer. omega (arith, fewer, c.loop-member.invariant.taken limits are, method_more limits files class member, methods_within limits files class (member + 1)))
+    (λ costs are fewer. omega (arith, fewer, c.loop-member.invariant.taken costs are, method_more costs files class member, methods_within costs files class (member + 1)))
     c.in-Err.ensures.refused
 
 pub returns-clause-typed : goal.returns-clause-typed
@@ -40,5 +40,5 @@ returns-clause-typed c method =
     ⊎_elim (λ (l : method < c.len-member-end.result). c.loop-member.invariant.typed method (omega arith)) (λ (l : c.len-member-end.result ≤ method). none_past_methods files file c.args.class method at (omega (arith, count, mapped, l))) (cases_lt method c.len-member-end.result)
 
 pub returns-clause-taken : goal.returns-clause-taken
-returns-clause-taken c limits are =
-    omega (arith, c.loop-member.invariant.taken limits are, methods_within limits c.args.hierarchy.now c.args.class c.loop-member.member)
+returns-clause-taken c costs are =
+    omega (arith, c.loop-member.invariant.taken costs are, methods_within costs c.args.hierarchy.now c.args.class c.loop-member.member)

@@ -9,14 +9,14 @@ use Rattle.verifier.proofs.verified.verify_classes.Goals as goal
 
 pub loop-class-init : goal.loop-class-init
 loop-class-init c =
-    record { typed = below_none (AreTypedIn c.args.hierarchy.now); taken = λ limits are. omega arith }
+    record { typed = below_none (AreTypedIn c.args.hierarchy.now); taken = λ costs are. omega arith }
 
 pub loop-class-preserved : goal.loop-class-preserved
 loop-class-preserved c =
     let files = c.args.hierarchy.now in
     record {
       typed = below_more (AreTypedIn files) _ c.loop-class.invariant.typed c.in_default.ensures.typed;
-      taken = λ limits are. omega (arith, c.loop-class.invariant.taken limits are, c.in_default.ensures.taken limits are, class_more files limits c.loop-class.class);
+      taken = λ costs are. omega (arith, c.loop-class.invariant.taken costs are, c.in_default.ensures.taken costs are, class_more files costs c.loop-class.class);
     }
 
 pub returns-in-Err-clause-refused : goal.returns-in-Err-clause-refused
@@ -24,7 +24,7 @@ returns-in-Err-clause-refused c =
     let files = c.args.hierarchy.now in
     let class = c.loop-class.class in
     refuses_more files (steps_of_class files class) (all_steps files) c.loop-class.steps.left c.args.steps.now.left c.in-Err.refusal
-    (λ limits are fewer. omega (arith, fewer, c.loop-class.invariant.taken limits are, class_more files limits class, classes_within files limits (class + 1)))
+    (λ costs are fewer. omega (arith, fewer, c.loop-class.invariant.taken costs are, class_more files costs class, classes_within files costs (class + 1)))
     c.in-Err.ensures.refused
 
 pub returns-clause-typed : goal.returns-clause-typed

@@ -3,4 +3,4 @@ use Rattle.std.proofs.lemmas.Slice.Eq.{slice_eq-Decides}
 use Rattle.machine_state.proofs.same_states.alike.same_printed.Goals as goal
 
 pub returns : goal.returns
-returns c = (slice_eq-Decides Decides-int_eq c.args.one.now c.args.other.now c.eq.result c.eq.ensures).0
+returns c = slice_eq-Decides Decides-int_eq c.args.one.now c.args.other.now c.eq.result c.eq.ensures

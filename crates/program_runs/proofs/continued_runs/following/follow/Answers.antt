@@ -3,7 +3,7 @@ use Rattle.std.proofs.lemmas.List.{take_all}
 use Rattle.model.specs.declared.event.ScheduleEntry.{ScheduleEntry}
 use Rattle.model.specs.Schedule.{events_of}
 use Rattle.machine.proofs.schedule_runs.Joined.{around, one_more}
-use Rattle.program_runs.proofs.continued_runs.Passing.{HasPassed, begins, goes_on, stops, all_done}
+use Rattle.program_runs.proofs.continued_runs.Passing.{HasPassed, begins, goes_on, stops_if, all_done}
 use Rattle.program_runs.proofs.continued_runs.following.follow.Goals as goal
 
 abbrev no_entry : ScheduleEntry
@@ -17,9 +17,9 @@ returns-then-done-entry c =
     let items = c.entries-entry-items.result.now in
     let i = c.entries.entry-index in
     let entry : ScheduleEntry = get_or items i no_entry in
-    stops (events_of (take i items)) c.args.world.now c.entries.world c.repeat.new.self c.entries.invariant entry.event entry.repeat c.in_ok-done.done c.in_ok-done.why c.in_ok-done.ensures.done
+    stops_if (events_of (take i items)) c.args.world.now c.entries.world c.repeat.new.self c.entries.invariant entry.event entry.repeat c.in_ok-done.done c.in_ok-done.why c.in_ok-done.ensures.done
     c.if-done-entry.true (events_of (drop (suc i) items)) (events_of c.args.schedule.now)
-    (ap events_of (sym c.entries-entry-items.ensures.are) ∙ around items i no_entry c.entries-test.true)
+    (ap events_of (sym c.entries-entry-items.ensures.are) ∙ around items i no_entry c.entries-test.true) c.unless_memory.result c.unless_memory.ensures.same
 
 pub entries-preserved : goal.entries-preserved
 entries-preserved c =

@@ -1,15 +1,21 @@
-use Rattle.std.proofs.Common.{List, ℕ, map, decimal, subst}
+use Rattle.std.proofs.Common.{List, ℕ, ◌≡◌, ◌++◌, codes, map, decimal, subst}
 use Rattle.model.specs.declared.limits.Limits.{Limits}
-use Rattle.schedule.proofs.schedule_text.WriteLaws.{adds_more, events_added, lengths_added, limits_added}
-use Rattle.schedule.specs.schedule_text.Printing.{AddsWords}
+use Rattle.schedule.proofs.schedule_text.WriteLaws.{five_parts}
+use Rattle.schedule.specs.schedule_text.Printing.{in_lines}
 use Rattle.schedule.specs.schedule_text.Text.{limit_words}
 use Rattle.schedule.proofs.schedule_text.write.push_recording.Goals as goal
 
-pub returns-clause-words : goal.returns-clause-words
-returns-clause-words c =
-    let first = limits_added c.args.text.now.items c.extend_from_slice.new.self.items c.in_ok-extend_from_slice.ensures.items in
-    let limits = subst (λ (l : Limits). AddsWords c.extend_from_slice.new.self.items c.push_limits.new.text.items (limit_words l)) c.limits.ensures c.in_ok-push_limits.ensures in
-    let second = lengths_added c.push_limits.new.text.items c.extend_from_slice-2.new.self.items c.in_ok-extend_from_slice-2.ensures.items in
-    let lengths = subst (λ (ns : List ℕ). AddsWords c.extend_from_slice-2.new.self.items c.push_lengths.new.text.items (map decimal ns)) c.lengths-lengths.ensures.are c.in_ok-push_lengths.ensures in
-    let third = events_added c.push_lengths.new.text.items c.extend_from_slice-3.new.self.items c.in_ok-extend_from_slice-3.ensures.items in
-    adds_more _ _ _ _ _ (adds_more _ _ _ _ _ (adds_more _ _ _ _ _ (adds_more _ _ _ _ _ first limits) second) lengths) third
+pub returns-clause-added : goal.returns-clause-added
+returns-clause-added c =
+    let r = c.args.recording.now in
+    let t1 = c.extend_from_slice.new.self.items in
+    let t2 = c.push_limits.new.text.items in
+    let t3 = c.extend_from_slice-2.new.self.items in
+    let t4 = c.push_lengths.new.text.items in
+    five_parts c.args.text.now.items (codes "#limits ") (in_lines (limit_words r.limits)) (codes "#lengths ") (in_lines (map decimal r.lengths)) (codes "#events\n")
+    t1 t2 t3 t4 c.extend_from_slice-3.new.self.items
+    c.in_ok-extend_from_slice.ensures.items
+    (subst (λ (l : Limits). t2 ≡ t1 ++ in_lines (limit_words l)) c.limits.ensures c.in_ok-push_limits.ensures)
+    c.in_ok-extend_from_slice-2.ensures.items
+    (subst (λ (ns : List ℕ). t4 ≡ t3 ++ in_lines (map decimal ns)) c.lengths-lengths.ensures.are c.in_ok-push_lengths.ensures)
+    c.in_ok-extend_from_slice-3.ensures.items

@@ -7,4 +7,4 @@ pub returns : goal.returns
 returns c = λ alike.
     alike_met c.args.self.now c.args.number c.alike_states_are_met.ensures.holds c.args.met c.args.entry c.args.machine c.in_ok-other.other c.requires.met c.requires.local c.requires.is_after
     c.in_ok-other.ensures
-    (subst (λ s. AreAlike s c.in_ok-other.other.shared) c.into_shared.ensures (subst (AreAlike c.into_shared.result) c.into_shared-2.ensures (c.are_alike.ensures alike)))
+    (subst (λ s. AreAlike s c.in_ok-other.other.shared) c.into_shared.ensures (subst (AreAlike c.into_shared.result) c.into_shared-2.ensures (c.are_alike.ensures.0 alike)))
