@@ -15,6 +15,7 @@ mod folder;
 mod given_paths;
 mod library;
 mod listing;
+mod made_file;
 mod named_file;
 mod names;
 mod open;
@@ -30,6 +31,7 @@ mod telling;
 mod tracing;
 mod transcribing;
 mod verification;
+mod watched;
 
 pub use command_line::{LimitOptions, RunOptions, Usage};
 pub use complaint::Complaint;

@@ -1,9 +1,10 @@
 //! What the words of a command line ask for.
 
-ghost use Rattle.std.specs.Prelude.{◌≡◌, IfErr, IfOk, map, string_bytes};
+ghost use Rattle.std.specs.Prelude.{◌≡◌, ◌≤◌, ◌+◌, IfErr, IfOk, MatchResult, map, string_bytes};
 ghost use Rattle.std.specs.Io.KnownBytes.{Appends};
 ghost use Rattle.command_line.specs.CommandLine.{Asks};
 ghost use Rattle.engines.specs.Commands.{Does, IsDone, IsUndone, IsUntold, Leaves, LeavesAt, Stops};
+ghost use Rattle.engines.specs.Failures.{FolderMayFail, TellsComplaint, TellsFailures};
 
 use crate::commands::{disasm, replay, run_files, schedule, search, trace, verify};
 use crate::complaint::Complaint;
@@ -43,6 +44,9 @@ pub fn run<R: Threads + Wait + Sync, G: Gate + Progress + Sync, F: Folder, I: So
     ensures faulty { IfErr result (LeavesAt (Stops (F.held folder.old) (F.listed folder.old) (I.remaining input.old)
         (map string_bytes words.now) (W.contents output.old) (W.contents output.new))
         (F.held folder.old) (F.held folder.new)) }
+    // It is told that a device failed where the input, the output or the folder did, and only there.
+    ensures told { MatchResult result (λ _. I.failures input.new + W.failures output.new ≤ I.failures input.old + W.failures output.old)
+        (λ complaint. TellsComplaint (FolderMayFail F.may_fail) complaint (I.failures input.old + W.failures output.old) (I.failures input.new + W.failures output.new)) }
 {
     match command(alloc, words) {
         Ok(command) => {
@@ -67,6 +71,8 @@ fn told<W: Sink>(alloc: Global, usage: Usage, output: &mut W) -> Result<Status, 
     ensures told { IfOk result (λ status. (text : _) × (status ≡ Status.Returned) × Asks usage
         × Appends (W.contents output.old) (W.contents output.new) text) }
     ensures untold { IfErr result (IsUntold usage (W.contents output.old) (W.contents output.new)) }
+    ensures failed { MatchResult result (λ _. W.failures output.new ≤ W.failures output.old)
+        (λ complaint. TellsComplaint ⊥ complaint (W.failures output.old) (W.failures output.new)) }
 {
     if !matches!(&usage, Usage::Asked(_)) {
         return Err(Complaint::Usage(usage));
@@ -97,6 +103,8 @@ fn done<R: Threads + Wait + Sync, G: Gate + Progress + Sync, F: Folder, I: Sourc
         (W.contents output.old) (W.contents output.new) (F.held folder.old) (F.held folder.new)) }
     ensures faulty { IfErr result (LeavesAt (IsUndone (F.held folder.old) (F.listed folder.old) (I.remaining input.old)
         command.now (W.contents output.old) (W.contents output.new)) (F.held folder.old) (F.held folder.new)) }
+    ensures told { TellsFailures (FolderMayFail F.may_fail) result
+        (I.failures input.old + W.failures output.old) (I.failures input.new + W.failures output.new) }
 {
     match command {
         Command::Run(options) => run_files(rt, alloc, gate, folder, options, output, explanation),
