@@ -1,5 +1,6 @@
 pub mod DeviceLemmas
 pub mod EngineLemmas
+pub mod FailureLemmas
 pub mod FileLemmas
 pub mod GivenLemmas
 pub mod LibraryLemmas
