@@ -5,7 +5,8 @@ ghost use Rattle.std.specs.Prelude.{◌≡◌, vec_len};
 use crate::watched::Watched;
 use model::{DeviceFault, Sink, Source};
 use std::alloc::Global;
-use std::io::{ErrorKind, Read, Write};
+use std::io;
+use std::io::{Read, Write};
 
 /// A reader or a writer whose failures are counted below.
 #[derive(Drop)]
@@ -31,8 +32,8 @@ impl<D> Counted<D> {
         self.device.into_inner()
     }
 
-    /// The kind of its first failure.
-    pub fn failure(&self) -> Option<ErrorKind> {
+    /// Its first failure.
+    pub fn failure(&self) -> Option<&io::Error> {
         self.device.failure()
     }
 }

@@ -34,6 +34,11 @@ impl Explanation {
         self.text.as_slice()
     }
 
+    /// Whether a file that was asked for couldn't be written.
+    pub fn is_file_lost(&self) -> bool {
+        self.reason.is_some()
+    }
+
     /// Whether it is wanted where the words don't ask for it.
     pub(crate) fn is_wanted(&self) -> bool {
         self.is_wanted

@@ -37,7 +37,7 @@ pub use command_line::{LimitOptions, RunOptions, Usage};
 pub use complaint::Complaint;
 pub use continuing::continue_engine;
 pub use device::Counted;
-pub use explaining::explain_complaint;
+pub use explaining::{Failures, explain_complaint};
 pub use explanation::Explanation;
 pub use fault::Fault;
 pub use folder::Folder;

@@ -7,13 +7,14 @@ ghost use Rattle.model.specs.Devices.{Counts, CountsFault, LosesFront};
 
 use model::DeviceFault;
 use std::alloc::Global;
+use std::io;
 use std::io::{ErrorKind, Read, Write};
 
-/// A reader or a writer, and the kinds of its failures, the oldest first.
+/// A reader or a writer, and its failures, the oldest first.
 #[derive(Drop)]
 pub(crate) struct Watched<D> {
     device: D,
-    failures: Vec<ErrorKind>,
+    failures: Vec<io::Error>,
 }
 
 impl<D> Watched<D> {
@@ -35,17 +36,17 @@ impl<D> Watched<D> {
         self.device
     }
 
-    /// The kind of its first failure.
-    pub(crate) fn failure(&self) -> Option<ErrorKind> {
-        self.failures.first().copied()
+    /// Its first failure.
+    pub(crate) fn failure(&self) -> Option<&io::Error> {
+        self.failures.first()
     }
 
     /// Counts a failure of the device, unless it is a want of memory.
-    fn fault(&mut self, kind: ErrorKind) -> DeviceFault
+    fn fault(&mut self, error: io::Error) -> DeviceFault
         ensures device { self.new.device ≡ self.old.device }
         ensures counted { CountsFault result (vec_len self.old.failures) (vec_len self.new.failures) }
     {
-        if kind == ErrorKind::OutOfMemory || self.failures.push(kind).is_err() {
+        if error.kind() == ErrorKind::OutOfMemory || self.failures.push(error).is_err() {
             DeviceFault::Memory
         } else {
             DeviceFault::Device
@@ -64,7 +65,7 @@ impl<R: Read> Watched<R> {
         let mut bytes = Vec::new(alloc);
         match self.device.read_to_end(&mut bytes) {
             Ok(_) => Ok(bytes),
-            Err(error) => Err(self.fault(error.kind())),
+            Err(error) => Err(self.fault(error)),
         }
     }
 }
@@ -81,17 +82,17 @@ impl<W: Write> Watched<W> {
             match self.device.write(bytes) {
                 Ok(written) => {
                     if written == 0 && !bytes.is_empty() {
-                        return Err(self.fault(ErrorKind::WriteZero));
+                        return Err(self.fault(io::Error::from(ErrorKind::WriteZero)));
                     }
                     return Ok(written);
                 }
                 Err(error) => {
                     if error.kind() != ErrorKind::Interrupted {
-                        return Err(self.fault(error.kind()));
+                        return Err(self.fault(error));
                     }
                 }
             }
         }
-        Err(self.fault(ErrorKind::TimedOut))
+        Err(self.fault(io::Error::from(ErrorKind::TimedOut)))
     }
 }
