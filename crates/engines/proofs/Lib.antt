@@ -7,6 +7,7 @@ pub mod LibraryLemmas
 pub mod ListingLemmas
 pub mod OpeningLemmas
 pub mod OutcomeLemmas
+pub mod RecordLemmas
 pub mod RecordingLemmas
 pub mod RunLemmas
 pub mod ScheduleLemmas

@@ -1,7 +1,8 @@
 //! What the words of a command line ask for.
 
-ghost use Rattle.std.specs.Prelude.{◌≡◌, ◌≤◌, ◌+◌, IfErr, IfOk, MatchResult, map, string_bytes};
+ghost use Rattle.std.specs.Prelude.{◌≡◌, ◌≤◌, ◌+◌, IfErr, IfOk, MatchResult, OnErr, OnOk, map, string_bytes};
 ghost use Rattle.std.specs.Io.KnownBytes.{Appends};
+ghost use Rattle.model.specs.Devices.{AppendsFront, Counts};
 ghost use Rattle.command_line.specs.CommandLine.{Asks};
 ghost use Rattle.engines.specs.Commands.{Does, IsDone, IsUndone, IsUntold, Leaves, LeavesAt, Stops};
 ghost use Rattle.engines.specs.Failures.{FolderMayFail, TellsComplaint, TellsFailures};
@@ -16,7 +17,7 @@ use command_line::{Command, Usage, command};
 use model::{DeviceFault, Sink, Source};
 use program_runs::workers::Gate;
 use search::Progress;
-use std::alloc::{AllocError, Global};
+use std::alloc::Global;
 use std::sync::Wait;
 use std::thread::Threads;
 
@@ -74,17 +75,23 @@ fn told<W: Sink>(alloc: Global, usage: Usage, output: &mut W) -> Result<Status, 
     ensures failed { MatchResult result (λ _. W.failures output.new ≤ W.failures output.old)
         (λ complaint. TellsComplaint ⊥ complaint (W.failures output.old) (W.failures output.new)) }
 {
-    if !matches!(&usage, Usage::Asked(_)) {
+    let Usage::Asked(_) = &usage else {
         return Err(Complaint::Usage(usage));
-    }
-    let written = match usage.to_string(alloc) {
-        Ok(text) => output.write_all(text.as_bytes()),
-        Err(AllocError) => Err(DeviceFault::Memory),
     };
-    match written {
+    match write_help(alloc, &usage, output) {
         Ok(()) => Ok(Status::Returned),
         Err(fault) => Err(Complaint::Fault(Fault::from(fault))),
     }
+}
+
+/// Writes the text of what the words ask for.
+fn write_help<W: Sink>(alloc: Global, usage: &Usage, output: &mut W) -> Result<(), DeviceFault>
+    ensures written { OnOk result ((text : _) × Appends (W.contents output.old) (W.contents output.new) text) }
+    ensures part { OnErr result ((text : _) × AppendsFront (W.contents output.old) (W.contents output.new) text) }
+    ensures counted { Counts result (W.failures output.old) (W.failures output.new) }
+{
+    let text = usage.to_string(alloc)?;
+    output.write_all(text.as_bytes())
 }
 
 /// Does what a command says.

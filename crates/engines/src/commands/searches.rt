@@ -1,6 +1,6 @@
 //! `search`.
 
-ghost use Rattle.std.specs.Prelude.{◌≡◌, ◌⊎◌, IfErr, IfOk, None, is_some, vec_items};
+ghost use Rattle.std.specs.Prelude.{◌≡◌, ◌⊎◌, IfErr, IfOk, None, Some, is_some, vec_items};
 ghost use Rattle.std.specs.Option.{option_map};
 ghost use Rattle.std.specs.Io.KnownBytes.{Appends};
 ghost use Rattle.engines.specs.Commands.{IsSearchDone, IsSearchUndone, Leaves, LeavesAt, files_at};
@@ -116,12 +116,21 @@ fn wanted_by<F: Folder>(alloc: Global, folder: &F, goal: &Option<Goal>) -> Resul
 {
     match goal {
         None => Ok(Wanted::Nothing),
-        Some(Goal::Deadlock) => Ok(Wanted::Stuck),
-        Some(Goal::Uncaught) => Ok(Wanted::Uncaught),
-        Some(Goal::Output(numbers)) => {
-            Ok(Wanted::Printed(printed_lines(alloc, numbers.as_slice())?))
-        }
-        Some(Goal::Differs(path)) => {
+        Some(goal) => wanted_for(alloc, folder, goal),
+    }
+}
+
+/// The outcome that a search for a goal is to find.
+fn wanted_for<F: Folder>(alloc: Global, folder: &F, goal: &Goal) -> Result<Wanted, Fault>
+    ensures asked { IfOk result (IsAskedFor (F.held folder.now) (Some goal.now)) }
+    ensures unable { IfErr result IsUnable }
+    ensures failed { IfErr result (λ fault. fault ≡ Device → FolderMayFail F.may_fail) }
+{
+    match goal {
+        Goal::Deadlock => Ok(Wanted::Stuck),
+        Goal::Uncaught => Ok(Wanted::Uncaught),
+        Goal::Output(numbers) => Ok(Wanted::Printed(printed_lines(alloc, numbers.as_slice())?)),
+        Goal::Differs(path) => {
             let bytes = source(folder, path.as_str()).read_all(alloc)?;
             Ok(Wanted::PrintedOther(text_of_file(alloc, bytes.as_slice())?))
         }
