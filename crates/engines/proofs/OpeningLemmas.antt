@@ -28,7 +28,7 @@ kept_is_faulty (faults.Text fault) left lefts options held kept = (refl, kept)
 kept_is_faulty (faults.Refusal refusal) left lefts options held kept = (refl, kept)
 
 pub kept_is_uncontinued : (fault : Fault) (left : Option (List ℕ)) (lefts : List (Option (List ℕ))) (options : LimitOptions) (budget : ℕ)
-    (held : Option (List ℕ)) (made : Option (Option (List ℕ)))
+    (held : Option (List ℕ)) (made : Option (List ℕ))
     → IsKeptBy left lefts options fault → IsUncontinued left lefts options budget held held made made fault
 kept_is_uncontinued faults.Device left lefts options budget held made kept = inl (refl, refl)
 kept_is_uncontinued faults.Memory left lefts options budget held made kept = inl (refl, refl)
@@ -43,7 +43,7 @@ part_is_faulty devices.Device left lefts options old new part = part
 part_is_faulty devices.Memory left lefts options old new part = part
 
 pub part_is_uncontinued : (fault : DeviceFault) (left : Option (List ℕ)) (lefts : List (Option (List ℕ))) (options : LimitOptions)
-    (budget : ℕ) (old new : Option (List ℕ)) (kept made : Option (Option (List ℕ)))
+    (budget : ℕ) (old new : Option (List ℕ)) (kept made : Option (List ℕ))
     → ContinuesPart left lefts options budget old new kept made → IsUncontinued left lefts options budget old new kept made (fault_of fault)
 part_is_uncontinued devices.Device left lefts options budget old new kept made part = part
 part_is_uncontinued devices.Memory left lefts options budget old new kept made part = part

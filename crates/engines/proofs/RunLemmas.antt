@@ -25,7 +25,7 @@ few_files files trees accepted =
 
 -- a class file isn't read, and nothing is written
 pub unread_is_unrun : (fault : Fault) (lefts : List (Option (List ℕ))) (asked : LimitOptions) (options : RunOptions)
-    (held : Option (List ℕ)) (kept : Option (Option (List ℕ))) (file : ℕ)
+    (held : Option (List ℕ)) (kept : Option (List ℕ)) (file : ℕ)
     → file < length lefts → IsOfFile file fault → IsUnrun lefts asked options held held kept kept fault
 unread_is_unrun faults.Device lefts asked options held kept file within of_file = inl (refl, refl)
 unread_is_unrun faults.Memory lefts asked options held kept file within of_file = absurd of_file
@@ -35,7 +35,7 @@ unread_is_unrun (faults.Refusal refusal) lefts asked options held kept file with
 
 -- the writing stops
 pub part_is_unrun : (fault : DeviceFault) (lefts : List (Option (List ℕ))) (asked : LimitOptions) (options : RunOptions)
-    (old new : Option (List ℕ)) (kept made : Option (Option (List ℕ)))
+    (old new : Option (List ℕ)) (kept made : Option (List ℕ))
     → RunsPart lefts asked options old new kept made → IsUnrun lefts asked options old new kept made (fault_of fault)
 part_is_unrun devices.Device lefts asked options old new kept made part = part
 part_is_unrun devices.Memory lefts asked options old new kept made part = part

@@ -5,6 +5,7 @@ use Rattle.model.specs.declared.limits.Limits.{Limits}
 use Rattle.model.specs.declared.report.Report.{Report}
 use Rattle.model.specs.declared.end.End.{End}
 use Rattle.model.specs.Classes.{Program}
+use Rattle.model.specs.Devices.{AppendsFront}
 use Rattle.model.specs.Schedule.{ScheduleFile, events_of}
 use Rattle.machine.specs.machine_replay.Replays.{text_of}
 use Rattle.program_runs.specs.continued_runs.Continuing.{GoesOn}
@@ -13,7 +14,7 @@ use Rattle.program_runs.specs.declared.continued_runs.run.Continued.TheVariants.
 use Rattle.command_line.specs.declared.options.LimitOptions.{LimitOptions}
 use Rattle.engines.specs.Engines.{Reads, ReadsEach}
 use Rattle.engines.specs.Opening.{IsKeptBy, IsOpened}
-use Rattle.engines.specs.Runs.{StopsWithin, recording_of}
+use Rattle.engines.specs.Runs.{recording_of}
 use Rattle.engines.specs.Statuses.{status_of}
 use Rattle.engines.specs.declared.fault.Fault.{Fault}
 use Rattle.engines.specs.declared.fault.Fault.TheVariants as faults
@@ -48,16 +49,15 @@ abbrev pub Continues : Option (List ℕ) → List (Option (List ℕ)) → LimitO
 Continues left lefts options budget text file status =
     (schedule : List ℕ) × (files : List (List ℕ)) × Reads left schedule × ReadsEach lefts files × IsContinued schedule files options budget text file status
 
--- nothing is written, or a part of what the run says
+-- nothing is written, and no file made; or the file is made, and a front of the text is written
 abbrev pub ContinuesPart : Option (List ℕ) → List (Option (List ℕ)) → LimitOptions → (budget : ℕ) → (old new : Option (List ℕ))
-    → (kept made : Option (Option (List ℕ))) → Type 0
+    → (kept made : Option (List ℕ)) → Type 0
 ContinuesPart left lefts options budget old new kept made = ((new ≡ old) × (made ≡ kept))
-    ⊎ ((text : List ℕ) × (file : Option (List ℕ)) × (status : Status) × Continues left lefts options budget text file status
-    × StopsWithin text file old new kept made)
+    ⊎ ((text : List ℕ) × (status : Status) × Continues left lefts options budget text made status × AppendsFront old new text)
 
 -- When a fault is answered, and what is written then.
 abbrev pub IsUncontinued : Option (List ℕ) → List (Option (List ℕ)) → LimitOptions → (budget : ℕ) → (old new : Option (List ℕ))
-    → (kept made : Option (Option (List ℕ))) → Fault → Type 0
+    → (kept made : Option (List ℕ)) → Fault → Type 0
 IsUncontinued left lefts options budget old new kept made faults.Device = ContinuesPart left lefts options budget old new kept made
 IsUncontinued left lefts options budget old new kept made faults.Memory = ContinuesPart left lefts options budget old new kept made
 IsUncontinued left lefts options budget old new kept made fault = (new ≡ old) × (made ≡ kept) × IsKeptBy left lefts options fault

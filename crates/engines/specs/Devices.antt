@@ -13,3 +13,11 @@ fault_of devices.Memory = faults.Memory
 abbrev pub either_fault : EitherFault → Fault
 either_fault (either.File refusal) = faults.Schedule refusal
 either_fault (either.Text refusal) = faults.Text refusal
+
+-- a device failed, or memory was wanted
+abbrev pub IsUnable : Fault → Type 0
+IsUnable faults.Device = Unit {0}
+IsUnable faults.Memory = Unit {0}
+IsUnable (faults.Refusal refusal) = ⊥
+IsUnable (faults.Schedule fault) = ⊥
+IsUnable (faults.Text fault) = ⊥

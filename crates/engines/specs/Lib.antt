@@ -1,7 +1,11 @@
+pub mod Commands
 pub mod Complaints
 pub mod Continuations
 pub mod Devices
 pub mod Engines
+pub mod Failures
+pub mod Files
+pub mod Goals
 pub mod Libraries
 pub mod LibraryMain
 pub mod Listings

@@ -1,7 +1,6 @@
 -- What the engine of runs answers and writes, by the bytes that its devices hold. Where a device says nothing of its bytes,
 -- they are any that it may have handed over.
 use Rattle.std.specs.Prelude.{◌≡◌, ◌⊎◌, ℕ, List, length, map, Option, Some, None, IfSome, unwrap_or}
-use Rattle.std.specs.Io.KnownBytes.{Appends}
 use Rattle.model.specs.declared.event.Event.{Event}
 use Rattle.model.specs.declared.limits.Limits.{Limits}
 use Rattle.model.specs.declared.report.Report.{Report}
@@ -49,40 +48,17 @@ pub record IsRun (files : List (List ℕ)) (asked : LimitOptions) (options : Run
 abbrev pub Runs : List (Option (List ℕ)) → LimitOptions → RunOptions → List ℕ → Option (List ℕ) → Status → Type 0
 Runs lefts asked options text file status = (files : List (List ℕ)) × ReadsEach lefts files × IsRun files asked options text file status
 
--- ---- the file that is asked for
-
--- What a writer held and holds now, where there is one: the bytes of the file behind it. There is a file where there is a writer.
-abbrev pub Records : Option (Option (List ℕ)) → Option (Option (List ℕ)) → Option (List ℕ) → Type 0
-Records None None None = Unit {0}
-Records (Some old) (Some new) (Some bytes) = Appends old new bytes
-Records None None (Some bytes) = ⊥
-Records None (Some new) file = ⊥
-Records (Some old) None file = ⊥
-Records (Some old) (Some new) None = ⊥
-
--- a front of the bytes is behind it
-abbrev pub RecordsFront : Option (Option (List ℕ)) → Option (Option (List ℕ)) → Option (List ℕ) → Type 0
-RecordsFront (Some old) (Some new) (Some bytes) = AppendsFront old new bytes
-RecordsFront None new file = ⊥
-RecordsFront (Some old) None file = ⊥
-RecordsFront (Some old) (Some new) None = ⊥
-
 -- ---- what is written where there is a fault
 
--- how far the writing came: a front of the text; or the text and a front of the file
-abbrev pub StopsWithin : List ℕ → Option (List ℕ) → (old new : Option (List ℕ)) → (kept made : Option (Option (List ℕ))) → Type 0
-StopsWithin text file old new kept made = (AppendsFront old new text × (made ≡ kept)) ⊎ (Appends old new text × RecordsFront kept made file)
-
--- nothing is written, or a part of what a run says
+-- nothing is written, and no file made; or the file is made, and a front of the text is written
 abbrev pub RunsPart : List (Option (List ℕ)) → LimitOptions → RunOptions → (old new : Option (List ℕ))
-    → (kept made : Option (Option (List ℕ))) → Type 0
+    → (kept made : Option (List ℕ)) → Type 0
 RunsPart lefts asked options old new kept made = ((new ≡ old) × (made ≡ kept))
-    ⊎ ((text : List ℕ) × (file : Option (List ℕ)) × (status : Status) × Runs lefts asked options text file status
-    × StopsWithin text file old new kept made)
+    ⊎ ((text : List ℕ) × (status : Status) × Runs lefts asked options text made status × AppendsFront old new text)
 
 -- When a fault is answered, and what is written then.
 abbrev pub IsUnrun : List (Option (List ℕ)) → LimitOptions → RunOptions → (old new : Option (List ℕ))
-    → (kept made : Option (Option (List ℕ))) → Fault → Type 0
+    → (kept made : Option (List ℕ)) → Fault → Type 0
 IsUnrun lefts asked options old new kept made faults.Device = RunsPart lefts asked options old new kept made
 IsUnrun lefts asked options old new kept made faults.Memory = RunsPart lefts asked options old new kept made
 -- memory for the reading aside, the class files are refused

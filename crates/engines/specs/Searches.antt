@@ -1,12 +1,14 @@
 -- What the engine of searches answers and writes, by the bytes that its devices hold. Where a device says nothing of its bytes,
 -- they are any that it may have handed over.
-use Rattle.std.specs.Prelude.{◌≡◌, ◌⊎◌, ◌≤◌, ℕ, Bool, List, length, Option, Some, None, IfSome, is_some}
+use Rattle.std.specs.Prelude.{◌≡◌, ◌⊎◌, ◌≤◌, ◌/◌, ℕ, Bool, List, length, min, Option, Some, None, IfSome, is_some, unwrap_or}
 use Rattle.model.specs.declared.limits.Limits.{Limits}
 use Rattle.model.specs.Accepted.{IsAccepted}
 use Rattle.model.specs.Classes.{Program}
+use Rattle.model.specs.Devices.{AppendsFront}
 use Rattle.model.specs.Schedule.{Recording, ScheduleFile, events_of}
 use Rattle.command_line.specs.Choices.{AreChosen}
 use Rattle.command_line.specs.declared.options.LimitOptions.{LimitOptions}
+use Rattle.command_line.specs.declared.options.Search.{Search}
 use Rattle.search.specs.declared.run_outcomes.wanted.Wanted.{Wanted}
 use Rattle.search.specs.search_reports.Answers.{Answers}
 use Rattle.search.specs.search_reports.Reports.{search_text}
@@ -14,7 +16,7 @@ use Rattle.search.specs.declared.search_reports.answers.Answer.{Answer}
 use Rattle.search.specs.declared.search_reports.answers.Answer.TheVariants as answers
 use Rattle.engines.specs.Engines.{ReadsEach}
 use Rattle.engines.specs.Refusals.{IsRefused}
-use Rattle.engines.specs.Runs.{Records, StopsWithin, recording_of}
+use Rattle.engines.specs.Runs.{recording_of}
 use Rattle.engines.specs.Statuses.{search_status}
 use Rattle.engines.specs.Verifications.{IsUnread}
 use Rattle.engines.specs.declared.fault.Fault.{Fault}
@@ -29,6 +31,10 @@ abbrev pub IsFileOf : Recording → (asked : Bool) → Answer → Option (List �
 IsFileOf recording asked (answers.Found schedule report) file = (is_some file ≡ asked) × IfSome file (λ bytes. ScheduleFile bytes (Some recording) (events_of schedule))
 IsFileOf recording asked (answers.Complete outcomes) file = file ≡ None
 IsFileOf recording asked answers.GaveUp file = file ≡ None
+
+-- how many states a search may meet, by its options: not more than have room
+abbrev pub most_states : Search → ℕ
+most_states search = min (unwrap_or search.states 10000000) (unwrap_or search.memory 1000000000 / 128)
 
 -- The class files are accepted. A search over all schedules of their program, within the limits, has this answer, with so many states
 -- met, and no more than may be; and this is its text, the file of the schedule, and the status.
@@ -50,23 +56,17 @@ pub record IsSearched (files : List (List ℕ)) (asked : LimitOptions) (want : W
 abbrev pub Searches : List (Option (List ℕ)) → LimitOptions → Wanted → (most : ℕ) → (recorded : Bool) → List ℕ → Option (List ℕ) → Status → Type 0
 Searches lefts asked want most recorded text file status = (files : List (List ℕ)) × ReadsEach lefts files × IsSearched files asked want most recorded text file status
 
--- what a writer held and holds now, where there is one: the bytes of the file behind it, if there is a file
-abbrev pub RecordsFound : Option (Option (List ℕ)) → Option (Option (List ℕ)) → Option (List ℕ) → Type 0
-RecordsFound kept made None = made ≡ kept
-RecordsFound kept made (Some bytes) = Records kept made (Some bytes)
-
 -- ---- what is written where there is a fault
 
--- nothing is written, or a part of what a search says
+-- nothing is written, and no file made; or the file is made, and a front of the text is written
 abbrev pub SearchesPart : List (Option (List ℕ)) → LimitOptions → Wanted → (most : ℕ) → (recorded : Bool) → (old new : Option (List ℕ))
-    → (kept made : Option (Option (List ℕ))) → Type 0
+    → (kept made : Option (List ℕ)) → Type 0
 SearchesPart lefts asked want most recorded old new kept made = ((new ≡ old) × (made ≡ kept))
-    ⊎ ((text : List ℕ) × (file : Option (List ℕ)) × (status : Status) × Searches lefts asked want most recorded text file status
-    × StopsWithin text file old new kept made)
+    ⊎ ((text : List ℕ) × (status : Status) × Searches lefts asked want most recorded text made status × AppendsFront old new text)
 
 -- When a fault is answered, and what is written then.
 abbrev pub IsUnsearched : List (Option (List ℕ)) → LimitOptions → Wanted → (most : ℕ) → (recorded : Bool) → (old new : Option (List ℕ))
-    → (kept made : Option (Option (List ℕ))) → Fault → Type 0
+    → (kept made : Option (List ℕ)) → Fault → Type 0
 IsUnsearched lefts asked want most recorded old new kept made faults.Device = SearchesPart lefts asked want most recorded old new kept made
 IsUnsearched lefts asked want most recorded old new kept made faults.Memory = SearchesPart lefts asked want most recorded old new kept made
 -- memory for the reading aside, the class files are refused

@@ -1,20 +1,19 @@
 //! A replay that goes on where its schedule ends, over any readers and writers.
 
-ghost use Rattle.std.specs.Prelude.{◌≡◌, ◌+◌, ◌⊎◌, IfOk, IfErr, is_some, map, sum_by, vec_items};
-ghost use Rattle.std.specs.Option.{option_map, option_map_or};
+ghost use Rattle.std.specs.Prelude.{◌≡◌, ◌+◌, ◌⊎◌, IfOk, IfErr, IsTrue, is_some, map, sum_by, unwrap_or, vec_items};
+ghost use Rattle.std.specs.Option.{option_map};
 ghost use Rattle.std.specs.Io.KnownBytes.{Appends};
 ghost use Rattle.model.specs.Accepted.{IsAccepted};
 ghost use Rattle.model.specs.Schedule.{events_of};
 ghost use Rattle.engines.specs.Continuations.{Continues, IsContinued, IsUncontinued};
 ghost use Rattle.engines.specs.Engines.{CountsFailure};
 ghost use Rattle.engines.specs.Opening.{IsAfterFiles, IsOfSchedule, IsOpened};
-ghost use Rattle.engines.specs.Runs.{Records};
 
 use crate::fault::Fault;
 use crate::opening::open;
-use crate::running::{Outcome, outcome_of, write_record};
+use crate::running::{Outcome, outcome_of};
 use crate::status::Status;
-use command_line::LimitOptions;
+use command_line::{LimitOptions, ThenRun};
 use model::{Limits, Sink, Source};
 use program_runs::continued_runs::{Continued, run_on};
 use schedule::Schedule;
@@ -22,49 +21,49 @@ use std::alloc::{AllocError, Global};
 use std::sync::Arc;
 use verifier::Verified;
 
-/// Runs the class files under the schedule and goes on where it ends; writes the report, and then the schedule file of
-/// the whole where one is asked for; and answers the status of the report.
+/// Runs the class files under the schedule and goes on where it ends; makes the schedule file of the whole where it is asked
+/// for, and where the run does not end normally; writes the report, and answers its status.
 ///
 /// Behind the events of the schedule each further event is that of the next thread in turn which has an enabled one, from
 /// thread 0 on, and picks the first waiter. All together are at most as many as the budget. Where an event of the schedule
-/// that the budget allows is not enabled, or a limit refuses it, the report is that of its replay, and the schedule is the whole
-/// that is recorded. What comes before the run, and its faults, are those of `replay_engine`.
-pub fn continue_engine<S: Source, W: Sink, V: Sink>(
+/// that the budget allows is not enabled, or a limit refuses it, the report is that of its replay, and the schedule is the
+/// whole that is recorded. What comes before the run, and its faults, are those of `replay_engine`.
+pub fn continue_engine<S: Source, W: Sink>(
     alloc: Global,
     schedule: &mut S,
     files: &mut [S],
     limits: &LimitOptions,
-    budget: u32,
+    then_run: &ThenRun,
     report: &mut W,
-    recorder: &mut Option<V>,
+    file: &mut Option<Vec<u8>>,
 ) -> Result<Status, Fault>
-    // What the run says is written, its schedule file where one is asked for, and nothing else.
-    ensures continued { IfOk result (λ status. (text : _) × (file : _)
-        × Continues (S.remaining schedule.old) (map S.remaining files.old) limits.now budget text file status
-        × Appends (W.contents report.old) (W.contents report.new) text
-        × Records (option_map V.contents recorder.old) (option_map V.contents recorder.new) file) }
-    ensures faulty { IfErr result (IsUncontinued (S.remaining schedule.old) (map S.remaining files.old) limits.now budget
-        (W.contents report.old) (W.contents report.new)
-        (option_map V.contents recorder.old) (option_map V.contents recorder.new)) }
+    // What the run says is written, and nothing else; and the file is that of its schedule.
+    ensures continued { IfOk result (λ status. (text : _)
+        × Continues (S.remaining schedule.old) (map S.remaining files.old) limits.now (unwrap_or then_run.now.budget 10000000)
+        text (option_map vec_items file.new) status
+        × Appends (W.contents report.old) (W.contents report.new) text) }
+    ensures asked { IfOk result (λ _. IsTrue (is_some then_run.now.record) → IsTrue (is_some file.new)) }
+    ensures faulty { IfErr result (IsUncontinued (S.remaining schedule.old) (map S.remaining files.old) limits.now
+        (unwrap_or then_run.now.budget 10000000) (W.contents report.old) (W.contents report.new)
+        (option_map vec_items file.old) (option_map vec_items file.new)) }
     ensures schedule_first { IfErr result (λ fault. IsOfSchedule fault → (files.new ≡ files.old)
         ⊎ IsAfterFiles (S.remaining schedule.old) (map S.remaining files.old) limits.now fault) }
     ensures counted { CountsFailure result
-        (S.failures schedule.old + sum_by S.failures files.old + W.failures report.old + option_map_or V.failures recorder.old 0)
-        (S.failures schedule.new + sum_by S.failures files.new + W.failures report.new + option_map_or V.failures recorder.new 0) }
+        (S.failures schedule.old + sum_by S.failures files.old + W.failures report.old)
+        (S.failures schedule.new + sum_by S.failures files.new + W.failures report.new) }
 {
     let opened = open(alloc, schedule, files, limits)?;
-    let is_recorded = recorder.is_some();
     let ran = ran_on(
         alloc,
         opened.verified,
         &opened.schedule,
         opened.files.as_slice(),
         opened.limits,
-        budget,
-        is_recorded,
+        then_run.budget(),
+        then_run.record.is_some(),
     )?;
+    *file = ran.file;
     report.write_all(ran.text.as_slice())?;
-    write_record(recorder, &ran.file)?;
     Ok(ran.status)
 }
 
@@ -82,7 +81,7 @@ fn ran_on(
     ensures run { IfOk result (λ ran. (bytes : _) (options : _)
         → IsOpened bytes (map vec_items files.now) options verified (events_of schedule.now) limits
         → IsContinued bytes (map vec_items files.now) options budget ran.text.items (option_map vec_items ran.file) ran.status) }
-    ensures asked { IfOk result (λ ran. is_some ran.file ≡ is_recorded) }
+    ensures asked { IfOk result (λ ran. IsTrue is_recorded → IsTrue (is_some ran.file)) }
 {
     let verified = Arc::new(alloc, verified)?;
     match run_on(alloc, verified, schedule, limits, budget)? {

@@ -1,46 +1,78 @@
 //! The line that tells a person why a command was not done. For it the files are read a second time.
 
 use crate::complaint::Complaint;
+use crate::explanation::Explanation;
 use crate::fault::Fault;
 use crate::folder::Folder;
 use crate::given_paths::given_paths;
 use command_line::{Command, Goal, command};
 use explanations::refusal_explanations::{GivenFile, explain, explain_schedule, explain_text};
 use std::alloc::{AllocError, Global};
+use std::fmt::Display;
 use std::io;
-use std::io::{ErrorKind, Read};
 
-/// The line with two spaces before it and its end, where there is one to tell: the words ask for it by `--explain`, or it
-/// is wanted anyway, and more is known than the complaint says. The kind is that of the first failure of the output.
-pub fn second_line<F: Folder>(
+/// What the input is called.
+const STANDARD_INPUT: &str = "standard input";
+
+/// A line, where something is known.
+type Told = Result<Option<Vec<u8>>, AllocError>;
+
+/// What a command could not read or write.
+#[derive(Clone, Copy)]
+pub struct Failures<'a> {
+    /// The first failure of the input.
+    pub input: Option<&'a io::Error>,
+    /// The first failure of the output.
+    pub output: Option<&'a io::Error>,
+}
+
+/// Tells why a command was not done, in a line with two spaces before it, where more is known than the complaint says: where the
+/// words ask for it by `--explain`, or it is wanted anyway; and nothing with `--quiet`.
+pub fn explain_complaint<F: Folder>(
     alloc: Global,
     folder: &F,
     words: &[String],
-    is_wanted: bool,
     complaint: &Complaint,
-    output: Option<ErrorKind>,
-) -> Option<Vec<u8>> {
+    failures: Failures<'_>,
+    explanation: &mut Explanation,
+) {
     let Complaint::Fault(fault) = complaint else {
-        return None;
+        return;
     };
-    let command = command(alloc, words).ok()?;
+    let Ok(command) = command(alloc, words) else {
+        // help that can't be written
+        if explanation.is_wanted() {
+            explanation.tell(indented(alloc, of_streams(alloc, failures)));
+        }
+        return;
+    };
     let (is_explained, is_quiet) = flags_of(&command);
-    if is_quiet || !(is_wanted || is_explained) {
-        return None;
+    if !is_quiet && (is_explained || explanation.is_wanted()) {
+        let line = told_line(
+            alloc,
+            folder,
+            &command,
+            fault,
+            failures,
+            explanation.reason(),
+        );
+        explanation.tell(indented(alloc, line));
     }
-    told_line(alloc, folder, &command, fault, output)
 }
 
-/// What is known of a fault of a command, with two spaces before it and its end.
+/// What is known of a fault of a command.
 fn told_line<F: Folder>(
     alloc: Global,
     folder: &F,
     command: &Command,
     fault: &Fault,
-    output: Option<ErrorKind>,
-) -> Option<Vec<u8>> {
-    let line = line_of(alloc, folder, command, fault, output).ok()??;
-    indented(alloc, line.as_slice()).ok()
+    failures: Failures<'_>,
+    recording: Option<&str>,
+) -> Told {
+    match fault {
+        Fault::Device => of_device(alloc, folder, command, failures, recording),
+        _ => line_of(alloc, folder, command, fault),
+    }
 }
 
 /// Whether the command has `--explain`, and whether it has `--quiet`.
@@ -56,12 +88,12 @@ fn flags_of(command: &Command) -> (bool, bool) {
     }
 }
 
-/// The line with two spaces before it and its end.
-fn indented(alloc: Global, line: &[u8]) -> Result<Vec<u8>, AllocError> {
-    let mut bytes = Vec::from_slice(alloc, b"  ")?;
-    bytes.extend_from_slice(line)?;
-    bytes.push(b'\n')?;
-    Ok(bytes)
+/// A line, if there is one, with two spaces before it and its end.
+fn indented(alloc: Global, line: Told) -> Option<Vec<u8>> {
+    let mut bytes = Vec::from_slice(alloc, b"  ").ok()?;
+    bytes.extend_from_slice(line.ok()??.as_slice()).ok()?;
+    bytes.push(b'\n').ok()?;
+    Some(bytes)
 }
 
 /// The path of the schedule that is read.
@@ -125,53 +157,26 @@ fn given_or_same<F: Folder>(
     }
 }
 
-/// The bytes of the file at a path.
-fn bytes_of<F: Folder>(alloc: Global, folder: &F, path: &str) -> io::Result<Vec<u8>> {
-    let mut file = folder.open(path)?;
-    let mut bytes = Vec::new(alloc);
-    file.read_to_end(&mut bytes)?;
-    Ok(bytes)
-}
-
-/// What is known of a fault.
-fn line_of<F: Folder>(
-    alloc: Global,
-    folder: &F,
-    command: &Command,
-    fault: &Fault,
-    output: Option<ErrorKind>,
-) -> Result<Option<Vec<u8>>, AllocError> {
-    let paths = files_of(alloc, folder, command)?;
+/// What is known of a fault that is no failure of a device.
+fn line_of<F: Folder>(alloc: Global, folder: &F, command: &Command, fault: &Fault) -> Told {
     let schedule = schedule_of(command);
     match fault {
-        Fault::Device => match of_device(alloc, folder, first_of(command), &paths, output)? {
-            Some(line) => Ok(Some(line)),
-            None => unrecorded(alloc, record_of(command)),
-        },
-        Fault::Memory => Ok(None),
+        Fault::Device | Fault::Memory => Ok(None),
         Fault::Schedule(fault) => match schedule {
             Some(path) => Ok(Some(explain_schedule(alloc, path, *fault)?)),
             None => Ok(None),
         },
         Fault::Text(fault) => {
-            let name = schedule.unwrap_or("standard input");
+            let name = schedule.unwrap_or(STANDARD_INPUT);
             Ok(Some(explain_text(alloc, name, *fault)?))
         }
-        Fault::Refusal(refusal) => match given(alloc, folder, &paths) {
-            Ok(files) => Ok(Some(explain(alloc, refusal, &files)?)),
-            Err(_) => Ok(None),
-        },
-    }
-}
-
-/// That the file that is to be recorded can't be written.
-fn unrecorded(alloc: Global, path: Option<&str>) -> Result<Option<Vec<u8>>, AllocError> {
-    match path {
-        Some(path) => {
-            let line = format!(in alloc; "{path}: the schedule can't be written")?;
-            Ok(Some(line.into_bytes()))
+        Fault::Refusal(refusal) => {
+            let paths = files_of(alloc, folder, command)?;
+            match given(alloc, folder, &paths) {
+                Ok(files) => Ok(Some(explain(alloc, refusal, &files)?)),
+                Err(_) => Ok(None),
+            }
         }
-        None => Ok(None),
     }
 }
 
@@ -183,34 +188,56 @@ fn given<'a, F: Folder>(
 ) -> io::Result<Vec<GivenFile<'a>>> {
     let mut files = Vec::new(alloc);
     for path in paths {
-        let bytes = bytes_of(alloc, folder, path.as_str())?;
+        let bytes = folder.read(alloc, path.as_str())?;
         let name = path.as_str();
         files.push(GivenFile { name, bytes })?;
     }
     Ok(files)
 }
 
-/// The first file that can't be read with the system's reason, or what failed the output.
+/// What failed, and the system's reason: the file that was to be written, the output, the input, or the first file that
+/// can't be read.
 fn of_device<F: Folder>(
     alloc: Global,
     folder: &F,
-    first: Option<&str>,
-    paths: &[String],
-    output: Option<ErrorKind>,
-) -> Result<Option<Vec<u8>>, AllocError> {
-    if let Some(kind) = output {
-        let line = format!(in alloc; "the output: {kind}")?;
-        return Ok(Some(line.into_bytes()));
+    command: &Command,
+    failures: Failures<'_>,
+    recording: Option<&str>,
+) -> Told {
+    if let (Some(path), Some(reason)) = (record_of(command), recording) {
+        return line_with(alloc, path, &reason);
     }
-    if let Some(path) = first {
-        if let Err(error) = bytes_of(alloc, folder, path) {
-            return Ok(Some(format!(in alloc; "{path}: {error}")?.into_bytes()));
+    if let Some(line) = of_streams(alloc, failures)? {
+        return Ok(Some(line));
+    }
+    if let Some(path) = first_of(command) {
+        if let Err(error) = folder.read(alloc, path) {
+            return line_with(alloc, path, &error);
         }
     }
+    unread(alloc, folder, files_of(alloc, folder, command)?.as_slice())
+}
+
+/// Which of the output and the input failed, and the system's reason.
+fn of_streams(alloc: Global, failures: Failures<'_>) -> Told {
+    match (failures.output, failures.input) {
+        (Some(error), _) => line_with(alloc, "the output", error),
+        (None, Some(error)) => line_with(alloc, STANDARD_INPUT, error),
+        (None, None) => Ok(None),
+    }
+}
+
+/// The first of the files that can't be read, and why.
+fn unread<F: Folder>(alloc: Global, folder: &F, paths: &[String]) -> Told {
     for path in paths {
-        if let Err(error) = bytes_of(alloc, folder, path.as_str()) {
-            return Ok(Some(format!(in alloc; "{path}: {error}")?.into_bytes()));
+        if let Err(error) = folder.read(alloc, path.as_str()) {
+            return line_with(alloc, path.as_str(), &error);
         }
     }
     Ok(None)
+}
+
+/// A name, and the reason why it failed.
+fn line_with<E: Display>(alloc: Global, name: &str, reason: &E) -> Told {
+    Ok(Some(format!(in alloc; "{name}: {reason}")?.into_bytes()))
 }

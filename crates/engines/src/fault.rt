@@ -4,6 +4,7 @@ ghost use Rattle.std.specs.Prelude.{◌≡◌, OnOk};
 ghost use Rattle.std.specs.Io.KnownBytes.{Appends};
 ghost use Rattle.engines.specs.declared.fault.Fault.TheVariants.{Memory, Refusal, Schedule, Text};
 ghost use Rattle.engines.specs.Devices.{either_fault, fault_of};
+ghost use Rattle.engines.specs.Failures.{IsOfError, IsOfKind};
 ghost use Rattle.engines.specs.Complaints.{fault_line};
 
 use model::DeviceFault;
@@ -91,11 +92,10 @@ impl From<DeviceFault> for Fault {
 
 /// Where a folder can't be read.
 impl From<io::Error> for Fault {
+    ghost from_gives = { λ error fault. IsOfError error fault };
+
     fn from(error: io::Error) -> Fault {
-        match error.kind() {
-            ErrorKind::OutOfMemory => Fault::Memory,
-            _ => Fault::Device,
-        }
+        Fault::from(device_fault(&error))
     }
 }
 
@@ -112,5 +112,15 @@ impl<T: Drop> From<AllocFailed<T>> for Fault {
 
     fn from(_error: AllocFailed<T>) -> Fault {
         Fault::Memory
+    }
+}
+
+/// What the system's reason comes to: a want of memory, or a failure.
+pub(crate) fn device_fault(error: &io::Error) -> DeviceFault
+    ensures { IsOfKind error.now result }
+{
+    match error.kind() {
+        ErrorKind::OutOfMemory => DeviceFault::Memory,
+        _ => DeviceFault::Device,
     }
 }

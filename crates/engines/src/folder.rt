@@ -1,149 +1,48 @@
 //! Files by their paths.
 
+ghost use Rattle.std.specs.Prelude.{Bool, List, None, Option, Some, ℕ, IfErr, IfOk, OnErr, OnOk, true, vec_items};
+ghost use Rattle.std.specs.Option.{option_map};
+ghost use Rattle.std.specs.declared.string.String.{String as Text};
+ghost use Rattle.std.specs.Global.{Global as System};
+ghost use Rattle.engines.specs.Engines.{Reads};
+ghost use Rattle.engines.specs.Failures.{IsFailure};
+ghost use Rattle.engines.specs.Files.{IsWith, IsListed};
+
 use std::alloc::Global;
-use std::io::{Read, Write};
-use std::rt::Files;
-use std::{fs, io};
+use std::io;
 
 /// A place whose files are found by their paths.
 pub trait Folder {
-    /// A file that is open for reading.
-    type File: Read + Drop;
+    /// What the file at a path holds, where that is known. Of a file of the system it isn't.
+    ghost held: { Self → List ℕ → Option (List ℕ) };
 
-    /// A file that is open for writing.
-    type Created: Write + Drop;
+    /// The names of what lies in the folder at a path, in any order, where that is known; none where there is no folder.
+    ghost listed: { Self → List ℕ → Option (Option (List (Text System))) };
 
-    /// Opens the file at a path. Where there is none, that is an error.
-    fn open(&self, path: &str) -> io::Result<Self::File>;
+    /// Whether it may fail to read, to list or to write what is at a path. Of what is in the system it may.
+    ghost may_fail: { Self → List ℕ → Bool } = { λ _ _. true };
 
-    /// Makes a file at a path, in place of one that is there.
-    fn create(&self, path: &str) -> io::Result<Self::Created>;
+    /// Reads the file at a path. Where there is none, or it can't be read, that is an error.
+    fn read(&self, alloc: Global, path: &str) -> io::Result<Vec<u8>>
+        ensures read { IfOk result (λ bytes. Reads (held self.now path.now) bytes.items) }
+        ensures failed { IfErr result (IsFailure (may_fail self.now path.now)) };
 
-    /// The names of what lies in the folder at a path, in any order, or `None` where there is no folder. A place that
-    /// has files alone leaves this as it is.
-    fn names(&self, _alloc: Global, _path: &str) -> io::Result<Option<Vec<String>>> {
-        Ok(None)
-    }
-}
+    /// The names of what lies in the folder at a path, in any order, or `None` where there is no folder.
+    fn names(&self, alloc: Global, path: &str) -> io::Result<Option<Vec<String>>>
+        ensures listed { IfOk result (λ names. IsListed (listed self.now path.now) (option_map vec_items names)) }
+        ensures failed { IfErr result (IsFailure (may_fail self.now path.now)) };
 
-/// The files of the system, from the folder on that the program runs in.
-#[derive(Drop)]
-pub struct SystemFolder<'a, R> {
-    files: &'a R,
-}
-
-impl<'a, R> SystemFolder<'a, R> {
-    pub fn new(files: &'a R) -> SystemFolder<'a, R> {
-        SystemFolder { files }
-    }
-}
-
-impl<R: Files> Folder for SystemFolder<'_, R> {
-    type File = R::File;
-
-    type Created = R::File;
-
-    fn open(&self, path: &str) -> io::Result<R::File> {
-        fs::open(self.files, path)
+    /// Tries whether a file can be made at a path, as far as that shows beforehand. Nothing is changed.
+    fn try_write(&self, _alloc: Global, _path: &str) -> io::Result<()>
+        ensures failed { IfErr result (IsFailure (may_fail self.now _path.now)) }
+    {
+        Ok(())
     }
 
-    fn create(&self, path: &str) -> io::Result<R::File> {
-        fs::create(self.files, path)
-    }
-
-    fn names(&self, alloc: Global, path: &str) -> io::Result<Option<Vec<String>>> {
-        match fs::metadata(self.files, path) {
-            Ok(found) if found.is_dir() => Ok(Some(names_in(alloc, self.files, path)?)),
-            _ => Ok(None),
-        }
-    }
-}
-
-/// The names of what lies in a folder of the system.
-fn names_in<R: Files>(alloc: Global, files: &R, path: &str) -> io::Result<Vec<String>> {
-    let mut names = Vec::new(alloc);
-    for entry in fs::read_dir(&(files, alloc), path)? {
-        names.push(String::from_str(alloc, entry?.file_name())?)?;
-    }
-    Ok(names)
-}
-
-/// The file at a path of a folder, which is opened by the first read and closed at its end.
-#[derive(Drop)]
-pub struct NamedFile<'a, F: Folder> {
-    folder: &'a F,
-    path: &'a str,
-    opened: Opened<F::File>,
-}
-
-#[derive(Drop)]
-enum Opened<T> {
-    Never,
-    Now(T),
-    Before,
-}
-
-impl<'a, F: Folder> NamedFile<'a, F> {
-    /// The file at this path, or none: a read shows that.
-    pub fn new(folder: &'a F, path: &'a str) -> NamedFile<'a, F> {
-        NamedFile {
-            folder,
-            path,
-            opened: Opened::Never,
-        }
-    }
-}
-
-impl<F: Folder> Read for NamedFile<'_, F> {
-    fn read(&mut self, buf: &mut [u8]) -> io::Result<usize> {
-        if let Opened::Never = &self.opened {
-            self.opened = Opened::Now(self.folder.open(self.path)?);
-        }
-        let count = match &mut self.opened {
-            Opened::Now(file) => file.read(buf)?,
-            _ => 0,
-        };
-        if count == 0 && !buf.is_empty() {
-            self.opened = Opened::Before;
-        }
-        Ok(count)
-    }
-}
-
-/// The file at a path of a folder, which is made by the first write.
-#[derive(Drop)]
-pub struct CreatedFile<'a, F: Folder> {
-    folder: &'a F,
-    path: &'a str,
-    created: Option<F::Created>,
-}
-
-impl<'a, F: Folder> CreatedFile<'a, F> {
-    /// The file at this path, so far not made.
-    pub fn new(folder: &'a F, path: &'a str) -> CreatedFile<'a, F> {
-        CreatedFile {
-            folder,
-            path,
-            created: None,
-        }
-    }
-}
-
-impl<F: Folder> Write for CreatedFile<'_, F> {
-    fn write(&mut self, buf: &[u8]) -> io::Result<usize> {
-        if self.created.is_none() {
-            self.created = Some(self.folder.create(self.path)?);
-        }
-        match &mut self.created {
-            Some(file) => file.write(buf),
-            None => Ok(0),
-        }
-    }
-
-    fn flush(&mut self) -> io::Result<()> {
-        match &mut self.created {
-            Some(file) => file.flush(),
-            None => Ok(()),
-        }
-    }
+    /// Makes a file of these bytes at a path, in place of one that is there. Every other file stays as it is, and after an
+    /// error this one does, too.
+    fn write(&mut self, alloc: Global, path: &str, bytes: &[u8]) -> io::Result<()>
+        ensures written { OnOk result (IsWith (held self.old) (held self.new) (Some (path.now, bytes.now))) }
+        ensures same { OnErr result (IsWith (held self.old) (held self.new) None) }
+        ensures failed { IfErr result (IsFailure (may_fail self.old path.now)) };
 }

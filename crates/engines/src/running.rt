@@ -1,23 +1,22 @@
 //! A run by workers, over any readers and writers.
 
-ghost use Rattle.std.specs.Prelude.{◌≡◌, ◌+◌, ◌<◌, ◌^◌, Some, IfOk, IfErr, IfSome, OnOk, OnErr, length, map, is_some, sum_by, unwrap_or, vec_items};
-ghost use Rattle.std.specs.Option.{option_map, option_map_or};
+ghost use Rattle.std.specs.Prelude.{◌≡◌, ◌+◌, ◌<◌, ◌^◌, Some, IfOk, IfErr, IfSome, IsTrue, length, map, is_some, sum_by, unwrap_or, vec_items};
+ghost use Rattle.std.specs.Option.{option_map};
 ghost use Rattle.std.specs.Io.KnownBytes.{Appends};
 ghost use Rattle.model.specs.Accepted.{IsAccepted};
-ghost use Rattle.model.specs.Devices.{Counts};
 ghost use Rattle.model.specs.Schedule.{ScheduleFile, events_of};
 ghost use Rattle.machine.specs.machine_replay.Replays.{text_of};
 ghost use Rattle.program_runs.specs.worlds.Records.{IsRecordOf};
 ghost use Rattle.engines.specs.Engines.{CountsFailure};
 ghost use Rattle.engines.specs.Statuses.{status_of};
-ghost use Rattle.engines.specs.Runs.{IsRun, IsUnrun, Records, RecordsFront, Runs, recording_of};
+ghost use Rattle.engines.specs.Runs.{IsRun, IsUnrun, Runs, recording_of};
 
 use crate::class_files::read_class_files;
 use crate::fault::Fault;
 use crate::status::Status;
 use crate::verification::accepted;
-use command_line::{LimitOptions, RunOptions};
-use model::{DeviceFault, End, Limits, Report, Sink, Source};
+use command_line::{Run, RunOptions};
+use model::{End, Limits, Report, Sink, Source};
 use program_runs::workers::{Gate, Recorded, run_workers};
 use program_runs::worlds::run_seeded;
 use schedule::report::text;
@@ -27,53 +26,41 @@ use std::sync::{Arc, Wait};
 use std::thread::Threads;
 use verifier::Verified;
 
-/// Runs the class files, by workers or, with a seed, by one; writes the report, and then the schedule file where one is
-/// asked for; and answers the status of the report. The gate is told what the workers do.
+/// Runs the class files, by workers or, with a seed, by one; makes the schedule file where it is asked for, and where the run
+/// does not end normally; writes the report, and answers its status. The gate is told what the workers do.
 ///
-/// A fault of the class files is answered before anything runs, and nothing is written then; nor is anything after a want
-/// of memory in the run. The bytes of both are made before the first is written.
-pub fn run_engine<R: Threads + Wait + Sync, G: Gate + Sync, S: Source, W: Sink, V: Sink>(
+/// A fault of the class files is answered before anything runs, and nothing is written or made then; nor is anything after
+/// a want of memory in the run. The file is there before the report is written.
+pub fn run_engine<R: Threads + Wait + Sync, G: Gate + Sync, S: Source, W: Sink>(
     rt: &R,
     alloc: Global,
     gate: &G,
     files: &mut [S],
-    limits: &LimitOptions,
-    options: &RunOptions,
+    options: &Run,
     report: &mut W,
-    recorder: &mut Option<V>,
+    file: &mut Option<Vec<u8>>,
 ) -> Result<Status, Fault>
-    // The report of a run is written, and the file of its schedule where it is asked for, and nothing else.
-    ensures ran { IfOk result (λ status. (text : _) × (file : _)
-        × Runs (map S.remaining files.old) limits.now options.now text file status
-        × Appends (W.contents report.old) (W.contents report.new) text
-        × Records (option_map V.contents recorder.old) (option_map V.contents recorder.new) file) }
-    ensures faulty { IfErr result (IsUnrun (map S.remaining files.old) limits.now options.now
-        (W.contents report.old) (W.contents report.new)
-        (option_map V.contents recorder.old) (option_map V.contents recorder.new)) }
+    // The report of a run is written, and nothing else; and the file is that of its schedule.
+    ensures ran { IfOk result (λ status. (text : _)
+        × Runs (map S.remaining files.old) options.now.limits options.now.options text (option_map vec_items file.new) status
+        × Appends (W.contents report.old) (W.contents report.new) text) }
+    ensures asked { IfOk result (λ _. IsTrue (is_some options.now.record) → IsTrue (is_some file.new)) }
+    ensures faulty { IfErr result (IsUnrun (map S.remaining files.old) options.now.limits options.now.options
+        (W.contents report.old) (W.contents report.new) (option_map vec_items file.old) (option_map vec_items file.new)) }
     ensures counted { CountsFailure result
-        (sum_by S.failures files.old + W.failures report.old + option_map_or V.failures recorder.old 0)
-        (sum_by S.failures files.new + W.failures report.new + option_map_or V.failures recorder.new 0) }
+        (sum_by S.failures files.old + W.failures report.old)
+        (sum_by S.failures files.new + W.failures report.new) }
 {
     let read = read_class_files(alloc, files)?;
     let files = read.as_slice();
     let verified = accepted(alloc, files)?;
-    let is_recorded = recorder.is_some();
-    let ran = ran(
-        rt,
-        alloc,
-        gate,
-        verified,
-        files,
-        limits,
-        options,
-        is_recorded,
-    )?;
+    let ran = ran(rt, alloc, gate, verified, files, options)?;
+    *file = ran.file;
     report.write_all(ran.text.as_slice())?;
-    write_record(recorder, &ran.file)?;
     Ok(ran.status)
 }
 
-/// What a run says: the text of its report, its schedule file where one is asked for, and its status.
+/// What a run says: the text of its report, its schedule file where one is made, and its status.
 #[derive(Drop)]
 pub(crate) struct Outcome {
     pub(crate) text: Vec<u8>,
@@ -88,17 +75,15 @@ fn ran<R: Threads + Wait + Sync, G: Gate + Sync>(
     gate: &G,
     verified: Verified,
     files: &[Vec<u8>],
-    limits: &LimitOptions,
-    options: &RunOptions,
-    is_recorded: bool,
+    options: &Run,
 ) -> Result<Outcome, AllocError>
     requires { IsAccepted (map vec_items files.now) verified }
-    ensures run { IfOk result (λ ran. IsRun (map vec_items files.now) limits.now options.now
+    ensures run { IfOk result (λ ran. IsRun (map vec_items files.now) options.now.limits options.now.options
         ran.text.items (option_map vec_items ran.file) ran.status) }
-    ensures asked { IfOk result (λ ran. is_some ran.file ≡ is_recorded) }
+    ensures asked { IfOk result (λ ran. IsTrue (is_some options.now.record) → IsTrue (is_some ran.file)) }
 {
-    let limits = limits.limits();
-    let recorded = recorded_run(rt, alloc, gate, verified, limits, options)?;
+    let limits = options.limits.limits();
+    let recorded = recorded_run(rt, alloc, gate, verified, limits, &options.options)?;
     outcome_of(
         alloc,
         files,
@@ -106,7 +91,7 @@ fn ran<R: Threads + Wait + Sync, G: Gate + Sync>(
         &recorded.report,
         recorded.end,
         &recorded.schedule,
-        is_recorded,
+        options.record.is_some(),
     )
 }
 
@@ -123,14 +108,32 @@ pub(crate) fn outcome_of(
     requires { length files.now < 2 ^ 32 }
     ensures told { IfOk result (λ outcome. outcome.text.items ≡ text_of report.now end) }
     ensures ended { IfOk result (λ outcome. outcome.status ≡ status_of report.now.threads.items end) }
-    ensures asked { IfOk result (λ outcome. is_some outcome.file ≡ is_recorded) }
+    ensures asked { IfOk result (λ outcome. IsTrue is_recorded → IsTrue (is_some outcome.file)) }
     ensures spelled { IfOk result (λ outcome. IfSome (option_map vec_items outcome.file) (λ bytes.
         ScheduleFile bytes (Some (recording_of limits (map vec_items files.now))) (events_of schedule.now))) }
 {
     let text = text(alloc, report, &end)?;
     let status = Status::of(report, end);
-    let file = recorded_file(alloc, is_recorded, files, limits, schedule)?;
+    let file = if is_recorded || status == Status::Returned {
+        recorded_file(alloc, is_recorded, files, limits, schedule)?
+    } else {
+        told_file(alloc, files, limits, schedule)
+    };
     Ok(Outcome { text, file, status })
+}
+
+/// The schedule file of a run of the class files, by which it can be told why it ended so; none where memory is wanted for it.
+fn told_file(
+    alloc: Global,
+    files: &[Vec<u8>],
+    limits: Limits,
+    schedule: &Schedule,
+) -> Option<Vec<u8>>
+    requires { length files.now < 2 ^ 32 }
+    ensures { IfSome (option_map vec_items result) (λ bytes.
+        ScheduleFile bytes (Some (recording_of limits (map vec_items files.now))) (events_of schedule.now)) }
+{
+    file_of(alloc, files, limits, schedule).ok()
 }
 
 /// The record of a run of accepted class files.
@@ -206,25 +209,4 @@ fn lengths_of(alloc: Global, files: &[Vec<u8>]) -> Result<Vec<u64>, AllocError>
         lengths.push(file.len() as u64)?;
     }
     Ok(lengths)
-}
-
-/// Writes the schedule file, where one is asked for.
-pub(crate) fn write_record<V: Sink>(
-    recorder: &mut Option<V>,
-    file: &Option<Vec<u8>>,
-) -> Result<(), DeviceFault>
-    requires { is_some file.now ≡ is_some recorder.old }
-    ensures written { OnOk result (Records (option_map V.contents recorder.old) (option_map V.contents recorder.new)
-        (option_map vec_items file.now)) }
-    ensures part { OnErr result (RecordsFront (option_map V.contents recorder.old) (option_map V.contents recorder.new)
-        (option_map vec_items file.now)) }
-    ensures counted { Counts result (option_map_or V.failures recorder.old 0) (option_map_or V.failures recorder.new 0) }
-{
-    let Some(file) = file else {
-        return Ok(());
-    };
-    match recorder {
-        Some(recorder) => recorder.write_all(file.as_slice()),
-        None => Ok(()),
-    }
 }

@@ -1,78 +1,66 @@
-//! What `--explain` tells of the threads of a run. For it the class files are read, and the events are done, a second time.
+//! What is told of the threads of a run. For it the class files are read, and the events are done, a second time.
 
 use crate::class_files::read_class_files;
-use crate::device::Counted;
 use crate::fault::Fault;
-use crate::folder::{CreatedFile, Folder};
-use crate::opening::read_given;
+use crate::folder::Folder;
+use crate::named_file::sources;
 use crate::recording::limits_of;
 use crate::verification::accepted;
 use command_line::LimitOptions;
 use explanations::thread_explanations::explain_threads;
-use model::{Limits, Source};
+use model::Limits;
 use program_runs::verified_programs::verified_program;
 use schedule::Schedule;
+use schedule::schedule_text::read_either;
 use std::alloc::{AllocError, Global};
-use std::io;
-use std::io::Write;
 use verifier::Verified;
 
-/// The file that is to be recorded, if one is. Its bytes are kept, where they are wanted.
-#[derive(Drop)]
-pub(crate) struct KeptFile<'a, F: Folder> {
-    file: Option<CreatedFile<'a, F>>,
-    kept: Option<Vec<u8>>,
-}
-
-impl<'a, F: Folder> KeptFile<'a, F> {
-    /// This file, so far not made.
-    pub(crate) fn new(
-        alloc: Global,
-        file: Option<CreatedFile<'a, F>>,
-        is_kept: bool,
-    ) -> KeptFile<'a, F> {
-        let kept = if is_kept { Some(Vec::new(alloc)) } else { None };
-        KeptFile { file, kept }
-    }
-
-    /// The bytes that were kept.
-    pub(crate) fn into_kept(self) -> Option<Vec<u8>> {
-        self.kept
-    }
-}
-
-impl<F: Folder> Write for KeptFile<'_, F> {
-    fn write(&mut self, buf: &[u8]) -> io::Result<usize> {
-        let count = match &mut self.file {
-            Some(file) => file.write(buf)?,
-            None => buf.len(),
-        };
-        if let Some(kept) = &mut self.kept {
-            kept.extend_from_slice(buf.get(..count).unwrap_or(&[]))?;
-        }
-        Ok(count)
-    }
-
-    fn flush(&mut self) -> io::Result<()> {
-        match &mut self.file {
-            Some(file) => file.flush(),
-            None => Ok(()),
-        }
-    }
-}
-
-/// What the threads are about that did not end normally, after the events of the schedule.
-pub(crate) fn told_threads<T: Source, S: Source>(
+/// What the threads are about that did not end normally, after the events of the schedule at a path, if they are not too many.
+pub(crate) fn told_schedule<F: Folder>(
     alloc: Global,
-    schedule: &mut T,
-    files: &mut [S],
+    folder: &F,
+    path: &String,
+    files: &[String],
     limits: &LimitOptions,
-) -> Result<Vec<u8>, Fault> {
-    let (schedule, recorded) = read_given(alloc, schedule)?;
-    let files = read_class_files(alloc, files)?;
+    most: u64,
+) -> Option<Vec<u8>> {
+    let bytes = folder.read(alloc, path.as_str()).ok()?;
+    told_threads(alloc, folder, bytes.as_slice(), files, limits, most).ok()?
+}
+
+/// The same of the schedule file that was made, if one was.
+pub(crate) fn told_record<F: Folder>(
+    alloc: Global,
+    folder: &F,
+    file: &Option<Vec<u8>>,
+    files: &[String],
+    limits: &LimitOptions,
+    most: u64,
+) -> Option<Vec<u8>> {
+    match file {
+        Some(bytes) => { told_threads(alloc, folder, bytes.as_slice(), files, limits, most).ok()? }
+        None => None,
+    }
+}
+
+/// The same of these bytes of a schedule.
+fn told_threads<F: Folder>(
+    alloc: Global,
+    folder: &F,
+    bytes: &[u8],
+    files: &[String],
+    limits: &LimitOptions,
+    most: u64,
+) -> Result<Option<Vec<u8>>, Fault> {
+    let (schedule, recorded) = read_either(alloc, bytes)?;
+    if schedule.count() > most {
+        return Ok(None);
+    }
+    let mut sources = sources(alloc, folder, files)?;
+    let files = read_class_files(alloc, sources.as_mut_slice())?;
     let limits = limits_of(&recorded, files.as_slice(), limits)?;
     let verified = accepted(alloc, files.as_slice())?;
-    Ok(threads_after(alloc, &verified, &schedule, limits)?)
+    Ok(Some(threads_after(alloc, &verified, &schedule, limits)?))
 }
 
 /// The same of these class files, which are accepted, with these limits.
@@ -84,24 +72,4 @@ fn threads_after(
 ) -> Result<Vec<u8>, AllocError> {
     let program = verified_program(alloc, verified)?;
     explain_threads(alloc, verified.linked(), &program, schedule, limits)
-}
-
-/// The same of the schedule that was recorded. Nothing, where none was kept.
-pub(crate) fn told_record<F: Folder, S: Source>(
-    alloc: Global,
-    record: Option<Counted<KeptFile<'_, F>>>,
-    files: &mut [S],
-    limits: &LimitOptions,
-) -> Result<Vec<u8>, Fault> {
-    let kept = match record {
-        Some(record) => record.into_inner().into_kept(),
-        None => None,
-    };
-    match kept {
-        Some(bytes) => {
-            let mut schedule = Counted::new(alloc, bytes.as_slice());
-            told_threads(alloc, &mut schedule, files, limits)
-        }
-        None => Ok(Vec::new(alloc)),
-    }
 }

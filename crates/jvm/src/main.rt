@@ -6,7 +6,9 @@ ghost use Rattle.engines.specs.Statuses.{complaint_status};
 
 mod progress;
 
-use engines::{Complaint, Counted, Fault, Status, SystemFolder, run, second_line};
+use engines::{
+    Complaint, Counted, Explanation, Failures, Fault, Status, SystemFolder, explain_complaint, run,
+};
 use progress::{Cleared, Progress};
 use std::io::{ErrorKind, IsTerminal, Write};
 use std::process::ExitCode;
@@ -15,15 +17,19 @@ use std::sync::Wait;
 use std::thread::Threads;
 use std::{env, io};
 
+/// The status of a program that ended since nobody reads its output, as a shell shows the signal SIGPIPE.
+const CLOSED_PIPE: u8 = 141;
+
 fn main(rt: HostRuntime) -> ExitCode {
-    let status = match words(&rt) {
-        Ok(words) => {
-            let (outcome, explanation) = done(&rt, words.as_slice(), rt.stderr().is_terminal());
-            told(&rt, outcome, explanation)
-        }
-        Err(error) => without_words(&rt, &error),
+    let words = match words(&rt) {
+        Ok(words) => words,
+        Err(error) => return ExitCode::from(without_words(&rt, &error).code()),
     };
-    ExitCode::from(status.code())
+    let ending = done(&rt, words.as_slice(), rt.stderr().is_terminal());
+    if ending.is_closed {
+        return ExitCode::from(CLOSED_PIPE);
+    }
+    ExitCode::from(told(&rt, ending.outcome, ending.explanation.text()).code())
 }
 
 /// The words of the command line, the program's name first.
@@ -32,48 +38,72 @@ fn words(rt: &HostRuntime) -> io::Result<Vec<String>> {
     Ok(words.collect(rt.alloc())?)
 }
 
-/// What comes of the words, which are done over the files of the system, the standard input and the standard output, with the
-/// explanation that there may be: the second line of a complaint, or what threads are about. A person reads the standard error if it
-/// is a terminal.
+/// What comes of the words.
+#[derive(Drop)]
+struct Ending {
+    outcome: Result<Status, Complaint>,
+    explanation: Explanation,
+    /// Whether no more went wrong than that the output is a pipe that nobody reads.
+    is_closed: bool,
+}
+
+/// Whether a pipe failed since nobody reads it.
+fn is_closed(failure: Option<&io::Error>) -> bool {
+    match failure {
+        Some(error) => error.kind() == ErrorKind::BrokenPipe,
+        None => false,
+    }
+}
+
+/// Does what the words say over the files of the system, the standard input and the standard output. The standard error shows
+/// how far a run or a search is, if it is a terminal.
 fn done<R: Files + Input + Print + Eprint + Clock + AllocGlobal + Threads + Wait + Sync>(
     rt: &R,
     words: &[String],
     is_terminal: bool,
-) -> (Result<Status, Complaint>, Option<Vec<u8>>) {
+) -> Ending {
     let progress = Progress::new(rt, is_terminal);
     let mut output = Counted::new(rt.alloc(), Cleared::new(&progress, io::writer(rt)));
     let mut input = Counted::new(rt.alloc(), rt.reader());
-    let folder = SystemFolder::new(rt);
-    let mut threads = Vec::new(rt.alloc());
+    let mut folder = SystemFolder::new(rt);
+    let mut explanation = Explanation::new(rt.alloc(), true);
     let outcome = run(
         rt,
         rt.alloc(),
         &progress,
-        &folder,
+        &mut folder,
         words,
         &mut input,
         &mut output,
-        &mut threads,
+        &mut explanation,
     );
     progress.clear();
-    let explanation = match &outcome {
-        Ok(_) => Some(threads),
-        Err(complaint) => second_line(
+    let failures = Failures {
+        input: input.failure(),
+        output: output.failure(),
+    };
+    if let Err(complaint) = &outcome {
+        explain_complaint(
             rt.alloc(),
             &folder,
             words,
-            is_terminal,
             complaint,
-            output.failure(),
-        ),
-    };
-    (outcome, explanation)
+            failures,
+            &mut explanation,
+        );
+    }
+    let is_closed = is_closed(failures.output) && !explanation.is_file_lost();
+    Ending {
+        outcome,
+        explanation,
+        is_closed,
+    }
 }
 
 /// The status where the words can't be had: they aren't text, or there is no memory for them.
 fn without_words(rt: &HostRuntime, error: &io::Error) -> Status {
     match error.kind() {
-        ErrorKind::OutOfMemory => return told(rt, Err(Complaint::Fault(Fault::Memory)), None),
+        ErrorKind::OutOfMemory => return told(rt, Err(Complaint::Fault(Fault::Memory)), &[]),
         ErrorKind::InvalidData => {
             let _ = rt.eprintln("error: a word of the command line is no UTF-8");
         }
@@ -84,13 +114,9 @@ fn without_words(rt: &HostRuntime, error: &io::Error) -> Status {
     Status::Unusable
 }
 
-/// The status, after a complaint has been told, and the explanation that there may be. Where the standard error fails, the status alone
-/// tells the complaint.
-fn told(
-    rt: &HostRuntime,
-    outcome: Result<Status, Complaint>,
-    explanation: Option<Vec<u8>>,
-) -> Status
+/// The status, after a complaint has been told, and the lines of the explanation. Where the standard error fails, the status
+/// alone tells the complaint.
+fn told(rt: &HostRuntime, outcome: Result<Status, Complaint>, explanation: &[u8]) -> Status
     ensures { MatchResult outcome (λ status. result ≡ status) (λ complaint. result ≡ complaint_status complaint) }
 {
     let status = match outcome {
@@ -100,8 +126,6 @@ fn told(
             Status::of_complaint(&complaint)
         }
     };
-    if let Some(text) = explanation {
-        let _ = Write::write_all(&mut rt.stderr(), &text);
-    }
+    let _ = Write::write_all(&mut rt.stderr(), explanation);
     status
 }

@@ -1,21 +1,18 @@
 //! The folder of a case: the files of its text and those that cases recorded, and behind them those of another folder.
 
+ghost use Rattle.std.specs.Prelude.{None};
+
 use engines::Folder;
 use indexmap::IndexMap;
 use std::alloc::Global;
-use std::cell::RefCell;
 use std::io;
-use std::io::{Cursor, ErrorKind, Read, Write};
-
-/// The files that cases recorded, by their names.
-pub type Recorded = RefCell<IndexMap<String, Vec<u8>>>;
+use std::io::ErrorKind;
 
 /// Files in memory by their names, and another folder for every other name. What is recorded stays in memory.
 #[derive(Drop)]
 pub struct CaseFolder<'a, F> {
-    alloc: Global,
     given: &'a IndexMap<String, Vec<u8>>,
-    recorded: &'a Recorded,
+    recorded: IndexMap<String, Vec<u8>>,
     others: &'a F,
 }
 
@@ -23,68 +20,34 @@ impl<'a, F> CaseFolder<'a, F> {
     pub fn new(
         alloc: Global,
         given: &'a IndexMap<String, Vec<u8>>,
-        recorded: &'a Recorded,
         others: &'a F,
     ) -> CaseFolder<'a, F> {
         CaseFolder {
-            alloc,
             given,
-            recorded,
+            recorded: IndexMap::new(alloc),
             others,
         }
     }
 
     /// The bytes that were recorded under this name.
-    pub fn recorded(&self, name: &str) -> io::Result<Option<Vec<u8>>> {
-        let Ok(files) = self.recorded.try_borrow() else {
-            return Err(io::Error::from(ErrorKind::WouldBlock));
-        };
-        match files.get(name) {
-            Some(bytes) => Ok(Some(bytes.clone()?)),
-            None => Ok(None),
-        }
+    pub fn recorded(&self, name: &str) -> Option<&[u8]> {
+        Some(self.recorded.get(name)?.as_slice())
     }
 }
 
-/// A file of a case that is open for reading.
-#[derive(Drop)]
-pub enum CaseFile<'a, T> {
-    Given(&'a [u8]),
-    Recorded(Cursor<Vec<u8>>),
-    Other(T),
-}
+impl<F: Folder> Folder for CaseFolder<'_, F> {
+    ghost held = { λ _ _. None };
 
-/// A file that a case records.
-#[derive(Drop)]
-pub struct RecordedFile<'a> {
-    files: &'a Recorded,
-    name: String,
-}
+    ghost listed = { λ _ _. None };
 
-impl<'a, F: Folder> Folder for CaseFolder<'a, F> {
-    type File = CaseFile<'a, F::File>;
-
-    type Created = RecordedFile<'a>;
-
-    fn open(&self, path: &str) -> io::Result<CaseFile<'a, F::File>> {
+    fn read(&self, alloc: Global, path: &str) -> io::Result<Vec<u8>> {
         if let Some(bytes) = self.given.get(path) {
-            return Ok(CaseFile::Given(bytes.as_slice()));
+            return Ok(Vec::from_slice(alloc, bytes.as_slice())?);
         }
-        match self.recorded(path)? {
-            Some(bytes) => Ok(CaseFile::Recorded(Cursor::new(bytes))),
-            None => Ok(CaseFile::Other(self.others.open(path)?)),
+        match self.recorded.get(path) {
+            Some(bytes) => Ok(Vec::from_slice(alloc, bytes.as_slice())?),
+            None => self.others.read(alloc, path),
         }
-    }
-
-    fn create(&self, path: &str) -> io::Result<RecordedFile<'a>> {
-        let Ok(mut files) = self.recorded.try_borrow_mut() else {
-            return Err(io::Error::from(ErrorKind::WouldBlock));
-        };
-        files.insert(String::from_str(self.alloc, path)?, Vec::new(self.alloc))?;
-        Ok(RecordedFile {
-            files: self.recorded,
-            name: String::from_str(self.alloc, path)?,
-        })
     }
 
     /// The names of the files of the text whose names begin with the path and a slash.
@@ -100,6 +63,24 @@ impl<'a, F: Folder> Folder for CaseFolder<'a, F> {
         }
         Ok(Some(names))
     }
+
+    /// Neither a file of the text can be made anew, nor one in the place of a folder.
+    fn try_write(&self, alloc: Global, path: &str) -> io::Result<()> {
+        if self.given.get(path).is_some() {
+            return Err(io::Error::from(ErrorKind::PermissionDenied));
+        }
+        if self.names(alloc, path)?.is_some() {
+            return Err(io::Error::from(ErrorKind::IsADirectory));
+        }
+        Ok(())
+    }
+
+    fn write(&mut self, alloc: Global, path: &str, bytes: &[u8]) -> io::Result<()> {
+        self.try_write(alloc, path)?;
+        let bytes = Vec::from_slice(alloc, bytes)?;
+        self.recorded.insert(String::from_str(alloc, path)?, bytes)?;
+        Ok(())
+    }
 }
 
 /// The part of a name behind the folder of this path, where that has no folder in it.
@@ -107,33 +88,4 @@ fn name_in<'a>(name: &'a str, path: &str) -> Option<&'a str> {
     let path = path.strip_suffix('/').unwrap_or(path);
     let rest = name.strip_prefix(path)?.strip_prefix('/')?;
     if rest.contains('/') { None } else { Some(rest) }
-}
-
-impl<T: Read> Read for CaseFile<'_, T> {
-    fn read(&mut self, buf: &mut [u8]) -> io::Result<usize> {
-        match self {
-            CaseFile::Given(left) => left.read(buf),
-            CaseFile::Recorded(bytes) => bytes.read(buf),
-            CaseFile::Other(file) => file.read(buf),
-        }
-    }
-}
-
-impl Write for RecordedFile<'_> {
-    fn write(&mut self, buf: &[u8]) -> io::Result<usize> {
-        let Ok(mut files) = self.files.try_borrow_mut() else {
-            return Err(io::Error::from(ErrorKind::WouldBlock));
-        };
-        match files.get_mut(self.name.as_str()) {
-            Some(bytes) => {
-                bytes.extend_from_slice(buf)?;
-                Ok(buf.len())
-            }
-            None => Err(io::Error::from(ErrorKind::NotFound)),
-        }
-    }
-
-    fn flush(&mut self) -> io::Result<()> {
-        Ok(())
-    }
 }

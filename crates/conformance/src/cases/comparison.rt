@@ -17,7 +17,7 @@ const SCHEDULE: &str = "recorded.schedule";
 pub fn write_comparison<R: Threads + Wait + Sync, F: Folder, W: Write>(
     rt: &R,
     alloc: Global,
-    folder: &F,
+    folder: &mut F,
     ways: &[Way],
     runs: &RecordedRuns,
     to: &mut W,
@@ -70,7 +70,7 @@ fn words_of(
 fn outcome<R: Threads + Wait + Sync, F: Folder>(
     rt: &R,
     alloc: Global,
-    folder: &F,
+    folder: &mut F,
     words: &[String],
 ) -> io::Result<Vec<u8>> {
     let mut shown = Vec::new(alloc);

@@ -1,14 +1,12 @@
 //! What comes of cases.
 
-use crate::cases::case_folder::{CaseFolder, Recorded};
+use crate::cases::case_folder::CaseFolder;
 use crate::cases::comparison::write_comparison;
 use conformance_inputs::case_texts::{CaseKind, CaseText, CommandLine};
-use engines::{Counted, Folder, Open, Status, run, second_line};
-use indexmap::IndexMap;
+use engines::{Counted, Explanation, Failures, Folder, Open, Status, explain_complaint, run};
 use std::alloc::Global;
-use std::cell::RefCell;
 use std::io;
-use std::io::{Read, Write};
+use std::io::Write;
 use std::sync::Wait;
 use std::thread::Threads;
 
@@ -20,14 +18,13 @@ pub fn write_outcomes<R: Threads + Wait + Sync, F: Folder + Drop, W: Write>(
     text: &CaseText,
     to: &mut W,
 ) -> io::Result<()> {
-    let recorded: Recorded = RefCell::new(IndexMap::new(alloc));
-    let folder = CaseFolder::new(alloc, &text.files, &recorded, others);
+    let mut folder = CaseFolder::new(alloc, &text.files, others);
     for case in &text.cases {
         writeln!(to, "case {}", case.name)?;
         match &case.kind {
-            CaseKind::Command(line) => write_command(rt, alloc, &folder, line, to)?,
+            CaseKind::Command(line) => write_command(rt, alloc, &mut folder, line, to)?,
             CaseKind::Recorded(runs) => {
-                write_comparison(rt, alloc, &folder, &text.ways, runs, to)?;
+                write_comparison(rt, alloc, &mut folder, &text.ways, runs, to)?;
             }
         }
     }
@@ -38,14 +35,14 @@ pub fn write_outcomes<R: Threads + Wait + Sync, F: Folder + Drop, W: Write>(
 fn write_command<R: Threads + Wait + Sync, F: Folder, W: Write>(
     rt: &R,
     alloc: Global,
-    folder: &CaseFolder<'_, F>,
+    folder: &mut CaseFolder<'_, F>,
     line: &CommandLine,
     to: &mut W,
 ) -> io::Result<()> {
-    let mut input = Vec::new(alloc);
-    if let Some(name) = &line.input {
-        folder.open(name.as_str())?.read_to_end(&mut input)?;
-    }
+    let input = match &line.input {
+        Some(name) => folder.read(alloc, name.as_str())?,
+        None => Vec::new(alloc),
+    };
     write_outcome(rt, alloc, folder, &line.words, input.as_slice(), to)?;
     if let Some(name) = &line.shown {
         write_recorded(folder, name.as_str(), to)?;
@@ -58,14 +55,14 @@ fn write_command<R: Threads + Wait + Sync, F: Folder, W: Write>(
 pub fn write_outcome<R: Threads + Wait + Sync, F: Folder, W: Write>(
     rt: &R,
     alloc: Global,
-    folder: &F,
+    folder: &mut F,
     words: &[String],
     input: &[u8],
     to: &mut W,
 ) -> io::Result<()> {
     let mut input = Counted::new(alloc, input);
     let mut output = Counted::new(alloc, Vec::new(alloc));
-    let mut explanation = Vec::new(alloc);
+    let mut explanation = Explanation::new(alloc, false);
     let outcome = run(
         rt,
         alloc,
@@ -76,20 +73,23 @@ pub fn write_outcome<R: Threads + Wait + Sync, F: Folder, W: Write>(
         &mut output,
         &mut explanation,
     );
-    let failure = output.failure();
+    let failures = Failures {
+        input: input.failure(),
+        output: output.failure(),
+    };
+    if let Err(complaint) = &outcome {
+        explain_complaint(alloc, folder, words, complaint, failures, &mut explanation);
+    }
     let written = output.into_inner();
     to.write_all(written.as_slice())?;
-    to.write_all(explanation.as_slice())?;
     let status = match outcome {
         Ok(status) => status,
         Err(complaint) => {
             complaint.write_text(to)?;
-            if let Some(line) = second_line(alloc, folder, words, false, &complaint, failure) {
-                to.write_all(&line)?;
-            }
             Status::of_complaint(&complaint)
         }
     };
+    to.write_all(explanation.text())?;
     writeln!(to, "status {}", status.code())
 }
 
@@ -99,7 +99,7 @@ fn write_recorded<F: Folder, W: Write>(
     name: &str,
     to: &mut W,
 ) -> io::Result<()> {
-    let Some(bytes) = folder.recorded(name)? else {
+    let Some(bytes) = folder.recorded(name) else {
         return writeln!(to, "recorded {name} is missing");
     };
     writeln!(to, "recorded {name}")?;

@@ -1,10 +1,11 @@
 //! Files in memory.
 
+ghost use Rattle.std.specs.Prelude.{None};
+
 use engines::Folder;
 use std::alloc::Global;
-use std::cell::RefCell;
 use std::io;
-use std::io::{ErrorKind, Write};
+use std::io::ErrorKind;
 
 /// A file's name and its bytes.
 #[derive(Clone, Copy)]
@@ -13,67 +14,40 @@ pub struct File<'a> {
     pub bytes: &'a [u8],
 }
 
-/// The bytes of the file that was made last.
-pub type Made = RefCell<Option<Vec<u8>>>;
-
 /// Files in memory, and a place for one that is made.
 #[derive(Drop)]
 pub struct MemoryFolder<'a> {
-    alloc: Global,
     files: &'a [File<'a>],
-    made: &'a Made,
+    /// The bytes of the file that was made last.
+    pub made: Option<Vec<u8>>,
 }
 
 impl<'a> MemoryFolder<'a> {
-    pub fn new(alloc: Global, files: &'a [File<'a>], made: &'a Made) -> MemoryFolder<'a> {
-        MemoryFolder { alloc, files, made }
+    pub fn new(files: &'a [File<'a>]) -> MemoryFolder<'a> {
+        MemoryFolder { files, made: None }
     }
 }
 
-/// The file that is made.
-#[derive(Drop)]
-pub struct MadeFile<'a> {
-    made: &'a Made,
-}
+impl Folder for MemoryFolder<'_> {
+    ghost held = { λ _ _. None };
 
-impl<'a> Folder for MemoryFolder<'a> {
-    type File = &'a [u8];
+    ghost listed = { λ _ _. None };
 
-    type Created = MadeFile<'a>;
-
-    fn open(&self, path: &str) -> io::Result<&'a [u8]> {
+    fn read(&self, alloc: Global, path: &str) -> io::Result<Vec<u8>> {
         for file in self.files {
             if file.name == path {
-                return Ok(file.bytes);
+                return Ok(Vec::from_slice(alloc, file.bytes)?);
             }
         }
         Err(io::Error::from(ErrorKind::NotFound))
     }
 
-    fn create(&self, _path: &str) -> io::Result<MadeFile<'a>> {
-        let Ok(mut made) = self.made.try_borrow_mut() else {
-            return Err(io::Error::from(ErrorKind::WouldBlock));
-        };
-        *made = Some(Vec::new(self.alloc));
-        Ok(MadeFile { made: self.made })
-    }
-}
-
-impl Write for MadeFile<'_> {
-    fn write(&mut self, buf: &[u8]) -> io::Result<usize> {
-        let Ok(mut made) = self.made.try_borrow_mut() else {
-            return Err(io::Error::from(ErrorKind::WouldBlock));
-        };
-        match &mut *made {
-            Some(bytes) => {
-                bytes.extend_from_slice(buf)?;
-                Ok(buf.len())
-            }
-            None => Err(io::Error::from(ErrorKind::NotFound)),
-        }
+    fn names(&self, _alloc: Global, _path: &str) -> io::Result<Option<Vec<String>>> {
+        Ok(None)
     }
 
-    fn flush(&mut self) -> io::Result<()> {
+    fn write(&mut self, alloc: Global, _path: &str, bytes: &[u8]) -> io::Result<()> {
+        self.made = Some(Vec::from_slice(alloc, bytes)?);
         Ok(())
     }
 }

@@ -2,9 +2,8 @@
 
 use crate::trials::counts::last_line;
 use crate::trials::folder::{File, MemoryFolder};
-use engines::{Counted, Open, Status, run};
+use engines::{Counted, Explanation, Open, Status, run};
 use std::alloc::{AllocError, Global};
-use std::cell::RefCell;
 use std::io;
 use std::sync::Wait;
 use std::thread::Threads;
@@ -53,8 +52,7 @@ pub fn outcome_of<R: Threads + Wait + Sync>(
     words: &[&str],
 ) -> io::Result<Outcome> {
     let words = words_of(alloc, words)?;
-    let made = RefCell::new(None);
-    let folder = MemoryFolder::new(alloc, files, &made);
+    let mut folder = MemoryFolder::new(files);
     let mut input = Counted::new(alloc, b"".as_slice());
     let mut output = Counted::new(alloc, Vec::new(alloc));
     let mut said = Vec::new(alloc);
@@ -62,11 +60,11 @@ pub fn outcome_of<R: Threads + Wait + Sync>(
         rt,
         alloc,
         &Open,
-        &folder,
+        &mut folder,
         words.as_slice(),
         &mut input,
         &mut output,
-        &mut said,
+        &mut Explanation::new(alloc, false),
     );
     let status = match answer {
         Ok(status) => status,
@@ -79,7 +77,7 @@ pub fn outcome_of<R: Threads + Wait + Sync>(
         status,
         written: output.into_inner(),
         said,
-        made: made.into_inner(),
+        made: folder.made,
     })
 }
 

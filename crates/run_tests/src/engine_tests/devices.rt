@@ -1,6 +1,6 @@
 //! Devices in memory that fail at a call that is chosen: files of a folder, and a sink.
 
-ghost use Rattle.std.specs.Prelude.{◌≡◌, Some, ◌++◌, ◌+◌, take};
+ghost use Rattle.std.specs.Prelude.{◌≡◌, None, Some, ◌++◌, ◌+◌, take};
 
 use engines::Folder;
 use std::alloc::Global;
@@ -16,48 +16,43 @@ pub const MANY: u32 = 1000;
 /// A file's path and its bytes.
 pub type File = (&'static str, &'static [u8]);
 
-/// Files of which one fails at the call behind some others, the call that opens or makes it among them.
+/// Files of which one fails.
 #[derive(Drop)]
 pub struct FailingFolder<'a> {
-    pub alloc: Global,
     pub files: &'a [File],
     /// The path of the file that fails.
     pub failing: &'a str,
-    pub calls: u32,
+    /// The file that is made, by its path and its bytes.
+    pub made: Option<(String, Vec<u8>)>,
 }
 
-impl FailingFolder<'_> {
-    /// How many calls of a file go well.
-    fn calls_of(&self, path: &str) -> u32 {
-        if path == self.failing {
-            self.calls
-        } else {
-            MANY
-        }
-    }
-}
+impl Folder for FailingFolder<'_> {
+    ghost held = { λ _ _. None };
 
-impl<'a> Folder for FailingFolder<'a> {
-    type File = FailingReader<'a>;
+    ghost listed = { λ _ _. None };
 
-    type Created = FailingWriter;
-
-    fn open(&self, path: &str) -> io::Result<FailingReader<'a>> {
-        let calls = self.calls_of(path);
+    fn read(&self, alloc: Global, path: &str) -> io::Result<Vec<u8>> {
         for (name, bytes) in self.files {
-            if *name == path && calls > 0 {
-                return Ok(FailingReader::new(bytes, calls - 1));
+            if *name == path && path != self.failing {
+                return Ok(Vec::from_slice(alloc, bytes)?);
             }
         }
         Err(io::Error::from(ErrorKind::NotFound))
     }
 
-    fn create(&self, path: &str) -> io::Result<FailingWriter> {
-        let calls = self.calls_of(path);
-        if calls == 0 {
+    fn names(&self, _alloc: Global, _path: &str) -> io::Result<Option<Vec<String>>> {
+        Ok(None)
+    }
+
+    fn write(&mut self, alloc: Global, path: &str, bytes: &[u8]) -> io::Result<()> {
+        if path == self.failing {
             return Err(io::Error::from(ErrorKind::PermissionDenied));
         }
-        Ok(FailingWriter::new(self.alloc, calls - 1))
+        self.made = Some((
+            String::from_str(alloc, path)?,
+            Vec::from_slice(alloc, bytes)?,
+        ));
+        Ok(())
     }
 }
 

@@ -1,7 +1,7 @@
 //! What is answered and written where a device fails.
 
 use crate::engine_tests::devices::{FailingFolder, FailingReader, FailingWriter, File, MANY};
-use engines::{Complaint, Counted, Fault, Open, Status, run};
+use engines::{Complaint, Counted, Explanation, Fault, Open, Status, run};
 use made_files::class_builder::PRINTS_SEVEN;
 use std::alloc::{AllocError, Global};
 use std::process::Abort;
@@ -45,7 +45,7 @@ const RECORDED: &str = "recorded";
 struct Done {
     words: &'static [&'static str],
     written: &'static str,
-    /// The devices that are used, each with a number of calls that doesn't suffice.
+    /// The devices that are used, each with a number of calls that doesn't suffice. A file is one call.
     devices: &'static [(&'static str, u32)],
 }
 
@@ -53,17 +53,17 @@ const DONE: [Done; 9] = [
     Done {
         words: &["jvm", "run", "--record", RECORDED, "A"],
         written: "7\nthread 0 ended\nevents 8\nend quiet\n",
-        devices: &[("A", 49), (OUTPUT, 6), (RECORDED, 10)],
+        devices: &[("A", 0), (OUTPUT, 6), (RECORDED, 0)],
     },
     Done {
         words: &["jvm", "run", "--seed", "1", "--record", RECORDED, "A", "B"],
         written: "7\nthread 0 ended\nevents 8\nend quiet\n",
-        devices: &[("A", 49), ("B", 11), (OUTPUT, 6), (RECORDED, 11)],
+        devices: &[("A", 0), ("B", 0), (OUTPUT, 6), (RECORDED, 0)],
     },
     Done {
         words: &["jvm", "replay", "--schedule", "eight", "A", "B"],
         written: "7\nthread 0 ended\nevents 8\nend quiet\n",
-        devices: &[("eight", 4), ("A", 49), ("B", 11), (OUTPUT, 6)],
+        devices: &[("eight", 0), ("A", 0), ("B", 0), (OUTPUT, 6)],
     },
     Done {
         words: &[
@@ -77,17 +77,17 @@ const DONE: [Done; 9] = [
             "A",
         ],
         written: "7\nthread 0 ended\nevents 8\nend quiet\n",
-        devices: &[("eight", 4), ("A", 49), (OUTPUT, 6), (RECORDED, 10)],
+        devices: &[("eight", 0), ("A", 0), (OUTPUT, 6), (RECORDED, 0)],
     },
     Done {
         words: &["jvm", "schedule", "eight"],
         written: "0*8\n",
-        devices: &[("eight", 4), (OUTPUT, 0)],
+        devices: &[("eight", 0), (OUTPUT, 0)],
     },
     Done {
         words: &["jvm", "schedule", "--write", RECORDED],
         written: "",
-        devices: &[(INPUT, 1), (RECORDED, 4)],
+        devices: &[(INPUT, 1), (RECORDED, 0)],
     },
     Done {
         words: &["jvm", "--version"],
@@ -97,7 +97,7 @@ const DONE: [Done; 9] = [
     Done {
         words: &["jvm", "verify", "A", "B"],
         written: "verified 2 classes\n",
-        devices: &[("A", 49), ("B", 11), (OUTPUT, 3)],
+        devices: &[("A", 0), ("B", 0), (OUTPUT, 3)],
     },
     Done {
         words: &["jvm", "disasm", "A"],
@@ -107,12 +107,12 @@ const DONE: [Done; 9] = [
             00003 1007 bipush 7\n\
             00005 b60013 invokevirtual java/io/PrintStream.println:(I)V\n\
             00008 b1 return\n",
-        devices: &[("A", 49), (OUTPUT, 48)],
+        devices: &[("A", 0), (OUTPUT, 48)],
     },
 ];
 
-/// What is answered and what is written, where a device fails after so many calls.
-type Outcome = (Result<Status, Complaint>, Vec<u8>);
+/// What is answered, what is written, and whether a file is made, where a device fails after so many calls.
+type Outcome = (Result<Status, Complaint>, Vec<u8>, bool);
 
 fn outcome<R: Threads + Wait + Sync>(
     rt: &R,
@@ -121,11 +121,10 @@ fn outcome<R: Threads + Wait + Sync>(
     failing: &str,
     calls: u32,
 ) -> Result<Outcome, AllocError> {
-    let folder = FailingFolder {
-        alloc,
+    let mut folder = FailingFolder {
         files: &FILES,
-        failing,
-        calls,
+        failing: if calls == 0 { failing } else { "" },
+        made: None,
     };
     let writes = if failing == OUTPUT { calls } else { MANY };
     let mut output = Counted::new(alloc, FailingWriter::new(alloc, writes));
@@ -139,20 +138,22 @@ fn outcome<R: Threads + Wait + Sync>(
         rt,
         alloc,
         &Open,
-        &folder,
+        &mut folder,
         texts.as_slice(),
         &mut input,
         &mut output,
-        &mut Vec::new(alloc),
+        &mut Explanation::new(alloc, false),
     );
-    Ok((answer, output.into_inner().written))
+    Ok((answer, output.into_inner().written, folder.made.is_some()))
 }
 
 /// Whether the answer is that a device failed, and no more is written than a beginning of the text: nothing where a file
-/// can't be read, and all of it where one can't be recorded.
+/// can't be read, and all of it where one can't be recorded. What is to be recorded is, though the output fails.
 fn is_told(done: &Done, device: &str, outcome: &Outcome) -> bool {
-    let (answer, written) = outcome;
-    matches!(answer, Err(Complaint::Fault(Fault::Device))) && is_part(done, device, written)
+    let (answer, written, is_made) = outcome;
+    matches!(answer, Err(Complaint::Fault(Fault::Device)))
+        && is_part(done, device, written)
+        && *is_made == (device == OUTPUT && done.words.contains(&RECORDED))
 }
 
 fn is_part(done: &Done, device: &str, written: &[u8]) -> bool {
@@ -166,8 +167,10 @@ fn is_part(done: &Done, device: &str, written: &[u8]) -> bool {
 
 /// Whether all is written.
 fn is_done(done: &Done, outcome: &Outcome) -> bool {
-    let (answer, written) = outcome;
-    matches!(answer, Ok(Status::Returned)) && done.written.as_bytes() == written.as_slice()
+    let (answer, written, is_made) = outcome;
+    matches!(answer, Ok(Status::Returned))
+        && done.written.as_bytes() == written.as_slice()
+        && *is_made == done.words.contains(&RECORDED)
 }
 
 /// After how many calls of a device, at the least, all is done. Where it fails before, that is told.
@@ -250,7 +253,7 @@ const ORDERS: [Order; 9] = [
         failing: OUTPUT,
         told: "refused 1 Malformed file 1 offset 0 Truncated\n",
     },
-    // the report is written before the schedule is recorded
+    // the output fails, though the schedule is recorded
     Order {
         words: &["jvm", "run", "--record", RECORDED, "A"],
         failing: OUTPUT,
@@ -266,7 +269,7 @@ const ORDERS: [Order; 9] = [
 #[test]
 fn tells_what_comes_first(rt: HostRuntime) -> Result<(), Fail> {
     for order in &ORDERS {
-        let (answer, written) = outcome(&rt, rt.alloc(), order.words, order.failing, 0)?;
+        let (answer, written, _) = outcome(&rt, rt.alloc(), order.words, order.failing, 0)?;
         let mut told = Vec::new(rt.alloc());
         if let Err(complaint) = answer {
             complaint.write_text(&mut told)?;

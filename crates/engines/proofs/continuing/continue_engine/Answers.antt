@@ -27,33 +27,16 @@ returns-in_err-write_all-clause-faulty g c =
     let ran = c.in_ok-ran.ran in
     let limits = c.args.limits.now in
     let of_files = subst (λ files. IsOpened opened.0 (map vec_items files) limits given.verified (events_of given.schedule) given.limits) (sym c.as_slice.ensures.value) opened.3 in
-    let run = subst (λ files. IsContinued opened.0 (map vec_items files) limits c.args.budget ran.text.items (option_map vec_items ran.file) ran.status) c.as_slice.ensures.value (c.in_ok-ran.ensures.run opened.0 limits of_files) in
+    let of_budget = subst (λ files. IsContinued opened.0 (map vec_items files) limits c.budget.result ran.text.items (option_map vec_items ran.file) ran.status) c.as_slice.ensures.value (c.in_ok-ran.ensures.run opened.0 limits of_files) in
+    let run = subst (λ budget. IsContinued opened.0 (map vec_items given.files.items) limits budget ran.text.items (option_map vec_items ran.file) ran.status) c.budget.ensures of_budget in
     let contents = g.W.Sink.contents in
     let front = subst (AppendsFront (contents c.args.report.now) (contents c.write_all.new.self)) c.as_slice-2.ensures.value c.in_err-write_all.ensures.part in
-    rw (p.1, p.2) (part_is_uncontinued _ _ _ _ _ _ _ _ _ (inr (_, _, _, (opened.0, _, opened.1, opened.2, run), inl (front, refl))))
+    rw (p.1, p.2) (part_is_uncontinued _ _ _ _ _ _ _ _ _ (inr (_, _, (opened.0, _, opened.1, opened.2, run), front)))
 
 pub returns-in_err-write_all-clause-schedule_first : goal.returns-in_err-write_all-clause-schedule_first
 returns-in_err-write_all-clause-schedule_first g c =
     let p = err_from_is_err_and c.from_residual-in_err-write_all.result c.from_residual-in_err-write_all.ensures.1 in
     rw (p.1, p.2) (λ of_schedule. absurd (of_no_schedule c.in_err-write_all.field-0.0 of_schedule))
-
-pub returns-in_err-write_record-clause-faulty : goal.returns-in_err-write_record-clause-faulty
-returns-in_err-write_record-clause-faulty g c =
-    let p = err_from_is_err_and c.from_residual-in_err-write_record.result c.from_residual-in_err-write_record.ensures.1 in
-    let opened = c.in_ok-opened.ensures.opened in
-    let given = c.in_ok-opened.opened in
-    let ran = c.in_ok-ran.ran in
-    let limits = c.args.limits.now in
-    let of_files = subst (λ files. IsOpened opened.0 (map vec_items files) limits given.verified (events_of given.schedule) given.limits) (sym c.as_slice.ensures.value) opened.3 in
-    let run = subst (λ files. IsContinued opened.0 (map vec_items files) limits c.args.budget ran.text.items (option_map vec_items ran.file) ran.status) c.as_slice.ensures.value (c.in_ok-ran.ensures.run opened.0 limits of_files) in
-    let contents = g.W.Sink.contents in
-    let written = subst (Appends (contents c.args.report.now) (contents c.write_all.new.self)) c.as_slice-2.ensures.value c.in_ok-write_all.ensures.written in
-    rw (p.1, p.2) (part_is_uncontinued _ _ _ _ _ _ _ _ _ (inr (_, _, _, (opened.0, _, opened.1, opened.2, run), inr (written, c.in_err-write_record.ensures.part))))
-
-pub returns-in_err-write_record-clause-schedule_first : goal.returns-in_err-write_record-clause-schedule_first
-returns-in_err-write_record-clause-schedule_first g c =
-    let p = err_from_is_err_and c.from_residual-in_err-write_record.result c.from_residual-in_err-write_record.ensures.1 in
-    rw (p.1, p.2) (λ of_schedule. absurd (of_no_schedule c.in_err-write_record.field-0.0 of_schedule))
 
 pub returns-clause-continued : goal.returns-clause-continued
 returns-clause-continued g c =
@@ -62,7 +45,8 @@ returns-clause-continued g c =
     let ran = c.in_ok-ran.ran in
     let limits = c.args.limits.now in
     let of_files = subst (λ files. IsOpened opened.0 (map vec_items files) limits given.verified (events_of given.schedule) given.limits) (sym c.as_slice.ensures.value) opened.3 in
-    let run = subst (λ files. IsContinued opened.0 (map vec_items files) limits c.args.budget ran.text.items (option_map vec_items ran.file) ran.status) c.as_slice.ensures.value (c.in_ok-ran.ensures.run opened.0 limits of_files) in
+    let of_budget = subst (λ files. IsContinued opened.0 (map vec_items files) limits c.budget.result ran.text.items (option_map vec_items ran.file) ran.status) c.as_slice.ensures.value (c.in_ok-ran.ensures.run opened.0 limits of_files) in
+    let run = subst (λ budget. IsContinued opened.0 (map vec_items given.files.items) limits budget ran.text.items (option_map vec_items ran.file) ran.status) c.budget.ensures of_budget in
     let contents = g.W.Sink.contents in
     let written = subst (Appends (contents c.args.report.now) (contents c.write_all.new.self)) c.as_slice-2.ensures.value c.in_ok-write_all.ensures.written in
-    (_, _, (opened.0, _, opened.1, opened.2, run), written, c.in_ok-write_record.ensures.written)
+    (_, (opened.0, _, opened.1, opened.2, run), written)

@@ -1,13 +1,13 @@
 use Rattle.std.proofs.Common.{arith, ◌<◌, length, map, vec_items, inl, inr, refl, subst}
-use Rattle.std.specs.Prelude.{IsTrue}
+use Rattle.std.specs.Prelude.{is_some}
 use Rattle.std.proofs.lemmas.List.{length-map}
 use Rattle.std.proofs.lemmas.Result.{err_from_is_err_and}
 use Rattle.std.specs.Io.KnownBytes.{Appends}
 use Rattle.model.specs.Devices.{AppendsFront}
 use Rattle.std.specs.Option.{option_map}
 use Rattle.engines.specs.Refusals.{IsRefused}
-use Rattle.engines.proofs.EngineLemmas.{counts_write, counts_write_before}
-use Rattle.engines.proofs.SearchLemmas.{file_is_asked_for, is_searches, is_there, part_is_unsearched, unread_is_unsearched}
+use Rattle.engines.specs.Searches.{IsSearched, most_states}
+use Rattle.engines.proofs.SearchLemmas.{part_is_unsearched, unread_is_unsearched}
 use Rattle.engines.proofs.searching.search_engine.Goals as goal
 
 pub returns-in_err-read-clause-faulty : goal.returns-in_err-read-clause-faulty
@@ -29,41 +29,21 @@ returns-in_err-searched-clause-faulty g c =
     let p = err_from_is_err_and c.from_residual-in_err-searched.result c.from_residual-in_err-searched.ensures.1 in
     rw (p.1, p.2) (inl (refl, refl))
 
-pub write_found-requires : goal.write_found-requires
-write_found-requires g c = λ there. subst IsTrue c.is_some-is_recorded.ensures (file_is_asked_for _ _ _ _ _ _ _ _ c.in_ok-searched.ensures (is_there vec_items c.in_ok-searched.searched.file there))
-
 pub returns-in_err-write_all-clause-faulty : goal.returns-in_err-write_all-clause-faulty
 returns-in_err-write_all-clause-faulty g c =
     let p = err_from_is_err_and c.from_residual-in_err-write_all.result c.from_residual-in_err-write_all.ensures.1 in
     let found = c.in_ok-searched.searched in
-    let searches = is_searches _ _ _ _ _ vec_items c.in_ok-read.read.items _ _ found.text.items (option_map vec_items found.file) found.status c.in_ok-read.ensures.read c.as_slice-files.ensures.value c.is_some-is_recorded.ensures c.in_ok-searched.ensures in
+    let options = c.args.options.now in
+    let searched = subst (λ files. IsSearched (map vec_items files) options.limits c.args.wanted.now (most_states options) (is_some options.record) found.text.items (option_map vec_items found.file) found.status) c.as_slice-files.ensures.value c.in_ok-searched.ensures in
     let contents = g.W.Sink.contents in
     let written = subst (AppendsFront (contents c.args.report.now) (contents c.write_all.new.self)) c.as_slice.ensures.value c.in_err-write_all.ensures.part in
-    rw (p.1, p.2) (part_is_unsearched _ _ _ _ _ _ _ _ _ _ (inr (_, _, _, searches, inl (written, refl))))
-
-pub returns-in_err-write_found-clause-faulty : goal.returns-in_err-write_found-clause-faulty
-returns-in_err-write_found-clause-faulty g c =
-    let p = err_from_is_err_and c.from_residual-in_err-write_found.result c.from_residual-in_err-write_found.ensures.1 in
-    let found = c.in_ok-searched.searched in
-    let searches = is_searches _ _ _ _ _ vec_items c.in_ok-read.read.items _ _ found.text.items (option_map vec_items found.file) found.status c.in_ok-read.ensures.read c.as_slice-files.ensures.value c.is_some-is_recorded.ensures c.in_ok-searched.ensures in
-    let contents = g.W.Sink.contents in
-    let written = subst (Appends (contents c.args.report.now) (contents c.write_all.new.self)) c.as_slice.ensures.value c.in_ok-write_all.ensures.written in
-    rw (p.1, p.2) (part_is_unsearched _ _ _ _ _ _ _ _ _ _ (inr (_, _, _, searches, inr (written, c.in_err-write_found.ensures.part))))
-
-pub returns-in_err-write_all-clause-counted : goal.returns-in_err-write_all-clause-counted
-returns-in_err-write_all-clause-counted g c =
-    let p = err_from_is_err_and c.from_residual-in_err-write_all.result c.from_residual-in_err-write_all.ensures.1 in
-    rw (p.1, p.2) (counts_write_before c.in_err-write_all.field-0.0 _ _ _ _ _ c.in_ok-read.ensures.counted c.in_err-write_all.ensures.counted)
-
-pub returns-in_err-write_found-clause-counted : goal.returns-in_err-write_found-clause-counted
-returns-in_err-write_found-clause-counted g c =
-    let p = err_from_is_err_and c.from_residual-in_err-write_found.result c.from_residual-in_err-write_found.ensures.1 in
-    rw (p.1, p.2) (counts_write c.in_err-write_found.field-0.0 _ _ _ _ _ _ c.in_ok-read.ensures.counted c.in_ok-write_all.ensures.counted c.in_err-write_found.ensures.counted)
+    rw (p.1, p.2) (part_is_unsearched _ _ _ _ _ _ _ _ _ _ (inr (_, _, (_, c.in_ok-read.ensures.read, searched), written)))
 
 pub returns-clause-searched : goal.returns-clause-searched
 returns-clause-searched g c =
     let found = c.in_ok-searched.searched in
-    let searches = is_searches _ _ _ _ _ vec_items c.in_ok-read.read.items _ _ found.text.items (option_map vec_items found.file) found.status c.in_ok-read.ensures.read c.as_slice-files.ensures.value c.is_some-is_recorded.ensures c.in_ok-searched.ensures in
+    let options = c.args.options.now in
+    let searched = subst (λ files. IsSearched (map vec_items files) options.limits c.args.wanted.now (most_states options) (is_some options.record) found.text.items (option_map vec_items found.file) found.status) c.as_slice-files.ensures.value c.in_ok-searched.ensures in
     let contents = g.W.Sink.contents in
     let written = subst (Appends (contents c.args.report.now) (contents c.write_all.new.self)) c.as_slice.ensures.value c.in_ok-write_all.ensures.written in
-    (_, _, searches, written, c.in_ok-write_found.ensures.written)
+    (_, (_, c.in_ok-read.ensures.read, searched), written)

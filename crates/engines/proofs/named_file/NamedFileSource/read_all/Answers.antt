@@ -1,0 +1,8 @@
+use Rattle.engines.proofs.FileLemmas.{loses_all, loses_nothing}
+use Rattle.engines.proofs.named_file.NamedFileSource.read_all.Goals as goal
+
+pub returns-in-Device-clause-lost : goal.returns-in-Device-clause-lost
+returns-in-Device-clause-lost g c = loses_all _
+
+pub returns-in-Memory-clause-lost : goal.returns-in-Memory-clause-lost
+returns-in-Memory-clause-lost g c = loses_nothing _

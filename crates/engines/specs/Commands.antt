@@ -1,0 +1,241 @@
+-- What a command does, by what the files hold that its words name: the text that it writes to the output, the file that it writes, and its
+-- status (own). Each does what its engine does, with these files in their order.
+use Rattle.std.specs.Prelude.{◌≡◌, ◌⊎◌, ℕ, ◌-◌, ◌^◌, Bool, true, false, List, [], map, Option, Some, None, IsTrue, is_some, string_bytes, unwrap_or, vec_items, Result, Ok, Err}
+use Rattle.std.specs.Option.{option_map}
+use Rattle.std.specs.Io.KnownBytes.{Appends}
+use Rattle.std.specs.declared.string.String.{String}
+use Rattle.std.specs.Global.{Global}
+use Rattle.model.specs.Devices.{AppendsFront}
+use Rattle.program_runs.specs.declared.traced_runs.window.Window.{Window}
+use Rattle.search.specs.declared.run_outcomes.wanted.Wanted.{Wanted}
+use Rattle.traces.specs.declared.form.Form.{Form}
+use Rattle.traces.specs.declared.form.Form.TheVariants as lines
+use Rattle.command_line.specs.CommandLine.{Asks, Fails, Spells}
+use Rattle.command_line.specs.declared.options.Command.{Command}
+use Rattle.command_line.specs.declared.options.Command.TheVariants as commands
+use Rattle.command_line.specs.declared.options.Disasm.{Disasm}
+use Rattle.command_line.specs.declared.options.Replay.{Replay}
+use Rattle.command_line.specs.declared.options.Run.{Run}
+use Rattle.command_line.specs.declared.options.Schedule.{Schedule}
+use Rattle.command_line.specs.declared.options.Search.{Search}
+use Rattle.command_line.specs.declared.options.ThenRun.{ThenRun}
+use Rattle.command_line.specs.declared.options.Trace.{Trace}
+use Rattle.command_line.specs.declared.options.TraceForm.{TraceForm}
+use Rattle.command_line.specs.declared.options.TraceForm.TheVariants as forms
+use Rattle.command_line.specs.declared.options.Verify.{Verify}
+use Rattle.command_line.specs.declared.usage.Usage.{Usage}
+use Rattle.engines.specs.Continuations.{Continues, IsUncontinued}
+use Rattle.engines.specs.Devices.{IsUnable}
+use Rattle.engines.specs.Files.{AreGiven, IsWith, Written, held_at, written_at}
+use Rattle.engines.specs.Goals.{IsAskedFor}
+use Rattle.engines.specs.Libraries.{IsUnacceptedLibrary, VerifiesLibrary}
+use Rattle.engines.specs.Listings.{AreClassFiles, IsUnlisted, IsUnnamed, Lists}
+use Rattle.engines.specs.Replays.{IsFaulty, Replays}
+use Rattle.engines.specs.Runs.{IsUnrun, Runs}
+use Rattle.engines.specs.Searches.{IsUnsearched, Searches, most_states}
+use Rattle.engines.specs.Traces.{IsUntraced, Traces}
+use Rattle.engines.specs.Transcriptions.{IsUnprinted, IsUntranscribed, Prints, Transcribes}
+use Rattle.engines.specs.Verifications.{IsUnaccepted, Verifies}
+use Rattle.engines.specs.declared.complaint.Complaint.{Complaint}
+use Rattle.engines.specs.declared.complaint.Complaint.TheVariants as complaints
+use Rattle.engines.specs.declared.fault.Fault.{Fault}
+use Rattle.engines.specs.declared.status.Status.{Status}
+use Rattle.engines.specs.declared.status.Status.TheVariants.{Returned}
+
+-- what files hold, and what lies in folders, by their paths
+abbrev pub Held : Type 0
+Held = List ℕ → Option (List ℕ)
+
+abbrev pub Listed : Type 0
+Listed = List ℕ → Option (Option (List (String Global)))
+
+-- the files at the paths of a command line
+abbrev pub files_at : Held → List (String Global) → List (Option (List ℕ))
+files_at held paths = held_at held (map string_bytes paths)
+
+-- ---- what is recorded
+
+-- there is a fault before the file is written, or behind that; or there is none but that it can't be written
+abbrev pub IsUnrecorded : Result Status Fault → (held holds : Held) → Written → Fault → Type 0
+IsUnrecorded outcome held holds written fault = ((outcome ≡ Err fault) × (IsWith held holds None ⊎ IsWith held holds written))
+    ⊎ (((status : Status) × (outcome ≡ Ok status)) × IsUnable fault × IsWith held holds None)
+
+-- ---- run
+
+pub record IsRunDone (held : Held) (run : Run) (text : List ℕ) (written : Written) (status : Status) : Type 0 where
+  pub file : Option (List ℕ)
+  pub runs : Runs (files_at held run.files.items) run.limits run.options text file status
+  pub made : IsTrue (is_some run.record) → IsTrue (is_some file)
+  pub recorded : written ≡ written_at run.record file
+
+-- what was made may be recorded though the output failed
+pub record IsRunUndone (held : Held) (run : Run) (old new : Option (List ℕ)) (fault : Fault) (written : Written) : Type 0 where
+  pub file : Option (List ℕ)
+  pub unrun : IsUnrun (files_at held run.files.items) run.limits run.options old new None file fault
+  pub recorded : (written ≡ None) ⊎ (written ≡ written_at run.record file)
+
+-- ---- replay
+
+pub record IsContinuationDone (held : Held) (replay : Replay) (then_run : ThenRun) (text : List ℕ) (written : Written) (status : Status) : Type 0 where
+  pub file : Option (List ℕ)
+  pub continues : Continues (held (string_bytes replay.schedule)) (files_at held replay.files.items) replay.limits
+      (unwrap_or then_run.budget 10000000) text file status
+  pub made : IsTrue (is_some then_run.record) → IsTrue (is_some file)
+  pub recorded : written ≡ written_at then_run.record file
+
+pub record IsContinuationUndone (held : Held) (replay : Replay) (then_run : ThenRun) (old new : Option (List ℕ)) (fault : Fault) (written : Written) : Type 0 where
+  pub file : Option (List ℕ)
+  pub uncontinued : IsUncontinued (held (string_bytes replay.schedule)) (files_at held replay.files.items) replay.limits
+      (unwrap_or then_run.budget 10000000) old new None file fault
+  pub recorded : (written ≡ None) ⊎ (written ≡ written_at then_run.record file)
+
+abbrev pub IsReplayDone : Held → Replay → Option ThenRun → List ℕ → Written → Status → Type 0
+IsReplayDone held replay None text written status =
+    Replays (held (string_bytes replay.schedule)) (files_at held replay.files.items) replay.limits text status × (written ≡ None)
+IsReplayDone held replay (Some then_run) text written status = IsContinuationDone held replay then_run text written status
+
+abbrev pub IsReplayUndone : Held → Replay → Option ThenRun → (old new : Option (List ℕ)) → Fault → Written → Type 0
+IsReplayUndone held replay None old new fault written =
+    IsFaulty (held (string_bytes replay.schedule)) (files_at held replay.files.items) replay.limits old new fault × (written ≡ None)
+IsReplayUndone held replay (Some then_run) old new fault written = IsContinuationUndone held replay then_run old new fault written
+
+-- ---- trace
+
+abbrev pub form_of : TraceForm → Form
+form_of forms.Plain = lines.Plain
+form_of forms.Columns = lines.Columns
+form_of forms.Json = lines.Json
+
+-- the window has the numbers, the threads and the form that are asked for: from the first event on, to the last one, and all threads,
+-- where none are
+pub record IsWindow (trace : Trace) (window : Window) : Type 0 where
+  pub from : window.from ≡ unwrap_or trace.from 0
+  pub to : window.to ≡ unwrap_or trace.to (2 ^ 64 - 1)
+  pub only : option_map (λ threads. threads.now) window.only ≡ option_map vec_items trace.only
+  pub form : window.form ≡ form_of trace.form
+  pub summary : window.summary ≡ trace.summary
+
+abbrev pub IsTraceDone : Held → Trace → List ℕ → Written → Status → Type 0
+IsTraceDone held trace text written status = (window : Window) × IsWindow trace window
+    × Traces (held (string_bytes trace.schedule)) (files_at held trace.files.items) trace.limits window text status × (written ≡ None)
+
+abbrev pub IsTraceUndone : Held → Trace → (old new : Option (List ℕ)) → Fault → Written → Type 0
+IsTraceUndone held trace old new fault written = (window : Window) × IsWindow trace window
+    × IsUntraced (held (string_bytes trace.schedule)) (files_at held trace.files.items) trace.limits window old new fault × (written ≡ None)
+
+-- ---- search
+
+pub record IsSearchDone (held : Held) (search : Search) (text : List ℕ) (written : Written) (status : Status) : Type 0 where
+  pub want : Wanted
+  pub asked : IsAskedFor held search.goal want
+  pub file : Option (List ℕ)
+  pub searches : Searches (files_at held search.files.items) search.limits want (most_states search) (is_some search.record) text file status
+  pub recorded : written ≡ written_at search.record file
+
+pub record IsSearchUndone (held : Held) (search : Search) (old new : Option (List ℕ)) (fault : Fault) (written : Written) : Type 0 where
+  pub want : Wanted
+  pub asked : IsAskedFor held search.goal want
+  pub file : Option (List ℕ)
+  pub unsearched : IsUnsearched (files_at held search.files.items) search.limits want (most_states search) (is_some search.record) old new None file fault
+  pub recorded : (written ≡ None) ⊎ (written ≡ written_at search.record file)
+
+-- ---- verify and disasm, which take folders of class files, too
+
+abbrev pub VerifiesAs : (library : Bool) → List (Option (List ℕ)) → List ℕ → Type 0
+VerifiesAs true lefts text = VerifiesLibrary lefts text
+VerifiesAs false lefts text = Verifies lefts text
+
+abbrev pub IsUnacceptedAs : (library : Bool) → List (Option (List ℕ)) → (old new : Option (List ℕ)) → Fault → Type 0
+IsUnacceptedAs true lefts old new fault = IsUnacceptedLibrary lefts old new fault
+IsUnacceptedAs false lefts old new fault = IsUnaccepted lefts old new fault
+
+-- of the text with names and line numbers nothing is said
+abbrev pub ListsAs : (names : Bool) → List (Option (List ℕ)) → List ℕ → Type 0
+ListsAs true lefts text = AreClassFiles lefts
+ListsAs false lefts text = Lists lefts text
+
+abbrev pub IsUnlistedAs : (names : Bool) → List (Option (List ℕ)) → (old new : Option (List ℕ)) → Fault → Type 0
+IsUnlistedAs true lefts old new fault = IsUnnamed lefts old new fault
+IsUnlistedAs false lefts old new fault = IsUnlisted lefts old new fault
+
+-- of the files that are given this is so
+abbrev pub OfGiven : Held → Listed → List (String Global) → (List (Option (List ℕ)) → Type 0) → Type 0
+OfGiven held listed paths P = (given : List (List ℕ)) × AreGiven listed (map string_bytes paths) given × P (held_at held given)
+
+-- or a folder can't be read, or memory is wanted for the paths
+abbrev pub OfGivenOrUnable : Held → Listed → List (String Global) → (old new : Option (List ℕ)) → Fault → (List (Option (List ℕ)) → Type 0) → Type 0
+OfGivenOrUnable held listed paths old new fault P = (IsUnable fault × (new ≡ old)) ⊎ OfGiven held listed paths P
+
+-- ---- schedule
+
+abbrev pub IsScheduleDone : Held → (input : Option (List ℕ)) → Schedule → (write : Bool) → List ℕ → Written → Status → Type 0
+IsScheduleDone held input schedule true text written status = (bytes : List ℕ) × Transcribes input bytes
+    × (text ≡ []) × (written ≡ Some (string_bytes schedule.file, bytes)) × (status ≡ Returned)
+IsScheduleDone held input schedule false text written status = Prints (held (string_bytes schedule.file)) text
+    × (written ≡ None) × (status ≡ Returned)
+
+abbrev pub IsScheduleUndone : Held → (input : Option (List ℕ)) → Schedule → (write : Bool) → (old new : Option (List ℕ)) → Fault → Written → Type 0
+IsScheduleUndone held input schedule true old new fault written = (new ≡ old) × (written ≡ None)
+    × ((kept made : Option (List ℕ)) × IsUntranscribed input kept made fault)
+IsScheduleUndone held input schedule false old new fault written = IsUnprinted (held (string_bytes schedule.file)) old new fault × (written ≡ None)
+
+-- ---- any command
+
+-- What a command does where it has a status.
+abbrev pub IsDone : Held → Listed → (input : Option (List ℕ)) → Command → List ℕ → Written → Status → Type 0
+IsDone held listed input (commands.Run run) text written status = IsRunDone held run text written status
+IsDone held listed input (commands.Replay replay) text written status = IsReplayDone held replay replay.then_run text written status
+IsDone held listed input (commands.Trace trace) text written status = IsTraceDone held trace text written status
+IsDone held listed input (commands.Search search) text written status = IsSearchDone held search text written status
+IsDone held listed input (commands.Verify verify) text written status =
+    OfGiven held listed verify.files.items (λ lefts. VerifiesAs verify.library lefts text) × (written ≡ None) × (status ≡ Returned)
+IsDone held listed input (commands.Disasm disasm) text written status =
+    OfGiven held listed disasm.files.items (λ lefts. ListsAs disasm.names lefts text) × (written ≡ None) × (status ≡ Returned)
+IsDone held listed input (commands.Schedule schedule) text written status = IsScheduleDone held input schedule schedule.write text written status
+
+-- What keeps a command from a status, what is on the output then, and what is written.
+abbrev pub IsUndone : Held → Listed → (input : Option (List ℕ)) → Command → (old new : Option (List ℕ)) → Fault → Written → Type 0
+IsUndone held listed input (commands.Run run) old new fault written = IsRunUndone held run old new fault written
+IsUndone held listed input (commands.Replay replay) old new fault written = IsReplayUndone held replay replay.then_run old new fault written
+IsUndone held listed input (commands.Trace trace) old new fault written = IsTraceUndone held trace old new fault written
+IsUndone held listed input (commands.Search search) old new fault written =
+    (IsUnable fault × (new ≡ old) × (written ≡ None)) ⊎ IsSearchUndone held search old new fault written
+IsUndone held listed input (commands.Verify verify) old new fault written =
+    OfGivenOrUnable held listed verify.files.items old new fault (λ lefts. IsUnacceptedAs verify.library lefts old new fault) × (written ≡ None)
+IsUndone held listed input (commands.Disasm disasm) old new fault written =
+    OfGivenOrUnable held listed disasm.files.items old new fault (λ lefts. IsUnlistedAs disasm.names lefts old new fault) × (written ≡ None)
+IsUndone held listed input (commands.Schedule schedule) old new fault written = IsScheduleUndone held input schedule schedule.write old new fault written
+
+-- ---- the words of a command line
+
+-- the words ask for help or the version
+abbrev pub AskForHelp : (words : List (List ℕ)) → Type 0
+AskForHelp words = (usage : Usage) × Fails words usage × Asks usage
+
+-- They do, and it is written, of which nothing more is said; or they spell a command, and it is done.
+abbrev pub Does : Held → Listed → (input : Option (List ℕ)) → (words : List (List ℕ)) → List ℕ → Written → Status → Type 0
+Does held listed input words text written status = (AskForHelp words × (written ≡ None) × (status ≡ Returned))
+    ⊎ ((command : Command) × Spells words command × IsDone held listed input command text written status)
+
+-- The words are no command, and nothing is written; or help can't be written; or they spell a command, and it isn't done.
+abbrev pub Stops : Held → Listed → (input : Option (List ℕ)) → (words : List (List ℕ)) → (old new : Option (List ℕ)) → Complaint → Written → Type 0
+Stops held listed input words old new (complaints.Usage usage) written =
+    Fails words usage × (Asks usage → ⊥) × (new ≡ old) × (written ≡ None)
+Stops held listed input words old new (complaints.Fault fault) written =
+    (AskForHelp words × IsUnable fault × ((text : List ℕ) × AppendsFront old new text) × (written ≡ None))
+    ⊎ ((command : Command) × Spells words command × IsUndone held listed input command old new fault written)
+
+-- what comes of words that are no command, where it is no help
+abbrev pub IsUntold : Usage → (old new : Option (List ℕ)) → Complaint → Type 0
+IsUntold usage old new (complaints.Usage told) = (told ≡ usage) × (Asks usage → ⊥) × (new ≡ old)
+IsUntold usage old new (complaints.Fault fault) = Asks usage × IsUnable fault × ((text : List ℕ) × AppendsFront old new text)
+
+-- ---- what a call leaves
+
+-- with a status: a text is on the output behind what was, and a file is written
+abbrev pub Leaves : (List ℕ → Written → Status → Type 0) → (old new : Option (List ℕ)) → (held holds : Held) → Status → Type 0
+Leaves Is old new held holds status = (text : List ℕ) × (written : Written) × Is text written status × Appends old new text × IsWith held holds written
+
+-- with a fault
+abbrev pub LeavesAt : {A : Type 0} → (A → Written → Type 0) → (held holds : Held) → A → Type 0
+LeavesAt Is held holds fault = (written : Written) × Is fault written × IsWith held holds written

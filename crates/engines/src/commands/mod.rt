@@ -1,0 +1,17 @@
+//! What each command does over a folder, by its engine.
+
+mod event_traces;
+mod given_files;
+mod outcome_texts;
+mod replays;
+mod runs;
+mod schedules;
+mod searches;
+mod storing;
+
+pub(crate) use event_traces::trace;
+pub(crate) use given_files::{disasm, verify};
+pub(crate) use replays::replay;
+pub(crate) use runs::run_files;
+pub(crate) use schedules::schedule;
+pub(crate) use searches::search;

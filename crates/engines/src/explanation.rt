@@ -1,0 +1,80 @@
+//! What is told to a person behind a report or a complaint.
+
+use crate::status::Status;
+use std::alloc::Global;
+use std::io;
+
+/// How many events are done again, at the most, for what the words don't ask for.
+const MOST_EVENTS: u64 = 100_000_000;
+
+/// How many times they are done where an exception ended a thread, at the most.
+const MOST_TIMES: u64 = 3;
+
+/// What is told to a person: as lines, each ended. It is wanted where the words ask for it, and it may be wanted anyway.
+#[derive(Drop)]
+pub struct Explanation {
+    is_wanted: bool,
+    text: Vec<u8>,
+    /// The system's reason why a file couldn't be written.
+    reason: Option<String>,
+}
+
+impl Explanation {
+    /// One without a line.
+    pub fn new(alloc: Global, is_wanted: bool) -> Explanation {
+        Explanation {
+            is_wanted,
+            text: Vec::new(alloc),
+            reason: None,
+        }
+    }
+
+    /// Its lines.
+    pub fn text(&self) -> &[u8] {
+        self.text.as_slice()
+    }
+
+    /// Whether a file that was asked for couldn't be written.
+    pub fn is_file_lost(&self) -> bool {
+        self.reason.is_some()
+    }
+
+    /// Whether it is wanted where the words don't ask for it.
+    pub(crate) fn is_wanted(&self) -> bool {
+        self.is_wanted
+    }
+
+    /// The system's reason why a file couldn't be written, if that is so.
+    pub(crate) fn reason(&self) -> Option<&str> {
+        self.reason.as_deref()
+    }
+
+    /// This is that reason.
+    pub(crate) fn keep_reason(&mut self, alloc: Global, error: &io::Error) {
+        self.reason = format!(in alloc; "{error}").ok();
+    }
+
+    /// How many events may be done again to tell why a run ended with this status, if that is to be told.
+    pub(crate) fn most_events(
+        &self,
+        status: Status,
+        is_asked: bool,
+        is_quiet: bool,
+    ) -> Option<u64> {
+        if is_quiet || status == Status::Returned || !(is_asked || self.is_wanted) {
+            return None;
+        }
+        match status {
+            _ if is_asked => Some(u64::MAX),
+            Status::Threw => Some(MOST_EVENTS / MOST_TIMES),
+            _ => Some(MOST_EVENTS),
+        }
+    }
+
+    /// These lines are told, if there are some.
+    pub(crate) fn tell(&mut self, lines: Option<Vec<u8>>) {
+        if let Some(lines) = lines {
+            self.text = lines;
+        }
+    }
+}
