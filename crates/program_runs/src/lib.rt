@@ -2,6 +2,7 @@
 #![tactic(auto)]
 
 pub mod continued_runs;
+pub mod policies;
 pub mod traced_runs;
 pub mod verified_programs;
 pub mod workers;

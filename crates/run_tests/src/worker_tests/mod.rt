@@ -8,6 +8,6 @@ mod files;
 #[cfg(test)]
 mod overlap;
 #[cfg(test)]
-mod program;
+pub(crate) mod program;
 #[cfg(test)]
 mod runs;
