@@ -1,6 +1,6 @@
 //! Which policies there are, and a run by one.
 
-ghost use Rattle.std.specs.Prelude.{IfOk, OnOk};
+ghost use Rattle.std.specs.Prelude.{◌↔◌, IfOk, IsTrue, OnOk};
 ghost use Rattle.std.specs.Arc.{arc_value};
 ghost use Rattle.program_runs.specs.policies.Policies.{HasTurns};
 ghost use Rattle.program_runs.specs.worlds.Records.{IsRecordOf};
@@ -27,6 +27,18 @@ pub enum Policy {
     Random { seed: u64 },
     /// Turns of up to so many events, in the order of the threads' numbers. A `notify` wakes the one that has waited longest.
     Rotation { quantum: u32 },
+}
+
+impl Policy {
+    /// Whether each turn is of one event at least.
+    pub fn has_turns(self) -> bool
+        ensures { IsTrue result ↔ HasTurns self }
+    {
+        match self {
+            Policy::Mixed { .. } | Policy::Random { .. } => true,
+            Policy::Rotation { quantum } => quantum > 0,
+        }
+    }
 }
 
 /// Gives turns until there is an end.

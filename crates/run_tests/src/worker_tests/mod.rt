@@ -4,7 +4,7 @@
 #[cfg(test)]
 mod commits;
 #[cfg(test)]
-mod files;
+pub(crate) mod files;
 #[cfg(test)]
 mod overlap;
 #[cfg(test)]
