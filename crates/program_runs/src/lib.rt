@@ -1,4 +1,4 @@
-//! Runs of a program: by a schedule, by workers, told event by event.
+//! Runs of a program: by a schedule, by workers, by policies, told event by event.
 #![tactic(auto)]
 
 pub mod continued_runs;

@@ -1,5 +1,6 @@
 //! Whose turn it is.
 
+ghost use Rattle.std.specs.Prelude.{true, IfSome};
 ghost use Rattle.program_runs.specs.worlds.Turns.{IsFirst, IsFound, IsFoundDownwards, IsLast, MayStep};
 
 use machine::Machine;
@@ -72,7 +73,9 @@ pub(crate) fn enabled_count(machine: &Machine) -> u16 {
 }
 
 /// The thread that has an event which is enabled, behind so many others that have one.
-pub(crate) fn enabled_at(machine: &Machine, place: u16) -> Option<u16> {
+pub(crate) fn enabled_at(machine: &Machine, place: u16) -> Option<u16>
+    ensures { IfSome result (λ thread. MayStep machine.now thread true) }
+{
     let mut left = place;
     'threads: for thread in 0..machine.shared().threads.len() as u16 {
         if may(machine, thread) {
