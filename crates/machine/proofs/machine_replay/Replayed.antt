@@ -45,7 +45,7 @@ module _ (trees : Program) (bounds : Bounds) (state : State) (front : List Event
   next_is P Q on [] h = absurd h
   next_is P Q on (event ∷ left) h = on event h
 
-  fits : (why : Stopped) (n : ℕ) (quiet : Bool) (left : List Event) → n ≡ length front → quiet ≡ is_quiet trees bounds.frames state
+  pub fits : (why : Stopped) (n : ℕ) (quiet : Bool) (left : List Event) → n ≡ length front → quiet ≡ is_quiet trees bounds.frames state
       → EndsBy why trees bounds state front left
       → EndFits trees bounds state front left (end_of why n quiet)
   fits stopped.Most n true left count e h = (h, sym e)
