@@ -1,7 +1,6 @@
 //! Advice on files.
 
-ghost use Rattle.std.specs.Prelude.{◌≡◌, false, true, None, IfOk, IsFalse, MatchOption, OnOk, length, map, option_map, slice_get, slice_index_or};
-ghost use Rattle.std.specs.Option.{option_and_then};
+ghost use Rattle.std.specs.Prelude.{◌≡◌, false, true, None, IfOk, MatchOption, OnOk, length, map, slice_index_or};
 ghost use Rattle.model.specs.Linkable.{stands, DuplicateClass};
 ghost use Rattle.hierarchy.specs.Set.{trees_of};
 ghost use Rattle.classfile.specs.View.{file_of};
@@ -9,6 +8,7 @@ ghost use Rattle.advice.specs.Advice.{IsAdvice, TellsAll};
 ghost use Rattle.advice.specs.Reading.{bytes_of};
 ghost use Rattle.advice.specs.Telling.{TellsFile, TellsFiles, TellsPlace};
 
+use crate::classes::Classes;
 use crate::distinct::read_distinct;
 use crate::facts::Facts;
 use crate::file::{push_fault, push_malformed_code};
@@ -18,52 +18,48 @@ use crate::site::Site;
 use crate::text::text_of;
 use crate::told::Told;
 use classfile::ClassFile;
-use hierarchy::{ClassSet, Hierarchy, SetRefusal};
+use hierarchy::{ClassSet, SetRefusal};
 use std::alloc::{AllocError, Global};
 
-/// Tells what is wrong with a class file among the classes of a program.
+/// Tells what is wrong with the class file at a place among the classes of a program.
 fn push_class_file(
     alloc: Global,
-    hierarchy: &Hierarchy,
+    classes: &Classes,
+    place: usize,
     file: &ClassFile,
     given: &str,
     number: usize,
     told: &mut Vec<Told>,
 ) -> Result<(), AllocError>
-    requires { IsFalse (stands hierarchy.now DuplicateClass) }
-    ensures { OnOk result (TellsFile hierarchy.now (file_of file.now) told.old.items told.new.items number) }
+    ensures { OnOk result (TellsFile classes.now (file_of file.now) told.old.items told.new.items number) }
 {
     let site = Site {
         alloc,
         given,
         number,
-        facts: Facts::new(alloc, hierarchy, file)?,
+        facts: Facts::new(alloc, &classes.hierarchy, file)?,
     };
+    classes.push_rule(&site, place, told)?;
     push_malformed_code(&site, told)?;
     site.push_all(told)
-}
-
-/// The class of the file at a place of the program.
-fn class_at(set: &ClassSet, place: Option<usize>) -> Option<&ClassFile>
-    ensures { option_map (λ c. file_of c.now) result ≡ option_and_then (slice_get set.now) place }
-{
-    set.file_at(place?)
 }
 
 /// Tells what is wrong with the class at a place of the program, which is that of the file of a number.
 fn push_class_at(
     alloc: Global,
-    hierarchy: &Hierarchy,
+    classes: &Classes,
     place: Option<usize>,
     given: &str,
     number: usize,
     told: &mut Vec<Told>,
 ) -> Result<(), AllocError>
-    requires { IsFalse (stands hierarchy.now DuplicateClass) }
-    ensures { OnOk result (TellsPlace hierarchy.now place told.old.items told.new.items number) }
+    ensures { OnOk result (TellsPlace classes.now place told.old.items told.new.items number) }
 {
-    match class_at(hierarchy.set(), place) {
-        Some(file) => push_class_file(alloc, hierarchy, file, given, number, told),
+    let Some(place) = place else {
+        return Ok(());
+    };
+    match classes.set().file_at(place) {
+        Some(file) => push_class_file(alloc, classes, place, file, given, number, told),
         None => Ok(()),
     }
 }
@@ -84,19 +80,18 @@ fn fault_at(faults: &[Option<FileFault>], number: usize) -> Option<FileFault> {
 fn told_of_files(
     alloc: Global,
     files: &[GivenFile<'_>],
-    hierarchy: &Hierarchy,
+    classes: &Classes,
     places: &[Option<usize>],
     faults: &[Option<FileFault>],
 ) -> Result<Vec<Told>, AllocError>
-    requires { IsFalse (stands hierarchy.now DuplicateClass) }
-    ensures { IfOk result (λ told. TellsFiles hierarchy.now places.now told.items (length files.now)) }
+    ensures { IfOk result (λ told. TellsFiles classes.now places.now told.items (length files.now)) }
 {
     let mut told = Vec::new(alloc);
     for (number, file) in files.iter().enumerate() {
         let fault = fault_at(faults, number);
         push_fault(alloc, files, number, file, fault, &mut told)?;
         let place = place_at(places, number);
-        push_class_at(alloc, hierarchy, place, file.name, number, &mut told)?;
+        push_class_at(alloc, classes, place, file.name, number, &mut told)?;
     }
     Ok(told)
 }
@@ -122,8 +117,8 @@ fn told_of_distinct(alloc: Global, files: &[GivenFile<'_>]) -> Result<Vec<Told>,
     } = read_distinct(alloc, files)?;
     match class_set(alloc, classes)? {
         Some(set) => {
-            let hierarchy = Hierarchy::new(alloc, set)?;
-            told_of_files(alloc, files, &hierarchy, &places, &faults)
+            let classes = Classes::new(alloc, set)?;
+            told_of_files(alloc, files, &classes, &places, &faults)
         }
         None => Ok(Vec::new(alloc)),
     }
@@ -140,8 +135,8 @@ fn told_of(alloc: Global, files: &[GivenFile<'_>]) -> Result<Vec<Told>, AllocErr
     } = read_files(alloc, files)?;
     match class_set(alloc, classes)? {
         Some(set) => {
-            let hierarchy = Hierarchy::new(alloc, set)?;
-            told_of_files(alloc, files, &hierarchy, &places, &faults)
+            let classes = Classes::new(alloc, set)?;
+            told_of_files(alloc, files, &classes, &places, &faults)
         }
         None => told_of_distinct(alloc, files),
     }

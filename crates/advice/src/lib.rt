@@ -3,6 +3,7 @@
 #![tactic(auto)]
 
 mod advising;
+mod classes;
 mod distinct;
 mod facts;
 mod file;

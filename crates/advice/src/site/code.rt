@@ -234,7 +234,8 @@ impl CodeSite<'_> {
 
     /// Tells what is wrong with each instruction.
     fn push_offsets(&self, told: &mut Vec<Told>) -> Result<(), AllocError>
-        ensures { OnOk result (TellsEach told.old.items told.new.items self.now.site.now.number (λ pc. places.Instruction self.now.number pc)
+        ensures { OnOk result (TellsEach told.old.items told.new.items self.now.site.now.number
+            (λ pc. places.Instruction self.now.number pc)
             (is_offset_wrong self.now.site.now.facts.0 self.now.site.now.facts.1 (code_of self.now.code.now))) }
     {
         let marks = starts(self.site.alloc, &self.code.code)?;

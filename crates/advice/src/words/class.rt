@@ -7,6 +7,7 @@ use crate::words::missing::lacking_in;
 use classfile::access_flags::{ABSTRACT, NATIVE, STATIC, has};
 use classfile::{ClassFile, Field, Method, class_name};
 use hierarchy::ClassSet;
+use link_conditions::class_rules::RulePlace;
 use std::alloc::AllocError;
 
 /// Adds a class that is not there, and what to write instead.
@@ -96,4 +97,35 @@ pub(crate) fn say_method(
         return say_lacking(line, set, descriptor);
     }
     line.say(words_of_flags(file, method))
+}
+
+/// Adds that a class is above itself.
+pub(crate) fn say_cycle(line: &mut Line, file: &ClassFile) -> Result<(), AllocError> {
+    line.say("the class ")?;
+    say_class(line, class_name(file))?;
+    line.say(" is above itself: compile all sources together again")
+}
+
+/// Adds the first rule of classes and superclasses that a class file breaks.
+pub(crate) fn say_broken_rule(
+    line: &mut Line,
+    file: &ClassFile,
+    place: RulePlace,
+) -> Result<(), AllocError> {
+    if let RulePlace::Method { method } = place {
+        if let Some(method) = file.methods.get(method) {
+            line.say("the method ")?;
+            let (name, descriptor) = (
+                file.pool.text(method.name),
+                file.pool.text(method.descriptor),
+            );
+            say_declared_method(line, class_name(file), name, descriptor)?;
+            return line.say(
+                " redeclares one of a superclass that is final, static or of another package: take another name",
+            );
+        }
+    }
+    line.say("the class ")?;
+    say_class(line, class_name(file))?;
+    line.say(" breaks a rule of superclasses or catch types: compile all sources together again")
 }

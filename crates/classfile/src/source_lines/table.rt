@@ -1,7 +1,7 @@
 //! The lines of a code that is asked for many of them.
 
-use crate::source_lines::lines::{LineStart, entry_at};
 use crate::source_lines::bytes::u2_at;
+use crate::source_lines::lines::{LineStart, entry_at};
 use crate::source_lines::source::is_named;
 use crate::{ClassFile, Code};
 use std::alloc::{AllocError, Global};
