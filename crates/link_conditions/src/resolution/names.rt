@@ -1,6 +1,6 @@
 //! Whether what a class file names is found, asked part by part.
 
-ghost use Rattle.std.specs.Prelude.{◌≡◌, ◌×◌, IfOk, IsFalse};
+ghost use Rattle.std.specs.Prelude.{◌≡◌, IfOk, IsFalse};
 ghost use Rattle.model.specs.Linkable.{stands, DuplicateClass};
 ghost use Rattle.model.specs.Resolution.{unresolved_instruction};
 ghost use Rattle.classfile.specs.View.{field_of, file_of, method_of};
