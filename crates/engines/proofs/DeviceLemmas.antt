@@ -1,6 +1,6 @@
 -- Writes one after another.
 use Rattle.std.proofs.Common.{arith, length, ◌-◌, ◌≡◌, ℕ, List, ◌++◌, take, drop, Option, None, Some, sym, ◌∙◌, ap, append_assoc}
-use Rattle.std.proofs.lemmas.List.{take-append-drop, take_all, length-drop}
+use Rattle.std.proofs.lemmas.List.{append-nil, take-append-drop, take_all, length-drop}
 use Rattle.std.specs.Io.KnownBytes.{Appends, Keeps}
 
 -- one write, and then another
@@ -28,3 +28,23 @@ front_on old mid new bytes front rest n cut first second = (
 -- `&rest[n..]`, which is cut at the length too
 pub tail_cut : (n : ℕ) (rest : List ℕ) → take (length rest - n) (drop n rest) ≡ drop n rest
 tail_cut n rest = take_all (length rest - n) (drop n rest) (omega (arith, length-drop n rest))
+
+-- nothing is written, and then nothing again
+pub keeps_on : (old mid new : Option (List ℕ)) → Keeps old mid → Keeps mid new → Keeps old new
+keeps_on None mid new first second = tt
+keeps_on (Some held) None new first second = absurd first
+keeps_on (Some held) (Some more) None first second = absurd second
+keeps_on (Some held) (Some more) (Some all) first second = second ∙ first
+
+-- nothing is written, and then something
+pub keeps_appends : (old mid new : Option (List ℕ)) (xs : List ℕ) → Keeps old mid → Appends mid new xs → Appends old new xs
+keeps_appends None mid new xs first second = tt
+keeps_appends (Some held) None new xs first second = absurd first
+keeps_appends (Some held) (Some more) None xs first second = absurd second
+keeps_appends (Some held) (Some more) (Some all) xs first second = second ∙ ap (λ l. l ++ xs) first
+
+-- no byte is written
+pub appends_none : (old new : Option (List ℕ)) (n : ℕ) (bytes : List ℕ) → n ≡ 0 → Appends old new (take n bytes) → Keeps old new
+appends_none None new n bytes none written = tt
+appends_none (Some held) None n bytes none written = absurd written
+appends_none (Some held) (Some all) n bytes none written = written ∙ ap (λ i. held ++ take i bytes) none ∙ append-nil held

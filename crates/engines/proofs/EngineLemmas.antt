@@ -57,3 +57,8 @@ counts_write devices.Memory a b c d old new first second counted = omega (arith,
 pub counts_write_before : (fault : DeviceFault) (a b c old new : ℕ) → a ≡ c → CountsFault fault old new → CountsWith (fault_of fault) (c + old + b) (a + new + b)
 counts_write_before devices.Device a b c old new same counted = omega (arith, same, counted)
 counts_write_before devices.Memory a b c old new same counted = omega (arith, same, counted)
+
+-- the same where one other count stands before it
+pub counts_write_after : (fault : DeviceFault) (a c old new : ℕ) → a ≡ c → CountsFault fault old new → CountsWith (fault_of fault) (c + old) (a + new)
+counts_write_after devices.Device a c old new same counted = omega (arith, same, counted)
+counts_write_after devices.Memory a c old new same counted = omega (arith, same, counted)

@@ -1,11 +1,13 @@
 pub mod DeviceLemmas
 pub mod EngineLemmas
+pub mod FailureLemmas
 pub mod FileLemmas
 pub mod GivenLemmas
 pub mod LibraryLemmas
 pub mod ListingLemmas
 pub mod OpeningLemmas
 pub mod OutcomeLemmas
+pub mod RecordLemmas
 pub mod RecordingLemmas
 pub mod RunLemmas
 pub mod ScheduleLemmas

@@ -14,7 +14,7 @@ use Rattle.engines.specs.Devices.{either_fault, fault_of}
 use Rattle.engines.specs.Engines.{Reads}
 use Rattle.engines.specs.Opening.{IsKeptBy, IsOfSchedule, IsUnspelled}
 use Rattle.engines.specs.Replays.{IsFaulty, WritesPart}
-use Rattle.engines.specs.Transcriptions.{IsUnprinted, IsUntranscribed, TranscribesPart}
+use Rattle.engines.specs.Transcriptions.{IsUnprinted, IsUntranscribed, PrintsPart, TranscribesPart}
 use Rattle.engines.specs.declared.fault.Fault.{Fault}
 use Rattle.engines.specs.declared.fault.Fault.TheVariants as faults
 
@@ -52,6 +52,11 @@ pub part_is_untranscribed : (fault : DeviceFault) (left old new : Option (List �
     → IsUntranscribed left old new (fault_of fault)
 part_is_untranscribed devices.Device left old new part = part
 part_is_untranscribed devices.Memory left old new part = part
+
+pub part_is_unprinted : (fault : DeviceFault) (left old new : Option (List ℕ)) → PrintsPart left old new
+    → IsUnprinted left old new (fault_of fault)
+part_is_unprinted devices.Device left old new part = part
+part_is_unprinted devices.Memory left old new part = part
 
 -- it is no fault of a schedule
 pub of_no_schedule : (fault : DeviceFault) → IsOfSchedule (fault_of fault) → ⊥

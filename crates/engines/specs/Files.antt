@@ -1,5 +1,5 @@
 -- What files hold, by their paths, and what a command writes (own). Where nothing is known of a file, any bytes may be in it.
-use Rattle.std.specs.Prelude.{◌≡◌, ◌⊎◌, ℕ, List, [], ◌∷◌, ◌++◌, map, Option, Some, None, IsPermutation, string_bytes}
+use Rattle.std.specs.Prelude.{◌≡◌, ◌⊎◌, ℕ, Bool, true, false, List, [], ◌∷◌, ◌++◌, map, Option, Some, None, IsPermutation, string_bytes}
 use Rattle.std.specs.declared.string.String.{String}
 use Rattle.std.specs.Global.{Global}
 use Rattle.engines.specs.Engines.{Reads}
@@ -14,6 +14,12 @@ abbrev pub left_of : Option (List ℕ) → Reading → Option (List ℕ)
 left_of held Ahead = held
 left_of held Behind = Some []
 left_of held Failed = Some []
+
+-- it failed
+abbrev pub has_failed : Reading → Bool
+has_failed Ahead = false
+has_failed Behind = false
+has_failed Failed = true
 
 -- how often it failed
 abbrev pub failures_of : Reading → ℕ

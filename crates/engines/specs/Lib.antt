@@ -3,6 +3,7 @@ pub mod Complaints
 pub mod Continuations
 pub mod Devices
 pub mod Engines
+pub mod Failures
 pub mod Files
 pub mod Goals
 pub mod Libraries

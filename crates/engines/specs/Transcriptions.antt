@@ -5,6 +5,7 @@ use Rattle.model.specs.Devices.{AppendsFront}
 use Rattle.model.specs.Schedule.{Recording, schedule}
 use Rattle.schedule.specs.declared.fault.ScheduleFault.TheVariants as schedules
 use Rattle.schedule.specs.schedule_text.Either.{GivesEntries}
+use Rattle.schedule.specs.schedule_text.Printing.{printed_schedule}
 use Rattle.schedule.specs.schedule_text.Text.{SpellsSchedule}
 use Rattle.schedule.specs.declared.schedule_text.either.EitherFault.TheVariants.{File, Text}
 use Rattle.schedule.specs.declared.schedule_text.fault.TextFault.TheVariants as texts
@@ -15,10 +16,11 @@ use Rattle.engines.specs.declared.fault.Fault.TheVariants as faults
 
 -- ---- a schedule as text
 
--- the source gives a schedule, and the text spells its entries as they stand, and with what it was recorded
+-- the source gives a schedule, and the text is that of its entries as they stand, and of what it was recorded with, which it spells
 abbrev pub Prints : Option (List ℕ) → List ℕ → Type 0
 Prints left text = (bytes : List ℕ) × (recorded : Option Recording) × (entries : List ScheduleEntry)
     × Reads left bytes × GivesEntries bytes recorded entries × SpellsSchedule text recorded entries
+    × (text ≡ printed_schedule recorded entries)
 
 abbrev pub PrintsPart : Option (List ℕ) → (old new : Option (List ℕ)) → Type 0
 PrintsPart left old new = (new ≡ old) ⊎ ((text : List ℕ) × Prints left text × AppendsFront old new text)

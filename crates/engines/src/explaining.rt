@@ -10,45 +10,69 @@ use explanations::refusal_explanations::{GivenFile, explain, explain_schedule, e
 use std::alloc::{AllocError, Global};
 use std::fmt::Display;
 use std::io;
-use std::io::ErrorKind;
+
+/// What the input is called.
+const STANDARD_INPUT: &str = "standard input";
+
+/// A line, where something is known.
+type Told = Result<Option<Vec<u8>>, AllocError>;
+
+/// What a command could not read or write.
+#[derive(Clone, Copy)]
+pub struct Failures<'a> {
+    /// The first failure of the input.
+    pub input: Option<&'a io::Error>,
+    /// The first failure of the output.
+    pub output: Option<&'a io::Error>,
+}
 
 /// Tells why a command was not done, in a line with two spaces before it, where more is known than the complaint says: where the
-/// words ask for it by `--explain`, or it is wanted anyway; and nothing with `--quiet`. The kind is that of the first failure of the output.
+/// words ask for it by `--explain`, or it is wanted anyway; and nothing with `--quiet`.
 pub fn explain_complaint<F: Folder>(
     alloc: Global,
     folder: &F,
     words: &[String],
     complaint: &Complaint,
-    output: Option<ErrorKind>,
+    failures: Failures<'_>,
     explanation: &mut Explanation,
 ) {
     let Complaint::Fault(fault) = complaint else {
         return;
     };
     let Ok(command) = command(alloc, words) else {
+        // help that can't be written
+        if explanation.is_wanted() {
+            explanation.tell(indented(alloc, of_streams(alloc, failures)));
+        }
         return;
     };
     let (is_explained, is_quiet) = flags_of(&command);
     if !is_quiet && (is_explained || explanation.is_wanted()) {
-        let line = told_line(alloc, folder, &command, fault, output, explanation.reason());
-        explanation.tell(line);
+        let line = told_line(
+            alloc,
+            folder,
+            &command,
+            fault,
+            failures,
+            explanation.reason(),
+        );
+        explanation.tell(indented(alloc, line));
     }
 }
 
-/// What is known of a fault of a command, with two spaces before it and its end.
+/// What is known of a fault of a command.
 fn told_line<F: Folder>(
     alloc: Global,
     folder: &F,
     command: &Command,
     fault: &Fault,
-    output: Option<ErrorKind>,
+    failures: Failures<'_>,
     recording: Option<&str>,
-) -> Option<Vec<u8>> {
-    let line = match fault {
-        Fault::Device => of_device(alloc, folder, command, output, recording),
+) -> Told {
+    match fault {
+        Fault::Device => of_device(alloc, folder, command, failures, recording),
         _ => line_of(alloc, folder, command, fault),
-    };
-    indented(alloc, line.ok()??.as_slice()).ok()
+    }
 }
 
 /// Whether the command has `--explain`, and whether it has `--quiet`.
@@ -64,12 +88,12 @@ fn flags_of(command: &Command) -> (bool, bool) {
     }
 }
 
-/// The line with two spaces before it and its end.
-fn indented(alloc: Global, line: &[u8]) -> Result<Vec<u8>, AllocError> {
-    let mut bytes = Vec::from_slice(alloc, b"  ")?;
-    bytes.extend_from_slice(line)?;
-    bytes.push(b'\n')?;
-    Ok(bytes)
+/// A line, if there is one, with two spaces before it and its end.
+fn indented(alloc: Global, line: Told) -> Option<Vec<u8>> {
+    let mut bytes = Vec::from_slice(alloc, b"  ").ok()?;
+    bytes.extend_from_slice(line.ok()??.as_slice()).ok()?;
+    bytes.push(b'\n').ok()?;
+    Some(bytes)
 }
 
 /// The path of the schedule that is read.
@@ -134,12 +158,7 @@ fn given_or_same<F: Folder>(
 }
 
 /// What is known of a fault that is no failure of a device.
-fn line_of<F: Folder>(
-    alloc: Global,
-    folder: &F,
-    command: &Command,
-    fault: &Fault,
-) -> Result<Option<Vec<u8>>, AllocError> {
+fn line_of<F: Folder>(alloc: Global, folder: &F, command: &Command, fault: &Fault) -> Told {
     let schedule = schedule_of(command);
     match fault {
         Fault::Device | Fault::Memory => Ok(None),
@@ -148,7 +167,7 @@ fn line_of<F: Folder>(
             None => Ok(None),
         },
         Fault::Text(fault) => {
-            let name = schedule.unwrap_or("standard input");
+            let name = schedule.unwrap_or(STANDARD_INPUT);
             Ok(Some(explain_text(alloc, name, *fault)?))
         }
         Fault::Refusal(refusal) => {
@@ -176,19 +195,20 @@ fn given<'a, F: Folder>(
     Ok(files)
 }
 
-/// What failed, and the system's reason: the output, the file that was to be written, or the first file that can't be read.
+/// What failed, and the system's reason: the file that was to be written, the output, the input, or the first file that
+/// can't be read.
 fn of_device<F: Folder>(
     alloc: Global,
     folder: &F,
     command: &Command,
-    output: Option<ErrorKind>,
+    failures: Failures<'_>,
     recording: Option<&str>,
-) -> Result<Option<Vec<u8>>, AllocError> {
-    if let Some(kind) = output {
-        return line_with(alloc, "the output", &kind);
-    }
+) -> Told {
     if let (Some(path), Some(reason)) = (record_of(command), recording) {
         return line_with(alloc, path, &reason);
+    }
+    if let Some(line) = of_streams(alloc, failures)? {
+        return Ok(Some(line));
     }
     if let Some(path) = first_of(command) {
         if let Err(error) = folder.read(alloc, path) {
@@ -198,12 +218,17 @@ fn of_device<F: Folder>(
     unread(alloc, folder, files_of(alloc, folder, command)?.as_slice())
 }
 
+/// Which of the output and the input failed, and the system's reason.
+fn of_streams(alloc: Global, failures: Failures<'_>) -> Told {
+    match (failures.output, failures.input) {
+        (Some(error), _) => line_with(alloc, "the output", error),
+        (None, Some(error)) => line_with(alloc, STANDARD_INPUT, error),
+        (None, None) => Ok(None),
+    }
+}
+
 /// The first of the files that can't be read, and why.
-fn unread<F: Folder>(
-    alloc: Global,
-    folder: &F,
-    paths: &[String],
-) -> Result<Option<Vec<u8>>, AllocError> {
+fn unread<F: Folder>(alloc: Global, folder: &F, paths: &[String]) -> Told {
     for path in paths {
         if let Err(error) = folder.read(alloc, path.as_str()) {
             return line_with(alloc, path.as_str(), &error);
@@ -213,10 +238,6 @@ fn unread<F: Folder>(
 }
 
 /// A name, and the reason why it failed.
-fn line_with<E: Display>(
-    alloc: Global,
-    name: &str,
-    reason: &E,
-) -> Result<Option<Vec<u8>>, AllocError> {
+fn line_with<E: Display>(alloc: Global, name: &str, reason: &E) -> Told {
     Ok(Some(format!(in alloc; "{name}: {reason}")?.into_bytes()))
 }

@@ -7,6 +7,9 @@ use std::io;
 /// How many events are done again, at the most, for what the words don't ask for.
 const MOST_EVENTS: u64 = 100_000_000;
 
+/// How many times they are done where an exception ended a thread, at the most.
+const MOST_TIMES: u64 = 3;
+
 /// What is told to a person: as lines, each ended. It is wanted where the words ask for it, and it may be wanted anyway.
 #[derive(Drop)]
 pub struct Explanation {
@@ -31,6 +34,11 @@ impl Explanation {
         self.text.as_slice()
     }
 
+    /// Whether a file that was asked for couldn't be written.
+    pub fn is_file_lost(&self) -> bool {
+        self.reason.is_some()
+    }
+
     /// Whether it is wanted where the words don't ask for it.
     pub(crate) fn is_wanted(&self) -> bool {
         self.is_wanted
@@ -53,14 +61,13 @@ impl Explanation {
         is_asked: bool,
         is_quiet: bool,
     ) -> Option<u64> {
-        if is_quiet || status == Status::Returned {
-            None
-        } else if is_asked {
-            Some(u64::MAX)
-        } else if self.is_wanted {
-            Some(MOST_EVENTS)
-        } else {
-            None
+        if is_quiet || status == Status::Returned || !(is_asked || self.is_wanted) {
+            return None;
+        }
+        match status {
+            _ if is_asked => Some(u64::MAX),
+            Status::Threw => Some(MOST_EVENTS / MOST_TIMES),
+            _ => Some(MOST_EVENTS),
         }
     }
 

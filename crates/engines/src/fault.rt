@@ -3,7 +3,8 @@
 ghost use Rattle.std.specs.Prelude.{◌≡◌, OnOk};
 ghost use Rattle.std.specs.Io.KnownBytes.{Appends};
 ghost use Rattle.engines.specs.declared.fault.Fault.TheVariants.{Memory, Refusal, Schedule, Text};
-ghost use Rattle.engines.specs.Devices.{IsUnable, either_fault, fault_of};
+ghost use Rattle.engines.specs.Devices.{either_fault, fault_of};
+ghost use Rattle.engines.specs.Failures.{IsOfError, IsOfKind};
 ghost use Rattle.engines.specs.Complaints.{fault_line};
 
 use model::DeviceFault;
@@ -91,7 +92,7 @@ impl From<DeviceFault> for Fault {
 
 /// Where a folder can't be read.
 impl From<io::Error> for Fault {
-    ghost from_gives = { λ _ fault. IsUnable fault };
+    ghost from_gives = { λ error fault. IsOfError error fault };
 
     fn from(error: io::Error) -> Fault {
         Fault::from(device_fault(&error))
@@ -115,7 +116,9 @@ impl<T: Drop> From<AllocFailed<T>> for Fault {
 }
 
 /// What the system's reason comes to: a want of memory, or a failure.
-pub(crate) fn device_fault(error: &io::Error) -> DeviceFault {
+pub(crate) fn device_fault(error: &io::Error) -> DeviceFault
+    ensures { IsOfKind error.now result }
+{
     match error.kind() {
         ErrorKind::OutOfMemory => DeviceFault::Memory,
         _ => DeviceFault::Device,

@@ -1,7 +1,10 @@
 //! The files for which the paths of a command line stand.
 
-ghost use Rattle.std.specs.Prelude.{IfOk, map, string_bytes, vec_items};
+ghost use Rattle.std.specs.Prelude.{◌≡◌, ◌⊎◌, IfErr, IfOk, map, string_bytes, vec_items};
+ghost use Rattle.std.specs.IoError.{error_kind};
 ghost use Rattle.std.specs.Option.{option_map};
+ghost use Rattle.std.specs.declared.io.ErrorKind.TheVariants.{OutOfMemory};
+ghost use Rattle.engines.specs.Failures.{FolderMayFail};
 ghost use Rattle.engines.specs.Files.{AreGiven, IsGiven, IsUnslashed};
 
 use crate::class_paths::class_paths;
@@ -16,7 +19,8 @@ pub(crate) fn given_paths<F: Folder>(
     folder: &F,
     paths: &[String],
 ) -> io::Result<Vec<String>>
-    ensures { IfOk result (λ given. AreGiven (F.listed folder.now) (map string_bytes paths.now) (map string_bytes given.items)) }
+    ensures given { IfOk result (λ given. AreGiven (F.listed folder.now) (map string_bytes paths.now) (map string_bytes given.items)) }
+    ensures failed { IfErr result (λ error. (error_kind error ≡ OutOfMemory) ⊎ FolderMayFail F.may_fail) }
 {
     let mut given = Vec::new(alloc);
     for path in paths {

@@ -1,7 +1,7 @@
 //! Files of a folder, as sources.
 
-ghost use Rattle.std.specs.Prelude.{◌≡◌, IfErr, IfOk, map, string_bytes, sum_by};
-ghost use Rattle.engines.specs.Files.{failures_of, held_at, left_of};
+ghost use Rattle.std.specs.Prelude.{◌≡◌, IfErr, IfOk, IsTrue, map, string_bytes, sum_by};
+ghost use Rattle.engines.specs.Files.{failures_of, has_failed, held_at, left_of};
 ghost use Rattle.engines.specs.declared.fault.Fault.TheVariants.{Memory};
 
 use crate::fault::{Fault, device_fault};
@@ -11,10 +11,12 @@ use std::alloc::Global;
 
 /// The file at a path of a folder, which is read at once.
 #[derive(Drop)]
-pub(crate) struct NamedFile<'a, F> {
+pub(crate) struct NamedFile<'a, F: Folder> {
     folder: &'a F,
     path: &'a str,
     reading: Reading,
+    /// It has failed only where the folder may fail.
+    ghost failed: { IsTrue (has_failed reading) → IsTrue (F.may_fail folder.now path.now) },
 }
 
 /// How far the reading of a file came.

@@ -1,9 +1,11 @@
 //! What the words of a command line ask for.
 
-ghost use Rattle.std.specs.Prelude.{◌≡◌, IfErr, IfOk, map, string_bytes};
+ghost use Rattle.std.specs.Prelude.{◌≡◌, ◌≤◌, ◌+◌, IfErr, IfOk, MatchResult, OnErr, OnOk, map, string_bytes};
 ghost use Rattle.std.specs.Io.KnownBytes.{Appends};
+ghost use Rattle.model.specs.Devices.{AppendsFront, Counts};
 ghost use Rattle.command_line.specs.CommandLine.{Asks};
 ghost use Rattle.engines.specs.Commands.{Does, IsDone, IsUndone, IsUntold, Leaves, LeavesAt, Stops};
+ghost use Rattle.engines.specs.Failures.{FolderMayFail, TellsComplaint, TellsFailures};
 
 use crate::commands::{disasm, replay, run_files, schedule, search, trace, verify};
 use crate::complaint::Complaint;
@@ -15,7 +17,7 @@ use command_line::{Command, Usage, command};
 use model::{DeviceFault, Sink, Source};
 use program_runs::workers::Gate;
 use search::Progress;
-use std::alloc::{AllocError, Global};
+use std::alloc::Global;
 use std::sync::Wait;
 use std::thread::Threads;
 
@@ -43,6 +45,9 @@ pub fn run<R: Threads + Wait + Sync, G: Gate + Progress + Sync, F: Folder, I: So
     ensures faulty { IfErr result (LeavesAt (Stops (F.held folder.old) (F.listed folder.old) (I.remaining input.old)
         (map string_bytes words.now) (W.contents output.old) (W.contents output.new))
         (F.held folder.old) (F.held folder.new)) }
+    // It is told that a device failed where the input, the output or the folder did, and only there.
+    ensures told { MatchResult result (λ _. I.failures input.new + W.failures output.new ≤ I.failures input.old + W.failures output.old)
+        (λ complaint. TellsComplaint (FolderMayFail F.may_fail) complaint (I.failures input.old + W.failures output.old) (I.failures input.new + W.failures output.new)) }
 {
     match command(alloc, words) {
         Ok(command) => {
@@ -67,18 +72,26 @@ fn told<W: Sink>(alloc: Global, usage: Usage, output: &mut W) -> Result<Status, 
     ensures told { IfOk result (λ status. (text : _) × (status ≡ Status.Returned) × Asks usage
         × Appends (W.contents output.old) (W.contents output.new) text) }
     ensures untold { IfErr result (IsUntold usage (W.contents output.old) (W.contents output.new)) }
+    ensures failed { MatchResult result (λ _. W.failures output.new ≤ W.failures output.old)
+        (λ complaint. TellsComplaint ⊥ complaint (W.failures output.old) (W.failures output.new)) }
 {
-    if !matches!(&usage, Usage::Asked(_)) {
+    let Usage::Asked(_) = &usage else {
         return Err(Complaint::Usage(usage));
-    }
-    let written = match usage.to_string(alloc) {
-        Ok(text) => output.write_all(text.as_bytes()),
-        Err(AllocError) => Err(DeviceFault::Memory),
     };
-    match written {
+    match write_help(alloc, &usage, output) {
         Ok(()) => Ok(Status::Returned),
         Err(fault) => Err(Complaint::Fault(Fault::from(fault))),
     }
+}
+
+/// Writes the text of what the words ask for.
+fn write_help<W: Sink>(alloc: Global, usage: &Usage, output: &mut W) -> Result<(), DeviceFault>
+    ensures written { OnOk result ((text : _) × Appends (W.contents output.old) (W.contents output.new) text) }
+    ensures part { OnErr result ((text : _) × AppendsFront (W.contents output.old) (W.contents output.new) text) }
+    ensures counted { Counts result (W.failures output.old) (W.failures output.new) }
+{
+    let text = usage.to_string(alloc)?;
+    output.write_all(text.as_bytes())
 }
 
 /// Does what a command says.
@@ -97,6 +110,8 @@ fn done<R: Threads + Wait + Sync, G: Gate + Progress + Sync, F: Folder, I: Sourc
         (W.contents output.old) (W.contents output.new) (F.held folder.old) (F.held folder.new)) }
     ensures faulty { IfErr result (LeavesAt (IsUndone (F.held folder.old) (F.listed folder.old) (I.remaining input.old)
         command.now (W.contents output.old) (W.contents output.new)) (F.held folder.old) (F.held folder.new)) }
+    ensures told { TellsFailures (FolderMayFail F.may_fail) result
+        (I.failures input.old + W.failures output.old) (I.failures input.new + W.failures output.new) }
 {
     match command {
         Command::Run(options) => run_files(rt, alloc, gate, folder, options, output, explanation),

@@ -43,6 +43,18 @@ impl<R: Files> Folder for SystemFolder<'_, R> {
         }
     }
 
+    /// A file that is there is opened, and one is made for a moment beside a name that is free. A device or a named pipe is
+    /// not tried, since who reads it would take notice.
+    fn try_write(&self, alloc: Global, path: &str) -> io::Result<()> {
+        match fs::metadata(self.files, path) {
+            Ok(found) if found.is_file() || found.is_dir() => open_there(self.files, path),
+            Err(error) if error.kind() == ErrorKind::NotFound && !is_link(self.files, path) => {
+                try_beside(alloc, self.files, path)
+            }
+            _ => Ok(()),
+        }
+    }
+
     /// A regular file is made beside the one that is there, and then takes its place, so that a full disk leaves that as it
     /// was. What is no regular file, as `/dev/null`, is written to.
     fn write(&mut self, alloc: Global, path: &str, bytes: &[u8]) -> io::Result<()> {
@@ -71,6 +83,18 @@ fn is_link<R: Files>(files: &R, path: &str) -> bool {
         Ok(found) => found.is_symlink(),
         Err(_) => false,
     }
+}
+
+/// Opens what is at a path, to be written, and closes it.
+fn open_there<R: Files>(files: &R, path: &str) -> io::Result<()> {
+    let _ = OpenOptions::new().write(true).open(files, path)?;
+    Ok(())
+}
+
+/// Makes a file beside a path, and takes it away again.
+fn try_beside<R: Files>(alloc: Global, files: &R, path: &str) -> io::Result<()> {
+    let (_, name) = new_beside(alloc, files, path)?;
+    fs::remove_file(files, name.as_str())
 }
 
 /// Writes these bytes to what is at a path.

@@ -7,7 +7,7 @@ ghost use Rattle.engines.specs.Statuses.{complaint_status};
 mod progress;
 
 use engines::{
-    Complaint, Counted, Explanation, Fault, Status, SystemFolder, explain_complaint, run,
+    Complaint, Counted, Explanation, Failures, Fault, Status, SystemFolder, explain_complaint, run,
 };
 use progress::{Cleared, Progress};
 use std::io::{ErrorKind, IsTerminal, Write};
@@ -43,8 +43,16 @@ fn words(rt: &HostRuntime) -> io::Result<Vec<String>> {
 struct Ending {
     outcome: Result<Status, Complaint>,
     explanation: Explanation,
-    /// Whether the output is a pipe that nobody reads.
+    /// Whether no more went wrong than that the output is a pipe that nobody reads.
     is_closed: bool,
+}
+
+/// Whether a pipe failed since nobody reads it.
+fn is_closed(failure: Option<&io::Error>) -> bool {
+    match failure {
+        Some(error) => error.kind() == ErrorKind::BrokenPipe,
+        None => false,
+    }
 }
 
 /// Does what the words say over the files of the system, the standard input and the standard output. The standard error shows
@@ -70,21 +78,25 @@ fn done<R: Files + Input + Print + Eprint + Clock + AllocGlobal + Threads + Wait
         &mut explanation,
     );
     progress.clear();
-    let failure = output.failure();
+    let failures = Failures {
+        input: input.failure(),
+        output: output.failure(),
+    };
     if let Err(complaint) = &outcome {
         explain_complaint(
             rt.alloc(),
             &folder,
             words,
             complaint,
-            failure,
+            failures,
             &mut explanation,
         );
     }
+    let is_closed = is_closed(failures.output) && !explanation.is_file_lost();
     Ending {
         outcome,
         explanation,
-        is_closed: failure == Some(ErrorKind::BrokenPipe),
+        is_closed,
     }
 }
 

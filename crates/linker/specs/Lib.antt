@@ -1,5 +1,6 @@
 pub mod Aside
 pub mod Linking
+pub mod Telling
 pub mod class_constants
 pub mod field_links
 pub mod linked_types

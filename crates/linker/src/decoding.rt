@@ -8,6 +8,7 @@ ghost use Rattle.model.specs.Tree.{FileTree};
 ghost use Rattle.classfile.specs.View.{file_of};
 ghost use Rattle.hierarchy.specs.Set.{trees_of};
 ghost use Rattle.linker.specs.Linking.{IsMalformed, IsUnreadable};
+ghost use Rattle.linker.specs.Telling.{TellsUnread, TellsLineOf};
 
 use classfile::{ClassFile, decode};
 use constant_pool::reading::Cause;
@@ -20,6 +21,7 @@ fn decoded(alloc: Global, number: usize, bytes: &[u8]) -> Result<ClassFile, Refu
     ensures only { IfOk result (λ file. (c : FileTree) → Spells bytes.now c → file_of file ≡ c) }
     ensures refused { IfErr result (λ r. (r.kind ≡ RefusalKind.OutOfMemory)
         ⊎ ((r.kind ≡ RefusalKind.Malformed) × (r.file ≡ Some number) × IsMalformed bytes.now r.offset r.cause)) }
+    ensures line { IfErr result (TellsUnread number) }
 {
     match decode(alloc, bytes) {
         Ok(file) => Ok(file),
@@ -36,6 +38,7 @@ pub(crate) fn decode_all(alloc: Global, files: &[Vec<u8>]) -> Result<Vec<ClassFi
     ensures only { IfOk result (λ classes. (trees : Program) → AreSpelled (map vec_items files.now) trees
         → trees_of classes.items ≡ trees) }
     ensures refused { IfErr result (λ r. IsUnreadable (map vec_items files.now) r.kind r.file r.offset r.cause) }
+    ensures line { IfErr result (λ r. TellsLineOf (map vec_items files.now) r.kind r) }
 {
     let mut classes = Vec::new(alloc);
     for (number, bytes) in files.iter().enumerate() {

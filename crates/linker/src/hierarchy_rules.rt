@@ -1,12 +1,13 @@
 //! What is above each class, and what classes have to be to one another.
 
-ghost use Rattle.std.specs.Prelude.{◌≡◌, false, IfOk, IfErr, IsFalse, OnOk};
+ghost use Rattle.std.specs.Prelude.{◌≡◌, false, None, IfOk, IfErr, IsFalse, OnOk};
 ghost use Rattle.std.specs.List.{list_any};
 ghost use Rattle.model.specs.Hierarchy.{in_cycle, has_bad_hierarchy};
 ghost use Rattle.model.specs.Linkable.{stands, before_links, earlier, DuplicateClass, Unresolved};
 ghost use Rattle.classfile.specs.View.{file_of};
 ghost use Rattle.link_conditions.specs.class_rules.Declared.{AreDeclaredIn};
 ghost use Rattle.linker.specs.Linking.{RefusesTrees, RefusesFor};
+ghost use Rattle.linker.specs.Telling.{rule_method, TellsMethod, TellsRuleOf, TellsLine};
 
 use crate::place::method_text;
 use classfile::ClassFile;
@@ -24,6 +25,7 @@ fn refusal_of(
 ) -> Result<Refusal, AllocError>
     ensures kind { IfOk result (λ r. r.kind ≡ RefusalKind.BadHierarchy) }
     ensures file { IfOk result (λ r. r.file ≡ Some number) }
+    ensures line { IfOk result (TellsMethod (file_of file.now) (rule_method place) None) }
 {
     match place {
         RulePlace::Class => Ok(Refusal::of_file(RefusalKind::BadHierarchy, number)),
@@ -52,6 +54,7 @@ fn check_file(
     ensures passed { OnOk result (has_bad_hierarchy set.now (file_of file.now) ≡ false) }
     ensures refused { IfErr result (λ r. RefusesFor RefusalKind.BadHierarchy (has_bad_hierarchy set.now (file_of file.now)) number r.kind
         r.file) }
+    ensures line { IfErr result (TellsRuleOf set.now number (file_of file.now)) }
 {
     match first_broken_rule(set, methods, file) {
         Some(place) => Err(refusal_of(alloc, number, file, place)?),
@@ -66,6 +69,7 @@ fn check_rules(alloc: Global, set: &ClassSet, methods: &DeclaredMethods) -> Resu
     requires acyclic { list_any (in_cycle set.now) set.now ≡ false }
     ensures passed { OnOk result (list_any (stands set.now) (earlier Unresolved) ≡ false) }
     ensures refused { IfErr result (λ r. RefusesTrees set.now r.kind r.file r.cause) }
+    ensures line { IfErr result (λ r. TellsLine set.now r.kind r) }
 {
     for number in 0..set.file_count() {
         let Some(file) = set.file_at(number) else {
@@ -81,6 +85,7 @@ fn check_hierarchy(alloc: Global, set: &ClassSet) -> Result<(), Refusal>
     requires { list_any (stands set.now) before_links ≡ false }
     ensures passed { OnOk result (list_any (stands set.now) (earlier Unresolved) ≡ false) }
     ensures refused { IfErr result (λ r. RefusesTrees set.now r.kind r.file r.cause) }
+    ensures line { IfErr result (λ r. TellsLine set.now r.kind r) }
 {
     let found = first_in_cycle(alloc, set)?;
     if let Some(number) = found {
@@ -96,6 +101,7 @@ pub(crate) fn hierarchy_of(alloc: Global, set: ClassSet) -> Result<Hierarchy, Re
     ensures set { IfOk result (λ hierarchy. hierarchy ≡ set) }
     ensures passed { OnOk result (list_any (stands set) (earlier Unresolved) ≡ false) }
     ensures refused { IfErr result (λ r. RefusesTrees set r.kind r.file r.cause) }
+    ensures line { IfErr result (λ r. TellsLine set r.kind r) }
 {
     check_hierarchy(alloc, &set)?;
     let hierarchy = Hierarchy::new(alloc, set)?;

@@ -6,6 +6,7 @@ ghost use Rattle.model.specs.Classes.{Program};
 ghost use Rattle.model.specs.Linkable.{IsLinkable, Unresolved, earlier, some_stands, stands};
 ghost use Rattle.hierarchy.specs.Set.{trees_of};
 ghost use Rattle.linker.specs.Linking.{MayRefuse, RefusesTrees};
+ghost use Rattle.linker.specs.Telling.{TellsLine, TellsLineOf};
 ghost use Rattle.link_conditions.specs.declared.refusal.why.RefusalKind.TheVariants as kinds;
 
 use crate::decoding::decode_all;
@@ -24,6 +25,7 @@ fn check_links(alloc: Global, hierarchy: &Hierarchy) -> Result<(), Refusal>
     requires { list_any (stands hierarchy.now) (earlier Unresolved) ≡ false }
     ensures passed { OnOk result (some_stands hierarchy.now ≡ false) }
     ensures refused { IfErr result (λ r. RefusesTrees hierarchy.now r.kind r.file r.cause) }
+    ensures line { IfErr result (λ r. TellsLine hierarchy.now r.kind r) }
 {
     check_names(alloc, hierarchy)?;
     check_fields(alloc, hierarchy.set())?;
@@ -35,6 +37,7 @@ fn link_classes(alloc: Global, classes: Vec<ClassFile>) -> Result<Hierarchy, Ref
     ensures linked { IfOk result (λ hierarchy. hierarchy ≡ trees_of classes.items) }
     ensures passed { OnOk result (some_stands (trees_of classes.items) ≡ false) }
     ensures refused { IfErr result (λ r. RefusesTrees (trees_of classes.items) r.kind r.file r.cause) }
+    ensures line { IfErr result (λ r. TellsLine (trees_of classes.items) r.kind r) }
 {
     let set = class_set(alloc, classes)?;
     check_profile(alloc, &set)?;
@@ -59,6 +62,9 @@ pub fn link(alloc: Global, files: &[Vec<u8>]) -> Result<Linked, Refusal>
     // A refusal is answered only where it stands, and none stands that comes before it. Of a file that is no class file the
     // cause stands at the offset.
     ensures refused { IfErr result (λ r. MayRefuse (map vec_items files.now) r.kind r.file r.offset r.cause) }
+    // Of the files in which the condition stands the first is named, but for DuplicateClass; and of the fault in it the
+    // method and the offset, where it has them. Want of memory names no more than a file that was being read.
+    ensures line { IfErr result (λ r. TellsLineOf (map vec_items files.now) r.kind r) }
 {
     let classes = decode_all(alloc, files)?;
     let hierarchy = link_classes(alloc, classes)?;

@@ -6,6 +6,7 @@ ghost use Rattle.model.specs.Resolution.{is_unresolved};
 ghost use Rattle.model.specs.Linkable.{stands, earlier, DuplicateClass, Unresolved, TooManyFields};
 ghost use Rattle.classfile.specs.View.{file_of};
 ghost use Rattle.linker.specs.Linking.{RefusesTrees, RefusesFor};
+ghost use Rattle.linker.specs.Telling.{name_method, name_offset, TellsMethod, TellsNameOf, TellsLine};
 
 use crate::place::method_text;
 use classfile::ClassFile;
@@ -24,6 +25,7 @@ fn in_method(
 ) -> Result<Refusal, AllocError>
     ensures kind { IfOk result (λ r. r.kind ≡ RefusalKind.Unresolved) }
     ensures file { IfOk result (λ r. r.file ≡ Some number) }
+    ensures line { IfOk result (TellsMethod (file_of file.now) (Some method) offset) }
 {
     Ok(Refusal::of_method(
         RefusalKind::Unresolved,
@@ -42,6 +44,7 @@ fn refusal_of(
 ) -> Result<Refusal, AllocError>
     ensures kind { IfOk result (λ r. r.kind ≡ RefusalKind.Unresolved) }
     ensures file { IfOk result (λ r. r.file ≡ Some number) }
+    ensures line { IfOk result (TellsMethod (file_of file.now) (name_method place) (name_offset place)) }
 {
     match place {
         UnresolvedPlace::Class => Ok(Refusal::of_file(RefusalKind::Unresolved, number)),
@@ -65,6 +68,7 @@ fn check_file(
     ensures passed { OnOk result (is_unresolved hierarchy.now (file_of file.now) ≡ false) }
     ensures refused { IfErr result (λ r. RefusesFor RefusalKind.Unresolved (is_unresolved hierarchy.now (file_of file.now)) number r.kind
         r.file) }
+    ensures line { IfErr result (TellsNameOf hierarchy.now number (file_of file.now)) }
 {
     match first_unresolved(alloc, hierarchy, file)? {
         Some(place) => Err(refusal_of(alloc, number, file, place)?),
@@ -77,6 +81,7 @@ pub(crate) fn check_names(alloc: Global, hierarchy: &Hierarchy) -> Result<(), Re
     requires { list_any (stands hierarchy.now) (earlier Unresolved) ≡ false }
     ensures passed { OnOk result (list_any (stands hierarchy.now) (earlier TooManyFields) ≡ false) }
     ensures refused { IfErr result (λ r. RefusesTrees hierarchy.now r.kind r.file r.cause) }
+    ensures line { IfErr result (λ r. TellsLine hierarchy.now r.kind r) }
 {
     let set = hierarchy.set();
     for number in 0..set.file_count() {

@@ -7,6 +7,8 @@ ghost use Rattle.model.specs.CodeConditions.{has_malformed_code};
 ghost use Rattle.model.specs.Linkable.{stands, before_walk, before_links};
 ghost use Rattle.classfile.specs.View.{file_of};
 ghost use Rattle.linker.specs.Linking.{RefusesTrees, WalkRefuses, IsFaultRefusal};
+ghost use Rattle.linker.specs.Telling.{spot_offset, place_method, offset_in_method};
+ghost use Rattle.linker.specs.Telling.{TellsMethod, TellsFault, TellsWalk, TellsLine};
 
 use crate::aside::class_aside;
 use crate::place::method_text;
@@ -18,7 +20,9 @@ use link_conditions::refusal::{Refusal, RefusalKind};
 use std::alloc::{AllocError, Global};
 
 /// The offset in the code of a method, where the place is an instruction.
-fn code_offset(spot: Spot) -> Option<usize> {
+fn code_offset(spot: Spot) -> Option<usize>
+    ensures { result ≡ spot_offset spot }
+{
     match spot {
         Spot::Instruction { pc } => Some(pc),
         _ => None,
@@ -34,6 +38,7 @@ fn outside_profile(
 ) -> Result<Refusal, AllocError>
     ensures kind { IfOk result (λ r. r.kind ≡ RefusalKind.OutsideProfile) }
     ensures file { IfOk result (λ r. r.file ≡ Some number) }
+    ensures line { IfOk result (TellsMethod (file_of file.now) (place_method place) (offset_in_method place)) }
 {
     match place {
         Place::Field { .. } => Ok(Refusal::of_file(RefusalKind::OutsideProfile, number)),
@@ -53,7 +58,8 @@ fn refusal_of(
     file: &ClassFile,
     fault: Fault,
 ) -> Result<Refusal, AllocError>
-    ensures { IfOk result (λ r. IsFaultRefusal fault.flaw number r.kind r.file r.cause) }
+    ensures told { IfOk result (λ r. IsFaultRefusal fault.flaw number r.kind r.file r.cause) }
+    ensures line { IfOk result (TellsFault (file_of file.now) fault.flaw fault.place) }
 {
     match fault.flaw {
         Flaw::OutsideProfile => outside_profile(alloc, number, file, fault.place),
@@ -69,6 +75,7 @@ fn check_file(alloc: Global, set: &ClassSet, number: usize, file: &ClassFile) ->
     ensures inside { OnOk result (is_outside_profile (file_of file.now) ≡ false) }
     ensures whole { OnOk result (has_malformed_code set.now (file_of file.now) ≡ false) }
     ensures refused { IfErr result (λ r. WalkRefuses set.now (file_of file.now) number r.kind r.file r.cause) }
+    ensures line { IfErr result (TellsWalk set.now number (file_of file.now)) }
 {
     let aside = class_aside(alloc, set, file)?;
     match first_fault(alloc, file, &aside)? {
@@ -82,6 +89,7 @@ pub(crate) fn check_profile(alloc: Global, set: &ClassSet) -> Result<(), Refusal
     requires { list_any (stands set.now) before_walk ≡ false }
     ensures passed { OnOk result (list_any (stands set.now) before_links ≡ false) }
     ensures refused { IfErr result (λ r. RefusesTrees set.now r.kind r.file r.cause) }
+    ensures line { IfErr result (λ r. TellsLine set.now r.kind r) }
 {
     for number in 0..set.file_count() {
         let Some(file) = set.file_at(number) else {

@@ -5,6 +5,7 @@ ghost use Rattle.std.specs.List.{list_any};
 ghost use Rattle.model.specs.Linkable.{stands, before_walk, earlier, all_conditions, TooManyFields, NoMain};
 ghost use Rattle.hierarchy.specs.Set.{trees_of};
 ghost use Rattle.linker.specs.Linking.{RefusesTrees};
+ghost use Rattle.linker.specs.Telling.{TellsLine};
 
 use classfile::ClassFile;
 use hierarchy::{ClassSet, SetRefusal};
@@ -17,6 +18,7 @@ pub(crate) fn class_set(alloc: Global, classes: Vec<ClassFile>) -> Result<ClassS
     ensures set { IfOk result (λ set. set ≡ trees_of classes.items) }
     ensures passed { OnOk result (list_any (stands (trees_of classes.items)) before_walk ≡ false) }
     ensures refused { IfErr result (λ r. RefusesTrees (trees_of classes.items) r.kind r.file r.cause) }
+    ensures line { IfErr result (λ r. TellsLine (trees_of classes.items) r.kind r) }
 {
     if is_too_large(alloc, &classes)? {
         return Err(Refusal::of(RefusalKind::TooLarge));
@@ -35,6 +37,7 @@ pub(crate) fn check_fields(alloc: Global, set: &ClassSet) -> Result<(), Refusal>
     requires { list_any (stands set.now) (earlier TooManyFields) ≡ false }
     ensures passed { OnOk result (list_any (stands set.now) (earlier NoMain) ≡ false) }
     ensures refused { IfErr result (λ r. RefusesTrees set.now r.kind r.file r.cause) }
+    ensures line { IfErr result (λ r. TellsLine set.now r.kind r) }
 {
     match first_with_too_many_fields(alloc, set)? {
         Some(number) => Err(Refusal::of_file(RefusalKind::TooLarge, number)),
@@ -47,6 +50,7 @@ pub(crate) fn check_main(set: &ClassSet) -> Result<(), Refusal>
     requires { list_any (stands set.now) (earlier NoMain) ≡ false }
     ensures passed { OnOk result (list_any (stands set.now) all_conditions ≡ false) }
     ensures refused { IfErr result (λ r. RefusesTrees set.now r.kind r.file r.cause) }
+    ensures line { IfErr result (λ r. TellsLine set.now r.kind r) }
 {
     if has_no_main(set) {
         return Err(Refusal::of(RefusalKind::NoMain));

@@ -24,7 +24,7 @@ pub enum Stopped {
     Most,
     /// It is not enabled.
     NotEnabled,
-    /// A limit forbids it, or memory is wanted.
+    /// A limit forbids it, or it takes memory that isn't there.
     Refused(EventRefusal),
 }
 
@@ -99,8 +99,8 @@ impl Machine {
         self.shared
     }
 
-    /// Does an event, if it is enabled. `NotEnabled` where it isn't; an error where a limit forbids it, or memory is wanted. In both
-    /// cases nothing has changed.
+    /// Does an event, if it is enabled. `NotEnabled` where it isn't; an error where a limit forbids it, or where it takes memory that
+    /// isn't there. In both cases nothing has changed.
     pub fn step(&mut self, event: Event) -> Result<Answer, EventRefusal>
         ensures { Steps result event self.old self.new }
     {

@@ -1,5 +1,5 @@
 -- What an event of a thread makes of what is shown, of the part of the state that the thread touches (JVMS 2.6, 5.5; JLS 17).
-use Rattle.std.specs.Prelude.{◌≡◌, ◌⊎◌, ℕ, suc, List, [], ◌∷◌, ◌++◌, Option, None, Result, Ok, Err, length}
+use Rattle.std.specs.Prelude.{◌≡◌, ◌⊎◌, ℕ, suc, List, [], ◌∷◌, ◌++◌, Bool, true, Option, None, Result, Ok, Err, length}
 use Rattle.model.specs.declared.end.RunCause.{RunCause}
 use Rattle.model.specs.Classes.{Program}
 use Rattle.model.specs.State.{WorldOf}
@@ -17,6 +17,7 @@ use Rattle.machine_state.specs.declared.refusals.EventRefusal.{EventRefusal}
 use Rattle.machine_state.specs.declared.refusals.EventRefusal.TheVariants as refusal
 use Rattle.machine_state.specs.declared.state.Shared.{Shared}
 use Rattle.machine_state.specs.Refusals.{limit_told}
+use Rattle.machine_state.specs.Memory.{shown_counts, takes_memory}
 use Rattle.machine_state.specs.Shown.{Represents}
 
 -- nothing has changed of what is shared, and nothing of the thread's own stack
@@ -52,10 +53,10 @@ pub record HasBecome (trees : Program) (p : LinkedProgram) (bounds : Bounds) (in
   pub flags : new.heap.locks.fat ≡ flags_after cost old.heap.locks.fat
   pub others : AreStacksAdded old new
 
--- an enabled event may be refused for want of memory, and else at a limit that stands
-abbrev pub MayBeRefused : Program → Bounds → List ℕ → WorldOf ℕ → Cost → EventRefusal → Type 0
-MayBeRefused trees bounds inflated world cost refusal.Memory = Unit {0}
-MayBeRefused trees bounds inflated world cost told = limit_of trees bounds inflated world cost ≡ limit_told told
+-- an enabled event may be refused for want of memory, if it takes some, and else at a limit that stands
+abbrev pub MayBeRefused : Program → Bounds → List ℕ → WorldOf ℕ → Cost → (takes_memory : Bool) → EventRefusal → Type 0
+MayBeRefused trees bounds inflated world cost takes_memory refusal.Memory = takes_memory ≡ true
+MayBeRefused trees bounds inflated world cost takes_memory told = limit_of trees bounds inflated world cost ≡ limit_told told
 
 pub record IsDone (trees : Program) (p : LinkedProgram) (bounds : Bounds) (inflated : List ℕ) (world : WorldOf ℕ)
     (stepped : SteppedOf (PartOf ℕ)) (old new : Shared) (to : List ShownEntry) : Type 0 where
@@ -64,12 +65,12 @@ pub record IsDone (trees : Program) (p : LinkedProgram) (bounds : Bounds) (infla
   pub is : stepped ≡ Next cost next
   pub becomes : HasBecome trees p bounds inflated world cost next old new to
 
-pub record IsRefused (trees : Program) (bounds : Bounds) (inflated : List ℕ) (world : WorldOf ℕ) (stepped : SteppedOf (PartOf ℕ))
-    (told : EventRefusal) : Type 0 where
+pub record IsRefused (trees : Program) (bounds : Bounds) (inflated : List ℕ) (world : WorldOf ℕ) (from : List ShownEntry)
+    (stepped : SteppedOf (PartOf ℕ)) (told : EventRefusal) : Type 0 where
   pub cost : Cost
   pub next : PartOf ℕ
   pub is : stepped ≡ Next cost next
-  pub may : MayBeRefused trees bounds inflated world cost told
+  pub may : MayBeRefused trees bounds inflated world cost (takes_memory world (shown_counts from) cost next) told
 
 -- What an answer says of what becomes of an event: it is done, it is not enabled, or it is refused; in the latter two cases
 -- nothing has changed.
@@ -77,4 +78,4 @@ abbrev pub Becomes : Program → LinkedProgram → Bounds → List ℕ → World
     → (old new : Shared) (from to : List ShownEntry) → Type 0
 Becomes trees p bounds inflated world stepped (Ok answer.Done) old new from to = IsDone trees p bounds inflated world stepped old new to
 Becomes trees p bounds inflated world stepped (Ok answer.NotEnabled) old new from to = (stepped ≡ NotEnabled) × IsUnchanged old new from to
-Becomes trees p bounds inflated world stepped (Err told) old new from to = IsRefused trees bounds inflated world stepped told × IsUnchanged old new from to
+Becomes trees p bounds inflated world stepped (Err told) old new from to = IsRefused trees bounds inflated world from stepped told × IsUnchanged old new from to

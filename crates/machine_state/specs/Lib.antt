@@ -1,6 +1,7 @@
 pub mod Refusals
 pub mod Shown
 pub mod Instructions
+pub mod Memory
 pub mod Events
 pub mod allocations
 pub mod bursts

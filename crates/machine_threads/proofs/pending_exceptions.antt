@@ -1,3 +1,4 @@
+pub mod NoRoom
 pub mod Handled
 pub mod Caught
 pub mod Tops

@@ -261,7 +261,7 @@ pub told_line : {A E : Type 0} (result : Result A E) (form : Form) (trees : Prog
     → e ≡ d ++ part form (codes " | ") (codes "did") deed
     → OnOk result (new ≡ e ++ end_words form) → OnOk result (AddsLine form trees n t stack old new)
 told_line (Err fault) form trees n t stack old a b c d e new source words deed ha hb hc hd told he h = tt
-told_line (Ok value) form trees n t stack old a b c d e new source words deed ha hb hc hd told he h = (line_words form trees n t stack source deed, all, (is_one_line form trees n t stack source deed, (source, deed, refl)))
+told_line (Ok value) form trees n t stack old a b c d e new source words deed ha hb hc hd told he h = (line_words form trees n t stack source deed, all, (is_one_line form trees n t stack source deed, source, deed, refl))
   where
     six : (u v w x y z : List ℕ) → a ≡ old ++ u → b ≡ a ++ v → c ≡ b ++ w → d ≡ c ++ x → e ≡ d ++ y → new ≡ e ++ z
         → new ≡ old ++ (u ++ (v ++ (w ++ (x ++ (y ++ z)))))

@@ -64,13 +64,19 @@ impl<F: Folder> Folder for CaseFolder<'_, F> {
         Ok(Some(names))
     }
 
-    fn write(&mut self, alloc: Global, path: &str, bytes: &[u8]) -> io::Result<()> {
+    /// Neither a file of the text can be made anew, nor one in the place of a folder.
+    fn try_write(&self, alloc: Global, path: &str) -> io::Result<()> {
         if self.given.get(path).is_some() {
             return Err(io::Error::from(ErrorKind::PermissionDenied));
         }
         if self.names(alloc, path)?.is_some() {
             return Err(io::Error::from(ErrorKind::IsADirectory));
         }
+        Ok(())
+    }
+
+    fn write(&mut self, alloc: Global, path: &str, bytes: &[u8]) -> io::Result<()> {
+        self.try_write(alloc, path)?;
         let bytes = Vec::from_slice(alloc, bytes)?;
         self.recorded.insert(String::from_str(alloc, path)?, bytes)?;
         Ok(())

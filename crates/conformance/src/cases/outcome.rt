@@ -3,7 +3,7 @@
 use crate::cases::case_folder::CaseFolder;
 use crate::cases::comparison::write_comparison;
 use conformance_inputs::case_texts::{CaseKind, CaseText, CommandLine};
-use engines::{Counted, Explanation, Folder, Open, Status, explain_complaint, run};
+use engines::{Counted, Explanation, Failures, Folder, Open, Status, explain_complaint, run};
 use std::alloc::Global;
 use std::io;
 use std::io::Write;
@@ -73,14 +73,19 @@ pub fn write_outcome<R: Threads + Wait + Sync, F: Folder, W: Write>(
         &mut output,
         &mut explanation,
     );
-    let failure = output.failure();
+    let failures = Failures {
+        input: input.failure(),
+        output: output.failure(),
+    };
+    if let Err(complaint) = &outcome {
+        explain_complaint(alloc, folder, words, complaint, failures, &mut explanation);
+    }
     let written = output.into_inner();
     to.write_all(written.as_slice())?;
     let status = match outcome {
         Ok(status) => status,
         Err(complaint) => {
             complaint.write_text(to)?;
-            explain_complaint(alloc, folder, words, &complaint, failure, &mut explanation);
             Status::of_complaint(&complaint)
         }
     };

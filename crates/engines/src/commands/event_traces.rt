@@ -3,6 +3,7 @@
 ghost use Rattle.std.specs.Prelude.{◌≡◌, IfErr, IfOk, None};
 ghost use Rattle.std.specs.Io.KnownBytes.{Appends};
 ghost use Rattle.engines.specs.Commands.{IsTraceDone, IsTraceUndone, IsWindow, form_of};
+ghost use Rattle.engines.specs.Failures.{FolderMayFail, TellsFailures};
 
 use crate::explanation::Explanation;
 use crate::fault::Fault;
@@ -28,6 +29,7 @@ pub(crate) fn trace<F: Folder, W: Sink>(
         × Appends (W.contents output.old) (W.contents output.new) text) }
     ensures faulty { IfErr result (λ fault. IsTraceUndone (F.held folder.now) options.now
         (W.contents output.old) (W.contents output.new) fault None) }
+    ensures told { TellsFailures (FolderMayFail F.may_fail) result (W.failures output.old) (W.failures output.new) }
 {
     let status = traced(alloc, folder, options, output)?;
     if let Some(most) = explanation.most_events(status, options.explain, options.quiet) {
@@ -55,6 +57,7 @@ fn traced<F: Folder, W: Sink>(
         × Appends (W.contents output.old) (W.contents output.new) text) }
     ensures faulty { IfErr result (λ fault. IsTraceUndone (F.held folder.now) options.now
         (W.contents output.old) (W.contents output.new) fault None) }
+    ensures told { TellsFailures (FolderMayFail F.may_fail) result (W.failures output.old) (W.failures output.new) }
 {
     let limits = &options.limits;
     let window = window_of(options);

@@ -1,8 +1,10 @@
 //! `verify` and `disasm`, which take folders of class files, too.
 
-ghost use Rattle.std.specs.Prelude.{◌≡◌, IfErr, IfOk, map};
+ghost use Rattle.std.specs.Prelude.{◌≡◌, ◌+◌, IfErr, IfOk, map, sum_by};
 ghost use Rattle.std.specs.Io.KnownBytes.{Appends};
 ghost use Rattle.engines.specs.Commands.{IsUnacceptedAs, IsUnlistedAs, ListsAs, OfGiven, OfGivenOrUnable, VerifiesAs};
+ghost use Rattle.engines.specs.Engines.{CountsFailure};
+ghost use Rattle.engines.specs.Failures.{FolderMayFail, TellsFailures};
 
 use crate::fault::Fault;
 use crate::folder::Folder;
@@ -30,6 +32,7 @@ pub(crate) fn verify<F: Folder, W: Sink>(
     ensures faulty { IfErr result (λ fault. OfGivenOrUnable (F.held folder.now) (F.listed folder.now) options.now.files.items
         (W.contents output.old) (W.contents output.new) fault
         (λ lefts. IsUnacceptedAs options.now.library lefts (W.contents output.old) (W.contents output.new) fault)) }
+    ensures told { TellsFailures (FolderMayFail F.may_fail) result (W.failures output.old) (W.failures output.new) }
 {
     let paths = given_paths(alloc, folder, &options.files)?;
     let mut files = sources(alloc, folder, &paths)?;
@@ -48,6 +51,9 @@ fn verified<S: Source, W: Sink>(
         × Appends (W.contents output.old) (W.contents output.new) text) }
     ensures faulty { IfErr result (IsUnacceptedAs library (map S.remaining files.old)
         (W.contents output.old) (W.contents output.new)) }
+    ensures counted { CountsFailure result
+        (sum_by S.failures files.old + W.failures output.old)
+        (sum_by S.failures files.new + W.failures output.new) }
 {
     if library {
         verify_library_engine(alloc, files, output)
@@ -69,6 +75,7 @@ pub(crate) fn disasm<F: Folder, W: Sink>(
     ensures faulty { IfErr result (λ fault. OfGivenOrUnable (F.held folder.now) (F.listed folder.now) options.now.files.items
         (W.contents output.old) (W.contents output.new) fault
         (λ lefts. IsUnlistedAs options.now.names lefts (W.contents output.old) (W.contents output.new) fault)) }
+    ensures told { TellsFailures (FolderMayFail F.may_fail) result (W.failures output.old) (W.failures output.new) }
 {
     let paths = given_paths(alloc, folder, &options.files)?;
     let mut files = sources(alloc, folder, &paths)?;
@@ -87,6 +94,9 @@ fn listed<S: Source, W: Sink>(
         × Appends (W.contents output.old) (W.contents output.new) text) }
     ensures faulty { IfErr result (IsUnlistedAs names (map S.remaining files.old)
         (W.contents output.old) (W.contents output.new)) }
+    ensures counted { CountsFailure result
+        (sum_by S.failures files.old + W.failures output.old)
+        (sum_by S.failures files.new + W.failures output.new) }
 {
     if names {
         names_engine(alloc, files, output)

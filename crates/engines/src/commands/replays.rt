@@ -5,9 +5,10 @@ ghost use Rattle.std.specs.Option.{option_map};
 ghost use Rattle.std.specs.Io.KnownBytes.{Appends};
 ghost use Rattle.engines.specs.Commands.{IsContinuationDone, IsContinuationUndone, IsReplayDone, IsReplayUndone, Leaves, LeavesAt, files_at};
 ghost use Rattle.engines.specs.Continuations.{Continues, IsUncontinued};
+ghost use Rattle.engines.specs.Failures.{FolderMayFail, TellsFailures};
 ghost use Rattle.engines.specs.Replays.{IsFaulty, Replays};
 
-use crate::commands::storing::recorded;
+use crate::commands::storing::{recorded, try_record};
 use crate::continuing::continue_engine;
 use crate::explanation::Explanation;
 use crate::fault::Fault;
@@ -32,6 +33,7 @@ pub(crate) fn replay<F: Folder, W: Sink>(
         (W.contents output.old) (W.contents output.new) (F.held folder.old) (F.held folder.new)) }
     ensures faulty { IfErr result (LeavesAt (IsReplayUndone (F.held folder.old) options.now options.now.then_run
         (W.contents output.old) (W.contents output.new)) (F.held folder.old) (F.held folder.new)) }
+    ensures told { TellsFailures (FolderMayFail F.may_fail) result (W.failures output.old) (W.failures output.new) }
 {
     if let Some(then_run) = &options.then_run {
         return replay_on(alloc, folder, options, then_run, output, explanation);
@@ -64,6 +66,7 @@ fn replayed<F: Folder, W: Sink>(
         × Appends (W.contents output.old) (W.contents output.new) text) }
     ensures faulty { IfErr result (IsFaulty (F.held folder.now (string_bytes options.now.schedule))
         (files_at (F.held folder.now) options.now.files.items) options.now.limits (W.contents output.old) (W.contents output.new)) }
+    ensures told { TellsFailures (FolderMayFail F.may_fail) result (W.failures output.old) (W.failures output.new) }
 {
     let mut schedule = source(folder, options.schedule.as_str());
     let mut files = sources(alloc, folder, &options.files)?;
@@ -89,7 +92,9 @@ fn replay_on<F: Folder, W: Sink>(
         (W.contents output.old) (W.contents output.new) (F.held folder.old) (F.held folder.new)) }
     ensures faulty { IfErr result (LeavesAt (IsContinuationUndone (F.held folder.old) options.now then_run.now
         (W.contents output.old) (W.contents output.new)) (F.held folder.old) (F.held folder.new)) }
+    ensures told { TellsFailures (FolderMayFail F.may_fail) result (W.failures output.old) (W.failures output.new) }
 {
+    try_record(alloc, folder, &then_run.record, explanation)?;
     let mut file = None;
     let outcome = continued(alloc, folder, options, then_run, output, &mut file);
     let status = recorded(alloc, folder, &then_run.record, &file, outcome, explanation)?;
@@ -117,6 +122,7 @@ fn continued<F: Folder, W: Sink>(
     ensures faulty { IfErr result (IsUncontinued (F.held folder.now (string_bytes options.now.schedule))
         (files_at (F.held folder.now) options.now.files.items) options.now.limits (unwrap_or then_run.now.budget 10000000)
         (W.contents output.old) (W.contents output.new) (option_map vec_items file.old) (option_map vec_items file.new)) }
+    ensures told { TellsFailures (FolderMayFail F.may_fail) result (W.failures output.old) (W.failures output.new) }
 {
     let mut schedule = source(folder, options.schedule.as_str());
     let mut files = sources(alloc, folder, &options.files)?;

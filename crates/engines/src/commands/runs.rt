@@ -4,9 +4,10 @@ ghost use Rattle.std.specs.Prelude.{IfErr, IfOk, IsTrue, is_some, vec_items};
 ghost use Rattle.std.specs.Option.{option_map};
 ghost use Rattle.std.specs.Io.KnownBytes.{Appends};
 ghost use Rattle.engines.specs.Commands.{IsRunDone, IsRunUndone, Leaves, LeavesAt, files_at};
+ghost use Rattle.engines.specs.Failures.{FolderMayFail, TellsFailures};
 ghost use Rattle.engines.specs.Runs.{IsUnrun, Runs};
 
-use crate::commands::storing::recorded;
+use crate::commands::storing::{recorded, try_record};
 use crate::explanation::Explanation;
 use crate::fault::Fault;
 use crate::folder::Folder;
@@ -35,7 +36,9 @@ pub(crate) fn run_files<R: Threads + Wait + Sync, G: Gate + Sync, F: Folder, W: 
         (W.contents output.old) (W.contents output.new) (F.held folder.old) (F.held folder.new)) }
     ensures faulty { IfErr result (LeavesAt (IsRunUndone (F.held folder.old) options.now
         (W.contents output.old) (W.contents output.new)) (F.held folder.old) (F.held folder.new)) }
+    ensures told { TellsFailures (FolderMayFail F.may_fail) result (W.failures output.old) (W.failures output.new) }
 {
+    try_record(alloc, folder, &options.record, explanation)?;
     let mut file = None;
     let outcome = ran(rt, alloc, gate, folder, options, output, &mut file);
     let status = recorded(alloc, folder, &options.record, &file, outcome, explanation)?;
@@ -64,6 +67,7 @@ fn ran<R: Threads + Wait + Sync, G: Gate + Sync, F: Folder, W: Sink>(
     ensures faulty { IfErr result (IsUnrun (files_at (F.held folder.now) options.now.files.items)
         options.now.limits options.now.options (W.contents output.old) (W.contents output.new)
         (option_map vec_items file.old) (option_map vec_items file.new)) }
+    ensures told { TellsFailures (FolderMayFail F.may_fail) result (W.failures output.old) (W.failures output.new) }
 {
     let mut files = sources(alloc, folder, &options.files)?;
     run_engine(rt, alloc, gate, files.as_mut_slice(), options, output, file)

@@ -1,15 +1,16 @@
 //! `schedule`.
 
-ghost use Rattle.std.specs.Prelude.{◌≡◌, IfErr, IfOk, None, Some, string_bytes};
+ghost use Rattle.std.specs.Prelude.{◌≡◌, ◌+◌, IfErr, IfOk, None, Some, string_bytes};
 ghost use Rattle.engines.specs.Commands.{IsScheduleDone, IsScheduleUndone, Leaves, LeavesAt};
+ghost use Rattle.engines.specs.Failures.{FolderMayFail, TellsFailures};
 ghost use Rattle.engines.specs.Files.{IsWith};
 ghost use Rattle.engines.specs.Transcriptions.{IsUntranscribed, Transcribes};
 
 use crate::commands::storing::store;
-use crate::device::Counted;
 use crate::explanation::Explanation;
 use crate::fault::Fault;
 use crate::folder::Folder;
+use crate::made_file::MadeFile;
 use crate::named_file::source;
 use crate::status::Status;
 use crate::transcribing::{schedule_engine, write_schedule_engine};
@@ -30,6 +31,8 @@ pub(crate) fn schedule<F: Folder, I: Source, W: Sink>(
         (W.contents output.old) (W.contents output.new) (F.held folder.old) (F.held folder.new)) }
     ensures faulty { IfErr result (LeavesAt (IsScheduleUndone (F.held folder.old) (I.remaining input.old) options.now
         options.now.write (W.contents output.old) (W.contents output.new)) (F.held folder.old) (F.held folder.new)) }
+    ensures told { TellsFailures (FolderMayFail F.may_fail) result
+        (I.failures input.old + W.failures output.old) (I.failures input.new + W.failures output.new) }
 {
     if options.write {
         write_schedule(alloc, folder, options, input, explanation)
@@ -50,16 +53,11 @@ fn write_schedule<F: Folder, I: Source>(
         × IsWith (F.held folder.old) (F.held folder.new) (Some (string_bytes options.now.file, bytes))) }
     ensures faulty { IfErr result (λ fault. ((kept : _) × (made : _) × IsUntranscribed (I.remaining input.old) kept made fault)
         × IsWith (F.held folder.old) (F.held folder.new) None) }
+    ensures told { TellsFailures (FolderMayFail F.may_fail) result (I.failures input.old) (I.failures input.new) }
 {
-    let mut file = Counted::new(alloc, Vec::new(alloc));
+    let mut file = MadeFile::new(alloc);
     let status = write_schedule_engine(alloc, input, &mut file)?;
-    let bytes = file.into_inner();
-    store(
-        alloc,
-        folder,
-        options.file.as_str(),
-        bytes.as_slice(),
-        explanation,
-    )?;
+    let path = options.file.as_str();
+    store(alloc, folder, path, file.bytes(), explanation)?;
     Ok(status)
 }

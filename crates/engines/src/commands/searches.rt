@@ -1,15 +1,17 @@
 //! `search`.
 
-ghost use Rattle.std.specs.Prelude.{◌≡◌, ◌⊎◌, IfErr, IfOk, None, is_some, vec_items};
+ghost use Rattle.std.specs.Prelude.{◌≡◌, ◌⊎◌, IfErr, IfOk, None, Some, is_some, vec_items};
 ghost use Rattle.std.specs.Option.{option_map};
 ghost use Rattle.std.specs.Io.KnownBytes.{Appends};
 ghost use Rattle.engines.specs.Commands.{IsSearchDone, IsSearchUndone, Leaves, LeavesAt, files_at};
 ghost use Rattle.engines.specs.Devices.{IsUnable};
+ghost use Rattle.engines.specs.Failures.{FolderMayFail, TellsFailures};
 ghost use Rattle.engines.specs.Goals.{IsAskedFor};
+ghost use Rattle.engines.specs.declared.fault.Fault.TheVariants.{Device};
 ghost use Rattle.engines.specs.Searches.{IsUnsearched, Searches, most_states};
 
 use crate::commands::outcome_texts::text_of_file;
-use crate::commands::storing::recorded;
+use crate::commands::storing::{recorded, try_record};
 use crate::explanation::Explanation;
 use crate::fault::Fault;
 use crate::folder::Folder;
@@ -37,7 +39,9 @@ pub(crate) fn search<P: Progress, F: Folder, W: Sink>(
         (IsUnable fault × (W.contents output.new ≡ W.contents output.old) × (written ≡ None))
         ⊎ IsSearchUndone (F.held folder.old) options.now (W.contents output.old) (W.contents output.new) fault written)
         (F.held folder.old) (F.held folder.new)) }
+    ensures told { TellsFailures (FolderMayFail F.may_fail) result (W.failures output.old) (W.failures output.new) }
 {
+    try_record(alloc, folder, &options.record, explanation)?;
     let wanted = wanted_by(alloc, folder, &options.goal)?;
     search_for(
         alloc,
@@ -66,6 +70,7 @@ fn search_for<P: Progress, F: Folder, W: Sink>(
     ensures faulty { IsAskedFor (F.held folder.old) options.now.goal wanted.now
         → IfErr result (LeavesAt (IsSearchUndone (F.held folder.old) options.now
         (W.contents output.old) (W.contents output.new)) (F.held folder.old) (F.held folder.new)) }
+    ensures told { TellsFailures (FolderMayFail F.may_fail) result (W.failures output.old) (W.failures output.new) }
 {
     let mut file = None;
     let outcome = searched(alloc, progress, folder, options, wanted, output, &mut file);
@@ -89,6 +94,7 @@ fn searched<P: Progress, F: Folder, W: Sink>(
     ensures faulty { IfErr result (IsUnsearched (files_at (F.held folder.now) options.now.files.items)
         options.now.limits wanted.now (most_states options.now) (is_some options.now.record) (W.contents output.old) (W.contents output.new)
         (option_map vec_items file.old) (option_map vec_items file.new)) }
+    ensures told { TellsFailures (FolderMayFail F.may_fail) result (W.failures output.old) (W.failures output.new) }
 {
     let mut files = sources(alloc, folder, &options.files)?;
     search_engine(
@@ -106,15 +112,25 @@ fn searched<P: Progress, F: Folder, W: Sink>(
 fn wanted_by<F: Folder>(alloc: Global, folder: &F, goal: &Option<Goal>) -> Result<Wanted, Fault>
     ensures asked { IfOk result (IsAskedFor (F.held folder.now) goal.now) }
     ensures unable { IfErr result IsUnable }
+    ensures failed { IfErr result (λ fault. fault ≡ Device → FolderMayFail F.may_fail) }
 {
     match goal {
         None => Ok(Wanted::Nothing),
-        Some(Goal::Deadlock) => Ok(Wanted::Stuck),
-        Some(Goal::Uncaught) => Ok(Wanted::Uncaught),
-        Some(Goal::Output(numbers)) => {
-            Ok(Wanted::Printed(printed_lines(alloc, numbers.as_slice())?))
-        }
-        Some(Goal::Differs(path)) => {
+        Some(goal) => wanted_for(alloc, folder, goal),
+    }
+}
+
+/// The outcome that a search for a goal is to find.
+fn wanted_for<F: Folder>(alloc: Global, folder: &F, goal: &Goal) -> Result<Wanted, Fault>
+    ensures asked { IfOk result (IsAskedFor (F.held folder.now) (Some goal.now)) }
+    ensures unable { IfErr result IsUnable }
+    ensures failed { IfErr result (λ fault. fault ≡ Device → FolderMayFail F.may_fail) }
+{
+    match goal {
+        Goal::Deadlock => Ok(Wanted::Stuck),
+        Goal::Uncaught => Ok(Wanted::Uncaught),
+        Goal::Output(numbers) => Ok(Wanted::Printed(printed_lines(alloc, numbers.as_slice())?)),
+        Goal::Differs(path) => {
             let bytes = source(folder, path.as_str()).read_all(alloc)?;
             Ok(Wanted::PrintedOther(text_of_file(alloc, bytes.as_slice())?))
         }

@@ -1,8 +1,10 @@
 //! The file that a command writes.
 
-ghost use Rattle.std.specs.Prelude.{◌≡◌, IfErr, IfOk, None, Ok, OnErr, OnOk, Some, vec_items};
+ghost use Rattle.std.specs.Prelude.{◌≡◌, IfErr, IfOk, IsTrue, None, Ok, OnErr, OnOk, Some, vec_items};
 ghost use Rattle.std.specs.Option.{option_map};
+ghost use Rattle.model.specs.declared.device.DeviceFault.TheVariants.{Device};
 ghost use Rattle.engines.specs.Commands.{IsUnrecorded};
+ghost use Rattle.engines.specs.Failures.{FolderMayFail, IsKept, TellsFailures};
 ghost use Rattle.engines.specs.Files.{IsWith, written_at};
 
 use crate::explanation::Explanation;
@@ -11,6 +13,22 @@ use crate::folder::Folder;
 use crate::status::Status;
 use model::DeviceFault;
 use std::alloc::Global;
+use std::io;
+
+/// Tries whether the file that is asked for can be made. The system's reason why it can't is kept for the explanation.
+pub(crate) fn try_record<F: Folder>(
+    alloc: Global,
+    folder: &F,
+    path: &Option<String>,
+    explanation: &mut Explanation,
+) -> Result<(), DeviceFault>
+    ensures failed { IfErr result (λ fault. fault ≡ Device → FolderMayFail F.may_fail) }
+{
+    match path {
+        Some(path) => kept(alloc, folder.try_write(alloc, path.as_str()), explanation),
+        None => Ok(()),
+    }
+}
 
 /// Writes the file that was made, where one is asked for, whatever came of the command, and answers that.
 pub(crate) fn recorded<F: Folder>(
@@ -25,6 +43,8 @@ pub(crate) fn recorded<F: Folder>(
         × IsWith (F.held folder.old) (F.held folder.new) (written_at path.now (option_map vec_items file.now))) }
     ensures faulty { IfErr result (IsUnrecorded outcome (F.held folder.old) (F.held folder.new)
         (written_at path.now (option_map vec_items file.now))) }
+    ensures told { (old : _) (new : _) → TellsFailures (FolderMayFail F.may_fail) outcome old new
+        → TellsFailures (FolderMayFail F.may_fail) result old new }
 {
     let stored = store_made(alloc, folder, path, file, explanation);
     let status = outcome?;
@@ -43,6 +63,7 @@ fn store_made<F: Folder>(
     ensures stored { OnOk result (IsWith (F.held folder.old) (F.held folder.new)
         (written_at path.now (option_map vec_items file.now))) }
     ensures same { OnErr result (IsWith (F.held folder.old) (F.held folder.new) None) }
+    ensures failed { IfErr result (λ fault. fault ≡ Device → FolderMayFail F.may_fail) }
 {
     match (path, file) {
         (Some(path), Some(file)) => {
@@ -62,8 +83,21 @@ pub(crate) fn store<F: Folder>(
 ) -> Result<(), DeviceFault>
     ensures stored { OnOk result (IsWith (F.held folder.old) (F.held folder.new) (Some (path.now, bytes.now))) }
     ensures same { OnErr result (IsWith (F.held folder.old) (F.held folder.new) None) }
+    ensures failed { IfErr result (λ fault. fault ≡ Device → IsTrue (F.may_fail folder.old path.now)) }
 {
-    match folder.write(alloc, path, bytes) {
+    let written = folder.write(alloc, path, bytes);
+    kept(alloc, written, explanation)
+}
+
+/// The answer of a folder, of which the system's reason is kept.
+fn kept(
+    alloc: Global,
+    answer: io::Result<()>,
+    explanation: &mut Explanation,
+) -> Result<(), DeviceFault>
+    ensures { IsKept answer result }
+{
+    match answer {
         Ok(()) => Ok(()),
         Err(error) => {
             explanation.keep_reason(alloc, &error);

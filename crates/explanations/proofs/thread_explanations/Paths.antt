@@ -1,12 +1,14 @@
 -- Paths of threads that wait for each other, and cycles that are sought along them.
-use Rattle.std.proofs.Common.{◌≡◌, ◌<◌, ◌≤◌, ◌+◌, ◌⊎◌, inl, inr, cases_lt, ℕ, zero, suc, List, [], ◌∷◌, ◌++◌, length, Option, Some, None, refl, sym, ap, subst, ◌∙◌, append_assoc, arith}
-use Rattle.std.specs.Prelude.{slice_get}
+use Rattle.std.proofs.Common.{◌≡◌, ◌<◌, ◌≤◌, ◌+◌, ◌⊎◌, inl, inr, ℕ, zero, suc, List, [], ◌∷◌, ◌++◌, length, Option, Some, None, refl, sym, ap, subst, ◌∙◌, append_assoc, arith}
+use Rattle.std.specs.Prelude.{slice_get, slice_index}
 use Rattle.std.specs.Option.{option_and_then}
-use Rattle.std.specs.List.{All, Contains}
+use Rattle.std.specs.List.{All, AllPairs, Contains}
+use Rattle.std.proofs.lemmas.Bool.{cases_lt}
 use Rattle.std.proofs.lemmas.List.{length-append}
-use Rattle.std.proofs.lemmas.List.Elements.{All-push, Contains-append_left, Contains-push}
+use Rattle.std.proofs.lemmas.List.Elements.{All-get_or, All-push, All-weaker, Contains-append_left, Contains-push}
+use Rattle.std.proofs.lemmas.List.Quantifiers.{all_pairs_push}
 use Rattle.explanations.specs.declared.thread_explanations.waits.Wait.{Wait}
-use Rattle.explanations.specs.thread_explanations.Cycles.{AreAbove, AreCycles, IsCycle, IsPath, next_of}
+use Rattle.explanations.specs.thread_explanations.Cycles.{AreAbove, AreCycles, IsBefore, IsCycle, IsPath, next_of}
 
 module _ (waits : List Wait) where
   -- ---- with one thread more
@@ -102,18 +104,12 @@ module _ (waits : List Wait) where
 
   -- ---- what is found
 
-  pub cycle_is : (least : ℕ) (members : List ℕ) (at : ℕ) → IsWalk least members at → next_of waits at ≡ Some least
-      → length members < length waits → IsCycle waits (members ++ at ∷ [])
+  pub cycle_is : (least : ℕ) (members : List ℕ) (at : ℕ) (w : IsWalk least members at) → next_of waits at ≡ Some least
+      → length members < length waits → IsCycle waits (least ∷ w.others)
   cycle_is least members at w e few =
       let back : IsPath waits least (members ++ at ∷ []) least = path_push least members at least w.path e in
       let count : length members + 1 ≡ length (least ∷ w.others) = sym (length-append members (at ∷ [])) ∙ ap length w.are in
-      subst (IsCycle waits) (sym w.are)
       (subst (λ (l : List ℕ). IsPath waits least l least) w.are back, w.above, omega (arith, count, few))
-
-  pub cycle_found : (least : ℕ) (members : List ℕ) (at : ℕ) → IsWalk least members at → next_of waits at ≡ Some least
-      → length members < length waits → (others : List ℕ) → IsCycle waits (least ∷ others) → members ++ at ∷ [] ≡ least ∷ others
-  cycle_found least members at w e few others other =
-      w.are ∙ same_cycle least w.others others (subst (IsCycle waits) w.are (cycle_is least members at w e few)) other
 
   -- the thread that was reached waits for none, or for one below the least
   pub none_by : (least : ℕ) (members : List ℕ) (at : ℕ) → Begins least members at
@@ -143,40 +139,51 @@ there [] t next e = absurd cc
 there (w ∷ waits) zero next e = omega arith
 there (w ∷ waits) (suc t) next e = let l = there waits t next e in omega (arith, l)
 
--- those that are found have all cycles whose least threads are below this one
+-- those that are found have all cycles whose least threads are below this one, and no other
 abbrev pub AreBelow : List Wait → List (List ℕ) → (n : ℕ) → Type 0
-AreBelow waits found n = All (IsCycle waits) found × ((least : ℕ) (others : List ℕ) → least < n → IsCycle waits (least ∷ others) → Contains found (least ∷ others))
+AreBelow waits found n =
+    All (IsCycle waits) found
+    × AllPairs IsBefore found
+    × All (λ (cycle : List ℕ). slice_index cycle 0 < n) found
+    × ((least : ℕ) (others : List ℕ) → least < n → IsCycle waits (least ∷ others) → Contains found (least ∷ others))
 
 module _ (waits : List Wait) (found : List (List ℕ)) (n : ℕ) (b : AreBelow waits found n) where
-  pub one_found : (cycle : List ℕ) → IsCycle waits cycle → ((others : List ℕ) → IsCycle waits (n ∷ others) → cycle ≡ n ∷ others)
-      → AreBelow waits (found ++ cycle ∷ []) (n + 1)
-  one_found cycle is same = (All-push (IsCycle waits) found cycle b.0 is, below)
+  lower : All (λ (cycle : List ℕ). slice_index cycle 0 < n + 1) found
+  lower = All-weaker (λ (cycle : List ℕ). slice_index cycle 0 < n) (λ (cycle : List ℕ). slice_index cycle 0 < n + 1) (λ cycle l. omega (arith, l)) found b.2
+
+  pub one_found : (others : List ℕ) → IsCycle waits (n ∷ others) → AreBelow waits (found ++ (n ∷ others) ∷ []) (n + 1)
+  one_found others is = (
+    All-push (IsCycle waits) found (n ∷ others) b.0 is,
+    all_pairs_push IsBefore found (n ∷ others) b.1 (λ k d few. All-get_or (λ (cycle : List ℕ). slice_index cycle 0 < n) found k d few b.2),
+    All-push (λ (cycle : List ℕ). slice_index cycle 0 < n + 1) found (n ∷ others) lower (omega arith),
+    below,
+  )
     where
-      below : (least : ℕ) (others : List ℕ) → least < n + 1 → IsCycle waits (least ∷ others) → Contains (found ++ cycle ∷ []) (least ∷ others)
-      below least others lower c = elim (cases_lt least n) [
-        | inl l ↦ Contains-append_left found (cycle ∷ []) (least ∷ others) (b.1 least others l c)
+      below : (least : ℕ) (rest : List ℕ) → least < n + 1 → IsCycle waits (least ∷ rest) → Contains (found ++ (n ∷ others) ∷ []) (least ∷ rest)
+      below least rest low c = elim (cases_lt least n) [
+        | inl l ↦ Contains-append_left found ((n ∷ others) ∷ []) (least ∷ rest) (b.3 least rest l c)
         | inr g ↦
-            let at : least ≡ n = omega (arith, g, lower) in
-            let it : cycle ≡ least ∷ others = same others (subst (λ k. IsCycle waits (k ∷ others)) at c) ∙ ap (λ k. k ∷ others) (sym at) in
-            subst (λ (l : List ℕ). Contains (found ++ cycle ∷ []) l) it (Contains-push found cycle)
+            let at : least ≡ n = omega (arith, g, low) in
+            let it : n ∷ others ≡ least ∷ rest = same_cycle waits n others rest is (subst (λ k. IsCycle waits (k ∷ rest)) at c) ∙ ap (λ k. k ∷ rest) (sym at) in
+            subst (λ (l : List ℕ). Contains (found ++ (n ∷ others) ∷ []) l) it (Contains-push found (n ∷ others))
       ]
 
   pub none_found : ((others : List ℕ) → IsCycle waits (n ∷ others) → ⊥) → AreBelow waits found (n + 1)
-  none_found none = (b.0, below)
+  none_found none = (b.0, b.1, lower, below)
     where
       below : (least : ℕ) (others : List ℕ) → least < n + 1 → IsCycle waits (least ∷ others) → Contains found (least ∷ others)
-      below least others lower c = elim (cases_lt least n) [
-        | inl l ↦ b.1 least others l c
+      below least others low c = elim (cases_lt least n) [
+        | inl l ↦ b.3 least others l c
         | inr g ↦
-            let at : least ≡ n = omega (arith, g, lower) in
+            let at : least ≡ n = omega (arith, g, low) in
             absurd (none others (subst (λ k. IsCycle waits (k ∷ others)) at c))
       ]
 
   pub all_found : length waits ≤ n → AreCycles waits found
-  all_found all = (b.0, every)
+  all_found all = (b.0, b.1, every)
     where
       every : (cycle : List ℕ) → IsCycle waits cycle → Contains found cycle
       every [] c = absurd c
       every (least ∷ others) c =
           let here = there waits least c.0.1 c.0.2 in
-          b.1 least others (omega (arith, here, all)) c
+          b.3 least others (omega (arith, here, all)) c

@@ -71,4 +71,4 @@ module _ (reported : AreReportsOfWords) (sound : IsNoEventWrong) (trees : Progra
       let by_shared : HasWaits new.program new.shared ends details = subst (λ (s : Shared). HasWaits new.program s ends details) shared_is by_program in
       let own : HasWaits new.program new.shared r.threads.items details = subst (λ (e : List EndState). HasWaits new.program new.shared e details) ends_are by_shared in
       let its : text.items ≡ written r.threads.items details = is ∙ ap (λ (e : List EndState). written e details) others_are in
-      (r, end, is_replay reported sound trees limits old new schedule gone r end opened goes tells, (new, after, explains details own text.items its))
+      (r, end, is_replay reported sound trees limits old new schedule gone r end opened goes tells, new, after, explains details own text.items its)

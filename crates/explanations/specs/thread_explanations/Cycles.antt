@@ -1,6 +1,6 @@
 -- Threads that wait for each other (own; JLS 17.1, 17.2.3; JVMS 5.5).
-use Rattle.std.specs.Prelude.{◌≡◌, ◌<◌, ℕ, List, [], ◌∷◌, length, Option, Some, slice_get}
-use Rattle.std.specs.List.{All, Contains}
+use Rattle.std.specs.Prelude.{◌≡◌, ◌<◌, ℕ, List, [], ◌∷◌, length, Option, Some, slice_get, slice_index}
+use Rattle.std.specs.List.{All, AllPairs, Contains}
 use Rattle.std.specs.Option.{option_and_then}
 use Rattle.explanations.specs.declared.thread_explanations.waits.Wait.{Wait}
 
@@ -23,6 +23,10 @@ abbrev pub IsCycle : List Wait → List ℕ → Type 0
 IsCycle waits [] = ⊥
 IsCycle waits (least ∷ others) = IsPath waits least (least ∷ others) least × AreAbove least others × (length others < length waits)
 
--- all of them
+-- the first thread of a cycle is lower than that of another one
+abbrev pub IsBefore : (cycle other : List ℕ) → Type 0
+IsBefore cycle other = slice_index cycle 0 < slice_index other 0
+
+-- all of them, each once: in the order of their least threads
 abbrev pub AreCycles : List Wait → List (List ℕ) → Type 0
-AreCycles waits cycles = All (IsCycle waits) cycles × ((cycle : List ℕ) → IsCycle waits cycle → Contains cycles cycle)
+AreCycles waits cycles = All (IsCycle waits) cycles × AllPairs IsBefore cycles × ((cycle : List ℕ) → IsCycle waits cycle → Contains cycles cycle)

@@ -3,6 +3,7 @@
 ghost use Rattle.std.specs.Prelude.{◌≡◌, Some, None, OnOk};
 ghost use Rattle.std.specs.Io.KnownBytes.{Appends};
 ghost use Rattle.link_conditions.specs.refusal.Lines.{cause_words, method_words, numbered, refusal_line};
+ghost use Rattle.link_conditions.specs.refusal.Memory.{memory_wanted};
 ghost use Rattle.link_conditions.specs.declared.refusal.why.RefusalKind.TheVariants as kinds;
 
 use constant_pool::reading::Cause;
@@ -183,7 +184,7 @@ fn write_number<W: Write>(to: &mut W, word: &str, number: Option<usize>) -> io::
 }
 
 impl From<AllocError> for Refusal {
-    ghost from_gives = { λ _ refusal. refusal.kind ≡ kinds.OutOfMemory };
+    ghost from_gives = { λ _ refusal. refusal ≡ memory_wanted };
 
     fn from(_error: AllocError) -> Refusal {
         Refusal::of(RefusalKind::OutOfMemory)
@@ -191,7 +192,7 @@ impl From<AllocError> for Refusal {
 }
 
 impl<T: Drop> From<AllocFailed<T>> for Refusal {
-    ghost from_gives = { λ _ refusal. refusal.kind ≡ kinds.OutOfMemory };
+    ghost from_gives = { λ _ refusal. refusal ≡ memory_wanted };
 
     fn from(_error: AllocFailed<T>) -> Refusal {
         Refusal::of(RefusalKind::OutOfMemory)

@@ -1,10 +1,10 @@
 -- How many fields linked programs have at most.
-use Rattle.std.proofs.Common.{◌≡◌, ℕ, zero, suc, ◌+◌, ◌*◌, ◌<◌, ◌≤◌, ◌^◌, Bool, true, false, cond, List, [], ◌∷◌, length, map, refl, sym, ap, ◌∙◌, length-append, arith, Option, Some, None}
+use Rattle.std.proofs.Common.{◌≡◌, ℕ, ◌*◌, ◌<◌, ◌≤◌, ◌^◌, Bool, true, false, cond, List, [], ◌∷◌, length, refl, length-append, arith, Some}
 use Rattle.std.specs.Prelude.{slice_get, nat_lt, nat_le}
-use Rattle.std.specs.List.{AllByRecursion, filter, flat_map, list_any, list_all}
+use Rattle.std.specs.List.{filter, list_all}
 use Rattle.std.proofs.lemmas.List.{length-map}
 use Rattle.std.proofs.lemmas.Bool.Decides.{nat_tests}
-use Rattle.model.specs.Tree.{FileTree, FieldTree}
+use Rattle.model.specs.Tree.{FileTree}
 use Rattle.model.specs.AccessFlags.{is_static_field}
 use Rattle.model.specs.BuiltIn.{built_in_classes}
 use Rattle.model.specs.Classes.{Program, name_of, classes_of}

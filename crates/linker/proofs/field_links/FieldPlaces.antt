@@ -1,28 +1,27 @@
 -- The slot of the field at a place.
-use Rattle.std.proofs.Common.{◌≡◌, ℕ, ◌+◌, ◌-◌, ◌<◌, ◌≤◌, Bool, true, false, not, cond, [], length, map, drop, find, refl, sym, ap, subst, ⊎_elim, ◌∙◌, length-append, arith, Option, Some, None}
+use Rattle.std.proofs.Common.{◌≡◌, ℕ, ◌+◌, ◌-◌, ◌<◌, ◌≤◌, Bool, true, false, not, cond, [], length, map, drop, find, refl, sym, ap, ⊎_elim, ◌∙◌, length-append, arith, Option, Some, None}
 use Rattle.std.specs.Prelude.{position, slice_get, nat_lt, option_map}
 use Rattle.std.specs.Option.{option_and_then, option_map_or}
 use Rattle.std.specs.List.{filter}
 use Rattle.std.proofs.lemmas.List.{length-map}
 use Rattle.std.proofs.lemmas.Bool.{cases_lt}
 use Rattle.std.proofs.lemmas.Bool.Decides.{nat_tests}
-use Rattle.model.specs.Names.{Name, Member, member_eq}
+use Rattle.model.specs.Names.{Name, Member}
 use Rattle.model.specs.Tree.{FileTree, FieldTree}
 use Rattle.model.specs.AccessFlags.{is_static_field, is_instance_field}
 use Rattle.model.specs.BuiltIn.{built_in_classes}
-use Rattle.model.specs.Classes.{Program, name_of, super_name_of, is_named, class_of, classes_of, superclass_of}
+use Rattle.model.specs.Classes.{Program, name_of, classes_of, superclass_of}
 use Rattle.model.specs.Lookup.{is_field, in_class, field_of, field_member, own_instance_fields, instance_fields}
-use Rattle.model.specs.Opening.{static_fields_in, static_fields}
+use Rattle.model.specs.Opening.{static_fields}
 use Rattle.run_laws.proofs.laws.Lists.{every_at, get_map}
 use Rattle.hierarchy.specs.declared.place.MemberPlace.{MemberPlace}
-use Rattle.hierarchy.specs.Places.{class_at, place_of, name_at, member_in, IsFieldAt}
+use Rattle.hierarchy.specs.Places.{class_at, member_in, IsFieldAt}
 use Rattle.hierarchy.proofs.Finding.{passes_at, position_within}
-use Rattle.linker.specs.declared.field_links.link.FieldLink.{FieldLink}
 use Rattle.linker.specs.declared.field_links.link.FieldLink.TheVariants as links
 use Rattle.linker.specs.declared.field_links.slots.Ends.{Ends}
 use Rattle.linker.specs.Linking.{IsLinked}
 use Rattle.linker.specs.field_links.Links.{slot_in, link_by, link_in, link_of}
-use Rattle.linker.specs.field_links.Slots.{sizes, static_ends, AreEnds, static_slot, instance_slot, link_from}
+use Rattle.linker.specs.field_links.Slots.{sizes, AreEnds, static_slot, instance_slot, link_from}
 use Rattle.linker.proofs.field_links.Lineages.{fields_below, fields_top, slot_below}
 use Rattle.linker.proofs.field_links.Members.{HaveTexts, all_texts, IsAmong, stands_among}
 use Rattle.linker.proofs.field_links.StaticSlots as statics

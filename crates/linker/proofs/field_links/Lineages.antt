@@ -1,13 +1,13 @@
 -- Classes and their superclasses in linked programs, and the fields that these declare.
-use Rattle.std.proofs.Common.{◌≡◌, ℕ, zero, suc, ◌+◌, ◌<◌, ◌≤◌, Bool, true, false, ◌&&◌, ◌||◌, List, [], ◌∷◌, ◌++◌, length, map, reverse, refl, sym, ap, subst, ⊎_elim, ◌∙◌, append_assoc, arith, Option, Some, None}
+use Rattle.std.proofs.Common.{◌≡◌, ℕ, zero, suc, ◌+◌, Bool, true, false, ◌&&◌, ◌||◌, List, [], ◌∷◌, ◌++◌, length, map, reverse, refl, sym, ap, subst, ⊎_elim, ◌∙◌, arith, Option, Some, None}
 use Rattle.std.specs.Prelude.{position, is_some}
 use Rattle.std.specs.Option.{option_and_then, option_map_or}
 use Rattle.std.specs.List.{AllByRecursion, filter, flat_map}
-use Rattle.std.proofs.lemmas.Bool.{false≢true, or_cases, or_left, or_right, false_from_ne_true}
+use Rattle.std.proofs.lemmas.Bool.{false≢true, or_cases, false_from_ne_true}
 use Rattle.std.proofs.lemmas.List.{append-nil, reverse-append}
 use Rattle.std.proofs.lemmas.Grind.{flat_map-append}
 use Rattle.model.specs.Names.{Name, name_eq, Member, member_eq, java_lang_object}
-use Rattle.model.specs.Tree.{FileTree, FieldTree}
+use Rattle.model.specs.Tree.{FileTree}
 use Rattle.model.specs.BuiltIn.{built_in_classes}
 use Rattle.model.specs.Classes.{Program, name_of, super_name_of, class_of, classes_of, superclass_of, is_within, is_subclass, lineage_of, lineage}
 use Rattle.model.specs.AccessFlags.{is_instance_field}

@@ -1,7 +1,6 @@
 -- The fields that a class declares, by their names and by the indices of these.
-use Rattle.std.proofs.Common.{◌≡◌, ℕ, ◌+◌, Bool, true, false, ◌&&◌, cond, List, [], ◌∷◌, length, map, drop, refl, sym, ap, ◌∙◌, Option, Some, None}
+use Rattle.std.proofs.Common.{◌≡◌, ℕ, ◌+◌, Bool, true, false, ◌&&◌, cond, List, [], ◌∷◌, length, map, drop, refl, ap, ◌∙◌, Some}
 use Rattle.std.specs.Prelude.{position, slice_get}
-use Rattle.std.specs.Option.{option_map_or}
 use Rattle.std.specs.List.{AllByRecursion, list_all, filter}
 use Rattle.std.proofs.lemmas.Bool.{false≢true, and_parts}
 use Rattle.model.specs.Names.{Name, name_eq, spells, Member, member_eq}
@@ -11,15 +10,13 @@ use Rattle.model.specs.Spells.{IsWhole}
 use Rattle.model.specs.Pool.{utf8_of}
 use Rattle.model.specs.Conditions.{is_utf8, names_utf8, entry_indices, names_class, field_indices, text_at}
 use Rattle.model.specs.BuiltIn.{built_in_classes}
-use Rattle.model.specs.AccessFlags.{is_instance_field}
-use Rattle.model.specs.Classes.{Program, class_of, name_of, classes_of}
-use Rattle.model.specs.Lookup.{is_field, own_instance_fields, field_member}
+use Rattle.model.specs.Classes.{Program, classes_of}
+use Rattle.model.specs.Lookup.{is_field, field_member}
 use Rattle.run_laws.proofs.laws.Classes.{name_self}
 use Rattle.run_laws.proofs.laws.Lists.{every_append, every_weaken}
 use Rattle.run_laws.proofs.laws.Found.{every_all}
-use Rattle.run_laws.proofs.laws.Homes.{class_has}
 use Rattle.run_laws.proofs.laws.Unrefused.{Unrefused}
-use Rattle.linker.proofs.field_links.Positions.{IsKept, position_kept, position_matches}
+use Rattle.linker.proofs.field_links.Positions.{position_kept, position_matches}
 
 -- a text that is a Utf8
 spelled : (e : Entry) (name : Name) → is_utf8 e ≡ true → name_eq (text_of e) name ≡ spells (utf8_of e) name

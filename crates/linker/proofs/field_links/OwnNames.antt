@@ -1,12 +1,12 @@
 -- The class at a place is the one of its name, in programs that are linked.
-use Rattle.std.proofs.Common.{◌≡◌, ℕ, zero, suc, Bool, true, false, ◌||◌, List, [], ◌∷◌, map, ap, ◌∙◌, Option, Some, None}
+use Rattle.std.proofs.Common.{◌≡◌, ℕ, zero, suc, false, List, [], ◌∷◌, ap, ◌∙◌, Some}
 use Rattle.std.specs.Prelude.{position, slice_get, option_map}
 use Rattle.std.specs.List.{list_any}
-use Rattle.std.proofs.lemmas.Bool.{false≢true, or_parts}
-use Rattle.model.specs.Names.{Name, name_eq}
+use Rattle.std.proofs.lemmas.Bool.{or_parts}
+use Rattle.model.specs.Names.{name_eq}
 use Rattle.model.specs.Tree.{FileTree}
 use Rattle.model.specs.Classes.{Program, name_of, is_named, class_of, classes_of}
-use Rattle.model.specs.Linkable.{too_many_fields, stands, DuplicateClass, TooManyFields, NoMain, two_of_one_name, has_built_in_name, all_conditions, some_stands}
+use Rattle.model.specs.Linkable.{too_many_fields, stands, DuplicateClass, TooManyFields, NoMain, two_of_one_name, has_built_in_name}
 use Rattle.run_laws.proofs.laws.Classes.{name_self}
 use Rattle.run_laws.proofs.laws.Unrefused.{Unrefused, unrefused_of, names_differ}
 use Rattle.hierarchy.proofs.Names.{name_eq_sym}

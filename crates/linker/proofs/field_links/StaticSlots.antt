@@ -1,17 +1,15 @@
 -- Where a static field stands among those of all files.
-use Rattle.std.proofs.Common.{◌≡◌, ℕ, zero, suc, ◌+◌, ◌*◌, ◌<◌, ◌≤◌, Bool, true, false, ◌&&◌, ◌||◌, cond, find, List, [], ◌∷◌, ◌++◌, length, map, refl, sym, ap, subst, ◌∙◌, arith, Option, Some, None}
-use Rattle.std.specs.Prelude.{position, slice_get, is_some, nat_lt}
+use Rattle.std.proofs.Common.{◌≡◌, ℕ, zero, suc, ◌+◌, Bool, true, false, ◌&&◌, cond, find, List, [], ◌∷◌, length, refl, sym, ap, ◌∙◌, arith, Some, None}
+use Rattle.std.specs.Prelude.{position, slice_get, is_some}
 use Rattle.std.specs.List.{AllByRecursion, filter, flat_map, list_any}
 use Rattle.std.proofs.lemmas.Bool.{false≢true, or_parts, false_from_ne_true}
-use Rattle.std.proofs.lemmas.List.{length-map, length-append}
 use Rattle.model.specs.Names.{Name, name_eq, Member, member_eq}
-use Rattle.model.specs.Tree.{FieldTree, FileTree}
+use Rattle.model.specs.Tree.{FileTree}
 use Rattle.model.specs.BuiltIn.{built_in_classes}
-use Rattle.model.specs.Classes.{Program, name_of, is_named, is_built_in}
+use Rattle.model.specs.Classes.{name_of, is_named}
 use Rattle.model.specs.Lookup.{is_static_field, field_member}
 use Rattle.model.specs.Linkable.{two_of_one_name, has_built_in_name}
 use Rattle.model.specs.Opening.{static_fields_in, static_fields}
-use Rattle.run_laws.proofs.laws.Lists.{every_append, every_weaken}
 use Rattle.run_laws.proofs.laws.Found.{none_any}
 use Rattle.run_laws.proofs.laws.RootedOf.{name_turned}
 use Rattle.linker.specs.field_links.Slots.{static_ends}

@@ -1,14 +1,14 @@
 -- Sums of instance fields up the chains of superclasses.
-use Rattle.std.proofs.Common.{◌≡◌, ℕ, zero, suc, ◌+◌, ◌-◌, ◌<◌, List, [], ◌∷◌, length, map, reverse, refl, sym, ap, ◌∙◌, length-append, arith, Option, Some, None}
+use Rattle.std.proofs.Common.{◌≡◌, ℕ, zero, suc, ◌+◌, ◌-◌, ◌<◌, List, [], ◌∷◌, length, map, refl, sym, ap, ◌∙◌, length-append, arith, Option, Some, None}
 use Rattle.std.specs.Prelude.{position, slice_get}
 use Rattle.std.specs.Option.{option_and_then, option_map_or}
-use Rattle.std.specs.List.{filter, flat_map}
+use Rattle.std.specs.List.{filter}
 use Rattle.std.proofs.lemmas.List.{length-map}
-use Rattle.model.specs.Names.{Name, Member}
-use Rattle.model.specs.Tree.{FileTree, FieldTree}
+use Rattle.model.specs.Names.{Name}
+use Rattle.model.specs.Tree.{FileTree}
 use Rattle.model.specs.AccessFlags.{is_instance_field}
-use Rattle.model.specs.Classes.{Program, name_of, super_name_of, is_named, class_of, classes_of, superclass_of, lineage_of}
-use Rattle.model.specs.Lookup.{own_instance_fields, instance_fields, field_member}
+use Rattle.model.specs.Classes.{Program, name_of, super_name_of, is_named, class_of, classes_of, superclass_of}
+use Rattle.model.specs.Lookup.{own_instance_fields, field_member}
 use Rattle.run_laws.proofs.laws.Homes.{class_named}
 use Rattle.linker.specs.declared.field_links.chain.Shape.{Shape}
 use Rattle.linker.specs.field_links.Chains.{shape_of, shapes, chain_sum}

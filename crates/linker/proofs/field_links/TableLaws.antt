@@ -11,7 +11,7 @@ use Rattle.model.specs.Classes.{Program, name_of, classes_of}
 use Rattle.model.specs.Lookup.{instance_fields}
 use Rattle.linker.specs.declared.field_links.link.FieldLink.{FieldLink}
 use Rattle.linker.specs.Linking.{IsLinked}
-use Rattle.linker.specs.field_links.Links.{named_link, field_link, slot_count, KeepsSlots}
+use Rattle.linker.specs.field_links.Links.{named_link, slot_count, KeepsSlots}
 use Rattle.linker.specs.field_links.Slots.{sizes}
 use Rattle.linker.specs.field_links.Tables.{in_row, in_rows, IsRow, AreRows}
 use Rattle.linker.proofs.field_links.Lineages.{kept}

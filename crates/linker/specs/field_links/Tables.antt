@@ -1,9 +1,9 @@
 -- What the tables of links hold.
 use Rattle.std.specs.Prelude.{◌≡◌, ℕ, ◌<◌, ◌^◌, List, Option, None, length, slice_get, slice_index_or}
-use Rattle.std.specs.Option.{option_and_then, option_map_or}
+use Rattle.std.specs.Option.{option_and_then}
 use Rattle.model.specs.Tree.{FileTree}
 use Rattle.model.specs.Pool.{field_at}
-use Rattle.model.specs.Classes.{Program, classes_of}
+use Rattle.model.specs.Classes.{Program}
 use Rattle.model.specs.Opening.{static_fields}
 use Rattle.linker.specs.declared.field_links.link.FieldLink.{FieldLink}
 use Rattle.linker.specs.field_links.Links.{named_link, field_link, slot_count, KeepsSlots}

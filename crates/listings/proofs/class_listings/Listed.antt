@@ -1,5 +1,5 @@
 -- Files that are decoded one after the other.
-use Rattle.std.proofs.Common.{◌≡◌, ◌⊎◌, ℕ, zero, suc, ◌+◌, ◌<◌, List, [], ◌∷◌, ◌++◌, length, map, take, get_or, refl, sym, ap, subst, inl, inr, ◌∙◌, Option, Some, Vec, Global, vec_items}
+use Rattle.std.proofs.Common.{◌≡◌, ◌⊎◌, ℕ, zero, suc, ◌+◌, ◌<◌, List, [], ◌∷◌, ◌++◌, length, map, take, get_or, sym, ap, subst, inl, inr, ◌∙◌, Some, Vec, Global, vec_items}
 use Rattle.std.specs.Prelude.{slice_get}
 use Rattle.std.proofs.lemmas.List.{map_more, map-append, take-map}
 use Rattle.std.proofs.lemmas.Option.{slice_get-get_or}

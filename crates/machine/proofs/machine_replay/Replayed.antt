@@ -26,7 +26,7 @@ use Rattle.machine.specs.Machines.{MachineOf}
 use Rattle.machine.specs.schedule_runs.Done as done
 use Rattle.machine.specs.schedule_runs.Done.{EndsBy, HasGone, GoesThrough}
 use Rattle.machine.specs.machine_reports.Told.{ReportsOn}
-use Rattle.machine.specs.machine_replay.Replays.{IsRefusedFor, OfNext, EndFits, AreOperandsFound, IsReplay}
+use Rattle.machine.specs.machine_replay.Replays.{IsRefusedFor, MayWantMemory, OfNext, EndFits, AreOperandsFound, IsReplay}
 use Rattle.machine.specs.machine_replay.Shown.{IsOpened, Tells, end_of}
 
 -- ---- the end
@@ -41,17 +41,26 @@ module _ (trees : Program) (bounds : Bounds) (state : State) (front : List Event
   refused_for event refusal.LockCount h = h
   refused_for event refusal.Memory h = tt
 
+  wants_for : (event : Event) (told : EventRefusal) → IsRefusedAfter trees bounds front event told
+      → MayWantMemory trees bounds.frames front event (cause_of told)
+  wants_for event refusal.Objects h = tt
+  wants_for event refusal.Cells h = tt
+  wants_for event refusal.Monitors h = tt
+  wants_for event refusal.Threads h = tt
+  wants_for event refusal.LockCount h = tt
+  wants_for event refusal.Memory h = h
+
   next_is : (P Q : Event → Type 0) → ((event : Event) → P event → Q event) → (left : List Event) → done.OfNext left P → OfNext left Q
   next_is P Q on [] h = absurd h
   next_is P Q on (event ∷ left) h = on event h
 
-  fits : (why : Stopped) (n : ℕ) (quiet : Bool) (left : List Event) → n ≡ length front → quiet ≡ is_quiet trees bounds.frames state
+  pub fits : (why : Stopped) (n : ℕ) (quiet : Bool) (left : List Event) → n ≡ length front → quiet ≡ is_quiet trees bounds.frames state
       → EndsBy why trees bounds state front left
       → EndFits trees bounds state front left (end_of why n quiet)
   fits stopped.Most n true left count e h = (h, sym e)
   fits stopped.Most n false left count e h = (h, sym e)
   fits stopped.NotEnabled n quiet left count e h = (count, next_is _ _ (λ event p. p) left h)
-  fits (stopped.Refused told) n quiet left count e h = (count, next_is _ _ (λ event p. (p.0, refused_for event told p.1)) left h)
+  fits (stopped.Refused told) n quiet left count e h = (count, next_is _ _ (λ event p. (p.0, refused_for event told p.1, wants_for event told p.1)) left h)
 
 -- ---- no operand is of a wrong kind
 

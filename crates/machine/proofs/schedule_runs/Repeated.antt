@@ -9,6 +9,7 @@ use Rattle.model.specs.LimitStands.{Bounds, bounds_of, inflated, inflated_by}
 use Rattle.model.specs.State.{StateOf}
 use Rattle.model.specs.Step.{is_enabled}
 use Rattle.machine_state.specs.Events.{limit_of, MayBeRefused}
+use Rattle.machine_state.specs.Memory.{takes_memory_at}
 use Rattle.machine_state.specs.state_events.Whole.{IsShown}
 use Rattle.machine_state.specs.shown_runs.Runs.{LeadTo, IsRefusedAfter}
 use Rattle.machine_state.proofs.shown_runs.Runs.{leads_on, not_enabled, enabled, refused_after}
@@ -69,7 +70,7 @@ module _ (m : MachineOf) (files : List (List ℕ)) (trees : Program) (accepted :
       next_is (λ e. IsTrue (is_enabled trees m.limits.frames lead.state e) × IsRefusedAfter trees (bounds_of m.limits) (before ++ replicate n event) e told) event (most - n) (omega (arith, r.0)) (
         enabled files trees accepted (bounds_of m.limits) (before ++ replicate n event) at lead event r.1.cost r.1.next r.1.is,
         refused_after files trees accepted (bounds_of m.limits) (before ++ replicate n event) at lead event r.1.cost r.1.next r.1.is told
-            (subst (λ l. MayBeRefused trees (bounds_of m.limits) l at.world r.1.cost told) are r.1.may),
+            (subst (λ l. MayBeRefused trees (bounds_of m.limits) l at.world r.1.cost (takes_memory_at at event.thread r.1.cost r.1.next) told) are r.1.may),
       )
 
   pub gone : (why : Stopped) (at : StateOf ℕ) → LeadTo trees (bounds_of m.limits) before at

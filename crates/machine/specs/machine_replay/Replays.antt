@@ -15,11 +15,12 @@ use Rattle.model.specs.Report.{end_state_of, report_text}
 use Rattle.model.specs.Run.{run, is_quiet}
 use Rattle.model.specs.State.{State}
 use Rattle.model.specs.Step.{WrongKind, stepped, is_enabled}
+use Rattle.machine_state.specs.Memory.{takes_memory_after}
 
 -- ---- why no more events were done
 
 -- The cause stands at an enabled event after those that were done: the limit that it names forbids the event. Where memory was
--- wanted, nothing stands in the definitions.
+-- wanted, no limit is named.
 abbrev pub IsRefusedFor : Program → Bounds → (done : List Event) → Event → RunCause → Type 0
 IsRefusedFor trees bounds done event cause.Objects = limit_after trees bounds done event ≡ Some cause.Objects
 IsRefusedFor trees bounds done event cause.Cells = limit_after trees bounds done event ≡ Some cause.Cells
@@ -28,19 +29,24 @@ IsRefusedFor trees bounds done event cause.Threads = limit_after trees bounds do
 IsRefusedFor trees bounds done event cause.LockCount = limit_after trees bounds done event ≡ Some cause.LockCount
 IsRefusedFor trees bounds done event cause.Memory = Unit {0}
 
+-- memory is wanted only where the event takes some
+abbrev pub MayWantMemory : Program → (frames : ℕ) → (done : List Event) → Event → RunCause → Type 0
+MayWantMemory trees frames done event cause.Memory = IsTrue (takes_memory_after trees frames done event)
+MayWantMemory trees frames done event why = Unit {0}
+
 -- what is said of the next event, which is there
 abbrev pub OfNext : List Event → (Event → Type 0) → Type 0
 OfNext [] P = ⊥
 OfNext (event ∷ events) P = P event
 
 -- The end after the events that were done, in the state to which they led, with those that are left: none is, and some thread may
--- go on, or none may; or the next one is not enabled; or it is, and is refused.
+-- go on, or none may; or the next one is not enabled; or it is, and is refused, for want of memory only where it takes some.
 abbrev pub EndFits : Program → Bounds → State → (done left : List Event) → End → Type 0
 EndFits trees bounds state done left ends.Schedule = (left ≡ []) × IsFalse (is_quiet trees bounds.frames state)
 EndFits trees bounds state done left ends.Quiet = (left ≡ []) × IsTrue (is_quiet trees bounds.frames state)
 EndFits trees bounds state done left (ends.NotEnabled i) = (i ≡ length done) × OfNext left (λ event. IsFalse (is_enabled trees bounds.frames state event))
 EndFits trees bounds state done left (ends.Refused i cause) =
-    (i ≡ length done) × OfNext left (λ event. IsTrue (is_enabled trees bounds.frames state event) × IsRefusedFor trees bounds done event cause)
+    (i ≡ length done) × OfNext left (λ event. IsTrue (is_enabled trees bounds.frames state event) × IsRefusedFor trees bounds done event cause × MayWantMemory trees bounds.frames done event cause)
 EndFits trees bounds state done left ends.Budget = ⊥
 
 -- ---- what a run never meets

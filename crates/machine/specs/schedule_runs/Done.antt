@@ -24,7 +24,7 @@ OfNext [] P = ⊥
 OfNext (event ∷ events) P = P event
 
 -- Why no more were done, in the state to which those led that were: none is left; or the next one is not enabled; or it is, and a
--- limit stands at it or memory is wanted.
+-- limit stands at it, or it takes memory, which is wanted.
 abbrev pub EndsBy : Stopped → Program → Bounds → State → (done left : List Event) → Type 0
 EndsBy stopped.Most trees bounds state done left = left ≡ []
 EndsBy stopped.NotEnabled trees bounds state done left = OfNext left (λ event. IsFalse (is_enabled trees bounds.frames state event))

@@ -29,7 +29,9 @@ use Rattle.machine_state.specs.declared.state.Shared.{Shared}
 use Rattle.machine_state.specs.Shown.{Represents}
 use Rattle.machine_state.specs.Instructions.{Does}
 use Rattle.machine_state.specs.Events.{IsUnchanged, IsDone}
-use Rattle.machine_state.specs.linked_frames.Frames.{IsRunning}
+use Rattle.machine_state.specs.Memory.{operand_counts, shown_counts, has_grown}
+use Rattle.machine_state.proofs.Memory.{grown_frame, takes_by_growth}
+use Rattle.machine_state.specs.linked_frames.Frames.{IsRunning, IsTopShown}
 use Rattle.machine_state.proofs.linked_frames.Frames.{top_shown, finds_shown, meaning_is, top_frame, with_top_is}
 use Rattle.machine_state.proofs.linked_frames.Moves.{free_done, replaced_shown}
 use Rattle.machine_instructions.specs.field_instructions.Puts.{gone_on, Leaves}
@@ -126,7 +128,19 @@ module _ (trees : Program) (p : LinkedProgram) (bounds : Bounds) (inflated : Lis
       → Does trees p bounds inflated t state.world (model.Invocation frame ∷ rest) (goes_on state.world count results) result old old stack (with_top left stack)
   done_or_refused count results found lent left (Ok answer) e = done state.world old unchanged count results found lent left answer e
   done_or_refused count results found lent left (Err refusal.Memory) e =
-      (record { cost = Free; next = _; is = refl; may = tt }, kept left (subst (λ (f : ShownFrame). IsTopFrame stack (Some f)) (sym e) lent))
+      (record { cost = Free; next = after; is = refl; may = takes_by_growth state.world (shown_counts stack) Free after grown }, kept left (subst (λ (f : ShownFrame). IsTopFrame stack (Some f)) (sym e.0) lent))
+    where
+      after : PartOf ℕ
+      after = part state.world (model.Invocation (next_frame count results) ∷ rest)
+
+      shows : IsTopShown trees p is.shown is.others frame rest
+      shows = top_shown trees p bounds inflated t old stack state frame rest code site meaning instruction is
+
+      grown : has_grown (shown_counts stack) (operand_counts after.stack) ≡ true
+      grown =
+          grown_frame trees p is.shown is.others rest shows.under stack is.is_stack (next_frame count results)
+          (subst (λ ops. length is.shown.operands < length (results ++ drop count ops)) (sym shows.top.operands)
+          (subst (λ (f : ShownFrame). length f.operands < length (results ++ drop count f.operands)) (lent_shows found lent) e.1))
   done_or_refused count results found lent left (Err refusal.Objects) e = absurd e
   done_or_refused count results found lent left (Err refusal.Cells) e = absurd e
   done_or_refused count results found lent left (Err refusal.Monitors) e = absurd e

@@ -1,5 +1,5 @@
 -- An instruction on the monitor of the object on top: what it finds, and what becomes of its event.
-use Rattle.std.proofs.Common.{◌≡◌, ◌<◌, ◌+◌, ◌-◌, ◌^◌, ℕ, zero, suc, List, [], ◌∷◌, length, take, drop, true, false, Option, Some, None, Result, Ok, Err, refl, sym, ap, subst, arith, ◌∙◌}
+use Rattle.std.proofs.Common.{◌≡◌, ◌<◌, ◌+◌, ◌-◌, ◌^◌, ℕ, zero, suc, List, [], ◌∷◌, length, take, drop, Bool, true, false, Option, Some, None, Result, Ok, Err, refl, sym, ap, subst, arith, ◌∙◌}
 use Rattle.std.specs.Prelude.{slice_get, slice_index_or, slice_set, if◌then◌else◌}
 use Rattle.std.specs.Option.{option_map_or}
 use Rattle.std.specs.Result.{IsErrAnd}
@@ -37,6 +37,8 @@ use Rattle.machine_state.specs.declared.answers.Effect.{Effect}
 use Rattle.machine_state.specs.declared.refusals.EventRefusal.{EventRefusal}
 use Rattle.machine_state.specs.declared.state.Shared.{Shared}
 use Rattle.machine_state.specs.Events.{MayBeRefused}
+use Rattle.machine_state.specs.Memory.{takes_shared, shown_counts, takes_memory}
+use Rattle.machine_state.proofs.Memory.{or_left, refused_if}
 use Rattle.machine_state.specs.Instructions.{Does, instruction_event}
 use Rattle.heap.specs.monitor_events.Tables.{over, MonitorsBecome}
 use Rattle.machine_state.specs.linked_frames.Frames.{IsRunning, event_of}
@@ -152,12 +154,23 @@ module _ (trees : Program) (p : LinkedProgram) (bounds : Bounds) (inflated : Lis
   -- ---- a refusal changes nothing
 
   pub refused : (new : Shared) (stepped : SteppedOf (PartOf ℕ)) (cost : Cost) (after : PartOf ℕ) → stepped ≡ Next cost after
-      → (told : EventRefusal) → MayBeRefused trees bounds inflated world cost told → new ≡ old
+      → (told : EventRefusal) → MayBeRefused trees bounds inflated world cost (takes_shared cost) told → new ≡ old
       → (result : Result Effect EventRefusal) → IsErrAnd result (λ e. e ≡ told)
       → Does trees p bounds inflated t world (model.Invocation frame ∷ rest) stepped result old new from from
   refused new stepped cost after e told may unchanged (Ok other) h = absurd h
-  refused new stepped cost after e told may unchanged (Err other) h =
-      (record { cost = cost; next = after; is = e; may = subst (MayBeRefused trees bounds inflated world cost) (sym h) may }, record { shared = unchanged; stack = refl })
+  refused new stepped cost after e told may unchanged (Err other) h = (
+    record {
+      cost = cost;
+      next = after;
+      is = e;
+      may = subst (MayBeRefused trees bounds inflated world cost takes) (sym h)
+          (refused_if trees bounds inflated world cost (takes_shared cost) takes (or_left _ _) told may);
+    },
+    record { shared = unchanged; stack = refl },
+  )
+    where
+      takes : Bool
+      takes = takes_memory world (shown_counts from) cost after
 
 -- ---- who is not the owner changes nothing
 

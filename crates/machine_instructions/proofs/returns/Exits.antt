@@ -4,7 +4,7 @@ use Rattle.std.specs.Result.{IsErrAnd}
 use Rattle.model.specs.Classes.{Program}
 use Rattle.model.specs.State as model
 use Rattle.model.specs.State.{FrameOf, StackEntryOf, StackOf, WorldOf}
-use Rattle.model.specs.Outcomes.{IllegalMonitorState}
+use Rattle.model.specs.Outcomes.{IllegalMonitorState, Makes}
 use Rattle.model.specs.LimitStands.{Bounds}
 use Rattle.model.specs.Worlds.{with_exit}
 use Rattle.model.specs.Step.{SteppedOf, PartOf, on_to, raised, leaving}
@@ -18,7 +18,8 @@ use Rattle.machine_state.specs.declared.answers.Answer.TheVariants as answer
 use Rattle.machine_state.specs.declared.refusals.EventRefusal.{EventRefusal}
 use Rattle.machine_state.specs.declared.state.Shared.{Shared}
 use Rattle.machine_state.specs.Shown.{Represents}
-use Rattle.machine_state.specs.Events.{IsDone, Becomes}
+use Rattle.machine_state.specs.Events.{IsDone, MayBeRefused, Becomes}
+use Rattle.machine_state.specs.Memory.{shown_counts, takes_memory}
 use Rattle.machine_state.proofs.entries.Changing.{monitors_shown}
 use Rattle.machine_state.proofs.linked_frames.Moves.{free_done}
 use Rattle.machine_instructions.specs.returns.Leaving.{HasEntered, may_leave, SaysMayLeave, with_leave, Leaves}
@@ -123,5 +124,14 @@ module _ (trees : Program) (p : LinkedProgram) (bounds : Bounds) (inflated : Lis
       → Becomes trees p bounds inflated world stepped result old new from from
   raise_refused why b from (Ok told) e = absurd e
   raise_refused why b from (Err told) e =
-      subst (λ s. Becomes trees p bounds inflated world s (Err told) old new from from) (sym is)
-      (subst (λ x. Becomes trees p bounds inflated world (raised t IllegalMonitorState world rest) (Err x) old new from from) (sym e) (b.0, record { shared = b.1.shared; stack = refl }))
+      let made = b.0.is in
+      let cost_is : b.0.cost ≡ Makes 0 = cc in (
+        record {
+          cost = Makes 0;
+          next = _;
+          is = is;
+          may = subst (MayBeRefused trees bounds inflated world (Makes 0) true) (sym e)
+              (subst (λ c. MayBeRefused trees bounds inflated world c (takes_memory world (shown_counts under) c b.0.next) why) cost_is b.0.may);
+        },
+        record { shared = b.1.shared; stack = refl },
+      )

@@ -18,7 +18,7 @@ use Rattle.model.specs.Worlds.{has_ended, no_thread, thread_at}
 use Rattle.model.specs.Calls.{is_nothing, is_reference_returned, returned_by, return_of}
 use Rattle.model.specs.LimitStands.{Bounds}
 use Rattle.model.specs.Outcomes.{Free}
-use Rattle.model.specs.Step.{SteppedOf, PartOf, on_to, leaving}
+use Rattle.model.specs.Step.{SteppedOf, PartOf, part, on_to, leaving}
 use Rattle.model.specs.Step as step
 use Rattle.run_laws.specs.word_runs.Words.{AreInCode}
 use Rattle.run_laws.proofs.word_runs.InCode.{in_code}
@@ -42,7 +42,10 @@ use Rattle.machine_state.specs.linked_frames.Frames.{IsRunning, DoesOwn, event_o
 use Rattle.machine_state.proofs.linked_frames.Frames.{top_shown, finds, meaning_is, event_is}
 use Rattle.machine_instructions.specs.returns.Places.{IsNextOfTop}
 use Rattle.machine_instructions.specs.returns.Leaving.{HasEntered, SaysMayLeave, with_leave, Leaves}
-use Rattle.machine_instructions.specs.returns.Returned.{returning, result_in}
+use Rattle.machine_instructions.specs.returns.Returned.{returning, result_in, IsGiven}
+use Rattle.machine_state.specs.Memory.{operand_counts, shown_counts, has_grown, takes_memory}
+use Rattle.machine_state.proofs.Memory.{takes_by_growth}
+use Rattle.machine_instructions.proofs.returns.Given.{given_grows}
 use Rattle.machine_instructions.proofs.returns.Exits.{entered_is, under_shown, not_owned, goes_on, done}
 
 -- ---- what it means
@@ -159,13 +162,25 @@ module _ (trees : Program) (p : LinkedProgram) (bounds : Bounds) (inflated : Lis
       goes = stepped_is ∙ goes_on trees p bounds inflated state.world shared is.lent.represents t entered (step.returned trees results rest) (model.Invocation frame ∷ rest) says
 
       -- there is no memory for the result
-      pub lacks : (result : Result Effect EventRefusal) → IsErrAnd result (λ told. told ≡ refusal.Memory) → (to : List ShownEntry) → to ≡ stack
+      pub lacks : (given : Option ℕ) → given ≡ result_in value stack → IsGiven stack given
+          → (result : Result Effect EventRefusal) → IsErrAnd result (λ told. told ≡ refusal.Memory) → (to : List ShownEntry) → to ≡ stack
           → Does trees p bounds inflated t state.world (model.Invocation frame ∷ rest) stepped result shared shared stack to
-      lacks (Ok told) e to same = absurd e
-      lacks (Err told) e to same = (
-        record { cost = Free; next = _; is = goes; may = subst (MayBeRefused trees bounds inflated state.world Free) (sym e) tt },
+      lacks given given_is g (Ok told) e to same = absurd e
+      lacks given given_is g (Err told) e to same = (
+        record { cost = Free; next = after; is = goes; may = subst (MayBeRefused trees bounds inflated state.world Free takes) (sym e) (takes_by_growth state.world (shown_counts stack) Free after grown) },
         record { shared = refl; stack = same },
       )
+        where
+          after : PartOf ℕ
+          after = part (with_leave state.world t entered) (step.returned trees results rest)
+
+          takes : Bool
+          takes = takes_memory state.world (shown_counts stack) Free after
+
+          grown : has_grown (shown_counts stack) (operand_counts after.stack) ≡ true
+          grown =
+              subst (λ o. has_grown (shown_counts stack) (operand_counts (step.returned trees (option_to_list o) rest)) ≡ true) (sym g.is ∙ given_is)
+              (given_grows trees p stack is.shown is.others is.is_stack g.invoker g.others g.under rest (under_shown trees p stack (model.Invocation frame) rest is.lent.shows_stack) g.word)
 
       pub returns : (next : ℕ) → IsNextOfTop p (drop 1 stack) next → (new : Shared) → Leaves t entered shared new
           → (to : List ShownEntry) → to ≡ returned_to next results (drop 1 stack)

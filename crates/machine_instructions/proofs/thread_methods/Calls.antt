@@ -1,5 +1,5 @@
 -- A call by the frame on top of a thread: its operands, and the stack and the state after it.
-use Rattle.std.proofs.Common.{◌≡◌, ◌<◌, ◌-◌, ℕ, zero, suc, List, [], ◌∷◌, ◌++◌, length, take, drop, Bool, Some, Result, Ok, Err, refl, sym, ap, subst, inl, arith, ◌∙◌}
+use Rattle.std.proofs.Common.{◌≡◌, ◌<◌, ◌-◌, ℕ, zero, suc, List, [], ◌∷◌, ◌++◌, length, take, drop, Bool, true, Some, Result, Ok, Err, refl, sym, ap, subst, inl, arith, ◌∙◌}
 use Rattle.std.specs.Prelude.{slice_get, slice_index_or, unwrap_or}
 use Rattle.std.specs.Result.{IsErrAnd}
 use Rattle.std.proofs.lemmas.Option.{get_or_from_slice_get}
@@ -28,7 +28,9 @@ use Rattle.machine_state.specs.Events.{IsDone, MayBeRefused}
 use Rattle.machine_state.specs.Instructions.{Does}
 use Rattle.heap.specs.monitor_events.Tables.{among, over}
 use Rattle.machine_instructions.specs.thread_methods.Called.{RefersTo, IsCalling}
-use Rattle.machine_instructions.specs.thread_methods.Moves.{operand_of, went_on, Answers}
+use Rattle.machine_state.specs.Memory.{operand_counts, shown_counts, has_grown, takes_memory}
+use Rattle.machine_state.proofs.Memory.{grown_frame, takes_by_growth}
+use Rattle.machine_instructions.specs.thread_methods.Moves.{operand_of, went_on, Grows, Answers}
 
 -- ---- operands
 
@@ -93,6 +95,13 @@ module _ (trees : Program) (p : LinkedProgram) (bounds : Bounds) (inflated : Lis
         shows.1,
       )
 
+  -- it has more operands where the frame that is kept has
+  grows : (word : ℕ) → Grows count from → has_grown (shown_counts from) (operand_counts (gone_on (word ∷ []))) ≡ true
+  grows word more =
+      grown_frame trees p is.shown is.others rest shows.1 from is.is_stack
+      (at_offset frame offset (record { locals = frame.place.slots.locals; stack = word ∷ drop count frame.place.slots.stack }))
+      (subst (λ ops. length is.shown.operands < suc (length (drop count ops))) (sym shows.0.operands) (subst (Grows count) is.is_stack more))
+
   pub stayed : ShowsStack trees p (on_top (without count) from) (model.Invocation (at_call frame (drop count frame.place.slots.stack))
       ∷ rest)
   stayed =
@@ -135,6 +144,31 @@ module _ (trees : Program) (p : LinkedProgram) (bounds : Bounds) (inflated : Lis
       → IsDone trees p bounds inflated world (Next Free (part world (gone_on results))) old old to
   same = free world old represented refl refl refl
 
+  -- there is no memory for its result, whatever is shared with it
+  pub lacks : (word : ℕ) (why : EventRefusal) (to : List ShownEntry) → Answers (Err why) count word next from to
+      → (shared : WorldOf ℕ) (value : ℕ) (result : Result Effect EventRefusal) → IsErrAnd result (λ told. told ≡ why)
+      → Does trees p bounds inflated t world (model.Invocation frame
+      ∷ rest) (Next Free (part shared (gone_on (value ∷ [])))) result old old from to
+  lacks word why to h shared value (Ok told) e = absurd e
+  lacks word refusal.Objects to h shared value (Err told) e = absurd h
+  lacks word refusal.Cells to h shared value (Err told) e = absurd h
+  lacks word refusal.Monitors to h shared value (Err told) e = absurd h
+  lacks word refusal.Threads to h shared value (Err told) e = absurd h
+  lacks word refusal.LockCount to h shared value (Err told) e = absurd h
+  lacks word refusal.Memory to h shared value (Err told) e = (
+    record { cost = Free; next = after; is = refl; may = subst (MayBeRefused trees bounds inflated world Free takes) (sym e) (takes_by_growth world (shown_counts from) Free after grown) },
+    record { shared = refl; stack = h.0 },
+  )
+    where
+      after : PartOf ℕ
+      after = part shared (gone_on (value ∷ []))
+
+      takes : Bool
+      takes = takes_memory world (shown_counts from) Free after
+
+      grown : has_grown (shown_counts from) (operand_counts after.stack) ≡ true
+      grown = grows value h.1
+
   -- it has a result, or there is no memory for it
   with_result : (result : Result Effect EventRefusal) (word : ℕ) (to : List ShownEntry) → Answers result count word next from to
       → Does trees p bounds inflated t world (model.Invocation frame
@@ -144,12 +178,7 @@ module _ (trees : Program) (p : LinkedProgram) (bounds : Bounds) (inflated : Lis
   with_result (Ok (effect.Throws thrown)) word to e = absurd e
   with_result (Ok effect.Interrupts) word to e = absurd e
   with_result (Ok effect.NotEnabled) word to e = absurd e
-  with_result (Err refusal.Objects) word to e = absurd e
-  with_result (Err refusal.Cells) word to e = absurd e
-  with_result (Err refusal.Monitors) word to e = absurd e
-  with_result (Err refusal.Threads) word to e = absurd e
-  with_result (Err refusal.LockCount) word to e = absurd e
-  with_result (Err refusal.Memory) word to e = (record { cost = Free; next = part world (gone_on (word ∷ [])); is = refl; may = tt }, record { shared = refl; stack = e })
+  with_result (Err why) word to e = lacks word why to e world word (Err why) refl
 
   pub answered : (word value : ℕ) → word ≡ value → (result : Result Effect EventRefusal) (to : List ShownEntry)
       → Answers result count word next from to
@@ -208,9 +237,9 @@ module _ (trees : Program) (p : LinkedProgram) (bounds : Bounds) (inflated : Lis
 
   -- a refusal changes nothing
   pub refused : (new : Shared) (stepped : SteppedOf (PartOf ℕ)) (cost : Cost) (after : PartOf ℕ) → stepped ≡ Next cost after
-      → (told : EventRefusal) → MayBeRefused trees bounds inflated world cost told → new ≡ old
+      → (told : EventRefusal) → MayBeRefused trees bounds inflated world cost (takes_memory world (shown_counts from) cost after) told → new ≡ old
       → (result : Result Effect EventRefusal) → IsErrAnd result (λ e. e ≡ told)
       → Does trees p bounds inflated t world (model.Invocation frame ∷ rest) stepped result old new from from
   refused new stepped cost after e told may unchanged (Ok other) h = absurd h
   refused new stepped cost after e told may unchanged (Err other) h =
-      (record { cost = cost; next = after; is = e; may = subst (MayBeRefused trees bounds inflated world cost) (sym h) may }, record { shared = unchanged; stack = refl })
+      (record { cost = cost; next = after; is = e; may = subst (MayBeRefused trees bounds inflated world cost (takes_memory world (shown_counts from) cost after)) (sym h) may }, record { shared = unchanged; stack = refl })

@@ -26,6 +26,8 @@ use Rattle.machine_state.specs.declared.state.Shared.{Shared}
 use Rattle.machine_state.specs.Shown.{Represents}
 use Rattle.machine_state.specs.Instructions.{Does, instruction_event}
 use Rattle.machine_state.specs.Events.{IsUnchanged, IsDone}
+use Rattle.machine_state.specs.Memory.{operand_counts, shown_counts, has_grown}
+use Rattle.machine_state.proofs.Memory.{grown_frame, takes_by_growth}
 use Rattle.machine_state.specs.linked_frames.Frames.{IsRunning, event_of}
 use Rattle.machine_state.proofs.linked_frames.Frames.{top_shown, finds_shown, meaning_is, event_is, top_frame, with_top_is}
 use Rattle.machine_state.proofs.linked_frames.Moves.{free_done, replaced_shown}
@@ -154,7 +156,17 @@ module _ {trees : Program} {p : LinkedProgram} {bounds : Bounds} {inflated : Lis
   does_own frames count results from to (Ok told) left top event =
       done_free frames state.world shared count results from to told left top event is.lent.represents refl refl refl
   does_own frames count results from to (Err refusal.Memory) left top event =
-      (record { cost = Free; next = part state.world (own_after count results); is = event; may = tt }, record { shared = refl; stack = unchanged to (left ∙ top) })
+      (record { cost = Free; next = after; is = event; may = takes_by_growth state.world (shown_counts stack) Free after grown }, record { shared = refl; stack = unchanged to (left.0 ∙ top) })
+    where
+      after : PartOf ℕ
+      after = part state.world (own_after count results)
+
+      grown : has_grown (shown_counts stack) (operand_counts after.stack) ≡ true
+      grown =
+          grown_frame trees p is.shown is.others rest (top_shown trees p bounds inflated t shared stack state frame rest code site meaning instruction is).under stack is.is_stack
+          (at_offset frame (offset_in code.starts.items (is.shown.place + 1)) (slots_after count results))
+          (subst (λ ops. length is.shown.operands < length (results ++ drop count ops)) (sym operands_are)
+          (subst (λ (f : ShownFrame). length f.operands < length (results ++ drop count f.operands)) top left.1))
   does_own frames count results from to (Err refusal.Objects) left top event = absurd left
   does_own frames count results from to (Err refusal.Cells) left top event = absurd left
   does_own frames count results from to (Err refusal.Monitors) left top event = absurd left

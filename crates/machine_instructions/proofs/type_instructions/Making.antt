@@ -86,8 +86,8 @@ module _ {trees : Program} {p : LinkedProgram} {bounds : Bounds} {inflated : Lis
     not_made : (told : EventRefusal) (why : AllocRefusal) → told ≡ of_heap why → Allocates (Err why) of cells shared.heap after → to ≡ from
         → DoesSo is frames (Err told) (with_heap after) (with_top to stack)
     not_made told why is_told told_so same =
-        let both : MayBeRefused trees bounds inflated state.world (Makes cells) (of_heap why) × (after ≡ shared.heap) = refused trees p bounds inflated state.world shared (with_heap after) is.lent.represents of cells why told_so in (
-          record { cost = Makes cells; next = _; is = event; may = subst (MayBeRefused trees bounds inflated state.world (Makes cells)) (sym is_told) both.0 },
+        let both : MayBeRefused trees bounds inflated state.world (Makes cells) true (of_heap why) × (after ≡ shared.heap) = refused trees p bounds inflated state.world shared (with_heap after) is.lent.represents of cells why told_so in (
+          record { cost = Makes cells; next = _; is = event; may = subst (MayBeRefused trees bounds inflated state.world (Makes cells) true) (sym is_told) both.0 },
           record { shared = ap with_heap both.1; stack = unchanged is to (same ∙ top) },
         )
 
@@ -118,7 +118,7 @@ module _ {trees : Program} {p : LinkedProgram} {bounds : Bounds} {inflated : Lis
     makes (Ok effect.Interrupts) left there = absurd left
     makes (Ok effect.NotEnabled) left there = absurd left
     makes (Err refusal.Memory) left there =
-        (record { cost = Makes cells; next = _; is = event; may = tt }, record { shared = ap with_heap left.0; stack = unchanged is to (left.1 ∙ top) })
+        (record { cost = Makes cells; next = _; is = event; may = refl }, record { shared = ap with_heap left.0; stack = unchanged is to (left.1 ∙ top) })
     makes (Err refusal.Objects) left there = not_made refusal.Objects left.0.0 left.0.1 left.0.2 left.1
     makes (Err refusal.Cells) left there = not_made refusal.Cells left.0.0 left.0.1 left.0.2 left.1
     makes (Err refusal.Monitors) left there = not_made refusal.Monitors left.0.0 left.0.1 left.0.2 left.1

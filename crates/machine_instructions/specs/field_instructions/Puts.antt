@@ -1,5 +1,5 @@
 -- Instructions that put into fields of each primitive type, and how an instruction that is done leaves its frame (JVMS 2.6, 6.5).
-use Rattle.std.specs.Prelude.{◌≡◌, ℕ, ◌+◌, ◌<◌, ◌^◌, List, Result, Ok, Err}
+use Rattle.std.specs.Prelude.{◌≡◌, ℕ, ◌+◌, ◌<◌, ◌^◌, List, ◌++◌, length, drop, Result, Ok, Err}
 use Rattle.linked_code.specs.declared.instruction.LinkedInstruction.{LinkedInstruction}
 use Rattle.linked_code.specs.declared.instruction.LinkedInstruction.TheVariants as linked
 use Rattle.model.specs.declared.primitive.Primitive.{Primitive}
@@ -30,9 +30,9 @@ put_static_instruction primitive.Int class slot = linked.PutStatic class slot
 abbrev pub gone_on : (count : ℕ) → List ℕ → ShownFrame → ShownFrame
 gone_on count results frame = at_place (frame.place + 1) (replaced count results frame)
 
--- The instruction is done, and its frame has gone on, where its place is one that a vector may have; or memory is wanted, and the
--- frame is as it was.
+-- The instruction is done, and its frame has gone on, where its place is one that a vector may have; or memory is wanted, where there
+-- would be more operands then, and the frame is as it was.
 abbrev pub Leaves : Result Effect EventRefusal → (count : ℕ) → List ℕ → (old new : ShownFrame) → Type 0
 Leaves (Ok effect.Done) count results old new = old.place < 2 ^ 63 → new ≡ gone_on count results old
-Leaves (Err refusal.Memory) count results old new = new ≡ old
+Leaves (Err refusal.Memory) count results old new = (new ≡ old) × (length old.operands < length (results ++ drop count old.operands))
 Leaves told count results old new = ⊥

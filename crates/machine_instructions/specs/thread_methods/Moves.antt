@@ -1,5 +1,5 @@
 -- What a call makes of the stack of its thread (JVMS 2.6). No public clause cites this module.
-use Rattle.std.specs.Prelude.{◌≡◌, ℕ, List, [], ◌∷◌, Bool, ◌&&◌, ◌==◌, if◌then◌else◌, nat_lt, length, Result, Ok, Err, slice_index_or}
+use Rattle.std.specs.Prelude.{◌≡◌, ◌<◌, ℕ, suc, List, [], ◌∷◌, drop, Bool, ◌&&◌, ◌==◌, if◌then◌else◌, nat_lt, length, Result, Ok, Err, slice_index_or}
 use Rattle.model.specs.State.{WorldOf}
 use Rattle.model.specs.Worlds.{is_owner, waiters_of}
 use Rattle.linked_code.specs.thread_stacks.Stacks.{ShownEntry, Invocation, Initialisation, replaced, at_place, on_top}
@@ -19,10 +19,16 @@ abbrev pub went_on : (count : ℕ) → List ℕ → (next : ℕ) → ShownEntry 
 went_on count results next (Invocation frame) = Invocation (at_place next (replaced count results frame))
 went_on count results next (Initialisation class phase) = Initialisation class phase
 
--- the frame on top did, or there was no memory, and nothing has changed
+-- the frame on top would have more operands then
+abbrev pub Grows : (count : ℕ) → List ShownEntry → Type 0
+Grows count [] = ⊥
+Grows count (Invocation frame ∷ stack) = length frame.operands < suc (length (drop count frame.operands))
+Grows count (Initialisation class phase ∷ stack) = ⊥
+
+-- the frame on top did; or it would have more operands, and there was no memory, and nothing has changed
 abbrev pub Answers : Result Effect EventRefusal → (count word next : ℕ) → (old new : List ShownEntry) → Type 0
 Answers (Ok effect.Done) count word next old new = new ≡ on_top (went_on count (word ∷ []) next) old
-Answers (Err refusal.Memory) count word next old new = new ≡ old
+Answers (Err refusal.Memory) count word next old new = (new ≡ old) × Grows count old
 Answers result count word next old new = ⊥
 
 -- ---- the pick of a notify

@@ -1,5 +1,5 @@
 -- How an instruction that is done leaves its frame (JVMS 2.6, 6.5).
-use Rattle.std.specs.Prelude.{◌≡◌, ℕ, suc, ◌+◌, ◌<◌, ◌≤◌, ◌^◌, List, [], ◌∷◌, Result, Ok, Err, length}
+use Rattle.std.specs.Prelude.{◌≡◌, ℕ, suc, ◌+◌, ◌<◌, ◌≤◌, ◌^◌, List, [], ◌∷◌, ◌++◌, drop, Result, Ok, Err, length}
 use Rattle.heap.specs.declared.kind.ObjectKind.{ObjectKind}
 use Rattle.heap.specs.declared.refusal.AllocRefusal.{AllocRefusal}
 use Rattle.heap.specs.Heap.{Heap, Allocates}
@@ -14,11 +14,11 @@ use Rattle.machine_state.specs.Refusals.{of_heap}
 abbrev pub gone_on : (count : ℕ) → List ℕ → ShownFrame → ShownFrame
 gone_on count results frame = at_place (frame.place + 1) (replaced count results frame)
 
--- The instruction is done and its frame has gone on, where its place is one that code in memory may have; or memory is wanted,
--- and the frame is as it was.
+-- The instruction is done and its frame has gone on, where its place is one that code in memory may have; or memory is wanted, where
+-- there would be more operands then, and the frame is as it was.
 abbrev pub Leaves : Result Effect EventRefusal → (count : ℕ) → List ℕ → (old new : ShownFrame) → Type 0
 Leaves (Ok effect.Done) count results old new = old.place < 2 ^ 63 → new ≡ gone_on count results old
-Leaves (Err refusal.Memory) count results old new = new ≡ old
+Leaves (Err refusal.Memory) count results old new = (new ≡ old) × (length old.operands < length (results ++ drop count old.operands))
 Leaves told count results old new = ⊥
 
 -- no object was made: memory was wanted for the stack, or the heap refused to allocate

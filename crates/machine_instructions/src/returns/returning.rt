@@ -1,9 +1,10 @@
 //! Returns to the invoker.
 
-ghost use Rattle.std.specs.Prelude.{◌≡◌, ℕ, Ok, true, false};
+ghost use Rattle.std.specs.Prelude.{◌≡◌, ℕ, Ok, true, false, drop, option_to_list, OnOk, OnErr};
+ghost use Rattle.linked_code.specs.thread_stacks.Stacks.{moved, returned, on_top};
 ghost use Rattle.machine_state.specs.declared.answers.Effect.TheVariants as effect;
 ghost use Rattle.machine_state.specs.declared.state.Shared.{Shared};
-ghost use Rattle.machine_instructions.specs.returns.Returned.{result_in, returning};
+ghost use Rattle.machine_instructions.specs.returns.Returned.{result_in, returning, IsGiven};
 ghost use Rattle.machine_state.specs.linked_frames.Frames.{DoesOwn};
 
 use crate::returns::leaving::{entered_by_top, leave, may_leave};
@@ -11,6 +12,7 @@ use crate::returns::places::next_place_under;
 use linked_code::LinkedProgram;
 use linked_code::thread_stacks::ThreadStack;
 use machine_state::{Effect, EventRefusal, MachineException, Shared};
+use std::alloc::AllocError;
 
 /// What the frame on top returns: the word on top of its operands, or nothing.
 #[inline]
@@ -23,13 +25,50 @@ fn result_of(stack: &ThreadStack, value: bool) -> Option<u32>
     }
 }
 
+/// Whether a value is returned to an invoker: there is one, and the entry under the top is a frame.
+#[inline]
+#[tactic(auto, using(crate::proofs::returns::Given::given, crate::proofs::returns::Given::passes_nothing, crate::proofs::returns::Given::passes_over))]
+fn gives_value(stack: &ThreadStack, returns: Option<u32>) -> bool
+    ensures gives { result ≡ true → IsGiven stack.now returns }
+    ensures passes { result ≡ false → (next : ℕ)
+        → on_top (moved next) (drop 1 stack.now) ≡ returned next (option_to_list returns) (drop 1 stack.now) }
+{
+    match returns {
+        Some(_) => match stack.frame_under() {
+            Some(_) => true,
+            None => false,
+        },
+        None => false,
+    }
+}
+
+/// Ends the frame on top: a frame under it goes on at a place with the result, if there is one. It takes memory only where a value
+/// is returned to an invoker. On an error nothing has changed.
+#[inline]
+fn return_under(
+    stack: &mut ThreadStack,
+    next: usize,
+    returns: Option<u32>,
+) -> Result<(), AllocError>
+    ensures ok { OnOk result (stack.new ≡ returned next (option_to_list returns) (drop 1 stack.old)) }
+    ensures err { OnErr result (stack.new ≡ stack.old) }
+    ensures gives { OnErr result (IsGiven stack.old returns) }
+{
+    if gives_value(stack, returns) {
+        return stack.return_to(next, returns);
+    }
+    stack.drop_top();
+    stack.go_on(next);
+    Ok(())
+}
+
 /// The frame on top returns, with the value on top of its operands or with none (JVMS 2.6.4): it goes, its invoker goes on with
 /// the result, and the monitor that the invocation entered is left once. Where another thread or none owns that monitor, an
 /// IllegalMonitorStateException is raised, and nothing has changed.
 ///
 /// # Errors
 ///
-/// Where there is no memory for the result. Nothing has changed then.
+/// Where there is no memory for a value that is returned to an invoker. Nothing has changed then.
 pub fn return_from(
     shared: &mut Shared,
     stack: &mut ThreadStack,
@@ -45,7 +84,7 @@ pub fn return_from(
     }
     let next = next_place_under(program, stack);
     let returns = result_of(stack, value);
-    stack.return_to(next, returns)?;
+    return_under(stack, next, returns)?;
     leave(shared, thread, entered);
     Ok(Effect::Done)
 }

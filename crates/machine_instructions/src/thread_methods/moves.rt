@@ -5,6 +5,7 @@ ghost use Rattle.linked_code.specs.thread_stacks.Stacks.{on_top, without};
 ghost use Rattle.machine_instructions.specs.thread_methods.Moves.{operand_of, went_on, Answers};
 
 use linked_code::thread_stacks::ThreadStack;
+use machine_state::linked_frames::replace_operands;
 use machine_state::{Effect, EventRefusal};
 
 /// The operand under so many others, 0 where there is none.
@@ -51,7 +52,7 @@ pub(crate) fn stay(stack: &mut ThreadStack, operands: usize)
 ///
 /// # Errors
 ///
-/// Where there is no memory. Nothing has changed then.
+/// Where there are more operands then, and no memory for them. Nothing has changed then.
 #[inline]
 pub(crate) fn answer(
     stack: &mut ThreadStack,
@@ -62,7 +63,7 @@ pub(crate) fn answer(
     ensures { Answers result operands word next stack.old stack.new }
 {
     if let Some(frame) = stack.frame_mut() {
-        frame.replace(operands, word)?;
+        replace_operands(frame, operands, word)?;
         frame.go_to(next);
     }
     Ok(Effect::Done)

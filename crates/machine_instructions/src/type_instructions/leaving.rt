@@ -5,6 +5,7 @@ ghost use Rattle.linked_code.specs.thread_stacks.Stacks.{shown_frame, at_place, 
 ghost use Rattle.machine_instructions.specs.type_instructions.Leaving.{Leaves};
 
 use linked_code::thread_stacks::Frame;
+use machine_state::linked_frames::replace_operands;
 use machine_state::{Effect, EventRefusal};
 
 /// The frame goes on at the next place.
@@ -20,12 +21,12 @@ pub(crate) fn go_on(frame: &mut Frame)
 ///
 /// # Errors
 ///
-/// Where there is no memory for the word; nothing has changed then.
+/// Where there are more operands then, and no memory for them; nothing has changed then.
 #[inline]
 pub(crate) fn leave(frame: &mut Frame, count: usize, word: u32) -> Result<Effect, EventRefusal>
     ensures { Leaves result count (word ∷ []) (shown_frame frame.old) (shown_frame frame.new) }
 {
-    frame.replace(count, word)?;
+    replace_operands(frame, count, word)?;
     go_on(frame);
     Ok(Effect::Done)
 }

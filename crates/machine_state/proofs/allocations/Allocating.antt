@@ -136,4 +136,4 @@ refused trees p bounds inflated world old new r kind count refusal.Cells why = (
       ∙ ap (full trees p bounds world old r false) (cells_pass trees p bounds world old r count why.1),
   why.2,
 )
-refused trees p bounds inflated world old new r kind count refusal.Memory why = (tt, why.2)
+refused trees p bounds inflated world old new r kind count refusal.Memory why = (refl, why.2)

@@ -1,7 +1,8 @@
 -- A class that a thread begins to initialise, and events that take nothing.
-use Rattle.std.proofs.Common.{◌≡◌, ℕ, List, [], ◌∷◌, Option, Some, None, Vec, Global, length, refl, sym, ap, subst, ◌∙◌, inl}
+use Rattle.std.proofs.Common.{◌≡◌, ℕ, List, [], ◌∷◌, Option, Some, None, Vec, Global, Result, Ok, Err, length, refl, sym, ap, subst, ◌∙◌, inl}
 use Rattle.std.specs.Prelude.{slice_get, slice_set}
 use Rattle.std.specs.Option.{option_map, option_map_or}
+use Rattle.std.specs.Result.{IsErrAnd}
 use Rattle.std.specs.List.{filter_map, cons_option}
 use Rattle.std.proofs.lemmas.Option.{same_Some}
 use Rattle.model.specs.Names.{Name, Member}
@@ -16,7 +17,7 @@ use Rattle.model.specs.Outcomes.{Free}
 use Rattle.model.specs.Worlds.{with_static, put_value, with_value}
 use Rattle.model.specs.ClassInitialisation as initialisation
 use Rattle.model.specs.ClassInitialisation.{constant_value, with_class_status, with_class_begun}
-use Rattle.model.specs.Step.{part, on_to, begun_class}
+use Rattle.model.specs.Step.{PartOf, part, on_to, begun_class}
 use Rattle.linked_code.specs.declared.class.LinkedClass.{LinkedClass}
 use Rattle.linked_code.specs.declared.class.LinkedConstant.{LinkedConstant}
 use Rattle.linked_code.specs.declared.program.LinkedProgram.{LinkedProgram}
@@ -25,11 +26,16 @@ use Rattle.linked_code.specs.Numbers.{IsClassAt}
 use Rattle.linked_code.specs.declared.thread_stacks.entry.Phase.TheVariants as phase
 use Rattle.linked_code.specs.thread_stacks.Stacks.{ShownEntry, Initialisation}
 use Rattle.machine_state.specs.shown_objects.Shown.{ShowsStatics}
+use Rattle.machine_state.proofs.Memory.{grown_by_one, takes_by_growth}
 use Rattle.machine_state.proofs.shown_objects.Objects.{are_statics}
 use Rattle.machine_state.specs.shown_stacks.Shown.{ShowsStack}
+use Rattle.machine_state.specs.declared.answers.Answer.{Answer}
+use Rattle.machine_state.specs.declared.refusals.EventRefusal.{EventRefusal}
+use Rattle.machine_state.specs.declared.refusals.EventRefusal.TheVariants as refusal
 use Rattle.machine_state.specs.declared.state.Shared.{Shared}
 use Rattle.machine_state.specs.Shown.{IsProgram, Represents}
-use Rattle.machine_state.specs.Events.{IsDone}
+use Rattle.machine_state.specs.Events.{IsDone, MayBeRefused, Becomes}
+use Rattle.machine_state.specs.Memory.{shown_counts, takes_memory}
 use Rattle.machine_state.specs.method_selection.Rows.{HasClass, AreClassesRead}
 use Rattle.machine_state.specs.class_initialisation.Constants.{with_constants}
 use Rattle.machine_state.proofs.class_initialisation.Setting.{kind_of, its_class}
@@ -53,6 +59,27 @@ free_done trees p bounds inflated world after own old new to r s heap stacks thr
         others = inl (record { stacks = λ i. (stacks i).items; threads = λ i. length (threads i).threads });
       };
     }
+
+-- there is no memory for the entry of the class, which is one more
+pub lacks_entry : (trees : Program) (p : LinkedProgram) (bounds : Bounds) (inflated : List ℕ) (world : WorldOf ℕ) (own : StackOf ℕ) (old : Shared) (from : List ShownEntry)
+    → ShowsStack trees p from own
+    → (class : Name) (t : ℕ) (result : Result Answer EventRefusal) → IsErrAnd result (λ told. told ≡ refusal.Memory)
+    → (to : List ShownEntry) → to ≡ from
+    → Becomes trees p bounds inflated world (begun_class words trees t class world own) result old old from to
+lacks_entry trees p bounds inflated world own old from s class t (Ok answer) e to same = absurd e
+lacks_entry trees p bounds inflated world own old from s class t (Err told) e to same = (
+  record {
+    cost = Free;
+    next = after;
+    is = refl;
+    may = subst (MayBeRefused trees bounds inflated world Free (takes_memory world (shown_counts from) Free after)) (sym e)
+        (takes_by_growth world (shown_counts from) Free after (grown_by_one trees p from own s (model.Initialisation class model.Super) own refl));
+  },
+  record { shared = refl; stack = same },
+)
+  where
+    after : PartOf ℕ
+    after = part (with_class_begun words trees t class world) (model.Initialisation class model.Super ∷ own)
 
 -- ---- constants
 

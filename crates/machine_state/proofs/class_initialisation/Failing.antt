@@ -20,6 +20,7 @@ use Rattle.machine_state.specs.declared.state.ClassStatus.{ClassStatus}
 use Rattle.machine_state.specs.declared.state.Shared.{Shared}
 use Rattle.machine_state.specs.Shown.{IsProgram, shown_status}
 use Rattle.machine_state.specs.Events.{Becomes, IsDone, MayBeRefused, HasBecome, AreStacksAdded}
+use Rattle.machine_state.specs.Memory.{shown_counts, takes_memory}
 use Rattle.machine_state.specs.class_initialisation.Statuses.{IsStatusSet}
 
 -- what is under the entry on top
@@ -39,7 +40,7 @@ module _ (trees : Program) (p : LinkedProgram) (bounds : Bounds) (inflated : Lis
       → Becomes trees p bounds inflated world (raised t fault after rest) (Err told) old mid from from
   still_refused told mid from under h =
       let taken : h.0.cost ≡ Makes 0 = (let is = h.0.is in cc) in (
-        record { cost = Makes 0; next = _; is = refl; may = subst (λ (c : Cost). MayBeRefused trees bounds inflated world c told) taken h.0.may },
+        record { cost = Makes 0; next = _; is = refl; may = subst (λ (c : Cost). MayBeRefused trees bounds inflated world c (takes_memory world (shown_counts under) c h.0.next) told) taken h.0.may },
         record { shared = h.1.shared; stack = refl },
       )
 

@@ -11,7 +11,7 @@ use Rattle.model.specs.Classes.{Program}
 use Rattle.model.specs.State.{Monitor, WorldOf}
 use Rattle.model.specs.Outcomes.{Cost, Joins}
 use Rattle.model.specs.Monitors.{Answered, answers_done, unlocked, owned, owns, as_entrant, monitor_at, enter}
-use Rattle.model.specs.LimitStands.{Bounds, is_crowded, entry_limit}
+use Rattle.model.specs.LimitStands.{Bounds, is_crowded, is_inflating_entry, entry_limit}
 use Rattle.model.specs.Worlds.{is_done, may_enter, is_owner, with_entry, entry_cost}
 use Rattle.model.specs.BuiltInMethods.{waiting}
 use Rattle.heap.specs.declared.monitor.call.Call.{Call}
@@ -30,6 +30,7 @@ use Rattle.linked_code.specs.declared.program.LinkedProgram.{LinkedProgram}
 use Rattle.machine_state.specs.declared.state.Shared.{Shared}
 use Rattle.machine_state.specs.Refusals.{of_monitors}
 use Rattle.machine_state.specs.Events.{limit_of, MayBeRefused}
+use Rattle.machine_state.specs.Memory.{takes_shared}
 use Rattle.machine_state.specs.entries.Entered.{IsShared, IsTaken, EntersIn, AreEntered, WaitsIn, AreWaiting}
 use Rattle.machine_state.proofs.entries.Changing.{monitors_shown, both_shown}
 
@@ -67,10 +68,18 @@ none_told call l w = λ i. if w.count i then Some cause.LockCount else if w.tabl
 
 -- what a refusal tells
 told_by_limit : (trees : Program) (bounds : Bounds) (inflated : List ℕ) (world : WorldOf ℕ) (cost : Cost) (told : MonitorRefusal)
-    → limit_of trees bounds inflated world cost ≡ limit_told (Err told) → MayBeRefused trees bounds inflated world cost (of_monitors told)
-told_by_limit trees bounds inflated world cost refusal.Monitors e = e
-told_by_limit trees bounds inflated world cost refusal.LockCount e = e
-told_by_limit trees bounds inflated world cost refusal.Memory e = tt
+    → limit_of trees bounds inflated world cost ≡ limit_told (Err told) → (told ≡ refusal.Memory → takes_shared cost ≡ true)
+    → MayBeRefused trees bounds inflated world cost (takes_shared cost) (of_monitors told)
+told_by_limit trees bounds inflated world cost refusal.Monitors e takes = e
+told_by_limit trees bounds inflated world cost refusal.LockCount e takes = e
+told_by_limit trees bounds inflated world cost refusal.Memory e takes = takes refl
+
+-- only the entry that makes a lock fat wants memory
+fattens : (object t : ℕ) (told : MonitorRefusal) (old new : Locks) → locks.IsRefused told (calls.Enter object t) old new
+    → told ≡ refusal.Memory → is_inflating_entry (monitor_at old.monitors object).count ≡ true
+fattens object t refusal.Monitors old new why is = absurd cc
+fattens object t refusal.LockCount old new why is = absurd cc
+fattens object t refusal.Memory old new why is = (and_parts _ _ (and_parts _ _ why.0).0).1
 
 -- only an owner is refused
 refused_owner : (object t : ℕ) (told : MonitorRefusal) (old new : Locks) → locks.IsRefused told (calls.Enter object t) old new
@@ -153,7 +162,9 @@ module _ (trees : Program) (p : LinkedProgram) (bounds : Bounds) (inflated : Lis
       let done = owner_enters t m.owner m (owned m t (m.count + 1)) (answers_done (owned m t 1)) (refused_owner object t told old.heap.locks new.heap.locks e.0) in (
         may_is ∙ ap is_done done,
         record {
-          may = told_by_limit trees bounds inflated world (entry_cost world object) told (limit_is done ∙ calls_taken.refusals (Err told) entry old.heap.locks new.heap.locks e.0);
+          may = told_by_limit trees bounds inflated world (entry_cost world object) told (limit_is done ∙ calls_taken.refusals (Err told) entry old.heap.locks new.heap.locks e.0)
+              (λ wants. subst (λ (ms : List Monitor). is_inflating_entry (monitor_at ms object).count ≡ true) s.represents.world_is.monitors
+              (fattens object t told old.heap.locks new.heap.locks e.0 wants));
           same = same ∙ ap (λ (h : Heap). record old { heap = h }) e.1;
         },
       )
@@ -191,7 +202,7 @@ module _ (trees : Program) (p : LinkedProgram) (bounds : Bounds) (inflated : Lis
       let own = refused_waiter object t told old.heap.locks new.heap.locks e.0 in (
         owner_is ∙ own,
         record {
-          may = told_by_limit trees bounds inflated world (Joins object) told (wait_limit own ∙ calls_taken.refusals (Err told) wait old.heap.locks new.heap.locks e.0);
+          may = told_by_limit trees bounds inflated world (Joins object) told (wait_limit own ∙ calls_taken.refusals (Err told) wait old.heap.locks new.heap.locks e.0) (λ wants. refl);
           same = same ∙ (λ i. record old { heap = e.1 i; threads = e.2 i });
         },
       )

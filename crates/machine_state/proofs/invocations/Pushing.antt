@@ -28,6 +28,8 @@ use Rattle.machine_state.specs.declared.refusals.EventRefusal.{EventRefusal}
 use Rattle.machine_state.specs.declared.refusals.EventRefusal.TheVariants as refusal
 use Rattle.machine_state.specs.declared.state.Shared.{Shared}
 use Rattle.machine_state.specs.Events.{MayBeRefused}
+use Rattle.machine_state.specs.Memory.{takes_shared, shown_counts, takes_memory}
+use Rattle.machine_state.proofs.Memory.{or_left, refused_if, grown_by_one, takes_by_growth}
 use Rattle.machine_state.specs.Instructions.{Does}
 use Rattle.machine_state.specs.entries.Entered.{IsShared, EntersIn}
 use Rattle.machine_state.proofs.entries.Entering.{entries_shown}
@@ -67,8 +69,14 @@ module _ (trees : Program) (p : LinkedProgram) (bounds : Bounds) (inflated : Lis
   abbrev stepped : SteppedOf (PartOf ℕ)
   stepped = pushed limit t world world own rest frame
 
+  abbrev after : PartOf ℕ
+  after = part (with_begin world t frame.entered) (Invocation frame ∷ rest)
+
   abbrev next : SteppedOf (PartOf ℕ)
-  next = Next (begin_cost world frame.entered) (part (with_begin world t frame.entered) (Invocation frame ∷ rest))
+  next = Next (begin_cost world frame.entered) after
+
+  abbrev takes : Bool
+  takes = takes_memory world (shown_counts from) (begin_cost world frame.entered) after
 
   abbrev Comes : Result Effect EventRefusal → Shared → List ShownEntry → Type 0
   Comes result new to = Does trees p bounds inflated t world own stepped result old new from to
@@ -101,21 +109,27 @@ module _ (trees : Program) (p : LinkedProgram) (bounds : Bounds) (inflated : Lis
       goes = pushes ∙ ap (λ b. enabled_if b next) (may_is true says)
 
       refused : (told : EventRefusal) (new : Shared) (to : List ShownEntry)
-          → MayBeRefused trees bounds inflated world (begin_cost world frame.entered) told → new ≡ old → to ≡ from → Comes (Err told) new to
+          → MayBeRefused trees bounds inflated world (begin_cost world frame.entered) takes told → new ≡ old → to ≡ from → Comes (Err told) new to
       refused told new to may same kept = (record { cost = begin_cost world frame.entered; next = _; is = goes; may = may }, record { shared = same; stack = kept })
 
-      -- there is no memory for the frame
-      pub lacks : (result : Result Effect EventRefusal) → IsErrAnd result (λ told. told ≡ refusal.Memory) → (to : List ShownEntry) → to ≡ from
+      -- there is no memory for the frame, which is one more
+      pub lacks : length rest ≡ length own → (result : Result Effect EventRefusal) → IsErrAnd result (λ told. told ≡ refusal.Memory) → (to : List ShownEntry) → to ≡ from
           → Comes result old to
-      lacks (Ok u) e to kept = absurd e
-      lacks (Err told) e to kept = refused told old to (subst (MayBeRefused trees bounds inflated world (begin_cost world frame.entered)) (sym e) tt) refl kept
+      lacks level (Ok u) e to kept = absurd e
+      lacks level (Err told) e to kept =
+          refused told old to
+          (subst (MayBeRefused trees bounds inflated world (begin_cost world frame.entered) takes) (sym e)
+          (takes_by_growth world (shown_counts from) (begin_cost world frame.entered) after (grown_by_one trees p from own shows (Invocation frame) rest level)))
+          refl kept
 
       -- the entry is refused
       pub forbidden : (told : EventRefusal) (new : Shared) (to : List ShownEntry) → EntersFor (Err told) t frame.entered old new → to ≡ from
           → Comes (Err told) new to
       forbidden told new to e kept =
           let by : EntersBy trees p bounds inflated world (Err told) t frame.entered old new = e trees p bounds inflated world s (may_is true says) in
-          refused told new to by.0 by.1 kept
+          refused told new to
+          (refused_if trees bounds inflated world (begin_cost world frame.entered) (takes_shared (begin_cost world frame.entered)) takes (or_left _ _) told by.0)
+          by.1 kept
 
       pub done : IsThere frame.entered old.heap → (new : Shared) (to : List ShownEntry) → EntersFor (Ok tt) t frame.entered old new
           → ShowsStack trees p to (Invocation frame ∷ rest) → Comes (Ok effect.Done) new to

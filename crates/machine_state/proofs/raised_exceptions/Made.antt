@@ -1,5 +1,5 @@
 -- An exception that is allocated and pending, and one that is refused.
-use Rattle.std.proofs.Common.{◌≡◌, ℕ, List, [], Some, Result, Ok, Err, slice_index_or, slice_set, length, refl, sym, ap, subst, ◌∙◌, inl}
+use Rattle.std.proofs.Common.{◌≡◌, ℕ, List, [], Some, true, Result, Ok, Err, slice_index_or, slice_set, length, refl, sym, ap, subst, ◌∙◌, inl}
 use Rattle.std.specs.Result.{IsErrAnd}
 use Rattle.std.proofs.lemmas.List.{length-set}
 use Rattle.model.specs.Names.{Name}
@@ -43,8 +43,8 @@ module _ (trees : Program) (p : LinkedProgram) (bounds : Bounds) (inflated : Lis
       → Becomes trees p bounds inflated world (Next (Makes 0) next) result old (record old { heap = after }) shown shown
   told_as next object why after is (Ok u) e = absurd e
   told_as next object why after is (Err told) e =
-      let both : MayBeRefused trees bounds inflated world (Makes 0) (of_heap why) × (after ≡ old.heap) = refused trees p bounds inflated world old (record old { heap = after }) r object 0 why is in (
-        record { cost = Makes 0; next = next; is = refl; may = subst (MayBeRefused trees bounds inflated world (Makes 0)) (sym e) both.0 },
+      let both : MayBeRefused trees bounds inflated world (Makes 0) true (of_heap why) × (after ≡ old.heap) = refused trees p bounds inflated world old (record old { heap = after }) r object 0 why is in (
+        record { cost = Makes 0; next = next; is = refl; may = subst (MayBeRefused trees bounds inflated world (Makes 0) true) (sym e) both.0 },
         record { shared = ap (λ (h : Heap). record old { heap = h }) both.1; stack = refl },
       )
 

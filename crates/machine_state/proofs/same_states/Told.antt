@@ -1,17 +1,14 @@
 -- What is kept shows one state at most.
-use Rattle.std.proofs.Common.{◌≡◌, ℕ, ℤ, suc, List, [], ◌∷◌, Option, Some, refl, sym, ap, ◌∙◌, subst}
-use Rattle.std.specs.Prelude.{map, slice_get}
+use Rattle.std.proofs.Common.{◌≡◌, ℕ, ℤ, suc, List, [], ◌∷◌, Option, refl, sym, ap, ◌∙◌, subst}
+use Rattle.std.specs.Prelude.{map}
 use Rattle.std.proofs.lemmas.Option.{same_Some}
 use Rattle.model.specs.Names.{Name, Member}
-use Rattle.model.specs.Tree.{FileTree}
-use Rattle.model.specs.Classes.{Program, name_of, classes_of}
-use Rattle.model.specs.LimitStands.{Bounds}
+use Rattle.model.specs.Classes.{Program, name_of}
 use Rattle.model.specs.Lookup.{instance_fields}
-use Rattle.model.specs.ReferenceTypes.{ReferenceType, ClassType, PrimitiveArray, Int}
+use Rattle.model.specs.ReferenceTypes.{ReferenceType, ClassType, PrimitiveArray}
 use Rattle.model.specs.DescribedTypes.{arrays}
 use Rattle.model.specs.State as model
 use Rattle.model.specs.State.{ObjectOf, Instance, Primitives, References, ClassStatus, Monitor, Thread, FrameOf, StackEntryOf, StackOf, Phase, WorldOf, StateOf}
-use Rattle.heap.specs.declared.kind.NarrowKind.{NarrowKind}
 use Rattle.heap.specs.declared.kind.ObjectKind.{ObjectKind}
 use Rattle.heap.specs.declared.kind.ObjectKind.TheVariants as kind
 use Rattle.heap.specs.Heap.{Object}
@@ -20,13 +17,13 @@ use Rattle.linked_code.specs.declared.types.Element.{Element}
 use Rattle.linked_code.specs.declared.types.Element.TheVariants as element
 use Rattle.linked_code.specs.declared.types.LinkedType.{LinkedType}
 use Rattle.model.specs.Primitives.{primitive_of}
-use Rattle.linked_code.specs.Numbers.{IsClassAt, IsMethodAt, IsClassOf, IsArrayOf, IsType, IsTypeAt, IsTypeWith, methods_of}
+use Rattle.linked_code.specs.Numbers.{IsClassAt, IsMethodAt, IsType, IsTypeAt, IsTypeWith}
 use Rattle.linked_code.specs.thread_stacks.Stacks.{ShownFrame, ShownEntry, Invocation, Initialisation}
-use Rattle.machine_state.specs.shown_objects.Shown.{names_of, words_in, cells_of, primitive_in, IsKindOf, ShowsObject, ShowsObjects, ShowsStatics}
-use Rattle.machine_state.specs.shown_stacks.Shown.{ShowsFrame, ShowsEntry, ShowsStack, phase_of, offset_at}
+use Rattle.machine_state.specs.shown_objects.Shown.{names_of, words_in, cells_of, IsKindOf, ShowsObjects}
+use Rattle.machine_state.specs.shown_stacks.Shown.{ShowsFrame, ShowsEntry, ShowsStack}
 use Rattle.machine_state.specs.declared.state.Shared.{Shared}
-use Rattle.machine_state.specs.Shown.{shown_status, ShowsStatuses, ShowsWorld, Represents}
-use Rattle.machine_state.specs.state_events.Whole.{ShowsStacks, IsShown}
+use Rattle.machine_state.specs.Shown.{shown_status, ShowsWorld}
+use Rattle.machine_state.specs.state_events.Whole.{ShowsStacks}
 use Rattle.machine_state.specs.same_states.Same.{AreAlike, AreWordsTold}
 
 -- ---- lists

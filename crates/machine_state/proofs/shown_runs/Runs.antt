@@ -1,5 +1,6 @@
 -- A run that is shown goes on.
 use Rattle.std.proofs.Common.{true, false, ◌≡◌, ℕ, List, [], Option, None, Result, Ok, Err, Bool, refl, sym, ap, subst, ◌∙◌}
+use Rattle.std.specs.Option.{option_map_or}
 use Rattle.model.specs.declared.event.Event.{Event}
 use Rattle.model.specs.declared.end.RunCause.{RunCause}
 use Rattle.model.specs.Accepted.{IsAccepted}
@@ -30,6 +31,8 @@ use Rattle.machine_state.specs.declared.refusals.EventRefusal.{EventRefusal}
 use Rattle.machine_state.specs.declared.refusals.EventRefusal.TheVariants as refusal
 use Rattle.machine_state.specs.declared.state.Shared.{Shared}
 use Rattle.machine_state.specs.Events.{MayBeRefused}
+use Rattle.machine_state.specs.Memory.{takes_memory_at, takes_memory_by, takes_memory_after}
+use Rattle.machine_state.proofs.Memory.{takes_as_values}
 use Rattle.machine_state.specs.state_events.Whole.{IsShown, IsSame, Turns}
 use Rattle.machine_state.specs.shown_runs.Runs.{LeadTo, HasRun, LeadsOn, GoesOn, IsRefusedAfter, AreRunsOpened, AreRunsLonger, AreRunsGoingOn}
 use Rattle.machine_state.proofs.shown_runs.Limits.{within_more}
@@ -111,14 +114,25 @@ module _ (files : List (List ℕ)) (trees : Program) (accepted : IsAccepted file
   told_after cost next is o e =
       sym (limits_standing files trees accepted.linkable bounds events at lead.state event lead.reached lead.are) ∙ ap (limit_by trees bounds crowded at) is ∙ e
 
+  -- over values it takes what it takes over words
+  takes_after : (cost : Cost) (next : StateOf ℕ) → stepped words trees bounds.frames at event ≡ Next cost next
+      → takes_memory_at at event.thread cost next ≡ true → takes_memory_after trees bounds.frames events event ≡ true
+  takes_after cost next is takes =
+      ap (λ o. option_map_or (λ state. takes_memory_by state event.thread (stepped values trees bounds.frames state event)) o false) lead.reached
+      ∙ sym (takes_as_values lead.state event.thread (stepped values trees bounds.frames lead.state event))
+      ∙ (λ i. takes_memory_by (sym lead.are.are i) event.thread (sym at_words i))
+      ∙ ap (takes_memory_by at event.thread) is
+      ∙ takes
+
   pub refused_after : (cost : Cost) (next : StateOf ℕ) → stepped words trees bounds.frames at event ≡ Next cost next → (told : EventRefusal)
-      → MayBeRefused trees bounds (inflated trees bounds.frames events) at.world cost told → IsRefusedAfter trees bounds events event told
+      → MayBeRefused trees bounds (inflated trees bounds.frames events) at.world cost (takes_memory_at at event.thread cost next) told
+      → IsRefusedAfter trees bounds events event told
   refused_after cost next is refusal.Objects may = told_after cost next is _ may
   refused_after cost next is refusal.Cells may = told_after cost next is _ may
   refused_after cost next is refusal.Monitors may = told_after cost next is _ may
   refused_after cost next is refusal.Threads may = told_after cost next is _ may
   refused_after cost next is refusal.LockCount may = told_after cost next is _ may
-  refused_after cost next is refusal.Memory may = tt
+  refused_after cost next is refusal.Memory may = takes_after cost next is may
 
 pub runs_longer_by_one : AreRunsLonger
 runs_longer_by_one files trees accepted bounds events at lead event cost next is within = leads_on files trees accepted bounds events at lead event cost next is within

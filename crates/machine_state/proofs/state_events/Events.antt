@@ -1,8 +1,8 @@
 -- An event of a thread, done on a stack that was lent, is the event of the state.
 use Rattle.std.proofs.Common.{◌≡◌, ◌<◌, ◌+◌, ◌-◌, ℕ, suc, List, [], ◌∷◌, ◌++◌, Some, Result, Ok, Err, Bool, true, false, if◌then◌else◌, length, replicate, sym, ap, subst, ◌∙◌, inl, inr, arith}
 use Rattle.std.specs.Prelude.{slice_get, slice_set}
-use Rattle.std.proofs.lemmas.List.{length-set, length-append, append-nil, set-set, set-append_left}
-use Rattle.std.proofs.lemmas.Option.{slice_get_within}
+use Rattle.std.proofs.lemmas.List.{length-set, length-append, append-nil, get_or-set_same, get_or_append_left, set-set, set-append_left}
+use Rattle.std.proofs.lemmas.Option.{same_Some, slice_get_within, slice_get-get_or}
 use Rattle.model.specs.declared.event.Event.{Event}
 use Rattle.model.specs.Classes.{Program}
 use Rattle.model.specs.Accepted.{IsAccepted}
@@ -10,7 +10,7 @@ use Rattle.model.specs.LimitStands.{Bounds, inflated_by, is_inflating_entry}
 use Rattle.model.specs.Operands.{words}
 use Rattle.model.specs.Outcomes.{Cost, Free, Makes, Starts, Enters, Joins}
 use Rattle.model.specs.State.{StackOf, WorldOf, StateOf}
-use Rattle.model.specs.Step.{SteppedOf, Next, PartOf, thread_at, thread_event, settled, with_part, event_of, stepped}
+use Rattle.model.specs.Step.{SteppedOf, Next, PartOf, part, thread_at, thread_event, settled, with_part, event_of, stepped}
 use Rattle.model.specs.Words.{AreWellTypedWords}
 use Rattle.run_laws.proofs.laws.LinkedOf.{linked_of}
 use Rattle.run_laws.proofs.word_runs.Carried.{carried}
@@ -35,8 +35,10 @@ use Rattle.machine_state.specs.declared.answers.Answer.TheVariants as answer
 use Rattle.machine_state.specs.declared.refusals.EventRefusal.{EventRefusal}
 use Rattle.machine_state.specs.declared.state.Shared.{Shared}
 use Rattle.machine_state.specs.Shown.{Represents}
-use Rattle.machine_state.specs.Events.{AreStacksAdded, HasBecome, Becomes}
+use Rattle.machine_state.specs.Events.{AreStacksAdded, HasBecome, MayBeRefused, Becomes}
+use Rattle.machine_state.specs.Memory.{operand_counts, shown_counts, takes_memory, takes_memory_at, stack_at}
 use Rattle.machine_state.specs.state_events.Whole.{ShowsStacks, IsShown, HasInPlace, IsSame, IsEventDone, Turns, AreStacksLent, AreEventsWhole}
+use Rattle.machine_state.proofs.Memory.{counts_shown}
 use Rattle.machine_state.proofs.state_events.Places.{IsOwn, own_at, set_at, set_same, one_more}
 
 -- ---- what doesn't ask for stacks
@@ -158,6 +160,27 @@ module _ (files : List (List ℕ)) (trees : Program) (accepted : IsAccepted file
         kept_words trees (carried trees (linked_of files trees accepted.linkable.spelled accepted.linkable.no_refusal).rooted)
         (λ n at state after typed is. kept files trees accepted n at state after typed is) bounds.frames state event cost next_state h.typed steps
 
+    -- its own stack is the one that is lent, and stands in its place after it
+    takes_is : takes_memory state.world (shown_counts from) cost next ≡ takes_memory_at state event.thread cost next_state
+    takes_is = λ i. takes_memory state.world (counts_are i) cost (part next.world (after_is i))
+      where
+        there : event.thread < length state.stacks
+        there = slice_get_within state.stacks event.thread own own_is
+
+        before_is : own ≡ stack_at state event.thread
+        before_is = same_Some own (stack_at state event.thread) (sym own_is ∙ slice_get-get_or state.stacks event.thread [] there)
+
+        counts_are : shown_counts from ≡ operand_counts (stack_at state event.thread)
+        counts_are =
+            let lent = own_at trees p shared.stacks.items state.stacks h.stacks event.thread from kept_is in
+            counts_shown trees p from lent.own lent.shows ∙ ap operand_counts (same_Some lent.own own (sym lent.is ∙ own_is) ∙ before_is)
+
+        after_is : next.stack ≡ stack_at next_state event.thread
+        after_is =
+            sym (get_or_append_left (slice_set state.stacks event.thread next.stack) (replicate (length next.world.threads - length state.stacks) []) [] event.thread
+            (subst (λ n. event.thread < n) (sym (length-set state.stacks event.thread next.stack)) there)
+            ∙ get_or-set_same state.stacks event.thread next.stack [] there)
+
     module _ (b : HasBecome trees p bounds inflated state.world cost next lent after to) (new : Shared) (given : HasInPlace event.thread to after new) where
       lent_heap : lent.heap ≡ shared.heap
       lent_heap = heap_in shared lent lends.rest
@@ -242,7 +265,12 @@ module _ (files : List (List ℕ)) (trees : Program) (accepted : IsAccepted file
   turns (Ok answer.Done) after to b new given = is_done after to b.cost b.next b.is b.becomes new given
   turns (Ok answer.NotEnabled) after to b new given = (whole_is ∙ ap (with_part state event.thread) b.0, same_again after to b.1.shared b.1.stack new given)
   turns (Err told) after to b new given = (
-    record { cost = b.0.cost; next = next_state after to b.0.cost b.0.next b.0.is; is = steps after to b.0.cost b.0.next b.0.is; may = b.0.may },
+    record {
+      cost = b.0.cost;
+      next = next_state after to b.0.cost b.0.next b.0.is;
+      is = steps after to b.0.cost b.0.next b.0.is;
+      may = subst (λ takes. MayBeRefused trees bounds inflated state.world b.0.cost takes told) (takes_is after to b.0.cost b.0.next b.0.is) b.0.may;
+    },
     same_again after to b.1.shared b.1.stack new given,
   )
 

@@ -1,5 +1,5 @@
 -- What an allocation on the heap of a machine is of the world that it shows (JVMS 2.7, 6.5 new; limits: own).
-use Rattle.std.specs.Prelude.{◌≡◌, ◌<◌, ◌+◌, ◌^◌, ℕ, List, None, Ok, Err, length}
+use Rattle.std.specs.Prelude.{◌≡◌, ◌<◌, ◌+◌, ◌^◌, ℕ, List, None, Ok, Err, true, length}
 use Rattle.model.specs.Classes.{Program}
 use Rattle.model.specs.State.{ObjectOf, WorldOf}
 use Rattle.model.specs.Outcomes.{Makes}
@@ -39,4 +39,4 @@ abbrev pub AreRefused : Type 0
 AreRefused =
     (trees : Program) (p : LinkedProgram) (bounds : Bounds) (inflated : List ℕ) (world : WorldOf ℕ) (old new : Shared) → Represents trees p bounds old world
     → (kind : ObjectKind) (count : ℕ) (told : AllocRefusal) → Allocates (Err told) kind count old.heap new.heap
-    → MayBeRefused trees bounds inflated world (Makes count) (of_heap told) × (new.heap ≡ old.heap)
+    → MayBeRefused trees bounds inflated world (Makes count) true (of_heap told) × (new.heap ≡ old.heap)

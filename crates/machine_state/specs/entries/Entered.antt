@@ -15,6 +15,7 @@ use Rattle.machine_state.specs.declared.state.Shared.{Shared}
 use Rattle.machine_state.specs.Refusals.{of_monitors}
 use Rattle.machine_state.specs.Shown.{Represents}
 use Rattle.machine_state.specs.Events.{limit_of, MayBeRefused}
+use Rattle.machine_state.specs.Memory.{takes_shared}
 
 -- What the threads share shows a world in which these locks are inflated, and in which counts are right.
 pub record IsShared (trees : Program) (p : LinkedProgram) (bounds : Bounds) (inflated : List ℕ) (shared : Shared)
@@ -33,7 +34,7 @@ pub record IsTaken (trees : Program) (p : LinkedProgram) (bounds : Bounds) (infl
 -- it is refused at a limit that stands, or for want of memory
 pub record IsForbidden (trees : Program) (bounds : Bounds) (inflated : List ℕ) (world : WorldOf ℕ) (cost : Cost) (told : MonitorRefusal)
     (old new : Shared) : Type 0 where
-  pub may : MayBeRefused trees bounds inflated world cost (of_monitors told)
+  pub may : MayBeRefused trees bounds inflated world cost (takes_shared cost) (of_monitors told)
   pub same : new ≡ old
 
 -- ---- entries

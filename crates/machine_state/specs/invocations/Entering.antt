@@ -11,6 +11,7 @@ use Rattle.linked_code.specs.declared.program.LinkedProgram.{LinkedProgram}
 use Rattle.machine_state.specs.declared.refusals.EventRefusal.{EventRefusal}
 use Rattle.machine_state.specs.declared.state.Shared.{Shared}
 use Rattle.machine_state.specs.Events.{MayBeRefused}
+use Rattle.machine_state.specs.Memory.{takes_shared}
 use Rattle.machine_state.specs.entries.Entered.{IsShared, IsTaken}
 
 -- the object of the monitor is one of the heap's
@@ -41,7 +42,7 @@ abbrev pub EntersBy : Program → LinkedProgram → Bounds → List ℕ → Worl
 EntersBy trees p bounds inflated world (Ok u) t entered old new =
     IsTaken trees p bounds inflated world (begin_cost world entered) (with_begin world t entered) old new × (new ≡ record old { heap = new.heap })
 EntersBy trees p bounds inflated world (Err told) t entered old new =
-    MayBeRefused trees bounds inflated world (begin_cost world entered) told × (new ≡ old)
+    MayBeRefused trees bounds inflated world (begin_cost world entered) (takes_shared (begin_cost world entered)) told × (new ≡ old)
 
 -- in each world that is shown, where no other thread owns the monitor
 abbrev pub EntersFor : Result (Unit {0}) EventRefusal → (t : ℕ) → Option ℕ → Shared → Shared → Type 0

@@ -19,6 +19,7 @@ use Rattle.machine_state.specs.declared.refusals.EventRefusal.TheVariants as ref
 use Rattle.machine_state.specs.declared.state.Shared.{Shared}
 use Rattle.machine_state.specs.Refusals.{limit_told}
 use Rattle.machine_state.specs.Events.{limit_of}
+use Rattle.machine_state.specs.Memory.{takes_memory_after}
 use Rattle.machine_state.specs.state_events.Whole.{IsShown, Turns}
 
 -- These events led from the opening state to one with these words, and at none of them a limit stood.
@@ -54,9 +55,9 @@ AreRunsLonger =
     → limit_of trees bounds (inflated trees bounds.frames events) at.world cost ≡ None
     → LeadsOn trees bounds events event cost next
 
--- an enabled event that was refused: where memory wasn't wanted, the limit that is told stands
+-- an enabled event that was refused: it takes memory, where that was wanted; and else the limit that is told stands
 abbrev pub IsRefusedAfter : Program → Bounds → List Event → Event → EventRefusal → Type 0
-IsRefusedAfter trees bounds events event refusal.Memory = Unit {0}
+IsRefusedAfter trees bounds events event refusal.Memory = IsTrue (takes_memory_after trees bounds.frames events event)
 IsRefusedAfter trees bounds events event told = limit_after trees bounds events event ≡ limit_told told
 
 -- It is done, and the run has gone on; or it is not enabled in the state of the run; or it is, and it is refused.

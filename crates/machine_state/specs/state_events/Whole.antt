@@ -21,6 +21,7 @@ use Rattle.machine_state.specs.declared.refusals.EventRefusal.{EventRefusal}
 use Rattle.machine_state.specs.declared.state.Shared.{Shared}
 use Rattle.machine_state.specs.Shown.{Represents, IsLent}
 use Rattle.machine_state.specs.Events.{limit_of, MayBeRefused, Becomes}
+use Rattle.machine_state.specs.Memory.{takes_memory_at}
 
 -- ---- a state
 
@@ -80,13 +81,13 @@ pub record IsEventDone (trees : Program) (p : LinkedProgram) (bounds : Bounds) (
   pub within : limit_of trees bounds inflated state.world cost ≡ None
   pub shown : IsShown trees p bounds (inflated_by cost inflated) new next
 
--- it is enabled, and refused: a limit stands, or memory is wanted
+-- it is enabled, and refused: a limit stands, or it takes memory, which is wanted
 pub record IsEventRefused (trees : Program) (bounds : Bounds) (inflated : List ℕ) (state : StateOf ℕ) (event : Event)
     (told : EventRefusal) : Type 0 where
   pub cost : Cost
   pub next : StateOf ℕ
   pub is : stepped words trees bounds.frames state event ≡ Next cost next
-  pub may : MayBeRefused trees bounds inflated state.world cost told
+  pub may : MayBeRefused trees bounds inflated state.world cost (takes_memory_at state event.thread cost next) told
 
 abbrev pub Turns : Program → LinkedProgram → Bounds → List ℕ → StateOf ℕ → Event → Result Answer EventRefusal → Shared → Shared → Type 0
 Turns trees p bounds inflated state event (Ok answer.Done) old new = IsEventDone trees p bounds inflated state event new

@@ -1,7 +1,8 @@
 -- What becomes of a frame where an exception is pending.
-use Rattle.std.proofs.Common.{◌≡◌, ℕ, suc, ◌+◌, ◌<◌, ◌^◌, List, [], ◌∷◌, Option, Some, None, Result, length, refl, sym, ap, subst, ◌∙◌, arith}
+use Rattle.std.proofs.Common.{◌≡◌, ℕ, suc, ◌+◌, ◌<◌, ◌^◌, List, [], ◌∷◌, Bool, true, Option, Some, None, Result, Ok, Err, length, refl, sym, ap, subst, ◌∙◌, arith}
 use Rattle.std.specs.Prelude.{slice_get}
 use Rattle.std.specs.Option.{option_and_then}
+use Rattle.std.specs.Result.{IsErrAnd}
 use Rattle.std.proofs.lemmas.Option.{slice_get_within, slice_get-get_or}
 use Rattle.model.specs.declared.class_file.ExceptionEntry.{ExceptionEntry}
 use Rattle.model.specs.Classes.{Program, body_of}
@@ -11,7 +12,8 @@ use Rattle.model.specs.Operands.{words}
 use Rattle.model.specs.State as model
 use Rattle.model.specs.State.{ObjectOf, FrameOf, StackOf, StateOf, Thread, WorldOf}
 use Rattle.model.specs.Worlds.{no_thread, thread_at, with_caught}
-use Rattle.model.specs.Step.{handler_in, on_to, unwound}
+use Rattle.model.specs.Outcomes.{Free}
+use Rattle.model.specs.Step.{PartOf, part, handler_in, on_to, unwound}
 use Rattle.heap.specs.Heap.{Object}
 use Rattle.machine_state.proofs.limits_at_words.Room.{thread_words_fit}
 use Rattle.run_laws.specs.word_runs.Words.{StandsInCode}
@@ -25,9 +27,12 @@ use Rattle.machine_state.specs.shown_stacks.Shown.{ShowsFrame, ShowsStack, offse
 use Rattle.machine_state.proofs.shown_stacks.Laws.{catch}
 use Rattle.machine_state.specs.declared.answers.Answer.{Answer}
 use Rattle.machine_state.specs.declared.refusals.EventRefusal.{EventRefusal}
+use Rattle.machine_state.specs.declared.refusals.EventRefusal.TheVariants as refusal
 use Rattle.machine_state.specs.declared.state.Shared.{Shared}
 use Rattle.machine_state.specs.Shown.{Represents}
-use Rattle.machine_state.specs.Events.{Becomes, IsDone}
+use Rattle.machine_state.specs.Events.{MayBeRefused, Becomes, IsDone}
+use Rattle.machine_state.specs.Memory.{operand_counts, shown_counts, has_grown, takes_memory}
+use Rattle.machine_state.proofs.Memory.{grown_frame, takes_by_growth}
 use Rattle.machine_state.proofs.linked_frames.Frames.{HasTop, has_top}
 use Rattle.machine_state.proofs.linked_frames.Moves.{free_done}
 use Rattle.machine_state.specs.exception_handlers.Handlers.{type_at, IsPlaceOf}
@@ -55,6 +60,27 @@ module _ (trees : Program) (p : LinkedProgram) (bounds : Bounds) (inflated : Lis
       (subst (λ (st : List ShownEntry). ShowsStack trees p st (taken exception offset)) (sym (to_is ∙ ap (λ w. Invocation (caught handler w shown) ∷ others) (word_is ∙ one_more exception)))
       (catch trees p shown frame shows handler offset (suc exception) place, under))
       (ap (λ (s : Shared). s.heap.locks.fat) cleared.rest) (ap (λ (s : Shared). s.stacks) cleared.rest) cleared.count
+
+  -- where there is no memory for the reference, the frame had no operand
+  pub uncaught : (t exception offset : ℕ) (from : List ShownEntry) → from ≡ Invocation shown ∷ others → length shown.operands ≡ 0
+      → (result : Result Answer EventRefusal) → IsErrAnd result (λ told. told ≡ refusal.Memory) → (to : List ShownEntry) → to ≡ from
+      → Becomes trees p bounds inflated world (on_to (with_caught world t) (taken exception offset)) result old old from to
+  uncaught t exception offset from is none (Ok answer) e to same = absurd e
+  uncaught t exception offset from is none (Err told) e to same = (
+    record { cost = Free; next = after; is = refl; may = subst (MayBeRefused trees bounds inflated world Free takes) (sym e) (takes_by_growth world (shown_counts from) Free after grown) },
+    record { shared = refl; stack = same },
+  )
+    where
+      after : PartOf ℕ
+      after = part (with_caught world t) (taken exception offset)
+
+      takes : Bool
+      takes = takes_memory world (shown_counts from) Free after
+
+      grown : has_grown (shown_counts from) (operand_counts after.stack) ≡ true
+      grown =
+          grown_frame trees p shown others rest under from is
+          (at_offset frame offset (record { locals = frame.place.slots.locals; stack = words.reference exception ∷ [] })) (omega (arith, none))
 
 -- ---- the exception is one of the objects
 

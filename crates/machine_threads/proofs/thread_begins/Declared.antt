@@ -9,7 +9,7 @@ use Rattle.model.specs.Tree.{MethodTree}
 use Rattle.model.specs.Classes.{Program, Body, classes_of, is_named, is_method, body_of}
 use Rattle.model.specs.Lookup.{method_of, is_abstract_method}
 use Rattle.model.specs.Outcomes.{AbstractMethod}
-use Rattle.model.specs.Calls.{Chosen, Fails, Runs, if_concrete, is_one}
+use Rattle.model.specs.Calls.{Fails, Runs, if_concrete, is_one}
 use Rattle.run_laws.proofs.laws.Homes.{home_of}
 use Rattle.run_laws.proofs.laws.Lists.{get_map}
 use Rattle.linked_code.specs.declared.method.MethodBody.{MethodBody}

@@ -1,5 +1,5 @@
 -- The first frame of a thread, in the world in which it has begun.
-use Rattle.std.proofs.Common.{◌≡◌, ℕ, zero, suc, List, [], ◌∷◌, Option, Some, None, Bool, true, false, if◌then◌else◌, Result, Ok, Err, length, refl, sym, ap, ◌∙◌, arith, inl, inr}
+use Rattle.std.proofs.Common.{◌≡◌, ℕ, zero, suc, List, [], ◌∷◌, Option, Some, None, Bool, true, false, if◌then◌else◌, Ok, Err, length, refl, sym, ap, ◌∙◌, arith, inl, inr}
 use Rattle.std.specs.Prelude.{slice_set, slice_index_or, nat_lt}
 use Rattle.std.proofs.lemmas.Bool.{false≢true, lt-ltb}
 use Rattle.model.specs.Classes.{Program}
@@ -15,7 +15,7 @@ use Rattle.machine_state.specs.declared.answers.Effect.TheVariants as effect
 use Rattle.machine_state.specs.declared.refusals.EventRefusal.{EventRefusal}
 use Rattle.machine_state.specs.declared.state.Shared.{Shared}
 use Rattle.machine_state.specs.Shown.{Represents}
-use Rattle.machine_state.specs.Events.{AreStacksAdded, IsUnchanged, IsDone, IsRefused}
+use Rattle.machine_state.specs.Events.{AreStacksAdded, IsDone}
 use Rattle.machine_state.specs.Instructions.{Does}
 use Rattle.machine_threads.specs.thread_begins.First.{begun_by}
 

@@ -1,18 +1,17 @@
 -- A started thread, its Thread object, and the call of run.
-use Rattle.std.proofs.Common.{◌≡◌, ◌<◌, ◌+◌, ℕ, suc, List, [], ◌∷◌, Option, Some, None, Result, length, slice_index_or, refl, sym, ap, subst, ◌∙◌, arith}
+use Rattle.std.proofs.Common.{◌≡◌, ◌<◌, ◌+◌, ℕ, suc, List, [], ◌∷◌, Option, Some, None, length, slice_index_or, refl, sym, ap, subst, ◌∙◌, arith}
 use Rattle.std.specs.Prelude.{slice_get}
 use Rattle.std.specs.Option.{option_and_then}
 use Rattle.std.proofs.lemmas.Option.{slice_get-get_or, slice_get_within}
-use Rattle.model.specs.Names.{Member, java_lang_thread, thread_run}
+use Rattle.model.specs.Names.{Member, java_lang_thread}
 use Rattle.model.specs.Classes.{Program, body_of}
 use Rattle.model.specs.Frames.{frame_with}
-use Rattle.model.specs.Lookup.{select}
 use Rattle.model.specs.LimitStands.{Bounds}
 use Rattle.model.specs.Operands.{words}
 use Rattle.model.specs.Outcomes.{AbstractMethod}
 use Rattle.model.specs.State.{StateOf, WorldOf, Thread, new_thread}
-use Rattle.model.specs.Worlds.{no_thread, thread_at, with_begun, object_at, class_of_object}
-use Rattle.model.specs.Step.{pushed, raised, run_of, run_frame, run_event}
+use Rattle.model.specs.Worlds.{no_thread, thread_at, with_begun}
+use Rattle.model.specs.Step.{pushed, raised, run_of, run_frame}
 use Rattle.heap.specs.java_threads.Table as table
 use Rattle.linked_code.specs.declared.program.LinkedProgram.{LinkedProgram}
 use Rattle.linked_code.specs.declared.thread_stacks.frame.Callee.{Callee}

@@ -1,5 +1,6 @@
 -- The end of a thread, after its event.
-use Rattle.std.proofs.Common.{◌≡◌, ◌≤◌, ℕ, List, [], ◌∷◌, true, false, length, refl, sym, ap, ◌∙◌, inl, inr, ◌==◌, arith, eqb-true}
+use Rattle.std.proofs.Common.{◌≡◌, ◌≤◌, ℕ, ℤ, List, [], ◌∷◌, Bool, true, false, ◌||◌, length, refl, sym, ap, subst, ◌∙◌, inl, inr, ◌==◌, arith, eqb-true}
+use Rattle.std.specs.Prelude.{nat_lt}
 use Rattle.std.proofs.lemmas.List.{length-set, set_past, get_or_past}
 use Rattle.std.proofs.lemmas.Bool.{false≢true}
 use Rattle.model.specs.Classes.{Program}
@@ -7,7 +8,7 @@ use Rattle.model.specs.State.{Monitor, Waiter, WakeCause, Notified, Thread, Stac
 use Rattle.model.specs.Monitors as monitors
 use Rattle.model.specs.Monitors.{unlocked, monitor_at}
 use Rattle.model.specs.LimitStands.{Bounds}
-use Rattle.model.specs.Worlds.{all_woken, woken, thread_at, with_thread, with_monitors}
+use Rattle.model.specs.Worlds.{all_woken, woken, waiters_of, thread_at, with_thread, with_monitors}
 use Rattle.model.specs.Step.{SteppedOf, Next, PartOf, part, is_over, ended, with_waiters_woken, with_end, end_of, settled}
 use Rattle.heap.specs.Heap.{Heap}
 use Rattle.heap.specs.java_threads.Table.{ThreadTable}
@@ -17,7 +18,9 @@ use Rattle.linked_code.specs.declared.program.LinkedProgram.{LinkedProgram}
 use Rattle.linked_code.specs.thread_stacks.Stacks.{ShownEntry}
 use Rattle.machine_state.specs.shown_stacks.Shown.{ShowsStack}
 use Rattle.machine_state.specs.declared.state.Shared.{Shared}
-use Rattle.machine_state.specs.Events.{IsDone, AreStacksAdded}
+use Rattle.machine_state.specs.declared.refusals.EventRefusal.{EventRefusal}
+use Rattle.machine_state.specs.Events.{MayBeRefused, IsRefused, IsDone, AreStacksAdded}
+use Rattle.machine_state.specs.Memory.{takes_shared, operand_counts, shown_counts, has_grown}
 use Rattle.machine_state.proofs.entries.Changing.{both_shown}
 use Rattle.machine_threads.specs.thread_wakes.Ends.{Ends}
 
@@ -93,6 +96,41 @@ module _ (trees : Program) (p : LinkedProgram) (t : ℕ) (world : WorldOf ℕ) w
   empty_over [] (entry ∷ rest) shows empty e = absurd shows
   empty_over (shown ∷ others) own shows empty e =
       let none : length (shown ∷ others) ≡ 0 = eqb-true (length (shown ∷ others)) 0 empty in absurd (omega (arith, none))
+
+-- ---- nothing is printed by it
+
+woken_printed : (object : ℕ) (cause : WakeCause) (world : WorldOf ℕ) (waiters : List Waiter)
+    → (all_woken object cause world waiters).printed ≡ world.printed
+woken_printed object cause world [] = refl
+woken_printed object cause world (waiter ∷ waiters) = woken_printed object cause (woken object cause world waiter) waiters
+
+end_printed : (t : ℕ) (world : WorldOf ℕ) (over : Bool) → (with_end world t over).printed ≡ world.printed
+end_printed t world true =
+    let over : WorldOf ℕ = with_thread world t (ended (thread_at world t)) in
+    let object = (thread_at world t).object in
+    woken_printed object Notified (with_monitors over (monitors.wake_all object over.monitors)) (waiters_of over object)
+end_printed t world false = refl
+
+printed_same : (t : ℕ) (world : WorldOf ℕ) (own : StackOf ℕ) → (end_of t world own).printed ≡ world.printed
+printed_same t world [] = end_printed t world (is_over (thread_at world t))
+printed_same t world (entry ∷ own) = refl
+
+-- an event that is refused is so with the end of the thread, too
+pub refused_settled : (t : ℕ) (trees : Program) (bounds : Bounds) (inflated : List ℕ) (world : WorldOf ℕ) (from : List ShownEntry) (stepped : SteppedOf (PartOf ℕ))
+    (told : EventRefusal) → IsRefused trees bounds inflated world from stepped told
+    → IsRefused trees bounds inflated world from (settled t stepped) told
+refused_settled t trees bounds inflated world from stepped told r =
+    record {
+      cost = r.cost;
+      next = part (end_of t r.next.world r.next.stack) r.next.stack;
+      is = ap (settled t) r.is;
+      may = subst (λ printed. MayBeRefused trees bounds inflated world r.cost (takes printed) told) (sym (printed_same t r.next.world r.next.stack)) r.may;
+    }
+  where
+    -- by what is printed after it
+    takes : List ℤ → Bool
+    takes printed =
+        takes_shared r.cost || (has_grown (shown_counts from) (operand_counts r.next.stack) || nat_lt (length world.printed) (length printed))
 
 -- ---- the event before
 

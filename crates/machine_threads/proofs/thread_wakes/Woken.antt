@@ -33,6 +33,7 @@ use Rattle.machine_state.specs.declared.refusals.EventRefusal.{EventRefusal}
 use Rattle.machine_state.specs.declared.state.Shared.{Shared}
 use Rattle.machine_state.specs.Shown.{Represents}
 use Rattle.machine_state.specs.Events.{Becomes, HasBecome, IsDone, MayBeRefused}
+use Rattle.machine_state.specs.Memory.{shown_counts, takes_memory}
 use Rattle.machine_state.proofs.linked_frames.Moves.{free_done}
 use Rattle.machine_instructions.specs.returns.Places.{IsNextOfTop}
 use Rattle.machine_threads.specs.thread_wakes.Relocks.{HasLeft}
@@ -171,7 +172,8 @@ module _ (trees : Program) (p : LinkedProgram) (bounds : Bounds) (inflated : Lis
             cost = Makes 0;
             next = part (thrown t (relocked world object t count)) own;
             is = throws_is;
-            may = subst (MayBeRefused trees bounds inflated world (Makes 0)) (sym e) (subst (λ c. MayBeRefused trees bounds inflated world c why) cost_is b.0.may);
+            may = subst (MayBeRefused trees bounds inflated world (Makes 0) true) (sym e)
+                (subst (λ c. MayBeRefused trees bounds inflated world c (takes_memory world (shown_counts from) c b.0.next) why) cost_is b.0.may);
           },
           b.1,
         )

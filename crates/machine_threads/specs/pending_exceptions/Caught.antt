@@ -22,6 +22,10 @@ abbrev pub IsCaughtOnTop : (handler word : ℕ) → (from to : List ShownEntry) 
 IsCaughtOnTop handler word from to =
     (shown : ShownFrame) (others : List ShownEntry) → from ≡ Invocation shown ∷ others → to ≡ Invocation (caught handler word shown) ∷ others
 
+-- the frame on top, where there is one, has no operand
+abbrev pub HasNoOperand : List ShownEntry → Type 0
+HasNoOperand stack = (shown : ShownFrame) (others : List ShownEntry) → stack ≡ Invocation shown ∷ others → length shown.operands ≡ 0
+
 -- in each world that is shown no exception is pending in the thread any more; no more has changed than the threads
 pub record IsCleared (t : ℕ) (old new : Shared) : Type 0 where
   pub represents : (trees : Program) (p : LinkedProgram) (bounds : Bounds) (world : WorldOf ℕ) → Represents trees p bounds old world

@@ -1,5 +1,5 @@
 -- The first frame of a thread (JVMS 2.5.2, 5.2; JLS 17), in whatever world is shown.
-use Rattle.std.specs.Prelude.{ℕ, List, [], ◌∷◌, true, Result, slice_set}
+use Rattle.std.specs.Prelude.{ℕ, List, [], ◌∷◌, true, Result}
 use Rattle.model.specs.Names.{Member}
 use Rattle.model.specs.Classes.{Program, Body}
 use Rattle.model.specs.Operands.{words}

@@ -69,6 +69,7 @@ module _ (trees : Program) (limits : Limits) (budget : ℕ) (opened : WorldOf) (
         }
 
     cut_short : length w.events < w.budget → IsCut (end_of why (length w.events) tells.quiet) → IsCutShort trees schedule limits budget r end
+    unfolding replayed
     cut_short few cut =
         let here : IsCutShort w.trees schedule w.machine.limits w.budget r end = record { replay = replayed; few = few; cut = subst IsCut (sym tells.end_is) cut } in
         let by_trees : IsCutShort trees schedule w.machine.limits w.budget r end = subst (λ (t : Program). IsCutShort t schedule w.machine.limits w.budget r end) trees_are here in

@@ -14,7 +14,7 @@ loop-path-preserved g c =
     let item = c.path-item.result in
     let found = option_map vec_items c.in_ok-names.names in
     let front = map string_bytes c.in_ok-front.front.items in
-    let lists = subst (λ path. IsListed (listed path) found) c.as_str.ensures.value c.in_ok-names.ensures in
+    let lists = subst (λ path. IsListed (listed path) found) c.as_str.ensures.value c.in_ok-names.ensures.listed in
     let gives = subst (λ path. IsGiven path found front) c.as_str-in-loop-path.ensures.value c.in_ok-front.ensures in
     let taken : map string_bytes (take (i + 1) paths) ≡ map string_bytes (take i paths) ++ string_bytes item ∷ [] =
     ap (map string_bytes) (take_more paths i item within) ∙ map-append string_bytes (take i paths) _ ∙ ap (λ path. map string_bytes (take i paths) ++ string_bytes path ∷ []) (sym c.path-item.is) in

@@ -6,6 +6,7 @@ use Rattle.model.specs.Devices.{AppendsFront}
 use Rattle.std.specs.Option.{option_map}
 use Rattle.engines.specs.Refusals.{IsRefused}
 use Rattle.engines.specs.Runs.{IsRun}
+use Rattle.engines.proofs.EngineLemmas.{counts_write_after}
 use Rattle.engines.proofs.RunLemmas.{part_is_unrun, unread_is_unrun}
 use Rattle.engines.proofs.running.run_engine.Goals as goal
 
@@ -37,6 +38,11 @@ returns-in_err-write_all-clause-faulty g c =
     let contents = g.W.Sink.contents in
     let written = subst (AppendsFront (contents c.args.report.now) (contents c.write_all.new.self)) c.as_slice.ensures.value c.in_err-write_all.ensures.part in
     rw (p.1, p.2) (part_is_unrun _ _ _ _ _ _ _ _ (inr (_, _, (_, c.in_ok-read.ensures.read, run), written)))
+
+pub returns-in_err-write_all-clause-counted : goal.returns-in_err-write_all-clause-counted
+returns-in_err-write_all-clause-counted g c =
+    let p = err_from_is_err_and c.from_residual-in_err-write_all.result c.from_residual-in_err-write_all.ensures.1 in
+    rw (p.1, p.2) (counts_write_after c.in_err-write_all.field-0.0 _ _ _ _ c.in_ok-read.ensures.counted c.in_err-write_all.ensures.counted)
 
 pub returns-clause-ran : goal.returns-clause-ran
 returns-clause-ran g c =

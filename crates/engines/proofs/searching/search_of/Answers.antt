@@ -1,9 +1,12 @@
-use Rattle.std.proofs.Common.{arith, map, sym, subst, vec_items, ◌∙◌}
+use Rattle.std.proofs.Common.{arith, map, sym, subst, vec_items, ◌∙◌, ◌≤◌}
 use Rattle.std.specs.Arc.{arc_value}
 use Rattle.std.proofs.lemmas.List.{length-map}
 use Rattle.model.specs.Classes.{Program}
 use Rattle.machine.specs.Machines.{IsProgramOf}
 use Rattle.search.specs.search_reports.Answers.{Answers}
+use Rattle.std.specs.Option.{option_map}
+use Rattle.engines.specs.Runs.{recording_of}
+use Rattle.engines.specs.Searches.{IsFileOf}
 use Rattle.engines.proofs.RunLemmas.{few_files}
 use Rattle.engines.proofs.searching.search_of.Goals as goal
 
@@ -17,6 +20,8 @@ found_file-requires g c = omega (arith, few_files (map vec_items c.args.files.no
 pub returns : goal.returns
 returns g c =
     let found = c.in_ok-searched.searched in
+    let most = c.most_states-most.ensures in
+    let answers = subst (λ (t : Program). Answers t c.limits-limits.result c.args.wanted.now c.most_states-most.result found.states found.answer) (c.set-classes.ensures.same ∙ c.linked.ensures.same) c.in_ok-searched.ensures.answers in
     record {
       trees = c.args.verified.now;
       accepted = c.requires;
@@ -24,9 +29,9 @@ returns g c =
       chosen = c.limits-limits.ensures;
       answer = found.answer;
       states = found.states;
-      answers = subst (λ (t : Program). Answers t c.limits-limits.result c.args.wanted.now c.args.most found.states found.answer) (c.set-classes.ensures.same ∙ c.linked.ensures.same) c.in_ok-searched.ensures.answers;
-      few = c.in_ok-searched.ensures.few;
+      answers = subst (λ m. Answers c.args.verified.now c.limits-limits.result c.args.wanted.now m found.states found.answer) most answers;
+      few = subst (λ m. 1 ≤ m → found.states ≤ m) most c.in_ok-searched.ensures.few;
       told = c.in_ok-text.ensures;
-      spelled = c.in_ok-file.ensures;
+      spelled = subst (λ recorded. IsFileOf (recording_of c.limits-limits.result (map vec_items c.args.files.now)) recorded found.answer (option_map vec_items c.in_ok-file.file)) c.is_some-is_recorded.ensures c.in_ok-file.ensures;
       ended = c.of_search-status.ensures;
     }

@@ -1,7 +1,7 @@
 use Rattle.std.proofs.Common.{◌≡◌, ◌<◌, ◌≤◌, ◌+◌, ℕ, List, [], ◌∷◌, ◌++◌, Some, None, length, sym, ap, subst, ◌∙◌, arith}
 use Rattle.std.proofs.lemmas.List.{length-append}
-use Rattle.explanations.specs.thread_explanations.Cycles.{IsCycle, next_of}
-use Rattle.explanations.proofs.thread_explanations.Paths.{Begins, IsWalk, begins, cycle_found, cycle_is, goes_on, none_by, none_within, walk_begins, walk_on}
+use Rattle.explanations.specs.thread_explanations.Cycles.{next_of}
+use Rattle.explanations.proofs.thread_explanations.Paths.{Begins, IsWalk, begins, cycle_is, goes_on, none_by, none_within, walk_begins, walk_on}
 use Rattle.explanations.proofs.thread_explanations.cycles.cycle_from.Goals as goal
 
 pub loop-step-init : goal.loop-step-init
@@ -27,9 +27,8 @@ returns-then-next-least c =
     let at = c.loop-step.at in
     let walk = c.loop-step.invariant.0 in
     let back : next_of waits at ≡ Some least = sym c.in-Some.ensures ∙ ap Some c.if-next-least.true in
-    let few : length members < length waits = omega (arith, c.loop-step.invariant.2, c.loop-step-test.true, c.len-step-end.ensures) in
-    let pushed = c.in_ok-push.ensures.items in
-    (subst (IsCycle waits) (sym pushed) (cycle_is waits least members at walk back few), λ others cycle. pushed ∙ cycle_found waits least members at walk back few others cycle)
+    let few : length members < length waits = omega (arith, c.loop-step.invariant.2, c.loop-step-test.true) in
+    (walk.others, c.in_ok-push.ensures.items ∙ walk.are, cycle_is waits least members at walk back few)
 
 pub returns-then-next-least-2 : goal.returns-then-next-least-2
 returns-then-next-least-2 c =
@@ -57,4 +56,4 @@ loop-step-preserved c =
 pub returns : goal.returns
 returns c =
     none_within c.args.waits.now c.args.least c.loop-step.members.items c.loop-step.at c.loop-step.invariant.1
-    (omega (arith, c.loop-step.invariant.2, c.loop-step-test.false, c.len-step-end.ensures))
+    (omega (arith, c.loop-step.invariant.2, c.loop-step-test.false))

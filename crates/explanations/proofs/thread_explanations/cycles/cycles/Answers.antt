@@ -10,19 +10,24 @@ loop-number-preserved c =
     let waits = c.args.waits.now in
     let n = c.loop-number.number in
     let found = map vec_items c.loop-number.found.items in
-    let below = λ (l : List (Vec ℕ Global)). AreBelow waits (map vec_items l) (n + 1) in
-    elim c.match-branch.branch [
+    elim c.match-branch-2.branch [
       | in-Some+in_ok-push w ↦
           let one = w.in-Some.cycle in
-          let is = subst (IsFoundFrom waits n) w.in-Some.is c.in_ok-cycle_from.ensures in
-          let more = subst (λ (l : List (List ℕ)). AreBelow waits l (n + 1)) (sym (map_push vec_items c.loop-number.found.items one)) (one_found waits found n c.loop-number.invariant one.items is.0 is.1) in
-          subst below (sym (ap (λ (v : Vec (Vec ℕ Global) Global). v.items) w.found-is ∙ w.in_ok-push.ensures.items)) more
+          let is = subst (IsFoundFrom waits n) w.in-Some.is c.in_ok-cycle.ensures in
+          let pushed : map vec_items c.match-branch-2.found.items ≡ found ++ (n ∷ is.0) ∷ [] =
+          ap (λ (v : Vec (Vec ℕ Global) Global). map vec_items v.items) w.found-is
+          ∙ ap (map vec_items) w.in_ok-push.ensures.items
+          ∙ map_push vec_items c.loop-number.found.items one
+          ∙ ap (λ (l : List ℕ). found ++ l ∷ []) is.1
+          in
+          subst (λ (l : List (List ℕ)). AreBelow waits l (n + 1)) (sym pushed) (one_found waits found n c.loop-number.invariant is.0 is.2)
       | in_default w ↦
-          let none = subst (IsFoundFrom waits n) w.in_default.is c.in_ok-cycle_from.ensures in
-          subst (λ (v : Vec (Vec ℕ Global) Global). AreBelow waits (map vec_items v.items) (n + 1)) (sym w.found-is) (none_found waits found n c.loop-number.invariant none)
+          let none = subst (IsFoundFrom waits n) w.in_default.is c.in_ok-cycle.ensures in
+          let same = ap (λ (v : Vec (Vec ℕ Global) Global). map vec_items v.items) w.found-is in
+          subst (λ (l : List (List ℕ)). AreBelow waits l (n + 1)) (sym same) (none_found waits found n c.loop-number.invariant none)
     ]
 
 pub returns : goal.returns
 returns c =
     all_found c.args.waits.now (map vec_items c.loop-number.found.items) c.loop-number.number c.loop-number.invariant
-    (omega (arith, c.loop-number-test.false, c.len-number-end.ensures))
+    (omega (arith, c.loop-number-test.false))

@@ -1,4 +1,4 @@
-use Rattle.std.proofs.Common.{arith, ◌≡◌, ◌∙◌, sym}
+use Rattle.std.proofs.Common.{arith, ◌∙◌, sym}
 use Rattle.linker.proofs.field_links.Sums.{step_nowhere, step_last, step_on}
 use Rattle.linker.proofs.field_links.chain.chain_sum.Goals as goal
 

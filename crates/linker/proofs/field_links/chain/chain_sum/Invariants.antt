@@ -1,4 +1,4 @@
-use Rattle.std.proofs.Common.{◌≡◌, ◌<◌, ◌^◌, length, ℕ, ◌+◌, ◌-◌}
+use Rattle.std.proofs.Common.{◌≡◌, ◌<◌, ◌^◌, length, ◌+◌, ◌-◌}
 use Rattle.linker.specs.field_links.Chains.{chain_sum}
 use Rattle.linker.proofs.field_links.chain.chain_sum.Given as goal
 

@@ -1,4 +1,4 @@
-use Rattle.std.proofs.Common.{arith, ◌≡◌, ◌≤◌, ℕ, Option, length, sym}
+use Rattle.std.proofs.Common.{arith, ◌≤◌, ℕ, Option, length, sym}
 use Rattle.std.specs.Option.{option_and_then}
 use Rattle.classfile.specs.View.{file_of}
 use Rattle.model.specs.Tree.{FileTree}

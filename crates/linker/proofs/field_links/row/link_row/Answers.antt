@@ -1,4 +1,4 @@
-use Rattle.std.proofs.Common.{rules, arith, ◌≡◌, ℕ, length, ap, sym, None}
+use Rattle.std.proofs.Common.{rules, arith, ◌≡◌, ℕ, length, ap, None}
 use Rattle.std.specs.Option.{option_and_then}
 use Rattle.std.proofs.lemmas.List.{length-map}
 use Rattle.model.specs.Pool.{field_at, field_of_entry}

@@ -1,8 +1,8 @@
-use Rattle.std.proofs.Common.{rules, arith, ◌≡◌, ◌<◌, ◌≤◌, ◌++◌, ◌∙◌, map, List, ℕ, sym, ap, length}
+use Rattle.std.proofs.Common.{rules, arith, ◌≡◌, ◌≤◌, ◌++◌, ◌∙◌, map, List, ℕ, ap, length}
 use Rattle.model.specs.Tree.{FileTree}
 use Rattle.model.specs.Classes.{classes_of, name_of}
 use Rattle.model.specs.Lookup.{instance_fields}
-use Rattle.linker.specs.field_links.Chains.{shapes, chain_sum}
+use Rattle.linker.specs.field_links.Chains.{shapes}
 use Rattle.linker.specs.field_links.Slots.{sizes}
 use Rattle.linker.proofs.field_links.Loops.{size_is, size_fits, class_below, all_classes}
 use Rattle.linker.proofs.field_links.sizes.sizes.Goals as goal

@@ -1,4 +1,4 @@
-use Rattle.std.proofs.Common.{◌≡◌, map, take, vec_items}
+use Rattle.std.proofs.Common.{map, take, vec_items}
 use Rattle.model.specs.Linkable.{AreSpelled}
 use Rattle.classfile.specs.View.{file_of}
 use Rattle.listings.proofs.class_listings.decoding.decode_files.Given as goal

@@ -1,5 +1,6 @@
-use Rattle.std.proofs.Common.{◌≡◌, ◌<◌, ℕ, List, [], ◌∷◌, ◌++◌, Bool, true, false, Option, Some, None, Ok, Err, is_some, length, length-append, take, drop, nat_le, refl, sym, ap, subst, inr, arith, ◌∙◌}
+use Rattle.std.proofs.Common.{◌≡◌, ◌<◌, ℕ, List, [], ◌∷◌, ◌++◌, Bool, true, false, Option, Some, None, Result, Ok, Err, is_some, length, length-append, take, drop, nat_le, refl, sym, ap, subst, inr, arith, ◌∙◌}
 use Rattle.std.specs.Prelude.{if◌then◌else◌}
+use Rattle.std.specs.Result.{IsErrAnd}
 use Rattle.std.proofs.lemmas.Bool.{lt-leb, le-leb}
 use Rattle.model.specs.declared.end.RunCause.{RunCause}
 use Rattle.model.specs.declared.end.RunCause.TheVariants as cause
@@ -7,8 +8,8 @@ use Rattle.model.specs.BuiltInMethods.{object_of, start_by, with_started}
 use Rattle.model.specs.Classes.{Program}
 use Rattle.model.specs.LimitStands.{Bounds}
 use Rattle.model.specs.Operands.{words}
-use Rattle.model.specs.Outcomes.{Starts}
-use Rattle.model.specs.State.{WorldOf}
+use Rattle.model.specs.Outcomes.{Makes, Starts}
+use Rattle.model.specs.State.{Invocation, FrameOf, StackOf, StateOf, WorldOf}
 use Rattle.model.specs.Worlds.{thread_of}
 use Rattle.model.specs.Step.{part, become}
 use Rattle.heap.specs.declared.java_threads.refusal.ThreadRefusal.{ThreadRefusal}
@@ -17,7 +18,12 @@ use Rattle.heap.specs.java_threads.Table.{ThreadTable, IsAdded}
 use Rattle.run_laws.specs.word_operands.Receivers.{is_any}
 use Rattle.linked_code.specs.declared.method.BuiltInMethod.TheVariants as method
 use Rattle.linked_code.specs.declared.program.LinkedProgram.{LinkedProgram}
+use Rattle.linked_code.specs.thread_stacks.Stacks.{ShownEntry}
 use Rattle.machine_state.specs.shown_stacks.Shown.{ShowsStack}
+use Rattle.machine_state.specs.declared.answers.Effect.{Effect}
+use Rattle.machine_state.specs.declared.refusals.EventRefusal.{EventRefusal}
+use Rattle.machine_state.specs.declared.refusals.EventRefusal.TheVariants as event
+use Rattle.machine_state.specs.Instructions.{Does}
 use Rattle.machine_state.specs.declared.state.Shared.{Shared}
 use Rattle.machine_state.specs.Refusals.{of_threads}
 use Rattle.machine_state.specs.Shown.{Represents}
@@ -25,6 +31,7 @@ use Rattle.machine_state.specs.Events.{limit_of, MayBeRefused}
 use Rattle.heap.specs.monitor_events.Lives.{StartsBy}
 use Rattle.heap.specs.monitor_events.Tables.{ThreadsBecome}
 use Rattle.machine_state.proofs.entries.Changing.{threads_shown}
+use Rattle.machine_instructions.specs.thread_methods.Called.{IsCalling}
 use Rattle.machine_instructions.proofs.thread_methods.Calls.{gone_on, went, says, same_object, refused}
 use Rattle.machine_instructions.proofs.thread_methods.lives.start.Goals as goal
 
@@ -38,12 +45,28 @@ module _ (trees : Program) (p : LinkedProgram) (bounds : Bounds) (inflated : Lis
   limit full = if full then Some cause.Threads else None
 
   may_refuse : (told : ThreadRefusal) (object : ℕ) (new : ThreadTable) → IsAdded (Err told) object old.threads new
-      → MayBeRefused trees bounds inflated world Starts (of_threads told) × (new ≡ old.threads)
+      → MayBeRefused trees bounds inflated world Starts true (of_threads told) × (new ≡ old.threads)
   may_refuse refusal.Threads object new h = (ap limit (full_is ∙ le-leb old.threads.limit (length old.threads.threads) h.0), h.1)
-  may_refuse refusal.Memory object new h = (tt, h.1)
+  may_refuse refusal.Memory object new h = (refl, h.1)
 
   none_stands : length old.threads.threads < old.threads.limit → limit_of trees bounds inflated world Starts ≡ None
   none_stands h = ap limit (full_is ∙ lt-leb old.threads.limit (length old.threads.threads) h)
+
+-- there is no memory for its stack, whether it is started or was before
+module _ (trees : Program) (p : LinkedProgram) (bounds : Bounds) (inflated : List ℕ) (t : ℕ) (old : Shared) (from : List ShownEntry) (state : StateOf ℕ) (frame : FrameOf ℕ) (rest : StackOf ℕ) (count next offset : ℕ)
+    (is : IsCalling trees p bounds inflated t old from state frame rest method.ThreadStart count next offset) (frames object : ℕ)
+    (result : Result Effect EventRefusal) (wants : IsErrAnd result (λ told. told ≡ event.Memory)) where
+  lacks : (started : Bool) → Does trees p bounds inflated t state.world (Invocation frame ∷ rest)
+      (become trees frames t state.world frame rest (start_by started offset object state.world frame.place.slots (drop count frame.place.slots.stack)))
+      result old old from from
+  lacks true = refused trees p bounds inflated t old from state frame rest method.ThreadStart count next offset is old _ (Makes 0) _ refl event.Memory refl refl result wants
+  lacks false = refused trees p bounds inflated t old from state frame rest method.ThreadStart count next offset is old _ Starts _ refl event.Memory refl refl result wants
+
+pub returns-in_err-spare : goal.returns-in_err-spare
+returns-in_err-spare c = λ t trees p bounds inflated state frame rest offset is frames.
+    let object = object_of words (take c.args.operands frame.place.slots.stack) 0 in
+    lacks trees p bounds inflated t c.args.shared.now c.args.stack.now state frame rest c.args.operands c.args.next offset is frames object
+    c.from_residual.result c.from_residual.ensures.1 (is_some (thread_of state.world object))
 
 pub returns-in_err-started : goal.returns-in_err-started
 returns-in_err-started c = λ t trees p bounds inflated state frame rest offset is frames.

@@ -5,7 +5,7 @@ use Rattle.model.specs.State.{WorldOf}
 use Rattle.model.specs.Worlds.{thread_at, with_interrupted}
 use Rattle.linked_code.specs.declared.method.BuiltInMethod.TheVariants as method
 use Rattle.machine_state.proofs.entries.Changing.{threads_shown}
-use Rattle.machine_instructions.proofs.thread_methods.Calls.{passed, row_is}
+use Rattle.machine_instructions.proofs.thread_methods.Calls.{passed, lacks, row_is}
 use Rattle.machine_instructions.proofs.thread_methods.lives.take_interrupted.Goals as goal
 
 pub returns : goal.returns
@@ -19,3 +19,9 @@ returns c = λ trees p bounds inflated state frame rest offset is frames.
     (threads_shown trees p bounds state.world c.args.shared.now new is.lent.represents (λ world. with_interrupted world c.args.thread false) c.set_interrupted.ensures refl)
     refl refl
     (ap (λ (w : WorldOf ℕ). length w.threads) (c.set_interrupted.ensures.world state.world) ∙ length-set c.args.shared.now.threads.threads c.args.thread _)
+
+pub returns-in_err-done : goal.returns-in_err-done
+returns-in_err-done c = λ trees p bounds inflated state frame rest offset is frames.
+    lacks trees p bounds inflated c.args.thread c.args.shared.now c.args.stack.now state frame rest method.ThreadInterrupted c.args.operands c.args.next offset is
+    c.word_of.result c.in_err-done.field-0.0 c.answer.new.stack c.in_err-done.ensures
+    (with_interrupted state.world c.args.thread false) (bit (thread_at state.world c.args.thread).interrupted) c.from_residual.result c.from_residual.ensures.1

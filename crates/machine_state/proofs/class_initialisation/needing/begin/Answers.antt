@@ -1,7 +1,12 @@
 use Rattle.std.proofs.Common.{sym, ap, ◌∙◌}
 use Rattle.machine_state.specs.class_initialisation.Constants.{with_constants}
-use Rattle.machine_state.proofs.class_initialisation.Beginning.{begun, no_row}
+use Rattle.machine_state.proofs.class_initialisation.Beginning.{begun, lacks_entry, no_row}
 use Rattle.machine_state.proofs.class_initialisation.needing.begin.Goals as goal
+
+pub returns-in_err-push_initialisation : goal.returns-in_err-push_initialisation
+returns-in_err-push_initialisation c = λ trees bounds inflated world own program r s class at.
+    lacks_entry trees c.args.program.now bounds inflated world own c.args.shared.now c.args.stack.now s class c.args.thread c.from_residual.result c.from_residual.ensures.1
+    c.push_initialisation.new.self c.in_err-push_initialisation.ensures.err
 
 pub returns-in-Some : goal.returns-in-Some
 returns-in-Some c = λ trees bounds inflated world own program r s class at.

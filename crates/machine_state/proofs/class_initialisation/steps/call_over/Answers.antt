@@ -5,7 +5,9 @@ use Rattle.linked_code.specs.thread_stacks.Stacks.{ShownEntry, in_phase}
 use Rattle.machine_state.specs.shown_stacks.Shown.{ShowsStack}
 use Rattle.machine_state.specs.declared.answers.Answer.{Answer}
 use Rattle.machine_state.specs.declared.refusals.EventRefusal.{EventRefusal}
+use Rattle.machine_state.specs.Memory.{shown_counts}
 use Rattle.machine_state.specs.class_initialisation.Steps.{Calls}
+use Rattle.machine_state.proofs.Memory.{counts_phased, refused_from}
 use Rattle.machine_state.proofs.class_initialisation.Phases.{at_end, back}
 use Rattle.machine_state.proofs.class_initialisation.steps.call_over.Goals as goal
 
@@ -28,5 +30,7 @@ returns-in-Err c = λ trees p bounds inflated world is class rest s method code 
     let h =
     c.in-Err.ensures trees p bounds inflated world is (model.Initialisation class model.End ∷ rest)
     (subst (λ (l : List ShownEntry). ShowsStack trees p l (model.Initialisation class model.End ∷ rest)) (sym c.set_phase.ensures) (at_end trees p class rest c.args.stack.now s))
-    method code callee in
-    (h.0, record { shared = h.1.shared; stack = c.set_phase-in-Err.ensures ∙ ap (in_phase phase.Super) (h.1.stack ∙ c.set_phase.ensures) ∙ back trees p class rest c.args.stack.now s })
+    method code callee in (
+      refused_from trees bounds inflated world c.set_phase.new.self c.args.stack.now _ c.in-Err.refusal (ap shown_counts c.set_phase.ensures ∙ counts_phased phase.End c.args.stack.now) h.0,
+      record { shared = h.1.shared; stack = c.set_phase-in-Err.ensures ∙ ap (in_phase phase.Super) (h.1.stack ∙ c.set_phase.ensures) ∙ back trees p class rest c.args.stack.now s },
+    )

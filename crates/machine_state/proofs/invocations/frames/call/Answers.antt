@@ -1,4 +1,4 @@
-use Rattle.std.proofs.Common.{◌∷◌, take, drop, reverse, ◌∙◌}
+use Rattle.std.proofs.Common.{◌∷◌, take, drop, reverse, refl, ◌∙◌}
 use Rattle.model.specs.Operands.{words}
 use Rattle.model.specs.State.{Invocation}
 use Rattle.model.specs.Frames.{frame_with, at_call}
@@ -24,7 +24,7 @@ pub returns-in_err-call_over : goal.returns-in_err-call_over
 returns-in_err-call_over c = λ trees p bounds inflated world s frame rest shows method body is.
     lacks trees p bounds inflated world c.args.shared.now s c.args.thread c.args.frames c.args.stack.now (Invocation frame ∷ rest) (Invocation (at_call frame (drop c.args.parameters frame.place.slots.stack)) ∷ rest) shows
     (frame_with words method (reverse (take c.args.parameters frame.place.slots.stack)) c.args.callee.entered body)
-    c.frame_count.result c.frame_count.ensures c.if-frame_count-frames.false c.if-not-may_begin.ensures c.from_residual.result c.from_residual.ensures.1 c.call_over.new.self c.in_err-call_over.ensures.err
+    c.frame_count.result c.frame_count.ensures c.if-frame_count-frames.false c.if-not-may_begin.ensures refl c.from_residual.result c.from_residual.ensures.1 c.call_over.new.self c.in_err-call_over.ensures.err
 
 -- src/frames.rt:19:1
 pub returns-in-Ok : goal.returns-in-Ok

@@ -1,4 +1,4 @@
-use Rattle.std.proofs.Common.{drop, ap, ◌∙◌}
+use Rattle.std.proofs.Common.{drop, refl, ap, ◌∙◌}
 use Rattle.model.specs.Operands.{words}
 use Rattle.model.specs.Frames.{frame_with}
 use Rattle.machine_state.proofs.invocations.Pushing.{overflows, waits, lacks, forbidden, done, first_shown}
@@ -20,7 +20,7 @@ returns-then-not-may_begin c = λ trees p bounds inflated world s own shows meth
 pub returns-in_err-first_call : goal.returns-in_err-first_call
 returns-in_err-first_call c = λ trees p bounds inflated world s own shows method body is.
     lacks trees p bounds inflated world c.args.shared.now s c.args.thread c.args.frames c.args.stack.now own own shows (frame_with words method c.args.arguments.now c.args.callee.entered body)
-    c.frame_count.result c.frame_count.ensures c.if-frame_count-frames.false c.if-not-may_begin.ensures c.from_residual.result c.from_residual.ensures.1 c.first_call.new.self c.in_err-first_call.ensures.err
+    c.frame_count.result c.frame_count.ensures c.if-frame_count-frames.false c.if-not-may_begin.ensures refl c.from_residual.result c.from_residual.ensures.1 c.first_call.new.self c.in_err-first_call.ensures.err
 
 -- src/frames.rt:56:1
 pub returns-in-Ok : goal.returns-in-Ok

@@ -1,4 +1,4 @@
-use Rattle.std.proofs.Common.{◌≡◌, ◌<◌, length, arith}
+use Rattle.std.proofs.Common.{◌≡◌, length, arith}
 use Rattle.model.specs.Monitors.{unlocked}
 use Rattle.machine_state.proofs.same_states.Lists.{same_lists, given_lists}
 use Rattle.machine_state.proofs.same_states.heaps.same_heap.Goals as goal

@@ -1,4 +1,4 @@
-use Rattle.std.proofs.Common.{◌≡◌, ◌<◌, length, refl, arith}
+use Rattle.std.proofs.Common.{◌≡◌, length, refl, arith}
 use Rattle.model.specs.Monitors.{monitor_at}
 use Rattle.machine_state.proofs.same_states.Lists.{same_lists}
 use Rattle.machine_state.proofs.same_states.heaps.same_waiters.Goals as goal

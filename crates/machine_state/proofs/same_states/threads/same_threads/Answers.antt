@@ -1,4 +1,4 @@
-use Rattle.std.proofs.Common.{◌≡◌, ◌<◌, length, refl, arith}
+use Rattle.std.proofs.Common.{◌≡◌, length, refl, arith}
 use Rattle.model.specs.State.{new_thread}
 use Rattle.machine_state.proofs.same_states.Lists.{given_lists}
 use Rattle.machine_state.proofs.same_states.threads.same_threads.Goals as goal

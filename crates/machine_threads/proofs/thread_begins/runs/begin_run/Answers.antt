@@ -1,4 +1,4 @@
-use Rattle.std.proofs.Common.{◌≡◌, ℕ, [], Ok, sym, ap, subst, ◌∙◌, refl}
+use Rattle.std.proofs.Common.{ℕ, [], sym, ap, subst, ◌∙◌, refl}
 use Rattle.model.specs.Operands.{words}
 use Rattle.model.specs.Step.{SteppedOf, PartOf, run_event}
 use Rattle.machine_state.specs.Instructions.{Does}
