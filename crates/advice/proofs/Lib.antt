@@ -1,3 +1,3 @@
-pub mod Reading
-pub mod Telling
-pub mod Texts
+pub mod ReadLaws
+pub mod TellingLaws
+pub mod TextLaws
