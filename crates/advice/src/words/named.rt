@@ -1,6 +1,6 @@
 //! An instruction in words: its mnemonic, and what it names in the constant pool.
 
-use crate::refusal_explanations::line::Line;
+use crate::words::line::Line;
 use classfile::ClassFile;
 use listings::left_out_opcodes::mnemonic;
 use model::Instr;
@@ -12,13 +12,13 @@ const WIDE: u8 = 0xc4;
 
 /// What an instruction names: a class, or a member of one.
 #[derive(Clone, Copy)]
-pub(crate) struct Named<'a> {
+pub struct Named<'a> {
     /// The name of the class, or the descriptor of an array class.
-    pub(crate) class: &'a [u8],
+    pub class: &'a [u8],
     /// The name and the descriptor of the member.
-    pub(crate) member: Option<(&'a [u8], &'a [u8])>,
+    pub member: Option<(&'a [u8], &'a [u8])>,
     /// Whether the member is a field.
-    pub(crate) is_field: bool,
+    pub is_field: bool,
 }
 
 impl<'a> Named<'a> {
@@ -40,9 +40,9 @@ impl<'a> Named<'a> {
     }
 }
 
-/// What the instruction at an offset of the code names in the constant pool.
-pub(crate) fn named_at<'a>(file: &'a ClassFile, code: &[u8], pc: usize) -> Option<Named<'a>> {
-    match decode_at(code, pc)? {
+/// What an instruction names in the constant pool.
+pub(crate) fn named_by(file: &ClassFile, instr: Instr) -> Option<Named<'_>> {
+    match instr {
         Instr::Field { index, .. } => Named::of_member(file.field_reference(index), true),
         Instr::Invoke { index, .. } => Named::of_member(file.method_reference(index), false),
         Instr::InvokeInterface { index, .. } => {
@@ -55,6 +55,11 @@ pub(crate) fn named_at<'a>(file: &'a ClassFile, code: &[u8], pc: usize) -> Optio
         | Instr::LoadConstant { index } => Named::of_class(file.class_name(index)),
         _ => None,
     }
+}
+
+/// What the instruction at an offset of the code names in the constant pool.
+pub fn named_at<'a>(file: &'a ClassFile, code: &[u8], pc: usize) -> Option<Named<'a>> {
+    named_by(file, decode_at(code, pc)?)
 }
 
 /// Adds the mnemonic of what begins at an offset, or its first byte where the JVMS has no such instruction.
@@ -79,7 +84,7 @@ fn say_mnemonic(line: &mut Line, code: &[u8], pc: usize) -> Result<(), AllocErro
 }
 
 /// Adds the instruction at an offset of the code.
-pub(crate) fn say_instruction(
+pub fn say_instruction(
     line: &mut Line,
     file: &ClassFile,
     code: &[u8],

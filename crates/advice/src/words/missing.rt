@@ -20,7 +20,7 @@ fn first_in_descriptor(text: &[u8]) -> Option<&[u8]> {
 }
 
 /// The first class of a descriptor that is not in the set.
-pub(crate) fn lacking_in<'a>(set: &ClassSet, descriptor: &'a [u8]) -> Option<&'a [u8]> {
+pub fn lacking_in<'a>(set: &ClassSet, descriptor: &'a [u8]) -> Option<&'a [u8]> {
     let mut rest = descriptor;
     for _ in 0..descriptor.len() {
         let name = first_in_descriptor(rest)?;
@@ -34,7 +34,7 @@ pub(crate) fn lacking_in<'a>(set: &ClassSet, descriptor: &'a [u8]) -> Option<&'a
 }
 
 /// The class of a name, or of the elements of an array of this descriptor, where it is not in the set.
-pub(crate) fn lacking_name<'a>(set: &ClassSet, name: &'a [u8]) -> Option<&'a [u8]> {
+pub fn lacking_name<'a>(set: &ClassSet, name: &'a [u8]) -> Option<&'a [u8]> {
     let class = innermost(name);
     if class.is_empty() || set.class_of(class).is_some() {
         return None;
@@ -49,10 +49,7 @@ fn lacking_class<'a>(set: &ClassSet, file: &'a ClassFile, index: u16) -> Option<
 
 /// The first class that is not in the set of those that the class names above itself and in its fields, and what names
 /// it.
-pub(crate) fn lacking_above<'a>(
-    set: &ClassSet,
-    file: &'a ClassFile,
-) -> Option<(&'a [u8], &'static str)> {
+pub fn lacking_above<'a>(set: &ClassSet, file: &'a ClassFile) -> Option<(&'a [u8], &'static str)> {
     if let Some(name) = lacking_class(set, file, file.super_class) {
         return Some((name, "as its superclass"));
     }
@@ -71,7 +68,7 @@ pub(crate) fn lacking_above<'a>(
 
 /// The first class that is not in the set of those that a method names in its descriptor and as catch types, and what
 /// names it.
-pub(crate) fn lacking_in_method<'a>(
+pub fn lacking_in_method<'a>(
     set: &ClassSet,
     file: &'a ClassFile,
     method: &'a Method,
