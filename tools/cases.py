@@ -59,7 +59,7 @@ class CaseFolder:
     def replays(self):
         """The cases that replay files which are all given here, and do no more."""
         for case, words in self.words.items():
-            if words[:1] == ["replay"] and not {"--explain", "--then-run"} & set(words):
+            if words[:1] == ["replay"] and not {"--explain", "--quiet", "--then-run"} & set(words):
                 schedule, _, files = self.parts(case)
                 if schedule and all(name in self.files for name in [schedule, *files]):
                     yield case

@@ -46,8 +46,10 @@ pub fn run<R: Threads + Wait + Sync, G: Gate + Progress + Sync, F: Folder, I: So
         (map string_bytes words.now) (W.contents output.old) (W.contents output.new))
         (F.held folder.old) (F.held folder.new)) }
     // It is told that a device failed where the input, the output or the folder did, and only there.
-    ensures told { MatchResult result (λ _. I.failures input.new + W.failures output.new ≤ I.failures input.old + W.failures output.old)
-        (λ complaint. TellsComplaint (FolderMayFail F.may_fail) complaint (I.failures input.old + W.failures output.old) (I.failures input.new + W.failures output.new)) }
+    ensures told { MatchResult result
+        (λ _. I.failures input.new + W.failures output.new ≤ I.failures input.old + W.failures output.old)
+        (λ complaint. TellsComplaint (FolderMayFail F.may_fail) complaint
+            (I.failures input.old + W.failures output.old) (I.failures input.new + W.failures output.new)) }
 {
     match command(alloc, words) {
         Ok(command) => {
