@@ -1,4 +1,5 @@
 mod Finding
+mod FindingDownwards
 mod Repeating
 mod Shared
 mod Copying
