@@ -49,7 +49,7 @@ pub fn run<R: Threads + Wait + Sync, G: Gate + Progress + Sync, F: Folder, I: So
     ensures told { MatchResult result
         (λ _. I.failures input.new + W.failures output.new ≤ I.failures input.old + W.failures output.old)
         (λ complaint. TellsComplaint (FolderMayFail F.may_fail) complaint
-            (I.failures input.old + W.failures output.old) (I.failures input.new + W.failures output.new)) }
+        (I.failures input.old + W.failures output.old) (I.failures input.new + W.failures output.new)) }
 {
     match command(alloc, words) {
         Ok(command) => {
