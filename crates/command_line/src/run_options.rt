@@ -10,7 +10,7 @@ const NO_BUDGET: u32 = u32::MAX;
 const USUAL_TURN: u32 = 1_000;
 
 /// By which rule one worker gives the threads turns.
-#[derive(Clone, Copy, Debug, PartialEq, Eq)]
+#[derive(Clone, Copy)]
 pub enum PolicyName {
     /// Turns in rotation, of lengths that are drawn by a seed.
     Mixed,
