@@ -10,6 +10,7 @@ pub mod Libraries
 pub mod LibraryMain
 pub mod Listings
 pub mod Opening
+pub mod Policies
 pub mod Recordings
 pub mod Refusals
 pub mod Replays

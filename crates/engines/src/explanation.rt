@@ -1,7 +1,7 @@
 //! What is told to a person behind a report or a complaint.
 
 use crate::status::Status;
-use std::alloc::Global;
+use std::alloc::{AllocError, Global};
 use std::io;
 
 /// How many events are done again, at the most, for what the words don't ask for.
@@ -75,6 +75,13 @@ impl Explanation {
     pub(crate) fn tell(&mut self, lines: Option<Vec<u8>>) {
         if let Some(lines) = lines {
             self.text = lines;
+        }
+    }
+
+    /// This line is told, too, if there is one, and memory for it.
+    pub(crate) fn tell_more(&mut self, line: Result<String, AllocError>) {
+        if let Ok(line) = line {
+            let _ = self.text.extend_from_slice(line.as_bytes());
         }
     }
 }

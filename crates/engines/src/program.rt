@@ -12,6 +12,7 @@ use crate::complaint::Complaint;
 use crate::explanation::Explanation;
 use crate::fault::Fault;
 use crate::folder::Folder;
+use crate::seeds::Seeds;
 use crate::status::Status;
 use command_line::{Command, Usage, command};
 use model::{DeviceFault, Sink, Source};
@@ -26,9 +27,16 @@ use std::thread::Threads;
 /// The files that they name are those of the folder; the text of a schedule that is to become a file is read from the
 /// input. A report, a listing, the line of a verification, the text of a schedule, or the help or the version that the words
 /// ask for is written to the output, and nothing else but a schedule file, where one is asked for, to the folder. The gate is
-/// told what the workers of a run do, and how far a search has come. The complaint is for the caller to tell, and so is the
-/// explanation, which gets what the threads of a run are about that did not end normally, where it is due.
-pub fn run<R: Threads + Wait + Sync, G: Gate + Progress + Sync, F: Folder, I: Source, W: Sink>(
+/// told what the workers of a run do, and how far a run or a search has come; and it draws the seed of a run for which none is
+/// asked. The complaint is for the caller to tell, and so is the explanation, which gets what the threads of a run are about
+/// that did not end normally, where it is due.
+pub fn run<
+    R: Threads + Wait + Sync,
+    G: Gate + Progress + Seeds + Sync,
+    F: Folder,
+    I: Source,
+    W: Sink,
+>(
     rt: &R,
     alloc: Global,
     gate: &G,
@@ -97,7 +105,13 @@ fn write_help<W: Sink>(alloc: Global, usage: &Usage, output: &mut W) -> Result<(
 }
 
 /// Does what a command says.
-fn done<R: Threads + Wait + Sync, G: Gate + Progress + Sync, F: Folder, I: Source, W: Sink>(
+fn done<
+    R: Threads + Wait + Sync,
+    G: Gate + Progress + Seeds + Sync,
+    F: Folder,
+    I: Source,
+    W: Sink,
+>(
     rt: &R,
     alloc: Global,
     gate: &G,
