@@ -105,13 +105,7 @@ fn write_help<W: Sink>(alloc: Global, usage: &Usage, output: &mut W) -> Result<(
 }
 
 /// Does what a command says.
-fn done<
-    R: Threads + Wait + Sync,
-    G: Gate + Progress + Seeds + Sync,
-    F: Folder,
-    I: Source,
-    W: Sink,
->(
+fn done<R: Threads + Wait + Sync, G: Gate + Progress + Seeds + Sync, F: Folder, I: Source, W: Sink>(
     rt: &R,
     alloc: Global,
     gate: &G,
