@@ -2,6 +2,7 @@
 //! and schedules as text.
 #![tactic(auto)]
 
+mod advised;
 mod class_files;
 pub mod class_paths;
 mod commands;
