@@ -80,8 +80,8 @@ pub no_end_more : (code : List ℕ) (pc : ℕ) → list_any (is_end code) (count
 no_end_more code pc before here =
     let zero_pc : 0 + pc ≡ pc = omega arith in
     ap (list_any (is_end code)) (count_more 0 pc)
-    ∙ list_any-append (is_end code) (count_from 0 pc) (0 + pc ∷ [])
-    ∙ ap (λ b. b || list_any (is_end code) (0 + pc ∷ [])) before
+    ∙ list_any-append (is_end code) (count_from 0 pc) ((0 + pc) ∷ [])
+    ∙ ap (λ b. b || list_any (is_end code) ((0 + pc) ∷ [])) before
     ∙ ap (λ q. is_end code q || false) zero_pc
     ∙ ap (λ b. b || false) here
 
@@ -113,7 +113,7 @@ wrong_at_mark code pc mark wrong is h =
 -- decoding goes on, or it ends here
 pub no_end_here : (code : List ℕ) (pc : ℕ) (mark goes_on : Bool) → mark ≡ is_start code pc → goes_on ≡ not (mark && begins_none code pc)
     → goes_on ≡ true → is_end code pc ≡ false
-no_end_here code pc mark goes_on is on yes = yes_then (is_end code pc) (ap (λ b. not (b && begins_none code pc)) (sym is) ∙ sym on ∙ yes)
+no_end_here code pc mark goes_on is on goes = yes_then (is_end code pc) (ap (λ b. not (b && begins_none code pc)) (sym is) ∙ sym on ∙ goes)
   where
     yes_then : (b : Bool) → not b ≡ true → b ≡ false
     yes_then true e = sym e
@@ -121,8 +121,8 @@ no_end_here code pc mark goes_on is on yes = yes_then (is_end code pc) (ap (λ b
 
 pub end_here : (code : List ℕ) (pc : ℕ) (mark goes_on : Bool) → mark ≡ is_start code pc → goes_on ≡ not (mark && begins_none code pc)
     → goes_on ≡ false → (is_start code pc ≡ true) × (begins_none code pc ≡ true)
-end_here code pc mark goes_on is on no =
-    and_parts (is_start code pc) (begins_none code pc) (no_then (is_end code pc) (ap (λ b. not (b && begins_none code pc)) (sym is) ∙ sym on ∙ no))
+end_here code pc mark goes_on is on stops =
+    and_parts (is_start code pc) (begins_none code pc) (no_then (is_end code pc) (ap (λ b. not (b && begins_none code pc)) (sym is) ∙ sym on ∙ stops))
   where
     no_then : (b : Bool) → not b ≡ false → b ≡ true
     no_then true e = refl
@@ -197,17 +197,17 @@ pub methods_more : (files : Program) (tree : FileTree) (a b c : List Told) (file
 methods_more files tree a b c file i m first second is = record {
   kept = keeps_both a b c first.kept second.kept;
   declarations =
-    below_more (λ j. is_wrong_at files tree (places.Method j) ≡ true → IsTold c file (places.Method j)) i
-    (λ j lt h. second.kept.kept file (places.Method j) (first.declarations j lt h))
-    (λ h. second.declaration (of_method (is_declaration_wrong files tree) tree i m is h));
+      below_more (λ j. is_wrong_at files tree (places.Method j) ≡ true → IsTold c file (places.Method j)) i
+      (λ j lt h. second.kept.kept file (places.Method j) (first.declarations j lt h))
+      (λ h. second.declaration (of_method (is_declaration_wrong files tree) tree i m is h));
   offsets = λ j pc lt.
-    below_more (λ j. is_wrong_at files tree (places.Instruction j pc) ≡ true → IsTold c file (places.Instruction j pc)) i
-    (λ j lt h. second.kept.kept file (places.Instruction j pc) (first.offsets j pc lt h))
-    (λ h. second.offsets pc (of_method (in_code (is_offset_wrong files tree) pc) tree i m is h)) j lt;
+      below_more (λ j. is_wrong_at files tree (places.Instruction j pc) ≡ true → IsTold c file (places.Instruction j pc)) i
+      (λ j lt h. second.kept.kept file (places.Instruction j pc) (first.offsets j pc lt h))
+      (λ h. second.offsets pc (of_method (in_code (is_offset_wrong files tree) pc) tree i m is h)) j lt;
   entries = λ j k lt.
-    below_more (λ j. is_wrong_at files tree (places.Exception j k) ≡ true → IsTold c file (places.Exception j k)) i
-    (λ j lt h. second.kept.kept file (places.Exception j k) (first.entries j k lt h))
-    (λ h. second.entries k (of_method (in_code (is_entry_wrong files tree) k) tree i m is h)) j lt;
+      below_more (λ j. is_wrong_at files tree (places.Exception j k) ≡ true → IsTold c file (places.Exception j k)) i
+      (λ j lt h. second.kept.kept file (places.Exception j k) (first.entries j k lt h))
+      (λ h. second.entries k (of_method (in_code (is_entry_wrong files tree) k) tree i m is h)) j lt;
 }
 
 -- ---- class files
