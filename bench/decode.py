@@ -1,10 +1,10 @@
 #!/usr/bin/env python3
 """Measures `classfile::decode` by the program `bench decode`, on class files that it makes.
 
-    decode.py [PROGRAM]
+    bench/decode.py [PROGRAM]
 
-PROGRAM is the built program `bench` [default: crates/bench/out/bench, which `rt run` leaves]. One line is
-printed for each file: megabytes of file a second of the processor, and the peak resident memory for each byte of the file. The first
+PROGRAM is the built program `bench` [default: crates/bench/out/bench, which `rt run` leaves]. One line is printed for
+each file: megabytes of file a second of the processor, and the peak resident memory for each byte of the file. The first
 three files are those of disasm.py. The others are made to take long: members that share a name or a descriptor of
 65,535 bytes, classes and NameAndTypes that share a text as long, names that differ in their last bytes alone, 60,000
 short fields, and attributes that hold nothing. The last two members of each of these are the same, which is the last
@@ -12,20 +12,18 @@ thing that is looked for: so each must be answered `Duplicate`.
 """
 
 import os
-import resource
-import subprocess
+import pathlib
 import sys
 import tempfile
-import time
+from typing import Callable, List, Sequence, Tuple
 
 sys.dont_write_bytecode = True
+sys.path.insert(0, str(pathlib.Path(__file__).resolve().parent.parent))
 
-ROOT = os.path.dirname(os.path.dirname(os.path.abspath(__file__)))
-sys.path.insert(0, os.path.join(ROOT, "tools"))
-
-from class_files import pair, u2, u4, utf8
-from disasm import NAMES, class_file, head, long_code, long_pool, many_methods
-from replay import peak_kilobytes
+from bench.disasm import NAMES, class_of, head, long_code, long_pool, many_methods
+from bench.measures import measured
+from tools.class_files import NAME_AND_TYPE, attribute, class_entry, member, pair, utf8
+from tools.repository import BENCH, PathLike
 
 LONG = 65_535
 MANY = 65_000
@@ -33,11 +31,11 @@ SIZE = 10_000_000
 
 
 def field(name, descriptor):
-    return u2(0x0009) + u2(name) + u2(descriptor) + u2(0)
+    return member(0x0009, name, descriptor)
 
 
 def method(name, descriptor, attributes=()):
-    return u2(0x0401) + u2(name) + u2(descriptor) + u2(len(attributes)) + b"".join(attributes)
+    return member(0x0401, name, descriptor, attributes)
 
 
 def numbered(count):
@@ -49,33 +47,33 @@ def one_name():
     """Fields of one long name."""
     descriptors = [utf8(f"L{text};") for text in numbered(MANY)]
     fields = [field(NAMES + 1, NAMES + 2 + number) for number in range(MANY)]
-    return class_file(head() + [utf8("x" * LONG), *descriptors], [*fields, fields[-1]], [])
+    return class_of(head() + [utf8("x" * LONG), *descriptors], [*fields, fields[-1]], [])
 
 
 def one_descriptor():
     """Fields of one long descriptor."""
     texts = [utf8("L" + "x" * (LONG - 2) + ";"), *map(utf8, numbered(MANY))]
     fields = [field(NAMES + 2 + number, NAMES + 1) for number in range(MANY)]
-    return class_file(head() + texts, [*fields, fields[-1]], [])
+    return class_of(head() + texts, [*fields, fields[-1]], [])
 
 
 def one_method_descriptor():
     """Methods of one long descriptor."""
     texts = [utf8("(L" + "x" * (LONG - 5) + ";)V"), *map(utf8, numbered(MANY))]
     methods = [method(NAMES + 2 + number, NAMES + 1) for number in range(MANY)]
-    return class_file(head() + texts, [], [*methods, methods[-1]])
+    return class_of(head() + texts, [], [*methods, methods[-1]])
 
 
 def one_class_name():
     """Classes of one long name."""
-    entries = [utf8("x" * LONG), *[b"\x07" + u2(NAMES + 1)] * MANY]
-    return class_file(head() + entries, [field(NAMES + 1, 11)] * 2, [])
+    entries = [utf8("x" * LONG), *[class_entry(NAMES + 1)] * MANY]
+    return class_of(head() + entries, [field(NAMES + 1, 11)] * 2, [])
 
 
 def one_name_and_type():
     """NameAndTypes of one long name and one long descriptor."""
-    entries = [utf8("x" * LONG), utf8("L" + "x" * (LONG - 2) + ";"), *[pair(12, NAMES + 1, NAMES + 2)] * MANY]
-    return class_file(head() + entries, [field(NAMES + 1, NAMES + 2)] * 2, [])
+    entries = [utf8("x" * LONG), utf8("L" + "x" * (LONG - 2) + ";"), *[pair(NAME_AND_TYPE, NAMES + 1, NAMES + 2)] * MANY]
+    return class_of(head() + entries, [field(NAMES + 1, NAMES + 2)] * 2, [])
 
 
 def late_differences():
@@ -85,50 +83,42 @@ def late_differences():
     fields = [
         field(NAMES + 1 + name, NAMES + 151 + descriptor) for name in range(150) for descriptor in range(430)
     ]
-    return class_file(head() + names + descriptors, [*fields, fields[-1]], [])
+    return class_of(head() + names + descriptors, [*fields, fields[-1]], [])
 
 
 def long_fronts():
     """60,000 names of 163 bytes that differ in their last bytes, each of a field."""
     names = [utf8("x" * 158 + f"{number:05}") for number in range(60_000)]
     fields = [field(NAMES + 1 + number, 11) for number in range(60_000)]
-    return class_file(head() + names, [*fields, fields[-1]], [])
+    return class_of(head() + names, [*fields, fields[-1]], [])
 
 
 def short_fields():
     """60,000 fields in a file of a megabyte."""
     names = [utf8(text) for text in numbered(60_000)]
     fields = [field(NAMES + 1 + number, 11) for number in range(60_000)]
-    return class_file(head() + names, [*fields, fields[-1]], [])
+    return class_of(head() + names, [*fields, fields[-1]], [])
 
 
 def empty_attributes():
     """1,600,000 attributes of methods that hold nothing."""
-    attributes = [u2(1) + u4(0)] * MANY
+    attributes = [attribute(1, b"")] * MANY
     names = [utf8(text) for text in numbered(25)]
     methods = [method(NAMES + 1 + number, 6, attributes) for number in range(25)]
-    return class_file(head() + names, [], [*methods, methods[-1]])
+    return class_of(head() + names, [], [*methods, methods[-1]])
 
 
-def measured(program, folder, wanted):
+def decoded(program: PathLike, folder: str, wanted: str) -> Tuple[float, int]:
     """Seconds of the processor and peak kilobytes of one run."""
-    peak = 0
-    before = resource.getrusage(resource.RUSAGE_CHILDREN)
-    with subprocess.Popen([program, "decode", "A.class"], cwd=folder, stdout=subprocess.PIPE) as process:
-        while process.poll() is None:
-            peak = max(peak, peak_kilobytes(process))
-            time.sleep(0.001)
-        said = process.stdout.read().decode()
-    after = resource.getrusage(resource.RUSAGE_CHILDREN)
-    seconds = after.ru_utime + after.ru_stime - before.ru_utime - before.ru_stime
-    if not said.startswith(wanted):
-        sys.exit(f"status {process.returncode}: {said}")
-    return seconds, peak
+    ran = measured([program, "decode", "A.class"], folder)
+    if not ran.written.startswith(wanted):
+        sys.exit(f"status {ran.status}: {ran.written}")
+    return ran.processor, ran.kilobytes
 
 
-PLAIN = (long_code, long_pool, many_methods)
+PLAIN: Sequence[Callable[[int], bytes]] = (long_code, long_pool, many_methods)
 
-HOSTILE = (
+HOSTILE: Sequence[Callable[[], bytes]] = (
     one_name,
     one_descriptor,
     one_method_descriptor,
@@ -141,20 +131,17 @@ HOSTILE = (
 )
 
 
-def main():
-    built = os.path.join(ROOT, "crates/bench/out/bench")
-    program = os.path.abspath(sys.argv[1]) if len(sys.argv) > 1 else built
-    with tempfile.TemporaryDirectory() as folder:
-        path = os.path.join(folder, "A.class")
-        for made in PLAIN + HOSTILE:
-            with open(path, "wb") as file:
-                file.write(made(SIZE) if made in PLAIN else made())
-            length = os.path.getsize(path)
-            seconds, peak = measured(program, folder, "ok" if made in PLAIN else "Duplicate")
-            print(
-                f"{made.__name__}: {length / 1e6:.1f} MB of file in {seconds:.3f} s: {length / 1e6 / seconds:.1f} MB a "
-                f"second, {peak * 1024 / length:.1f} bytes of memory a byte of file"
-            )
+def main() -> None:
+    program = os.path.abspath(sys.argv[1]) if len(sys.argv) > 1 else BENCH
+    made = [(one.__name__, one(SIZE), "ok") for one in PLAIN]
+    for name, data, wanted in [*made, *((one.__name__, one(), "Duplicate") for one in HOSTILE)]:
+        with tempfile.TemporaryDirectory() as folder:
+            pathlib.Path(folder, "A.class").write_bytes(data)
+            seconds, peak = decoded(program, folder, wanted)
+        print(
+            f"{name}: {len(data) / 1e6:.1f} MB of file in {seconds:.3f} s: {len(data) / 1e6 / seconds:.1f} MB a "
+            f"second, {peak * 1024 / len(data):.1f} bytes of memory a byte of file"
+        )
 
 
 if __name__ == "__main__":
