@@ -28,7 +28,7 @@ LOOP = bytes.fromhex("b2000d 1b 1103e8 60 3d 1c 1007 a00003 b60013 840101 1214 5
 NAMES = 20
 
 
-def head():
+def head() -> List[bytes]:
     """The entries 1 to 20 of a constant pool: those of `entries_with`, and an int."""
     return [*entries_with("f", "()V"), integer(1_000_000)]
 
@@ -38,7 +38,7 @@ def class_of(entries: List[bytes], fields: List[bytes], methods: List[bytes]) ->
     return class_file(entries, 0x0421, (2, 4), fields, methods)
 
 
-def names(count, width):
+def names(count: int, width: int) -> List[bytes]:
     """The entries of so many names of this many bytes."""
     return [utf8(f"m{number}".ljust(width, "x")) for number in range(count)]
 
@@ -47,7 +47,7 @@ def method_with(name: int, code: bytes) -> bytes:
     return member(0x0009, name, 6, [code_attribute(7, 2, 3, code)])
 
 
-def long_code(size):
+def long_code(size: int) -> bytes:
     """60,000 entries, 10,000 fields, and methods of long code."""
     texts = names(60_000 - NAMES, 8)
     fields = [member(0x0009, NAMES + 1 + number, 11) for number in range(10_000)]
@@ -56,12 +56,12 @@ def long_code(size):
     return class_of(head() + texts, fields, [method_with(NAMES + 1 + number, code) for number in range(count)])
 
 
-def long_pool(size):
+def long_pool(size: int) -> bytes:
     """60,000 entries of long texts."""
     return class_of(head() + names(60_000 - NAMES, max(8, size // 60_000 - 3)), [], [])
 
 
-def many_methods(_size):
+def many_methods(_size: int) -> bytes:
     """65,535 methods without code, of 512 names and 128 descriptors."""
     descriptors = [utf8("(" + "I" * number + ")V") for number in range(128)]
     first = NAMES + 128 + 1
@@ -79,18 +79,21 @@ def listed(program: PathLike, folder: str) -> Tuple[float, int, int]:
     return ran.clock, os.path.getsize(path), ran.kilobytes
 
 
-def main():
-    program = os.path.abspath(sys.argv[1]) if len(sys.argv) > 1 else JVM
+MAKERS = {"long_code": long_code, "long_pool": long_pool, "many_methods": many_methods}
+
+
+def main() -> None:
+    program = os.path.abspath(sys.argv[1]) if len(sys.argv) > 1 else str(JVM)
     size = int(float(sys.argv[2]) * 1_000_000) if len(sys.argv) > 2 else 10_000_000
     with tempfile.TemporaryDirectory() as folder:
         path = os.path.join(folder, "A.class")
-        for made in (long_code, long_pool, many_methods):
+        for name, made in MAKERS.items():
             with open(path, "wb") as file:
                 file.write(made(size))
             length = os.path.getsize(path)
             seconds, text, peak = listed(program, folder)
             print(
-                f"{made.__name__}: {length / 1e6:.1f} MB of file and {text / 1e6:.1f} MB of text in {seconds:.3f} s: "
+                f"{name}: {length / 1e6:.1f} MB of file and {text / 1e6:.1f} MB of text in {seconds:.3f} s: "
                 f"{length / 1e6 / seconds:.1f} and {text / 1e6 / seconds:.1f} MB a second, "
                 f"{peak * 1024 / length:.1f} bytes of memory a byte of file"
             )

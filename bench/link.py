@@ -22,7 +22,7 @@ import os
 import pathlib
 import sys
 import tempfile
-from typing import Callable, Iterable, Iterator, List, Optional, Sequence, Tuple
+from typing import Iterable, Iterator, List, Optional, Sequence, Tuple
 
 sys.dont_write_bytecode = True
 sys.path.insert(0, str(pathlib.Path(__file__).resolve().parent.parent))
@@ -51,38 +51,42 @@ class Maker:
         self.classes = self.pool.class_of(name), self.pool.class_of(superclass)
         self.interfaces = [self.pool.class_of(interface) for interface in interfaces]
 
-    def calls(self, owner, name, descriptor="()V"):
+    def calls(self, owner: str, name: str, descriptor: str = "()V") -> bytes:
         """An invokestatic."""
         return b"\xb8" + u2(self.pool.member(METHODREF, owner, name, descriptor))
 
-    def calls_virtual_on_null(self, owner, name):
+    def calls_virtual_on_null(self, owner: str, name: str) -> bytes:
         """An invokevirtual of a method without parameters on null."""
         return b"\x01\xb6" + u2(self.pool.member(METHODREF, owner, name, "()V"))
 
-    def calls_on_null(self, owner, name):
+    def calls_on_null(self, owner: str, name: str) -> bytes:
         """An invokeinterface of a method without parameters on null."""
         return b"\x01\xb9" + u2(self.pool.member(INTERFACE_METHODREF, owner, name, "()V")) + b"\x01\x00"
 
-    def increments(self, owner, name):
+    def increments(self, owner: str, name: str) -> bytes:
         """A static int is read and written."""
         reference = u2(self.pool.member(FIELDREF, owner, name, "I"))
         return b"\xb2" + reference + b"\x04\x60\xb3" + reference
 
-    def field(self, flags, name, descriptor="I"):
+    def field(self, flags: int, name: str, descriptor: str = "I") -> None:
         self.fields.append(member(flags, self.pool.text(name), self.pool.text(descriptor)))
 
-    def method(self, flags, name, descriptor="()V", code=None):
+    def method(self, flags: int, name: str, descriptor: str = "()V", code: Optional[bytes] = None) -> None:
         attributes = [] if code is None else [code_attribute(self.pool.text("Code"), 2, 4, code)]
         self.methods.append(member(flags, self.pool.text(name), self.pool.text(descriptor), attributes))
 
-    def main(self, code=b""):
+    def main(self, code: bytes = b"") -> None:
         self.method(PUBLIC | STATIC, "main", "([Ljava/lang/String;)V", code + RETURN)
 
     def data(self) -> bytes:
         return class_file(self.pool.entries, self.flags, self.classes, self.fields, self.methods, self.interfaces)
 
 
-def many_files(options):
+# Class files by their names.
+Classes = Iterator[Tuple[str, Maker]]
+
+
+def many_files(options: argparse.Namespace) -> Classes:
     """Of ten files nine are classes of 10 methods, below another class and an interface, and one an interface of 10."""
     interfaces = options.files // 10
     classes = options.files - interfaces
@@ -100,14 +104,14 @@ def many_files(options):
             made.method(PUBLIC | STATIC, f"s{method}", "()V", code + RETURN)
         yield f"C{number}", made
     for number in range(interfaces):
-        above = sorted({f"I{number // 2}", f"I{number // 3}"}) if number else []
-        made = Maker(f"I{number}", "java/lang/Object", above, PUBLIC | INTERFACE | ABSTRACT)
+        upper = sorted({f"I{number // 2}", f"I{number // 3}"}) if number else []
+        made = Maker(f"I{number}", "java/lang/Object", upper, PUBLIC | INTERFACE | ABSTRACT)
         for method in range(10):
             made.method(PUBLIC | ABSTRACT, f"m{number}_{method}")
         yield f"I{number}", made
 
 
-def chain(options):
+def chain(options: argparse.Namespace) -> Classes:
     """Classes, each below the next, with a method each; the first calls and reads what the last declares."""
     for number in range(options.chain):
         is_last = number + 1 == options.chain
@@ -122,7 +126,7 @@ def chain(options):
         yield f"C{number}", made
 
 
-def selections(options):
+def selections(options: argparse.Namespace) -> Classes:
     """Classes, each below the next, with 10 methods each and one that calls these on null."""
     for number in range(options.depth):
         above = "java/lang/Object" if number + 1 == options.depth else f"C{number + 1}"
@@ -136,7 +140,7 @@ def selections(options):
         yield f"C{number}", made
 
 
-def many_methods(_options):
+def many_methods(_options: argparse.Namespace) -> Classes:
     """65,535 methods, of 16,384 names and 4 descriptors, each of which calls another."""
     made = Maker("A")
     made.main()
@@ -146,7 +150,7 @@ def many_methods(_options):
     yield "A", made
 
 
-def many_fields(_options):
+def many_fields(_options: argparse.Namespace) -> Classes:
     """65,535 instance fields, of 16,384 names and 4 types."""
     made = Maker("A")
     made.main()
@@ -155,7 +159,7 @@ def many_fields(_options):
     yield "A", made
 
 
-def ladder(options):
+def ladder(options: argparse.Namespace) -> Classes:
     """Two interfaces a rung, a class below the upmost ones, and a call of what the lowest declares."""
     upmost = [f"{side}{options.rungs - 1}" for side in "LR"]
     made = Maker("A", "java/lang/Object", upmost, PUBLIC | ABSTRACT)
@@ -170,7 +174,7 @@ def ladder(options):
             yield f"{side}{rung}", made
 
 
-def written(folder, classes):
+def written(folder: str, classes: Iterable[Tuple[str, Maker]]) -> Tuple[List[str], int, int]:
     """The names of the files, their methods and their bytes together."""
     names, methods, size = [], 0, 0
     for name, made in classes:
@@ -191,14 +195,14 @@ def linked(command: Sequence[object], folder: str) -> Cost:
     return ran.processor, ran.kilobytes
 
 
-def least(command, folder, runs):
+def least(command: Sequence[object], folder: str, runs: int) -> List[Cost]:
     """The two forms of a command in turn: the least seconds and the peak kilobytes of each."""
     forms = (command, [*command, "whole"])
     found = [[linked(form, folder) for form in forms] for _ in range(runs)]
     return [(min(run[form][0] for run in found), max(run[form][1] for run in found)) for form in range(len(forms))]
 
 
-def told(names, size, seconds, peak):
+def told(names: List[str], size: int, seconds: float, peak: int) -> str:
     """What one run says."""
     return (
         f"{size / 1e6:.1f} MB in {seconds:.3f} s: {len(names) / seconds:.0f} files a second, "
@@ -206,7 +210,7 @@ def told(names, size, seconds, peak):
     )
 
 
-def told_whole(alone, whole):
+def told_whole(alone: Cost, whole: Cost) -> str:
     """What the runs of both forms say."""
     return (
         f"linking {alone[0]:.3f} s, {alone[1] / 1e3:.0f} MB; with the linked program {whole[0]:.3f} s, "
@@ -217,7 +221,7 @@ def told_whole(alone, whole):
 PROGRAMS = (many_files, chain, selections, many_methods, many_fields, ladder)
 
 
-def main():
+def main() -> None:
     parser = argparse.ArgumentParser(description=__doc__, formatter_class=argparse.RawDescriptionHelpFormatter)
     parser.add_argument("--program", default=BENCH)
     parser.add_argument("--command")

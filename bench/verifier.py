@@ -26,8 +26,8 @@ sys.dont_write_bytecode = True
 sys.path.insert(0, str(pathlib.Path(__file__).resolve().parent.parent))
 
 from bench.measures import measured
-from tools.class_files import FIELDREF, NAME_AND_TYPE, Handler, class_entry, class_file, code_attribute, member, named_class
-from tools.class_files import pair, u2, u4, utf8, with_version_49
+from tools.class_files import FIELDREF, NAME_AND_TYPE, Handler, class_entry, class_file, code_attribute, member
+from tools.class_files import named_class, pair, u2, u4, utf8, with_version_49
 from tools.repository import BENCH, PathLike
 
 CLASSES = 20
@@ -41,9 +41,11 @@ LONGEST = 65_535
 STATEMENTS = [
     "for (int i = {c}; i < y; i++) {{ s += i * {d}; if ((s & {e}) == 0) {{ s = {call}; }} else {{ s ^= a; }} }}",
     "G{k} o = new G{k}(s); o.a = s + y; o.next = this; s -= o.b;",
-    "int[] t = new int[{e}]; t[y & {c}] = a; for (int j = 0; j < t.length; j++) {{ t[j] = t[j] * {d} + s; s -= t[j] >> {c}; }}",
+    "int[] t = new int[{e}]; t[y & {c}] = a;"
+    " for (int j = 0; j < t.length; j++) {{ t[j] = t[j] * {d} + s; s -= t[j] >> {c}; }}",
     "while (s > {d}) {{ s = s / {e} - b; if (y == s) {{ break; }} }}",
-    "try {{ s = ((G{k}) next).a + {call}; }} catch (ArithmeticException f) {{ s = -{c}; }} catch (RuntimeException f) {{ s = {d}; }}",
+    "try {{ s = ((G{k}) next).a + {call}; }}"
+    " catch (ArithmeticException f) {{ s = -{c}; }} catch (RuntimeException f) {{ s = {d}; }}",
     "switch (s) {{ case {c}: s = {d}; break; case {e}: a = s; default: b = y + {c}; }}",
     "if (next instanceof G{k}) {{ G0 p = (G{k}) next; s += p.a; }} else if (next != null) {{ s -= {call}; }}",
     "synchronized (this) {{ a += s; b -= {d}; }}",
@@ -53,19 +55,19 @@ STATEMENTS = [
 ]
 
 
-def statement(rng, method):
+def statement(rng: random.Random, method: int) -> str:
     callee = rng.randrange(METHODS)
     call = f"{rng.choice(['', 'this.', 'other().'])}m{callee}(s, y - {rng.randrange(9)})"
     numbers = {"c": rng.randrange(1, 6), "d": rng.choice([7, 100, 1000, 40_000]), "e": rng.randrange(7, 30)}
     return rng.choice(STATEMENTS).format(k=rng.randrange(CLASSES), call=call, **numbers)
 
 
-def method_source(rng, number):
+def method_source(rng: random.Random, number: int) -> str:
     lines = [f"{{ {statement(rng, number)} }}" for _ in range(4)]
     return f"int m{number}(int x, int y) {{ int s = x; {' '.join(lines)} return s; }}"
 
 
-def class_source(rng, number):
+def class_source(rng: random.Random, number: int) -> str:
     head = f"class G{number} extends G{number // 2 - 1}" if number > 1 else f"class G{number}"
     if number == 0:
         head += " { int a; int b; G0 next; static int count;"
@@ -80,7 +82,7 @@ def class_source(rng, number):
     return "\n".join([head, *methods, "}"])
 
 
-def ordinary(folder):
+def ordinary(folder: str) -> List[str]:
     """Classes that javac compiles, as files of version 49."""
     rng = random.Random(1)
     sources = []
@@ -135,7 +137,7 @@ def write_main(
     return write_class(os.path.join(folder, "A.class"), [*head(), *entries], (CLASS, OBJECT), fields, [method])
 
 
-def with_handlers(folder, body):
+def with_handlers(folder: str, body: bytes) -> List[str]:
     """A thousand handlers over all of 65,535 bytes of code; each drops what it caught and returns."""
     handler = bytes.fromhex("57 b1")
     length = LONGEST - 1000 * len(handler)
@@ -148,22 +150,22 @@ def with_handlers(folder, body):
     return [write_main(folder, code, (2, 4), handlers)]
 
 
-def handlers(folder):
+def handlers(folder: str) -> List[str]:
     return with_handlers(folder, b"\x00")
 
 
-def stores(folder):
+def stores(folder: str) -> List[str]:
     """iconst_0, istore_1, iinc 1 1, aload_0, astore_1, aconst_null, astore_2"""
     return with_handlers(folder, bytes.fromhex("03 3c 84 01 01 2a 4c 01 4d"))
 
 
-def local_variables(folder):
+def local_variables(folder: str) -> List[str]:
     """Three thousand instructions that store in the last of 65,535 local variables."""
     body = bytes.fromhex("03 c4 36 fffe 2a c4 3a fffe")
     return [write_main(folder, body * 750 + b"\xb1", (1, LONGEST))]
 
 
-def both(folder):
+def both(folder: str) -> List[str]:
     body = bytes.fromhex("03 c4 36 fffe 2a c4 3a fffe")
     code = body * ((LONGEST - 1) // len(body))
     return [write_main(folder, code + b"\x00" * (LONGEST - 1 - len(code)) + b"\xb1", (1, LONGEST))]
@@ -171,7 +173,7 @@ def both(folder):
 
 # ---- joins
 
-def chain(folder):
+def chain(folder: str) -> List[str]:
     """A chain of classes C0, C1, .. in files of their own, C0 directly below Object."""
     paths = []
     for number in range(CHAIN):
@@ -181,21 +183,22 @@ def chain(folder):
     return paths
 
 
-def fields_of_chain():
+def fields_of_chain() -> Tuple[List[bytes], List[bytes], List[int]]:
     """Static fields f0, f1, .. of the classes of the chain, the last first: entries, the fields, their references."""
-    entries = []
-    fields = []
-    references = []
+    entries: List[bytes] = []
+    fields: List[bytes] = []
+    references: List[int] = []
     first = NAMES
     for number in range(CHAIN):
         at = first + len(entries)
-        entries += [utf8(f"f{number}"), utf8(f"LC{CHAIN - 1 - number};"), pair(NAME_AND_TYPE, at, at + 1), pair(FIELDREF, CLASS, at + 2)]
+        entries += [utf8(f"f{number}"), utf8(f"LC{CHAIN - 1 - number};")]
+        entries += [pair(NAME_AND_TYPE, at, at + 1), pair(FIELDREF, CLASS, at + 2)]
         fields.append(member(0x0009, at, at + 1))
         references.append(at + 3)
     return entries, fields, references
 
 
-def joins(folder, to_head):
+def joins(folder: str, to_head: bool) -> List[str]:
     """A switch on an int to 5,000 places, each of which stores a field of another class of the chain in local variable
     1, and goes on behind them all, or back to the head."""
     entries, fields, references = fields_of_chain()
@@ -220,11 +223,11 @@ def joins(folder, to_head):
     return [write_main(folder, code, (1, 3), entries=entries, fields=fields), *chain(folder)]
 
 
-def ladder(folder):
+def ladder(folder: str) -> List[str]:
     return joins(folder, False)
 
 
-def loop(folder):
+def loop(folder: str) -> List[str]:
     return joins(folder, True)
 
 
@@ -248,7 +251,7 @@ def verified(program: PathLike, paths: Sequence[str]) -> Tuple[str, Optional[int
     return ran.written.strip(), int(told[0].split()[0]), ran.kilobytes
 
 
-def main():
+def main() -> None:
     parser = argparse.ArgumentParser(description=__doc__, formatter_class=argparse.RawDescriptionHelpFormatter)
     parser.add_argument("--program", default=BENCH)
     parser.add_argument("--keep", help="a folder for the class files, in place of a temporary one")

@@ -1,54 +1,52 @@
 #!/usr/bin/env python3
 """Compares what a program says of class files of javac with what their sources say.
 
-    javac.py FOLDER [PROGRAM WORD..]
+    compare/javac.py FOLDER [PROGRAM WORD..]
 
-Each Java source of FOLDER is compiled by itself, by `tools/java-classes`. PROGRAM [default: `crates/jvm/out/jvm verify`]
-is run with the WORDs and the class files, the class of the source's name first and the others by their names. What it says
-is compared with the first line of the source, which is `// accepted` or the refusal behind `// `. One line is printed for
-each source; the status is 1 where something else is said.
+Each Java source of FOLDER is compiled by itself, by `tools/java-classes`. PROGRAM [default: `crates/jvm/out/jvm
+verify`] is run with the WORDs and the class files, the class of the source's name first and the others by their names.
+What it says is compared with the first line of the source, which is `// accepted` or the refusal behind `// `. One
+line is printed for each source; the status is 1 where something else is said.
 """
 
-import glob
 import os
+import pathlib
 import subprocess
 import sys
 import tempfile
+from typing import List, Sequence
 
-ROOT = os.path.dirname(os.path.dirname(os.path.abspath(__file__)))
+sys.dont_write_bytecode = True
+sys.path.insert(0, str(pathlib.Path(__file__).resolve().parent.parent))
 
-
-def compiled(source, folder):
-    """The paths of the class files of a source."""
-    command = [os.path.join(ROOT, "tools", "java-classes"), source, "--into", folder]
-    return subprocess.run(command, check=True, stdout=subprocess.PIPE, text=True).stdout.splitlines()
+from tools.repository import JVM, compiled
 
 
-def wanted(source):
-    with open(source) as file:
+def wanted(source: pathlib.Path) -> str:
+    with open(source, encoding="utf-8") as file:
         return file.readline().strip().removeprefix("// ")
 
 
-def said(command, paths):
+def said(command: Sequence[str], paths: List[pathlib.Path]) -> str:
     """What the program says of class files."""
-    names = [os.path.basename(path) for path in paths]
-    ran = subprocess.run([*command, *names], cwd=os.path.dirname(paths[0]), capture_output=True, text=True)
+    names = [path.name for path in paths]
+    ran = subprocess.run([*command, *names], cwd=paths[0].parent, capture_output=True, text=True)
     return "accepted" if ran.returncode == 0 else (ran.stdout + ran.stderr).strip()
 
 
-def main():
+def main() -> None:
     if len(sys.argv) < 2:
         sys.exit(__doc__)
-    sources = sorted(glob.glob(os.path.join(sys.argv[1], "*.java")))
-    command = sys.argv[2:] or [os.path.join(ROOT, "crates/jvm/out/jvm"), "verify"]
+    sources = sorted(pathlib.Path(sys.argv[1]).glob("*.java"))
+    command = sys.argv[2:] or [str(JVM), "verify"]
     command = [os.path.abspath(command[0]), *command[1:]]
     differing = 0
     for source in sources:
         with tempfile.TemporaryDirectory() as folder:
-            answer = said(command, compiled(source, folder))
+            answer = said(command, compiled([source], folder))
         is_wanted = answer == wanted(source)
         differing += not is_wanted
-        print(f"{os.path.basename(source)}: {answer}" + ("" if is_wanted else f", wanted: {wanted(source)}"))
+        print(f"{source.name}: {answer}" + ("" if is_wanted else f", wanted: {wanted(source)}"))
     print(f"{len(sources)} sources, {differing} differences")
     sys.exit(1 if differing else 0)
 

@@ -1,53 +1,51 @@
 #!/usr/bin/env python3
 """Compares `jvm disasm` with javap on class files.
 
-    javap.py PROGRAM PATH..
+    compare/javap.py PROGRAM PATH..
 
 PROGRAM is the built program, each PATH a class file or a folder of them, as `javac --release 7 -d FOLDER X.java` makes
-or `jimage extract --dir FOLDER lib/modules` of a JDK. The version of each file is patched to 49.0 in a temporary folder.
-What the program refuses is counted by its cause. Of the others the descriptors and flags of members, the sizes of code,
-the instructions with their operands and the exception tables are compared. An opcode that this machine has not is
-`unknown` and one byte long, so what follows it is compared from the next place on at which both list an instruction.
-The status is 0 where nothing differs.
+or `jimage extract --dir FOLDER lib/modules` of a JDK. The version of each file is patched to 49.0 in a temporary
+folder. What the program refuses is counted by its cause. Of the others the descriptors and flags of members, the sizes
+of code, the instructions with their operands and the exception tables are compared. An opcode that this machine has
+not is `unknown` and one byte long, so what follows it is compared from the next place on at which both list an
+instruction. The status is 0 where nothing differs.
 """
 
 import collections
 import os
+import pathlib
 import re
 import subprocess
 import sys
 import tempfile
+from typing import Counter, Dict, Iterator, List, Optional, Sequence, Tuple
+
+sys.dont_write_bytecode = True
+sys.path.insert(0, str(pathlib.Path(__file__).resolve().parent.parent))
+
+from oracle.opcodes import SUPPORTED
+from tools.class_files import with_version_49
 
 # The instructions that this machine has, by javap's names.
-KNOWN = set(
-    """nop aconst_null iconst_m1 iconst_0 iconst_1 iconst_2 iconst_3 iconst_4 iconst_5 bipush sipush ldc ldc_w iload aload
-    iload_0 iload_1 iload_2 iload_3 aload_0 aload_1 aload_2 aload_3 iaload aaload baload caload saload istore astore
-    istore_0 istore_1 istore_2 istore_3 astore_0 astore_1 astore_2 astore_3 iastore aastore bastore castore sastore pop
-    pop2 dup dup_x1 dup_x2 dup2 dup2_x1 dup2_x2 swap iadd isub imul idiv irem ineg ishl ishr iushr iand ior ixor iinc
-    i2b i2c i2s ifeq ifne iflt ifge ifgt ifle if_icmpeq if_icmpne if_icmplt if_icmpge if_icmpgt if_icmple if_acmpeq
-    if_acmpne goto tableswitch lookupswitch ireturn areturn return getstatic putstatic getfield putfield invokevirtual
-    invokespecial invokestatic invokeinterface new newarray anewarray arraylength athrow checkcast instanceof
-    monitorenter monitorexit ifnull ifnonnull goto_w iload_w aload_w istore_w astore_w iinc_w""".split()
-)
+KNOWN = (SUPPORTED - {"wide"}) | {"iload_w", "aload_w", "istore_w", "astore_w", "iinc_w"}
 
 ELEMENTS = {"float": "#6", "double": "#7", "long": "#11"}
+
+# So many files are listed at a time.
+AT_A_TIME = 200
 
 INSTRUCTION = re.compile(r"^ +(\d+): ([a-z_0-9]+) *(.*)$")
 CASE = re.compile(r"^ +(-?\d+|default): (\d+)$")
 HANDLER = re.compile(r"^ +(\d+) +(\d+) +(\d+) +(?:Class (\S+)|(any))$")
 
 
-def patched(path, folder, number):
-    with open(path, "rb") as file:
-        data = bytearray(file.read())
-    data[4:8] = b"\0\0\0\x31"
+def patched(path: str, folder: str, number: int) -> str:
     made = os.path.join(folder, f"{number}.class")
-    with open(made, "wb") as file:
-        file.write(data)
+    pathlib.Path(made).write_bytes(with_version_49(pathlib.Path(path).read_bytes()))
     return made
 
 
-def class_files(paths):
+def class_files(paths: Sequence[str]) -> Iterator[str]:
     for path in paths:
         if os.path.isdir(path):
             for folder, _, names in sorted(os.walk(path)):
@@ -56,14 +54,14 @@ def class_files(paths):
             yield path
 
 
-def member_word(owner, comment):
+def member_word(owner: str, comment: str) -> str:
     """A field or method of javap's comment, with its class."""
     word = comment.split(" ", 1)[1].replace('"', "")
     name = word.split(":", 1)[0]
     return word if "." in name else f"{owner}.{word}"
 
 
-def operands(owner, mnemonic, rest):
+def operands(owner: str, mnemonic: str, rest: str) -> List[str]:
     """The operands as this machine lists them, from what javap says of them."""
     text, _, comment = (part.strip() for part in rest.partition("//"))
     words = text.replace(",", " ").split()
@@ -84,59 +82,85 @@ def operands(owner, mnemonic, rest):
 class Member:
     """The descriptor, flags and code of a field or a method."""
 
-    def __init__(self, descriptor):
+    def __init__(self, descriptor: str) -> None:
         self.head = [descriptor]
-        self.lines = {}
-        self.handlers = []
+        self.lines: Dict[int, List[str]] = {}
+        self.handlers: List[List[str]] = []
 
 
-def by_javap(text):
-    """The members of each class, in order, from javap's text."""
-    classes, owner, member, switch, place = [], None, None, None, None
-    for line in text.split("\n"):
+class Javap:
+    """Reads the text of javap, line by line."""
+
+    def __init__(self) -> None:
+        self.classes: List[List[Member]] = []
+        self.owner, self.member, self.place = "", Member(""), ""
+        # The switch whose cases are read: where it stands, its mnemonic, and its cases.
+        self.switch: Optional[Tuple[int, str, List[str]]] = None
+
+    def read(self, line: str) -> None:
         if line.startswith("Classfile "):
-            classes.append([])
+            self.classes.append([])
         elif line.startswith("  this_class: "):
-            owner = line.split("// ", 1)[1].replace('"', "")
+            self.owner = line.split("// ", 1)[1].replace('"', "")
         elif line.startswith("    descriptor: "):
-            member = Member(line[16:])
-            classes[-1].append(member)
-            place = None
+            self.member = Member(line[16:])
+            self.classes[-1].append(self.member)
+            self.place = ""
         elif line.startswith("    flags: (0x"):
-            member.head.append(line[14:18])
+            self.member.head.append(line[14:18])
         elif line.startswith("      stack="):
-            member.head += re.findall(r"\d+", line)[:2]
-            place = "code"
+            self.member.head += re.findall(r"\d+", line)[:2]
+            self.place = "code"
         elif line.startswith("      Exception table:"):
-            place = "handlers"
-        elif place == "code" and switch is not None:
-            if case := CASE.match(line):
-                if case[1] == "default":
-                    member.lines[switch[0]] = [switch[1], "default", case[2]] + switch[2]
-                else:
-                    switch[2].append(f"{case[1]}:{case[2]}")
+            self.place = "handlers"
+        elif self.place == "code":
+            self.code(line)
+        elif self.place == "handlers":
+            self.handler(line)
+
+    def code(self, line: str) -> None:
+        """A line of the code of a method, or behind it."""
+        if self.switch is not None:
+            pc, name, cases = self.switch
+            case = CASE.match(line)
+            if not case:
+                self.switch = None
+            elif case[1] == "default":
+                self.member.lines[pc] = [name, "default", case[2], *cases]
             else:
-                switch = None
-        elif place == "code" and (found := INSTRUCTION.match(line)):
-            pc, mnemonic, rest = int(found[1]), found[2], found[3]
-            if mnemonic not in KNOWN:
-                member.lines[pc] = ["unknown"]
-            elif mnemonic.endswith("switch"):
-                switch = (pc, mnemonic, [])
-            else:
-                wide = ["wide"] if mnemonic.endswith("_w") and mnemonic not in ("ldc_w", "goto_w") else []
-                name = mnemonic[:-2] if wide else mnemonic
-                member.lines[pc] = wide + [name] + operands(owner, mnemonic, rest)
-        elif place == "handlers" and (found := HANDLER.match(line)):
-            member.handlers.append([found[1], found[2], found[3], (found[4] or found[5]).replace('"', "")])
-        elif place == "handlers" and "from    to  target type" not in line:
-            place = None
-        elif place == "code" and not line.startswith("        "):
-            place = None
-    return classes
+                cases.append(f"{case[1]}:{case[2]}")
+        elif found := INSTRUCTION.match(line):
+            self.instruction(int(found[1]), found[2], found[3])
+        elif not line.startswith("        "):
+            self.place = ""
+
+    def instruction(self, pc: int, mnemonic: str, rest: str) -> None:
+        if mnemonic not in KNOWN:
+            self.member.lines[pc] = ["unknown"]
+        elif mnemonic.endswith("switch"):
+            self.switch = pc, mnemonic, []
+        else:
+            wide = ["wide"] if mnemonic.endswith("_w") and mnemonic not in ("ldc_w", "goto_w") else []
+            name = mnemonic[:-2] if wide else mnemonic
+            self.member.lines[pc] = wide + [name] + operands(self.owner, mnemonic, rest)
+
+    def handler(self, line: str) -> None:
+        """A line of an exception table, or behind it."""
+        if found := HANDLER.match(line):
+            self.member.handlers.append([found[1], found[2], found[3], (found[4] or found[5]).replace('"', "")])
+        elif "from    to  target type" not in line:
+            self.place = ""
 
 
-def by_program(text):
+def by_javap(text: str) -> List[List[Member]]:
+    """The members of each class, in order, from javap's text."""
+    reader = Javap()
+    for line in text.split("\n"):
+        reader.read(line)
+    return reader.classes
+
+
+def by_program(text: str) -> List[Member]:
     """The members of a class, in order, from its listing."""
     members = []
     for line in text.split("\n")[1:-1]:
@@ -154,9 +178,10 @@ def by_program(text):
     return members
 
 
-def differences(path, ours, theirs):
+def differences(path: str, ours: List[Member], theirs: List[Member]) -> Tuple[int, List[str]]:
     """The number of instructions compared, and what differs."""
-    compared, told = 0, []
+    compared = 0
+    told: List[str] = []
     if len(ours) != len(theirs):
         return 0, [f"{path}: {len(ours)} and {len(theirs)} members"]
     for number, (our, their) in enumerate(zip(ours, theirs)):
@@ -175,32 +200,46 @@ def differences(path, ours, theirs):
     return compared, told
 
 
-def main():
-    program = os.path.abspath(sys.argv[1])
+class Comparison:
+    """What was compared so far, of the listings of a program."""
+
+    def __init__(self, program: str) -> None:
+        self.program, self.files, self.compared, self.differing = program, 0, 0, 0
+        self.refused: Counter[str] = collections.Counter()
+
+    def compare(self, paths: Sequence[str], folder: str) -> None:
+        """Compares the listings of some files with javap's, which lists them all at once."""
+        taken: List[Tuple[str, str]] = []
+        listed: List[str] = []
+        for number, path in enumerate(paths):
+            made = patched(path, folder, number)
+            ran = subprocess.run([self.program, "disasm", made], capture_output=True)
+            if ran.returncode == 0:
+                taken.append((path, ran.stdout.decode("utf-8", "surrogateescape")))
+                listed.append(made)
+            else:
+                self.refused[ran.stderr.decode().split()[-1]] += 1
+        javap = subprocess.run(["javap", "-v", "-p", *listed], capture_output=True)
+        theirs = by_javap(javap.stdout.decode("utf-8", "surrogateescape"))
+        if len(theirs) != len(taken):
+            sys.exit(f"javap shows {len(theirs)} of {len(taken)} files")
+        for (path, text), members in zip(taken, theirs):
+            count, told = differences(path, by_program(text), members)
+            self.files, self.compared = self.files + 1, self.compared + count
+            self.differing += len(told)
+            print("\n".join(told[:5]), end="\n" * bool(told))
+
+
+def main() -> None:
+    comparison = Comparison(os.path.abspath(sys.argv[1]))
     paths = list(class_files(sys.argv[2:]))
-    files, compared, differing, refused = 0, 0, 0, collections.Counter()
     with tempfile.TemporaryDirectory() as folder:
-        for first in range(0, len(paths), 200):
-            taken, listed = [], []
-            for number, path in enumerate(paths[first : first + 200]):
-                made = patched(path, folder, number)
-                ran = subprocess.run([program, "disasm", made], capture_output=True)
-                if ran.returncode == 0:
-                    taken.append((path, ran.stdout.decode("utf-8", "surrogateescape")))
-                    listed.append(made)
-                else:
-                    refused[ran.stderr.decode().split()[-1]] += 1
-            javap = subprocess.run(["javap", "-v", "-p", *listed], capture_output=True)
-            theirs = by_javap(javap.stdout.decode("utf-8", "surrogateescape"))
-            if len(theirs) != len(taken):
-                sys.exit(f"javap shows {len(theirs)} of {len(taken)} files")
-            for (path, text), members in zip(taken, theirs):
-                count, told = differences(path, by_program(text), members)
-                files, compared, differing = files + 1, compared + count, differing + len(told)
-                print("\n".join(told[:5]), end="\n" * bool(told))
-    causes = ", ".join(f"{cause} {count}" for cause, count in sorted(refused.items())) or "none"
-    print(f"{files} files, {compared} instructions compared, {differing} differences; refused: {causes}")
-    sys.exit(1 if differing else 0)
+        for first in range(0, len(paths), AT_A_TIME):
+            comparison.compare(paths[first : first + AT_A_TIME], folder)
+    causes = ", ".join(f"{cause} {count}" for cause, count in sorted(comparison.refused.items())) or "none"
+    counts = f"{comparison.files} files, {comparison.compared} instructions compared"
+    print(f"{counts}, {comparison.differing} differences; refused: {causes}")
+    sys.exit(1 if comparison.differing else 0)
 
 
 if __name__ == "__main__":

@@ -27,7 +27,7 @@ def json_line(members: Dict[str, Part]) -> str:
 
 
 class Told:
-    """An event that was done: where its thread stood (`Class.method offset`, a class or `-`), and the rest of its line."""
+    """An event that was done: where its thread stood, as `Class.method offset`, a class or `-`, and what it did."""
 
     def __init__(
         self, number: int, thread: int, place: Sequence[str], words: Sequence[str], is_local: bool

@@ -16,7 +16,7 @@ PathLike = Union[str, pathlib.Path]
 
 
 def crates() -> Dict[str, List[str]]:
-    """The crates that crates.txt names, each with those of the repository that it stands on, in the order of the file."""
+    """The crates that crates.txt names, each with those of the repository that it stands on, in the order there."""
     found = {}
     for line in (ROOT / "crates.txt").read_text(encoding="utf-8").splitlines():
         head, colon, below = line.partition("#")[0].partition(":")
