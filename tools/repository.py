@@ -12,6 +12,8 @@ JVM = ROOT / "crates/jvm/out/jvm"
 BENCH = ROOT / "crates/bench/out/bench"
 TRIALS = ROOT / "crates/conformance/out/conformance"
 
+FOLDERS_OF_SCRIPTS = ("bench", "compare", "oracle", "tests", "tools")
+
 PathLike = Union[str, pathlib.Path]
 
 
@@ -23,6 +25,16 @@ def crates() -> Dict[str, List[str]]:
         if colon and head.split():
             found[head.split()[0]] = below.split()
     return {name: [one for one in below if one in found] for name, below in found.items()}
+
+
+def scripts() -> List[pathlib.Path]:
+    """All files of Python, with an ending or without."""
+    found = []
+    for folder in FOLDERS_OF_SCRIPTS:
+        for path in sorted((ROOT / folder).iterdir()):
+            if path.suffix == ".py" or path.is_file() and path.read_bytes().startswith(b"#!/usr/bin/env python3\n"):
+                found.append(path)
+    return found
 
 
 def compiled(sources: Sequence[PathLike], into: PathLike, has_lines: bool = False) -> List[pathlib.Path]:
