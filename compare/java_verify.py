@@ -21,7 +21,7 @@ from typing import Dict, Sequence, Tuple
 sys.dont_write_bytecode = True
 sys.path.insert(0, str(pathlib.Path(__file__).resolve().parent.parent))
 
-from compare.made_methods import class_file
+from compare.made_files import class_file
 from tools.class_files import with_version_49
 from tools.repository import BENCH
 

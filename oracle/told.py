@@ -13,6 +13,12 @@ def java_text(text: str) -> str:
     return text.encode("latin-1").replace(b"\xc0\x80", b"\0").decode("utf-8", "surrogatepass")
 
 
+def in_one_line(text: str) -> str:
+    """A line in which a backslash is doubled, and a control character is `\\x` and its two digits."""
+    doubled = text.replace("\\", "\\\\")
+    return re.sub(r"[\x00-\x1f\x7f]", lambda found: f"\\x{ord(found[0]):02x}", doubled)
+
+
 def long_escape(found: Match[str]) -> str:
     """An escape with four digits, but for a quotation mark and a backslash."""
     escape = found[0]
@@ -44,8 +50,8 @@ class Told:
         if form == "json":
             return json_line(self.members())
         if form == "columns":
-            return f"{self.number:7} {24 * min(self.thread, 7) * ' '}{self.words()}"
-        return f"{self.number} {self.words()}"
+            return f"{self.number:7} {24 * min(self.thread, 7) * ' '}{in_one_line(self.words())}"
+        return f"{self.number} {in_one_line(self.words())}"
 
     def members(self) -> Dict[str, Part]:
         members: Dict[str, Part] = {"event": self.number, "thread": self.thread}

@@ -204,6 +204,10 @@ def cases() -> Tuple[str, str]:
         text += ["", f"# {comment}", *file_lines(f"{name}/A.class", data)]
         text += [f"case trace-{name}", f"  trace{given} --schedule lined.schedule {name}/A.class"]
         printed += f"case trace-{name}\n{told}status {status}\n"
+    told, status = trace([ODD], [Entry(0, 0, 13)])
+    text += ["# Outside of JSON a line of an event is one line, too.", "case trace-names-in-words"]
+    text += ["  trace --schedule lined.schedule names/A.class"]
+    printed += f"case trace-names-in-words\n{told}status {status}\n"
     return "\n".join([*text, ""]), printed
 
 
@@ -212,7 +216,7 @@ def write() -> None:
     (CONFORMANCE / "data/traces.cases").write_text(text)
     blocks = re.split(r"(?m)^(?=case )", stored())
     places = [place for place, block in enumerate(blocks) if block.startswith("case trace-")]
-    blocks[places[0] : places[-1] + 1] = [printed.encode().decode("latin-1")]
+    blocks[places[0] : places[-1] + 1] = [printed]
     store("".join(blocks))
 
 
@@ -234,7 +238,7 @@ def main() -> int:
     entries = entries_of_text(pathlib.Path(words.schedule).read_text())
     only = numbers_of(words.only_)
     text, status = trace(files, entries, words.from_ or 0, words.to_, only, words.form, words.summary)
-    sys.stdout.write(text)
+    sys.stdout.buffer.write(text.encode("latin-1"))
     return status
 
 

@@ -45,6 +45,15 @@ class Documents(unittest.TestCase):
         text = f"{long}\n| {long} |\n```\n{long}\n```\n"
         self.assertEqual(told(documents.wrong_lines(Document("x.md", text))), [1])
 
+    def test_long_lines_are_wrapped(self) -> None:
+        long = " ".join(["word"] * 30)
+        text = f"# Head\n\n- {long}\n  more\n- short\n\n| {long} |\n```\n{long}\n```\n"
+        found = documents.wrapped(text)
+        self.assertEqual(told(documents.wrong_lines(Document("x.md", found))), [])
+        self.assertEqual(found.split(), text.split())
+        self.assertIn(f"\n  {' '.join(['word'] * 7)} more\n- short\n", found)
+        self.assertEqual(documents.wrapped(found), found)
+
     def test_sentences(self) -> None:
         text = f"{'word ' * 31}end. {'word ' * 20}end.\n\nShort.\n"
         self.assertEqual(documents.long_sentences(Document("x.md", text)), 1)

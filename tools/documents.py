@@ -2,6 +2,7 @@
 
 import pathlib
 import re
+import textwrap
 from typing import Callable, Dict, Iterator, List, NamedTuple, Optional, Sequence, Set, Tuple
 
 from tools.cases import CaseFolder
@@ -250,6 +251,42 @@ def sentences(document: Document) -> Iterator[str]:
 
 def long_sentences(document: Document) -> int:
     return sum(len(sentence.split()) > WORDS for sentence in sentences(document))
+
+
+def wrapped(text: str) -> str:
+    """The text of a document, in which each paragraph that has too long a line is laid out anew."""
+    document = Document("", text)
+    found: List[str] = []
+    paragraph: List[str] = []
+    for line in [*document.lines, Line(0, "", False)]:
+        is_start = bool(re.match(r" *(?:[-*]|\d+\.) ", line.text))
+        if paragraph and (line.is_code or is_start or re.match(r" *(?:\||#|>|$)", line.text)):
+            found += laid_out(paragraph)
+            paragraph = []
+        if line.is_code or re.match(r" *(?:\||#|>|$)", line.text):
+            found.append(line.text)
+        else:
+            paragraph.append(line.text)
+    return "\n".join(found[:-1]) + "\n"
+
+
+def laid_out(paragraph: List[str]) -> List[str]:
+    """The lines of a paragraph, with the indent of its second one."""
+    if all(len(line) <= COLUMNS for line in paragraph):
+        return paragraph
+    start = re.match(r" *(?:(?:[-*]|\d+\.) +)?", paragraph[0])
+    first = start[0] if start else ""
+    text = " ".join(line.strip() for line in paragraph)[len(first.strip()) :].strip()
+    quoted = re.sub(r"`[^`]*`|\[[^\]]*\]\([^)]*\)", lambda found: found[0].replace(" ", "\0"), text)
+    lines = textwrap.wrap(
+        quoted,
+        COLUMNS - 1,
+        break_long_words=False,
+        break_on_hyphens=False,
+        initial_indent=first,
+        subsequent_indent=" " * len(first),
+    )
+    return [line.replace("\0", " ") for line in lines]
 
 
 def faults() -> List[str]:
