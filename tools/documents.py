@@ -224,7 +224,7 @@ def wrong_usage(document: Document) -> Iterator[Tuple[int, str]]:
 def wrong_heads() -> Iterator[Tuple[str, str]]:
     """Scripts whose first usage line doesn't name them."""
     for path in scripts():
-        usage = re.search(r'^#!.*python3\n""".*?\n\n    (\S+)', path.read_text(encoding="utf-8"), re.S)
+        usage = re.match(r'#!.*python3\n"""(?:(?!""").)*?\n\n    (\S+)', path.read_text(encoding="utf-8"), re.S)
         name = str(path.relative_to(ROOT))
         if usage and usage[1] != name:
             yield name, f"its usage line begins with {usage[1]}"
@@ -280,7 +280,7 @@ def laid_out(paragraph: List[str]) -> List[str]:
     quoted = re.sub(r"`[^`]*`|\[[^\]]*\]\([^)]*\)", lambda found: found[0].replace(" ", "\0"), text)
     lines = textwrap.wrap(
         quoted,
-        COLUMNS - 1,
+        COLUMNS,
         break_long_words=False,
         break_on_hyphens=False,
         initial_indent=first,
