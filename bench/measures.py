@@ -9,7 +9,7 @@ from typing import IO, BinaryIO, NamedTuple, Optional, Sequence
 from tools.repository import PathLike
 
 # So often is the memory of a process looked at.
-STEP = 0.001
+STEP = 0.002
 
 
 class Measured(NamedTuple):

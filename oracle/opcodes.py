@@ -25,7 +25,7 @@ SUPPORTED = {name for name in MNEMONICS if not LEFT_OUT.fullmatch(name)}
 # Those that touch their frame alone; `ldc` does where it loads an int, and a division where it doesn't throw.
 LOCAL = {
     *"""nop aconst_null bipush sipush pop pop2 dup dup_x1 dup_x2 dup2 dup2_x1 dup2_x2 swap iadd isub imul idiv irem ineg
-    ishl ishr iushr iand ior ixor iinc i2b i2c i2s ldc ldc_w goto goto_w tableswitch lookupswitch""".split(),
+    ishl ishr iushr iand ior ixor iinc i2b i2c i2s ldc ldc_w goto goto_w tableswitch lookupswitch wide""".split(),
     *(name for name in MNEMONICS if re.fullmatch(r"iconst_.*|[ai](load|store)(_\d)?|if.*", name)),
 }
 

@@ -20,7 +20,7 @@ from typing import Any, Dict, Iterator, List, Optional, Sequence, Set, Tuple, Un
 sys.dont_write_bytecode = True
 sys.path.insert(0, str(pathlib.Path(__file__).resolve().parent.parent))
 
-from oracle.frames import Frame, short
+from oracle.frames import Frame
 from oracle.lessons import LESSONS, class_files
 from oracle.machine import Machine, status_of, text_of
 from oracle.schedules import Event
@@ -114,25 +114,8 @@ def at(files: Sequence[bytes], events: Tuple[Event, ...]) -> Numbered:
     return machine
 
 
-# Instructions that touch what threads share, make something, call, return or may throw.
-NOT_LOCAL = {*range(0x2E, 0x36), *range(0x4F, 0x57), *range(0xAC, 0xB2), *range(0xB2, 0xC4)}
-
 # How many local instructions are done at most.
 MOST = 1024
-
-
-def is_local(thread: JavaThread) -> bool:
-    """Whether the next event of a thread is a local instruction, which throws nothing."""
-    top = thread.top()
-    if thread.has_ended or thread.waits or thread.relock or thread.pending or not isinstance(top, Frame):
-        return False
-    opcode = top.opcode()
-    if opcode in (0x12, 0x13):
-        index = top.code()[top.at + 1] if opcode == 0x12 else short(top, 1)
-        return top.method.owner.pool[index][0] == "int"
-    if opcode in (0x6C, 0x70) and top.stack[-1] == 0:
-        return False
-    return opcode not in NOT_LOCAL
 
 
 def following(files: Sequence[bytes], events: Tuple[Event, ...]) -> Iterator[Tuple[Tuple[Event, ...], Numbered]]:
@@ -145,7 +128,7 @@ def following(files: Sequence[bytes], events: Tuple[Event, ...]) -> Iterator[Tup
             except NotEnabled:
                 break
             more = 0
-            while pick == 0 and more < MOST and is_local(machine.threads[thread]):
+            while pick == 0 and more < MOST and machine.threads[thread].next_is_local():
                 machine.step(thread)
                 more += 1
             yield (*events, *[(thread, pick)] * (1 + more)), machine

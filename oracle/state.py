@@ -3,7 +3,8 @@
 from typing import Any, Callable, Dict, Iterator, List, Mapping, Optional, Sequence, Tuple, Union
 
 from oracle.classes import PRIVATE, STATIC, Class, Method, built_in_classes, narrowed, read_class
-from oracle.frames import Frame
+from oracle.frames import Frame, short
+from oracle.opcodes import LOCAL, MNEMONICS
 
 # What an event does.
 Action = Callable[[], None]
@@ -64,6 +65,17 @@ class JavaThread:
         top = self.top()
         assert isinstance(top, Frame)
         return top
+
+    def next_is_local(self) -> bool:
+        """Whether the next event is an instruction that touches its frame alone, and throws nothing."""
+        top = self.top()
+        if self.has_ended or self.waits or self.relock or self.pending or not isinstance(top, Frame):
+            return False
+        name = MNEMONICS[top.opcode()]
+        if name in ("ldc", "ldc_w"):
+            index = top.code()[top.at + 1] if name == "ldc" else short(top, 1)
+            return top.method.owner.pool[index][0] == "int"
+        return name in LOCAL and not (name in ("idiv", "irem") and top.stack[-1] == 0)
 
     def frames(self) -> int:
         return sum(isinstance(entry, Frame) for entry in self.entries)

@@ -1,12 +1,11 @@
 """The machine that tells each event: what it did is seen by the state before it and the state after it."""
 
-import re
 from typing import Dict, List, NamedTuple, Optional, Sequence, Tuple, Union
 
 from oracle.frames import Frame
 from oracle.listing import Lines, instruction
 from oracle.machine import Machine
-from oracle.opcodes import LOCAL, MNEMONICS, PRIMITIVES, SILENT
+from oracle.opcodes import MNEMONICS, PRIMITIVES, SILENT
 from oracle.state import Initialisation, JavaThread, NotEnabled, Object, Value, component
 from oracle.told import Told
 
@@ -99,18 +98,8 @@ class Traced(Machine):
         thread = self.threads[number] if number < len(self.threads) else None
         if thread is None:
             raise NotEnabled("none")
-        at, place, local = self.done, self.place(thread), self.is_local(thread)
+        at, place, local = self.done, self.place(thread), thread.next_is_local()
         return Told(at, number, place, self.words(thread, number, pick), local)
-
-    def is_local(self, thread: JavaThread) -> bool:
-        """Whether the next event of a thread is an instruction which touches its frame alone, and throws nothing."""
-        top = thread.top()
-        if not isinstance(top, Frame) or thread.pending is not None or thread.relock:
-            return False
-        words = instruction(top.method, top.at).split(" ", 1)
-        if words[0] in ("ldc", "ldc_w"):
-            return re.fullmatch(r"-?\d+", words[1]) is not None
-        return words[0] in LOCAL and not (words[0] in ("idiv", "irem") and top.stack[-1] == 0)
 
     def words(self, thread: JavaThread, number: int, pick: int) -> List[str]:
         """Does an event, and answers what it did."""

@@ -13,13 +13,18 @@ Each screen that differs is shown. The status is 0 where none does.
 
 import difflib
 import os
+import pathlib
 import shutil
 import subprocess
 import sys
 import tempfile
 from typing import Dict, Iterator, List, Optional, Tuple
 
-TOP = os.path.dirname(os.path.dirname(os.path.realpath(__file__)))
+sys.dont_write_bytecode = True
+sys.path.insert(0, str(pathlib.Path(__file__).resolve().parent.parent))
+
+from tools.repository import ROOT
+
 DOCUMENTS = ["docs/TUTORIAL.md", "docs/ERRORS.md"]
 MARK = "== the next screen =="
 
@@ -66,7 +71,7 @@ def script_and_screens(text: str) -> Tuple[str, List[Screen]]:
 def copied(program: str, folder: str) -> Dict[str, str]:
     """Puts the tools, the lessons and the program into a folder. Answers the environment in which `jvm` is found."""
     for name in ("tools", "lessons"):
-        shutil.copytree(os.path.join(TOP, name), os.path.join(folder, name))
+        shutil.copytree(ROOT / name, os.path.join(folder, name))
     place = os.path.join(folder, "bin")
     os.mkdir(place)
     os.symlink(os.path.realpath(program), os.path.join(place, "jvm"))
@@ -86,8 +91,7 @@ def compared(screens: List[Screen], printed: str) -> Iterator[Screen]:
 
 def differing(program: str, document: str) -> int:
     """How many screens of a document differ. They are shown."""
-    with open(os.path.join(TOP, document), encoding="utf-8") as file:
-        script, screens = script_and_screens(file.read())
+    script, screens = script_and_screens((ROOT / document).read_text(encoding="utf-8"))
     with tempfile.TemporaryDirectory() as folder:
         environment = copied(program, folder)
         ran = subprocess.run(["bash", "-c", script], cwd=folder, env=environment, stdout=subprocess.PIPE)
