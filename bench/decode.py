@@ -11,7 +11,7 @@ of 65,535 bytes, classes and NameAndTypes that share a text as long, names that 
 last thing that is looked for: so each must be answered `Duplicate`.
 """
 
-import os
+import argparse
 import pathlib
 import sys
 import tempfile
@@ -139,7 +139,9 @@ def made() -> Iterator[Tuple[str, bytes, str]]:
 
 
 def main() -> None:
-    program = os.path.abspath(sys.argv[1]) if len(sys.argv) > 1 else str(BENCH)
+    parser = argparse.ArgumentParser(description=__doc__, formatter_class=argparse.RawDescriptionHelpFormatter)
+    parser.add_argument("program", nargs="?", type=pathlib.Path, default=BENCH, metavar="PROGRAM")
+    program = parser.parse_args().program.resolve()
     for name, data, wanted in made():
         with tempfile.TemporaryDirectory() as folder:
             pathlib.Path(folder, "A.class").write_bytes(data)

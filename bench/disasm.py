@@ -9,6 +9,7 @@ peak resident memory for each byte of the file. The files: one of long code, one
 listed nowhere, and one of 65,535 methods without code. They are made anew in a temporary folder.
 """
 
+import argparse
 import os
 import pathlib
 import sys
@@ -83,8 +84,11 @@ MAKERS = {"long_code": long_code, "long_pool": long_pool, "many_methods": many_m
 
 
 def main() -> None:
-    program = os.path.abspath(sys.argv[1]) if len(sys.argv) > 1 else str(JVM)
-    size = int(float(sys.argv[2]) * 1_000_000) if len(sys.argv) > 2 else 10_000_000
+    parser = argparse.ArgumentParser(description=__doc__, formatter_class=argparse.RawDescriptionHelpFormatter)
+    parser.add_argument("program", nargs="?", type=pathlib.Path, default=JVM, metavar="PROGRAM")
+    parser.add_argument("megabytes", nargs="?", type=float, default=10, metavar="MEGABYTES")
+    options = parser.parse_args()
+    program, size = options.program.resolve(), int(options.megabytes * 1_000_000)
     with tempfile.TemporaryDirectory() as folder:
         path = os.path.join(folder, "A.class")
         for name, made in MAKERS.items():

@@ -9,6 +9,7 @@ What it says is compared with the first line of the source, which is `// accepte
 line is printed for each source; the status is 1 where something else is said.
 """
 
+import argparse
 import os
 import pathlib
 import subprocess
@@ -35,10 +36,12 @@ def said(command: Sequence[str], paths: List[pathlib.Path]) -> str:
 
 
 def main() -> None:
-    if len(sys.argv) < 2:
-        sys.exit(__doc__)
-    sources = sorted(pathlib.Path(sys.argv[1]).glob("*.java"))
-    command = sys.argv[2:] or [str(JVM), "verify"]
+    parser = argparse.ArgumentParser(description=__doc__, formatter_class=argparse.RawDescriptionHelpFormatter)
+    parser.add_argument("folder", type=pathlib.Path, metavar="FOLDER")
+    parser.add_argument("command", nargs=argparse.REMAINDER, metavar="PROGRAM WORD..")
+    options = parser.parse_args()
+    sources = sorted(options.folder.glob("*.java"))
+    command = options.command or [str(JVM), "verify"]
     command = [os.path.abspath(command[0]), *command[1:]]
     differing = 0
     for source in sources:

@@ -11,6 +11,7 @@ not is `unknown` and one byte long, so what follows it is compared from the next
 instruction. The status is 0 where nothing differs.
 """
 
+import argparse
 import collections
 import os
 import pathlib
@@ -231,8 +232,12 @@ class Comparison:
 
 
 def main() -> None:
-    comparison = Comparison(os.path.abspath(sys.argv[1]))
-    paths = list(class_files(sys.argv[2:]))
+    parser = argparse.ArgumentParser(description=__doc__, formatter_class=argparse.RawDescriptionHelpFormatter)
+    parser.add_argument("program", type=pathlib.Path, metavar="PROGRAM")
+    parser.add_argument("paths", nargs="+", metavar="PATH")
+    options = parser.parse_args()
+    comparison = Comparison(str(options.program.resolve()))
+    paths = list(class_files(options.paths))
     with tempfile.TemporaryDirectory() as folder:
         for first in range(0, len(paths), AT_A_TIME):
             comparison.compare(paths[first : first + AT_A_TIME], folder)
