@@ -37,7 +37,7 @@ class Documents(unittest.TestCase):
         self.assertEqual(told(documents.wrong_counts(Document("x.md", text))), [2])
 
     def test_usage(self) -> None:
-        text = "`tools/gate --only tests`\n```sh\ntools/gate --never\ntools/none x\n```\n"
+        text = "`tools/gate --only tests --help`\n```sh\ntools/gate --never\ntools/none x\n```\n"
         self.assertEqual(told(documents.wrong_usage(Document("x.md", text))), [3, 4])
 
     def test_lines(self) -> None:

@@ -185,7 +185,7 @@ COUNTS: Sequence[Tuple[str, Callable[[], int]]] = [
     (r"([\d,]+) programs of `programs/`", lambda: number_of("programs/*.java")),
     (r"([\d,]+) lessons\b", lambda: number_of("lessons/*/README.md")),
     (r"([\d,]+) cases of `conformance`", lambda: len(CaseFolder().words)),
-    (r"(?:of|has) ([\d,]+) crates in this repository", lambda: len(crates())),
+    (r"\b(?:the|The|has|all) ([\d,]+) crates\b", lambda: len(crates())),
 ]
 
 
@@ -217,7 +217,7 @@ def wrong_usage(document: Document) -> Iterator[Tuple[int, str]]:
                 continue
             source = script.read_text(encoding="utf-8")
             for option in re.findall(r"(?<=\s)--[a-z][a-z-]*", command[found.end() :].split("`")[0].split("|")[0]):
-                if f'"{option}"' not in source and f"{option}" not in source:
+                if option != "--help" and option not in source:
                     yield line.number, f"{found[1]} has no option {option}"
 
 
