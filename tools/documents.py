@@ -185,7 +185,7 @@ COUNTS: Sequence[Tuple[str, Callable[[], int]]] = [
     (r"([\d,]+) programs of `programs/`", lambda: number_of("programs/*.java")),
     (r"([\d,]+) lessons\b", lambda: number_of("lessons/*/README.md")),
     (r"([\d,]+) cases of `conformance`", lambda: len(CaseFolder().words)),
-    (r"\b(?:the|The|has|all) ([\d,]+) crates\b", lambda: len(crates())),
+    (r"\b(?:the|The|has|all) ([\d,]+) crates\b(?! that there were)", lambda: len(crates())),
 ]
 
 
