@@ -6,7 +6,8 @@ import subprocess
 import tempfile
 from typing import Dict, List, Optional, Sequence
 
-ROOT = pathlib.Path(__file__).resolve().parent.parent
+from tools.repository import ROOT
+
 FOLDER = ROOT / "constructs"
 
 WORKS = "It works."
@@ -29,8 +30,8 @@ def joined(lines: Sequence[str]) -> List[str]:
 class Construct:
     """A source: its group and its title, and the paragraphs below them in its first comment.
 
-    A paragraph is `It works.` or `javac refuses it.`, the lines that are told, or options: `Files:` and the names of the
-    class files that are given, by default all of them, or `Version:` and the one that is put into them.
+    A paragraph is `It works.` or `javac refuses it.`, the lines that are told, or options: `Files:` and the names of
+    the class files that are given, by default all of them, or `Version:` and the one that is put into them.
     """
 
     def __init__(self, path: pathlib.Path) -> None:
@@ -82,14 +83,15 @@ class Construct:
         return data[:VERSION_AT] + self.version.to_bytes(2, "big") + data[VERSION_AT + 2 :]
 
 
-def compiled(paths: Sequence[pathlib.Path]) -> Optional[Dict[str, bytes]]:
+def compiled_together(paths: Sequence[pathlib.Path]) -> Optional[Dict[str, bytes]]:
     """The bytes of the class files of sources that are compiled together; none where javac refuses one."""
     with tempfile.TemporaryDirectory() as folder:
         command = [str(ROOT / "tools/java-classes"), *map(str, paths), "--into", folder, "--lines"]
         ran = subprocess.run(command, stdout=subprocess.PIPE, stderr=subprocess.DEVNULL, text=True, check=False)
         if ran.returncode:
             return None
-        return {str(pathlib.Path(path).relative_to(folder)): pathlib.Path(path).read_bytes() for path in ran.stdout.splitlines()}
+        made = [pathlib.Path(path) for path in ran.stdout.splitlines()]
+        return {str(path.relative_to(folder)): path.read_bytes() for path in made}
 
 
 def of_source(files: Dict[str, bytes], one: Construct) -> Dict[str, bytes]:
@@ -105,11 +107,11 @@ def class_files(all_of_them: Sequence[Construct]) -> Dict[str, Dict[str, bytes]]
     Those that javac is to take are compiled together, and where it refuses one, by themselves.
     """
     taken = [one for one in all_of_them if one.verdict != REFUSED]
-    together = compiled([one.path for one in taken])
+    together = compiled_together([one.path for one in taken])
     found: Dict[str, Dict[str, bytes]] = {}
     for one in all_of_them:
         is_alone = together is None or one.verdict == REFUSED
-        made = compiled([one.path]) if is_alone else of_source(together or {}, one)
+        made = compiled_together([one.path]) if is_alone else of_source(together or {}, one)
         if made is not None:
             found[one.name] = one.given(made)
     return found

@@ -1,4 +1,4 @@
-//! Schedules of policies, made once more by `bench/seeds.py`.
+//! Schedules of policies, made once more by `oracle/seeds.py`.
 
 use crate::policy_tests::lessons::{LOST_UPDATE, PHILOSOPHERS, WRONG_WAITER};
 use crate::policy_tests::runs::Runs;

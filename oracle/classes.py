@@ -1,11 +1,24 @@
-"""The classes of plain_machine.py: those of class files, read without a doubt of their bytes, and the built-in ones."""
+"""The classes of the machine: those of class files, read without a doubt of their bytes, and the built-in ones."""
+
+from __future__ import annotations
 
 import struct
+from typing import TYPE_CHECKING, Any, Dict, List, Optional, Sequence, Tuple
+
+if TYPE_CHECKING:
+    from oracle.state import JavaThread, Object, Value
+
+# An entry of a constant pool: its tag and what stands behind it; and one that code names: its sort and what it names.
+Pool = Dict[int, Tuple[int, Any]]
+Resolved = Dict[int, Tuple[str, Any]]
+
+# Flags, name, descriptor, and the value of a ConstantValue.
+Field = Tuple[int, str, str, Optional[Any]]
 
 PUBLIC, PRIVATE, STATIC, SYNCHRONIZED, NATIVE, INTERFACE, ABSTRACT = 1, 2, 8, 0x20, 0x100, 0x200, 0x400
 
 
-def narrowed(descriptor, value):
+def narrowed(descriptor: str, value: int) -> int:
     """What a field or an element of this type keeps of a value."""
     if descriptor == "Z":
         return value & 1
@@ -17,7 +30,7 @@ def narrowed(descriptor, value):
     return value
 
 
-def parameters(descriptor):
+def parameters(descriptor: str) -> int:
     """How many parameters a method's descriptor has."""
     at, found = 1, 0
     while descriptor[at] != ")":
@@ -31,24 +44,35 @@ def parameters(descriptor):
 class Method:
     """A method of a class: `code` is None where it has none."""
 
-    def __init__(self, owner, flags, name, descriptor):
+    def __init__(self, owner: Class, flags: int, name: str, descriptor: str) -> None:
         self.owner, self.flags, self.name, self.descriptor = owner, flags, name, descriptor
-        self.code, self.handlers, self.local_count = None, [], 0
+        self.code: Optional[bytes] = None
+        self.handlers: List[Tuple[int, ...]] = []
+        self.local_count = 0
         self.parameter_count = parameters(descriptor)
 
-    def has(self, flag):
+    def has(self, flag: int) -> bool:
         return self.flags & flag != 0
 
 
 class Class:
     """A class: fields are (flags, name, descriptor, constant), methods lie under (name, descriptor)."""
 
-    def __init__(self, name, superclass, interfaces=(), flags=PUBLIC):
-        self.name, self.superclass, self.interfaces, self.flags = name, superclass, list(interfaces), flags
-        self.pool, self.fields, self.methods = {}, [], {}
-        self.state, self.by, self.statics, self.object = "none", None, {}, None
+    # Its Class object, which the machine makes.
+    object: Object
 
-    def add(self, name, descriptor, flags=PUBLIC):
+    def __init__(
+        self, name: str, superclass: Optional[str], interfaces: Sequence[str] = (), flags: int = PUBLIC
+    ) -> None:
+        self.name, self.superclass, self.interfaces, self.flags = name, superclass, list(interfaces), flags
+        self.pool: Resolved = {}
+        self.fields: List[Field] = []
+        self.methods: Dict[Tuple[str, str], Method] = {}
+        self.state = "none"
+        self.by: Optional[JavaThread] = None
+        self.statics: Dict[str, Value] = {}
+
+    def add(self, name: str, descriptor: str, flags: int = PUBLIC) -> Method:
         method = self.methods[name, descriptor] = Method(self, flags, name, descriptor)
         return method
 
@@ -56,21 +80,22 @@ class Class:
 class Reader:
     """Numbers of class files, one after another."""
 
-    def __init__(self, data):
+    def __init__(self, data: bytes) -> None:
         self.data, self.at = data, 0
 
-    def number(self, size):
+    def number(self, size: int) -> int:
         self.at += size
         return int.from_bytes(self.data[self.at - size : self.at], "big")
 
-    def take(self, size):
+    def take(self, size: int) -> bytes:
         self.at += size
         return self.data[self.at - size : self.at]
 
 
-def read_pool(reader):
+def read_pool(reader: Reader) -> Pool:
     """Entries as (tag, what stands behind it)."""
-    pool, count, index = {}, reader.number(2), 1
+    pool: Pool = {}
+    count, index = reader.number(2), 1
     while index < count:
         tag = reader.number(1)
         if tag == 1:
@@ -88,10 +113,10 @@ def read_pool(reader):
     return pool
 
 
-def resolved_pool(pool):
+def resolved_pool(pool: Pool) -> Resolved:
     """The entries that code names: ints, class names, texts, and members as (class, name, descriptor)."""
 
-    def text(index):
+    def text(index: int) -> str:
         return pool[index][1]
 
     found = {}
@@ -106,44 +131,56 @@ def resolved_pool(pool):
     return found
 
 
-def read_code(reader, method):
+class ClassReader(Reader):
+    """Reads a class file, whose constant pool comes first."""
+
+    def __init__(self, data: bytes) -> None:
+        super().__init__(data)
+        self.take(8)
+        self.pool = read_pool(self)
+
+    def text(self) -> str:
+        text: str = self.pool[self.number(2)][1]
+        return text
+
+    def class_name(self) -> str:
+        name: str = self.pool[self.pool[self.number(2)][1]][1]
+        return name
+
+    def attributes(self) -> List[Tuple[str, bytes]]:
+        return [(self.text(), self.take(self.number(4))) for _ in range(self.number(2))]
+
+    def member(self) -> Tuple[int, str, str, List[Tuple[str, bytes]]]:
+        """The flags, name, descriptor and attributes of a field or a method."""
+        return self.number(2), self.text(), self.text(), self.attributes()
+
+
+def read_code(data: bytes, method: Method) -> None:
+    reader = Reader(data)
     reader.number(2)
     method.local_count = reader.number(2)
     method.code = reader.take(reader.number(4))
     method.handlers = [tuple(reader.number(2) for _ in range(4)) for _ in range(reader.number(2))]
 
 
-def read_class(data):
+def read_class(data: bytes) -> Class:
     """The class that the bytes of a class file spell."""
-    reader = Reader(data)
-    reader.take(8)
-    pool = read_pool(reader)
-
-    def text(index):
-        return pool[index][1]
-
-    def class_name():
-        return text(pool[reader.number(2)][1])
-
+    reader = ClassReader(data)
     flags = reader.number(2)
-    name, superclass = class_name(), class_name()
-    found = Class(name, superclass, [class_name() for _ in range(reader.number(2))], flags)
-    found.pool = resolved_pool(pool)
+    name, superclass = reader.class_name(), reader.class_name()
+    found = Class(name, superclass, [reader.class_name() for _ in range(reader.number(2))], flags)
+    found.pool = resolved_pool(reader.pool)
     for _ in range(reader.number(2)):
-        flags, name, descriptor = reader.number(2), text(reader.number(2)), text(reader.number(2))
-        constant = None
-        for _ in range(reader.number(2)):
-            attribute, data = text(reader.number(2)), reader.take(reader.number(4))
-            if attribute == "ConstantValue" and flags & STATIC:
-                constant = pool[int.from_bytes(data, "big")][1]
+        flags, name, descriptor, attributes = reader.member()
+        constants = [int.from_bytes(told, "big") for attribute, told in attributes if attribute == "ConstantValue"]
+        constant = reader.pool[constants[-1]][1] if constants and flags & STATIC else None
         found.fields.append((flags, name, descriptor, constant))
     for _ in range(reader.number(2)):
-        flags, name, descriptor = reader.number(2), text(reader.number(2)), text(reader.number(2))
+        flags, name, descriptor, attributes = reader.member()
         method = found.add(name, descriptor, flags)
-        for _ in range(reader.number(2)):
-            attribute, data = text(reader.number(2)), reader.take(reader.number(4))
+        for attribute, told in attributes:
             if attribute == "Code":
-                read_code(Reader(data), method)
+                read_code(told, method)
     return found
 
 
@@ -160,13 +197,7 @@ ArrayIndexOutOfBoundsException:IndexOutOfBoundsException
 """
 
 
-def built_in_classes():
-    """The classes that the machine brings along, all of them initialised."""
-    found = [Class("java/lang/Object", None)]
-    for name in ("<init>", "wait", "notify", "notifyAll"):
-        found[0].add(name, "()V")
-    runnable = Class("java/lang/Runnable", "java/lang/Object", flags=INTERFACE)
-    runnable.add("run", "()V", PUBLIC | ABSTRACT)
+def built_in_thread() -> Class:
     thread = Class("java/lang/Thread", "java/lang/Object", ["java/lang/Runnable"])
     thread.fields.append((0, "target", "Ljava/lang/Runnable;", None))
     for name, descriptor in (("<init>", "()V"), ("<init>", "(Ljava/lang/Runnable;)V"), ("start", "()V")):
@@ -182,16 +213,26 @@ def built_in_classes():
         1: ("member", ("java/lang/Thread", "target", "Ljava/lang/Runnable;")),
         2: ("member", ("java/lang/Runnable", "run", "()V")),
     }
+    return thread
+
+
+def built_in_classes() -> List[Class]:
+    """The classes that the machine brings along, all of them initialised."""
+    found = [Class("java/lang/Object", None)]
+    for name in ("<init>", "wait", "notify", "notifyAll"):
+        found[0].add(name, "()V")
+    runnable = Class("java/lang/Runnable", "java/lang/Object", flags=INTERFACE)
+    runnable.add("run", "()V", PUBLIC | ABSTRACT)
     system = Class("java/lang/System", "java/lang/Object")
     system.fields.append((STATIC, "out", "Ljava/io/PrintStream;", None))
     stream = Class("java/io/PrintStream", "java/lang/Object")
     stream.add("println", "(I)V")
-    found += [runnable, thread, system, stream]
+    found += [runnable, built_in_thread(), system, stream]
     found += [Class(f"java/lang/{name}", "java/lang/Object") for name in ("String", "Class")]
     for one in THROWABLES.split():
         name, superclass = one.split(":")
         found.append(Class(f"java/lang/{name}", f"java/lang/{superclass}"))
         found[-1].add("<init>", "()V")
-    for one in found:
-        one.state = "initialised"
+    for known in found:
+        known.state = "initialised"
     return found

@@ -1,10 +1,10 @@
 #!/usr/bin/env python3
 """Makes the cases of the Java programs of `programs/`, and compares what they print with `java`.
 
-    programs.py [--write] [NAME..]
+    oracle/programs.py [--write] [NAME..]
 
 Each program [default: all of them] is compiled by `tools/java-classes`, run by `java`, and run under several schedules
-by `bench/plain_machine.py`, which is the machine once more, written by the rules alone. What each run prints, and the
+by `oracle/machine.py`, which is the machine once more, written by the rules alone. What each run prints, and the
 exceptions that end its threads, have to be those of `java`; but not of a program that races, as its first line says,
 and not of a run whose schedule or limit ends it before its threads.
 
@@ -30,14 +30,24 @@ import re
 import subprocess
 import sys
 import tempfile
+from typing import Dict, List, Mapping, Optional, Sequence, Tuple
 
 sys.dont_write_bytecode = True
+sys.path.insert(0, str(pathlib.Path(__file__).resolve().parent.parent))
 
-from plain_frames import Frame
-from plain_machine import Machine, NotEnabled, Refused, replay
+from oracle.frames import Frame
+from oracle.machine import Machine, replay
+from oracle.opcodes import SHARED
+from oracle.schedules import Event, entries_of_events
+from oracle.state import JavaThread, NotEnabled, Refused
+from tools.cases import before_cases, blocks_of, file_lines, grouped, store, stored
+from tools.repository import CONFORMANCE, ROOT, compiled
 
-ROOT = pathlib.Path(__file__).resolve().parent.parent
-CONFORMANCE = ROOT / "crates/conformance"
+# What java prints, and the exceptions that end its threads.
+Java = Tuple[List[str], List[str]]
+
+# A name, how the schedule is made, options, and how many events there are at most.
+Way = Tuple[str, str, str, Optional[int]]
 
 TOPICS = {
     "values": "Quicksort NarrowTypes Switches Matrices Texts",
@@ -49,8 +59,8 @@ TOPICS = {
     "threads": "Interrupts InterruptedJoin Holder FailingInitialisers CrossedInitialisers",
 }
 
-# Further cases of a program: a name, how the schedule is made, options, and how many events there are at most.
-FURTHER = {
+# Further cases of a program.
+FURTHER: Dict[str, List[Way]] = {
     "Quicksort": [("cut", "alone", "", 100)],
     "Matrices": [("cells", "alone", "--cells 11", None)],
     "LinkedObjects": [("objects", "alone", "--objects 7", None), ("exact", "alone", "--objects 14 --cells 35", None)],
@@ -80,24 +90,16 @@ MOST = 10_000
 
 TURN = 2
 
-# Loads and stores of elements, fields, monitors and calls.
-SHARED = {*range(0x2E, 0x36), *range(0x4F, 0x57), *range(0xB2, 0xBA), 0xC2, 0xC3}
 
-
-def enabled(machine):
-    """The numbers of the threads that have an event that is enabled."""
-    return [number for number in range(len(machine.threads)) if machine.state(number) == "runnable"]
-
-
-def touches_shared(thread):
+def touches_shared(thread: JavaThread) -> bool:
     """Whether the next event of a thread is an instruction that touches what threads share."""
-    top = thread.entries[-1] if thread.entries else None
+    top = thread.top()
     if thread.pending or thread.relock or not isinstance(top, Frame):
         return False
-    return top.method.code[top.at] in SHARED
+    return top.opcode() in SHARED
 
 
-def last_pick(machine, number):
+def last_pick(machine: Machine, number: int) -> int:
     """The highest pick with which an event of a thread is enabled."""
     for pick in range(len(machine.threads), 0, -1):
         try:
@@ -108,104 +110,86 @@ def last_pick(machine, number):
     return 0
 
 
-def by_hand(machine, way):
+def by_hand(machine: Machine, way: str) -> List[Event]:
     """The events of a schedule by hand that are enabled."""
     events = []
     for thread, star, count in re.findall(r"([0-9]+)(\*?)([0-9]*)", way):
         for _ in range(int(count) if count else MOST if star else 1):
-            if int(thread) not in enabled(machine):
+            if int(thread) not in machine.enabled():
                 break
             machine.step(int(thread))
             events.append((int(thread), 0))
     return events
 
 
-def next_in_turn(able, number):
+def next_in_turn(able: List[int], number: int) -> int:
     """The next thread behind one, in rotation."""
     return next((other for other in able if other > number), able[0])
 
 
-def chosen(way, machine, able, events):
-    """The next event of a run, of the threads that are able to go on."""
+def chosen(way: str, machine: Machine, able: List[int], events: List[Event], was_shared: bool) -> Event:
+    """The next event of a run, of the threads that are able to go on; the last one touched what they share, or not."""
     last = events[-1][0] if events else 0
     if way == "hostile":
         others = [number for number in able if number != last]
-        number = last if last in able and not machine.was_shared or not others else others[-1]
+        number = last if last in able and not was_shared or not others else others[-1]
         return number, last_pick(machine, number)
     had_turn = way == "turns" and len(events) >= TURN and all(one[0] == last for one in events[-TURN:])
     return (last if last in able and not had_turn else next_in_turn(able, last)), 0
 
 
-def scheduled(files, way, limits, most):
+def scheduled(files: Sequence[bytes], way: str, limits: Mapping[str, int], most: Optional[int]) -> List[Event]:
     """The events of a run, which ends where no thread can go on, a limit stands, or there are enough."""
     way, _, last = way.partition("+")
-    machine = Machine(files, limits)
-    machine.was_shared = False
+    machine, was_shared = Machine(files, limits), False
     events = by_hand(machine, way) if way[0].isdigit() else []
     while len(events) < (most or MOST):
-        able = enabled(machine)
+        able = machine.enabled()
         if not able:
             break
-        event = chosen(way, machine, able, events)
+        event = chosen(way, machine, able, events, was_shared)
         touching = touches_shared(machine.threads[event[0]])
         events.append(event)
         try:
             machine.step(*event)
         except Refused:
             break
-        machine.was_shared = touching
+        was_shared = touching
     return [*events, (int(last), 0)] if last else events
-
-
-def entries_of(events):
-    """The entries of a schedule: equal events without a pick are one."""
-    entries = []
-    for thread, pick in events:
-        if entries and entries[-1][:2] == (thread, 0) and pick == 0:
-            entries[-1] = thread, 0, entries[-1][2] + 1
-        else:
-            entries.append((thread, pick, 1))
-    return entries
-
-
-def hex_lines(groups, most):
-    """Lines of hexadecimal digits, so many groups in each."""
-    return ["  " + " ".join(groups[at : at + most]) for at in range(0, len(groups), most)]
 
 
 class Program:
     """A program: its name, its class files, and what `java` says of it."""
 
-    def __init__(self, name, folder):
+    def __init__(self, name: str, folder: str) -> None:
         self.name, self.folder = name, pathlib.Path(folder) / name
         self.source = ROOT / "programs" / f"{name}.java"
-        self.told = re.match(r"/\*\* (.*) \*/", self.source.read_text()).group(1)
-        command = [ROOT / "tools/java-classes", self.source, "--into", self.folder]
-        paths = subprocess.run(command, check=True, stdout=subprocess.PIPE, text=True).stdout.splitlines()
-        self.files = {pathlib.Path(path).name: pathlib.Path(path).read_bytes() for path in paths}
+        told = re.match(r"/\*\* (.*) \*/", self.source.read_text())
+        self.told = told[1] if told else ""
+        self.files = {path.name: path.read_bytes() for path in compiled([self.source], self.folder)}
 
-    def races(self):
+    def races(self) -> bool:
         return self.told.endswith("Races.")
 
-    def java(self):
+    def java(self) -> Java:
         """What `java` prints, and the exceptions that end its threads."""
         ran = subprocess.run(["java", "-cp", self.folder, self.name], capture_output=True, text=True, timeout=60)
         thrown = re.findall(r'^Exception in thread "[^"]*" ([\w.$]+)', ran.stderr, re.MULTILINE)
         return ran.stdout.splitlines(), sorted(name.replace(".", "/") for name in thrown)
 
-    def runs(self):
+    def runs(self) -> List[Way]:
         """Names of cases, with the way of the schedule, options, and the most events."""
         whole = scheduled(list(self.files.values()), "whole", {}, None)
         ways = ["turns", "whole", "hostile"] if any(number for number, _ in whole) else ["alone"]
         return [(way, way, "", None) for way in ways] + FURTHER.get(self.name, [])
 
 
-def limits_of(options):
+def limits_of(options: str) -> Dict[str, int]:
     words = options.split()
     return {name[2:]: int(number) for name, number in zip(words[::2], words[1::2])}
 
 
-def differs(program, report, java):
+def differs(program: Program, report: str, java: Optional[Java]) -> bool:
     """Whether a report of a run to the end says something else than java."""
     lines = report.splitlines()
     printed = [line for line in lines if re.fullmatch(r"-?[0-9]+", line)]
@@ -213,17 +197,19 @@ def differs(program, report, java):
     return (printed, thrown) != java
 
 
-def cases_of(program, java):
+def cases_of(program: Program, java: Optional[Java]) -> Tuple[str, str, List[str]]:
     """The text of the cases of a program, what they must print, and the names of those that differ from java."""
-    text, printed, differing = [f"# {program.told}"], [], []
+    text = [f"# {program.told}"]
+    printed: List[str] = []
+    differing: List[str] = []
     for name, data in program.files.items():
-        text += [f"file {name}", *hex_lines(re.findall("..?.?.?.?.?.?.?", data.hex()), 12)]
+        text += file_lines(name, data)
     for name, way, options, most in program.runs():
-        entries = entries_of(scheduled(list(program.files.values()), way, limits_of(options), most))
+        entries = entries_of_events(scheduled(list(program.files.values()), way, limits_of(options), most))
         report, status = replay(list(program.files.values()), entries, limits_of(options))
         schedule = f"{program.name}-{name}.schedule"
         text += [f"file {schedule}", f"  4a534348 01 {len(entries):08x}"]
-        text += hex_lines([f"{thread:04x}{pick:04x}{repeat:08x}" for thread, pick, repeat in entries], 6)
+        text += grouped([f"{thread:04x}{pick:04x}{repeat:08x}" for thread, pick, repeat in entries], 6)
         words = ["replay --schedule", schedule, *options.split(), *program.files]
         text += [f"case {program.name}-{name}", "  " + " ".join(words)]
         printed.append(f"case {program.name}-{name}\n{report}status {status}\n")
@@ -232,23 +218,15 @@ def cases_of(program, java):
     return "\n".join([*text, ""]), "".join(printed), differing
 
 
-def before_cases(printed):
-    """What stands before the first case: what the trials print."""
-    return re.split(r"(?m)^case ", printed)[0]
-
-
-def blocks_of(printed):
-    """What each case prints, by its name, in order."""
-    return {block.split("\n")[0]: "case " + block for block in re.split(r"(?m)^case ", printed)[1:]}
-
-
-HEAD = """# Java programs as javac compiles them, made by `bench/programs.py` of the sources in programs/.
+HEAD = """# Java programs as javac compiles them, made by `oracle/programs.py` of the sources in programs/.
 """
 
 
-def made(names, folder):
+def made(names: Sequence[str], folder: str) -> Tuple[Dict[str, str], Dict[str, str], bool]:
     """The texts of the topics, what all cases must print, and whether a program differs from java."""
-    texts, printed, is_wrong = {}, {}, False
+    texts: Dict[str, str] = {}
+    printed: Dict[str, str] = {}
+    is_wrong = False
     for topic, members in TOPICS.items():
         parts = [HEAD]
         for name in members.split():
@@ -267,27 +245,27 @@ def made(names, folder):
     return texts, printed, is_wrong
 
 
-def written(texts, printed):
+def written(texts: Dict[str, str], printed: Dict[str, str]) -> None:
     """Writes cases and what they must print: those of these files behind those of programs.cases."""
-    stdout = (CONFORMANCE / "stdout").read_bytes().decode("latin-1")
+    before = stored()
     own = {name for one in printed.values() for name in blocks_of(one)}
     lines = (CONFORMANCE / "data/programs.cases").read_text().splitlines()
     programs = [line[5:] for line in lines if line.startswith("case ")]
-    blocks = [before_cases(stdout)]
-    for name, block in blocks_of(stdout).items():
+    blocks = [before_cases(before)]
+    for name, block in blocks_of(before).items():
         if name not in own:
             blocks.append(block)
         if name == programs[-1]:
             blocks += printed.values()
-    (CONFORMANCE / "stdout").write_bytes("".join(blocks).encode("latin-1"))
+    store("".join(blocks))
     for topic, text in texts.items():
         (CONFORMANCE / f"data/java-{topic}.cases").write_text(text)
 
 
-def differing_cases(texts, printed, names):
+def differing_cases(texts: Dict[str, str], printed: Dict[str, str], names: Sequence[str]) -> List[str]:
     """What stands otherwise in crates/conformance."""
-    stored = blocks_of((CONFORMANCE / "stdout").read_bytes().decode("latin-1"))
-    found = [name for one in printed.values() for name, block in blocks_of(one).items() if stored.get(name) != block]
+    kept = blocks_of(stored())
+    found = [name for one in printed.values() for name, block in blocks_of(one).items() if kept.get(name) != block]
     if not names:
         for topic, text in texts.items():
             path = CONFORMANCE / f"data/java-{topic}.cases"
@@ -296,7 +274,7 @@ def differing_cases(texts, printed, names):
     return found
 
 
-def main():
+def main() -> None:
     parser = argparse.ArgumentParser(description=__doc__, formatter_class=argparse.RawDescriptionHelpFormatter)
     parser.add_argument("--write", action="store_true")
     parser.add_argument("names", nargs="*", metavar="NAME")

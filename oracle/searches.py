@@ -1,44 +1,56 @@
 #!/usr/bin/env python3
-"""Searches by plain_machine.py: what `jvm search` has to print, worked out by a machine of its own.
+"""Searches by the oracle: what `jvm search` has to print, worked out by a machine of its own.
 
-    searches.py [--for OUTCOME] [--states N] FILE..
-    searches.py --write
+    oracle/searches.py [--for OUTCOME] [--states N] FILE..
+    oracle/searches.py --write
 
-States are searched breadth first, the events of each in the order of threads and picks, and behind an event with pick 0 the
-local instructions of its thread, at most 1,024, are done, too. A state is told apart from
-others by its objects in the order in which they were made, its classes, threads and stacks, and what was printed. A state is
-kept as the events that lead to it. With --write the searches of the lessons below become cases of `crates/conformance`, with
-what they have to print. The schedule of a run that was found is recorded and replayed.
+States are searched breadth first, the events of each in the order of threads and picks, and behind an event with pick 0
+the local instructions of its thread, at most 1,024, are done, too. A state is told apart from others by its objects in
+the order in which they were made, its classes, threads and stacks, and what was printed. A state is kept as the events
+that lead to it. With --write the searches of the lessons below become cases of `crates/conformance`, with what they
+have to print. The schedule of a run that was found is recorded and replayed.
 """
 
 import argparse
 import pathlib
 import re
 import sys
+from typing import Any, Dict, Iterator, List, Optional, Sequence, Set, Tuple, Union
 
 sys.dont_write_bytecode = True
+sys.path.insert(0, str(pathlib.Path(__file__).resolve().parent.parent))
 
-from lessons import LESSONS, compiled
-from plain_frames import Frame, short
-from plain_machine import Machine, NotEnabled, status_of, text_of
-from programs import CONFORMANCE
+from oracle.frames import Frame
+from oracle.lessons import LESSONS, class_files
+from oracle.machine import Machine, status_of, text_of
+from oracle.schedules import Event
+from oracle.state import Initialisation, JavaThread, NotEnabled, Object, Value
+from tools.cases import store, stored
+from tools.repository import CONFORMANCE
 
 # How the words of a report are ordered.
 RANKS = ["ended", "threw", "blocked", "waiting", "joining", "initialising"]
 
 
+# What was printed, and how each thread stands.
+Outcome = Tuple[Tuple[int, ...], Tuple[str, ...]]
+
+# A value as it tells a state apart.
+Word = Union[int, Tuple[Any, ...]]
+
+
 class Numbered(Machine):
     """A machine that numbers its objects in the order in which they are made."""
 
-    def __init__(self, files):
-        self.numbers = {}
+    def __init__(self, files: Sequence[bytes]) -> None:
+        self.numbers: Dict[Object, int] = {}
         super().__init__(files)
 
-    def allocated(self, thing, cells):
+    def allocated(self, thing: Object, cells: int) -> Object:
         self.numbers[thing] = len(self.numbers)
         return super().allocated(thing, cells)
 
-    def word(self, value):
+    def word(self, value: Value) -> Word:
         """A value as a word: null is 0, as are locals that were not written."""
         if value is None:
             return 0
@@ -47,7 +59,7 @@ class Numbered(Machine):
         number = self.numbers.get(value)
         return ("new", number) if number is not None else ("old", value.kind, self.place(value))
 
-    def place(self, thing):
+    def place(self, thing: Object) -> Union[int, str]:
         """An object that is there from the beginning."""
         for name, one in self.classes.items():
             if one.object is thing:
@@ -57,25 +69,25 @@ class Numbered(Machine):
                 return text
         return 0
 
-    def monitor(self, thing):
+    def monitor(self, thing: Object) -> Tuple[Any, ...]:
         owner = self.threads.index(thing.owner) if thing.owner else None
         return owner, thing.entries, tuple(self.threads.index(waiter) for waiter in thing.waiters)
 
-    def entry(self, entry):
+    def entry(self, entry: Union[Frame, Initialisation]) -> Tuple[Any, ...]:
         if not isinstance(entry, Frame):
             return entry.of.name, entry.phase
         entered = self.word(entry.entered)
         method = entry.method.owner.name, entry.method.name, entry.method.descriptor
         return method, entry.at, entered, tuple(map(self.word, entry.locals)), tuple(map(self.word, entry.stack))
 
-    def thread(self, thread):
+    def thread(self, thread: JavaThread) -> Tuple[Any, ...]:
         waits = thread.waits and (self.word(thread.waits[0]), thread.waits[1])
         relock = thread.relock and (self.word(thread.relock[0]), *thread.relock[1:])
         entries = tuple(map(self.entry, thread.entries))
         flags = thread.is_interrupted, thread.has_ended
         return self.word(thread.object), self.word(thread.pending), flags, waits, relock, entries
 
-    def key(self):
+    def key(self) -> Tuple[Any, ...]:
         """What tells the state apart from others."""
         things = []
         for thing in [*self.numbers, *(one.object for one in self.classes.values()), *self.strings.values()]:
@@ -83,18 +95,18 @@ class Numbered(Machine):
             things.append((thing.kind, tuple(map(self.word, parts)), self.monitor(thing)))
         classes = []
         for one in self.classes.values():
-            by = self.threads.index(one.by) if one.state == "begun" else None
+            by = self.threads.index(one.by) if one.state == "begun" and one.by else None
             classes.append((one.state, by, tuple(map(self.word, one.statics.values()))))
         return tuple(things), tuple(classes), tuple(map(self.thread, self.threads)), tuple(self.printed)
 
-    def is_quiet(self):
+    def is_quiet(self) -> bool:
         return all(self.state(number) != "runnable" for number in range(len(self.threads)))
 
-    def outcome(self):
+    def outcome(self) -> Outcome:
         return tuple(self.printed), tuple(self.state(number) for number in range(len(self.threads)))
 
 
-def at(files, events):
+def at(files: Sequence[bytes], events: Tuple[Event, ...]) -> Numbered:
     """A machine that has done these events."""
     machine = Numbered(files)
     for thread, pick in events:
@@ -102,28 +114,11 @@ def at(files, events):
     return machine
 
 
-# Instructions that touch what threads share, make something, call, return or may throw.
-SHARED = {*range(0x2E, 0x36), *range(0x4F, 0x57), *range(0xAC, 0xB2), *range(0xB2, 0xC4)}
-
 # How many local instructions are done at most.
 MOST = 1024
 
 
-def is_local(thread):
-    """Whether the next event of a thread is a local instruction, which throws nothing."""
-    top = thread.entries[-1] if thread.entries else None
-    if thread.has_ended or thread.waits or thread.relock or thread.pending or not isinstance(top, Frame):
-        return False
-    opcode = top.method.code[top.at]
-    if opcode in (0x12, 0x13):
-        index = top.method.code[top.at + 1] if opcode == 0x12 else short(top, 1)
-        return top.method.owner.pool[index][0] == "int"
-    if opcode in (0x6C, 0x70) and top.stack[-1] == 0:
-        return False
-    return opcode not in SHARED
-
-
-def following(files, events):
+def following(files: Sequence[bytes], events: Tuple[Event, ...]) -> Iterator[Tuple[Tuple[Event, ...], Numbered]]:
     """The states to which an event leads from the end of these, in the order of threads and picks."""
     for thread in range(len(at(files, events).threads)):
         for pick in range(1 << 16):
@@ -133,13 +128,13 @@ def following(files, events):
             except NotEnabled:
                 break
             more = 0
-            while pick == 0 and more < MOST and is_local(machine.threads[thread]):
+            while pick == 0 and more < MOST and machine.threads[thread].next_is_local():
                 machine.step(thread)
                 more += 1
             yield (*events, *[(thread, pick)] * (1 + more)), machine
 
 
-def is_wanted(goal, outcome):
+def is_wanted(goal: Optional[str], outcome: Outcome) -> bool:
     printed, threads = outcome
     if goal == "deadlock":
         return any(state in RANKS[2:] for state in threads)
@@ -150,26 +145,28 @@ def is_wanted(goal, outcome):
     return goal is not None and goal == "output=" + ",".join(map(str, printed))
 
 
-def text_at(path):
+def text_at(path: str) -> str:
     """A text that is given below, or else lies there."""
     lines = TEXTS.get(path)
     return pathlib.Path(path).read_text() if lines is None else "".join(f"{line}\n" for line in lines)
 
 
-def order(outcome):
+def order(outcome: Outcome) -> Tuple[Any, ...]:
     """Where an outcome stands in a list."""
     printed, threads = outcome
     return printed, tuple((RANKS.index(state.split(" ")[0]), state.encode()) for state in threads)
 
 
-def lines_of(outcome):
+def lines_of(outcome: Outcome) -> List[str]:
     printed, threads = outcome
     return [*map(str, printed), *(f"thread {number} {state}" for number, state in enumerate(threads))]
 
 
-def search(files, goal, most):
+def search(files: Sequence[bytes], goal: Optional[str], most: int) -> Tuple[str, int, Optional[Numbered]]:
     """What `jvm search` prints, its status, and the machine that was found."""
-    met, states, outcomes = {at(files, ()).key()}, [()], set()
+    met = {at(files, ()).key()}
+    states: List[Tuple[Event, ...]] = [()]
+    outcomes: Set[Outcome] = set()
     for events in states:
         machine = at(files, events)
         if machine.is_quiet():
@@ -184,13 +181,13 @@ def search(files, goal, most):
                     return last_lines(states, "gave up"), 5, None
                 met.add(key)
                 states.append(after)
-    text = []
+    text: List[str] = []
     for number, outcome in enumerate(sorted(outcomes, key=order), 1):
         text += [f"outcome {number}", *lines_of(outcome)]
     return "\n".join([*text, f"outcomes {len(outcomes)}", last_lines(states, "complete")]), 0, None
 
 
-def last_lines(states, word):
+def last_lines(states: List[Tuple[Event, ...]], word: str) -> str:
     scope = "of runs that end\n" if word == "complete" else ""
     return f"states {len(states)}\n{scope}search {word}\n"
 
@@ -216,10 +213,15 @@ SEARCHED = [
 # The texts that printed numbers are compared with, by their lines.
 TEXTS = {"two": [2]}
 
-HEAD = ["# Searches over all schedules, made by `bench/searches.py` over the files of the lessons.", "", "files lessons.cases", ""]
+HEAD = [
+    "# Searches over all schedules, made by `oracle/searches.py` over the files of the lessons.",
+    "",
+    "files lessons.cases",
+    "",
+]
 
 
-def words_of(words):
+def words_of(words: Sequence[str]) -> argparse.Namespace:
     """The words behind `search`."""
     parser = argparse.ArgumentParser()
     parser.add_argument("--for", dest="goal")
@@ -228,10 +230,10 @@ def words_of(words):
     return parser.parse_args(words)
 
 
-def cases_of(folder, names, options):
+def cases_of(folder: str, names: List[str], options: str) -> Tuple[List[str], str]:
     """The lines of the cases of a search, and what they have to print."""
     words = words_of([*options.split(), *names])
-    files = compiled(LESSONS / folder)
+    files = class_files(LESSONS / folder)
     told, status, found = search([files[f"{name}.class"] for name in names], words.goal, words.states)
     name = "-".join([folder, names[0], re.sub("[ =]", "-", options.replace("--for ", "").replace("--", "")) or "all"])
     paths = " ".join(f"{folder}/{one}.class" for one in names)
@@ -247,22 +249,21 @@ def cases_of(folder, names, options):
     return text, printed
 
 
-def write():
+def write() -> None:
     lines, shown = [*HEAD], ""
-    for name, text in TEXTS.items():
-        lines += [f"text {name}", *(f"  {line}" for line in text), ""]
+    for name, numbers in TEXTS.items():
+        lines += [f"text {name}", *(f"  {number}" for number in numbers), ""]
     for row in SEARCHED:
         text, printed = cases_of(*row)
         lines, shown = [*lines, *text], shown + printed
     (CONFORMANCE / "data/searches.cases").write_text("\n".join([*lines, ""]))
-    stdout = CONFORMANCE / "stdout"
-    before = stdout.read_bytes().split(b"case search-")[0]
-    stdout.write_bytes(before + shown.encode())
+    store(stored().split("case search-")[0] + shown.encode().decode("latin-1"))
 
 
-def main():
+def main() -> int:
     if sys.argv[1:] == ["--write"]:
-        return write()
+        write()
+        return 0
     words = words_of(sys.argv[1:])
     text, status, _ = search([pathlib.Path(path).read_bytes() for path in words.files], words.goal, words.states)
     sys.stdout.write(text)
