@@ -1,10 +1,17 @@
 -- Files that are read for advice.
-use Rattle.std.proofs.Common.{◌≡◌, ℕ, ◌+◌, ◌<◌, ◌≤◌, List, [], ◌∷◌, ◌++◌, length, map, take, get_or, Option, string_bytes, refl, sym, ap, subst, arith}
+use Rattle.std.proofs.Common.{inl, inr, ◌⊎◌, ◌≡◌, ℕ, ◌+◌, ◌<◌, ◌≤◌, List, [], ◌∷◌, ◌++◌, length, map, take, get_or, Option, string_bytes, refl, sym, ap, subst, arith}
 use Rattle.std.proofs.lemmas.List.{take_all}
 use Rattle.std.specs.declared.string.String.{String}
 use Rattle.std.specs.Global.{Global}
 use Rattle.advice.specs.declared.given.GivenFile.{GivenFile}
 use Rattle.advice.specs.Reading.{bytes_of}
+use Rattle.command_line.specs.CommandLine.{Spells}
+use Rattle.command_line.specs.declared.options.Command.{Command}
+use Rattle.engines.specs.declared.complaint.Complaint.{Complaint}
+use Rattle.engines.specs.declared.complaint.Complaint.TheVariants as complaints
+use Rattle.engines.specs.declared.fault.Fault.{Fault}
+use Rattle.engines.specs.Advised.{IsExplained, IsToldOf}
+use Rattle.engines.specs.Commands.{Held, Listed}
 use Rattle.engines.specs.Engines.{Reads, ReadsEach}
 use Rattle.engines.specs.Files.{held_at}
 use Rattle.engines.proofs.EngineLemmas.{reads_next}
@@ -30,3 +37,14 @@ pub all_read : (held : List ℕ → Option (List ℕ)) (paths : List (String Glo
 all_read held paths i files le read =
     let whole : take i paths ≡ paths = take_all i paths le in
     subst (λ l. ReadsEach l (map bytes_of files)) (held_all held paths) (subst (λ (l : List (String Global)). AreReadAt held l files) whole read)
+
+-- ---- what is told
+
+-- it is told of a fault of the command of the words
+pub explained : (held : Held) (listed : Listed) (words : List (List ℕ)) (complaint : Complaint) (command : Command) (fault : Fault) (old new : List ℕ)
+    → complaint ≡ complaints.Fault fault → Spells words command → (new ≡ old) ⊎ IsToldOf held listed command fault new
+    → IsExplained held listed words complaint old new
+explained held listed words complaint command fault old new is spelled (inl same) =
+    subst (λ (c : Complaint). IsExplained held listed words c old new) (sym is) (inl same)
+explained held listed words complaint command fault old new is spelled (inr more) =
+    subst (λ (c : Complaint). IsExplained held listed words c old new) (sym is) (inr (inl (command, spelled, more)))

@@ -1,9 +1,10 @@
 -- What is told behind a complaint, on standard error (own).
 use Rattle.std.specs.Prelude.{◌≡◌, ◌⊎◌, ℕ, List, [], ◌++◌, Option, Bool, false}
 use Rattle.advice.specs.Advice.{IsAdvice}
-use Rattle.command_line.specs.CommandLine.{Spells}
+use Rattle.command_line.specs.CommandLine.{Asks, Fails, Spells}
 use Rattle.command_line.specs.declared.options.Command.{Command}
 use Rattle.command_line.specs.declared.options.Command.TheVariants as commands
+use Rattle.command_line.specs.declared.usage.Usage.{Usage}
 use Rattle.engines.specs.Commands.{Held, Listed, OfGiven}
 use Rattle.engines.specs.Engines.{ReadsEach}
 use Rattle.engines.specs.declared.complaint.Complaint.{Complaint}
@@ -30,13 +31,15 @@ is_quiet (commands.Verify verify) = verify.quiet
 is_quiet (commands.Disasm disasm) = disasm.quiet
 is_quiet (commands.Schedule schedule) = schedule.quiet
 
--- advice on the files that the command of the words refuses, which isn't to be quiet
-abbrev pub IsAdvisedBy : Held → Listed → (words : List (List ℕ)) → Complaint → (text : List ℕ) → Type 0
-IsAdvisedBy held listed words (complaints.Usage usage) text = ⊥
-IsAdvisedBy held listed words (complaints.Fault fault) text =
-    (command : Command) × Spells words command × (is_quiet command ≡ false) × IsAdvised held listed command fault text
+-- What is told of a fault of a command, which isn't to be quiet: a text of which nothing is said, with no more behind it than advice.
+abbrev pub IsToldOf : Held → Listed → Command → Fault → (new : List ℕ) → Type 0
+IsToldOf held listed command fault new = (is_quiet command ≡ false)
+    × ((front text : List ℕ) × (new ≡ front ++ text) × ((text ≡ []) ⊎ IsAdvised held listed command fault text))
 
--- The text that was told stands; or another one is told, of which nothing is said, with no more behind it than advice.
+-- Behind words that are no command nothing is told. Otherwise the text that was told stands; or another one is told, of the fault of the
+-- command of the words; or of help that can't be written, of which nothing is said.
 abbrev pub IsExplained : Held → Listed → (words : List (List ℕ)) → Complaint → (old new : List ℕ) → Type 0
-IsExplained held listed words complaint old new = (new ≡ old)
-    ⊎ ((front text : List ℕ) × (new ≡ front ++ text) × ((text ≡ []) ⊎ IsAdvisedBy held listed words complaint text))
+IsExplained held listed words (complaints.Usage usage) old new = new ≡ old
+IsExplained held listed words (complaints.Fault fault) old new = (new ≡ old)
+    ⊎ (((command : Command) × Spells words command × IsToldOf held listed command fault new)
+    ⊎ ((usage : Usage) × Fails words usage × Asks usage))

@@ -1,7 +1,7 @@
 //! The line that tells a person why a command was not done. For it the files are read a second time.
 
-ghost use Rattle.std.specs.Prelude.{◌≡◌, map, string_bytes};
-ghost use Rattle.engines.specs.Advised.{IsExplained, is_quiet};
+ghost use Rattle.std.specs.Prelude.{◌≡◌, ◌⊎◌, map, string_bytes};
+ghost use Rattle.engines.specs.Advised.{IsExplained, IsToldOf, is_quiet};
 
 use crate::advised::{advised, named_files};
 use crate::complaint::Complaint;
@@ -9,7 +9,7 @@ use crate::explanation::Explanation;
 use crate::fault::Fault;
 use crate::folder::Folder;
 use crate::given_paths::given_paths;
-use command_line::{Command, Goal, command};
+use command_line::{Command, Goal, Usage, command};
 use explanations::refusal_explanations::{explain, explain_schedule, explain_text};
 use std::alloc::{AllocError, Global};
 use std::fmt::Display;
@@ -47,26 +47,42 @@ pub fn explain_complaint<F: Folder>(
     let Complaint::Fault(fault) = complaint else {
         return;
     };
-    let Ok(command) = command(alloc, words) else {
+    match command(alloc, words) {
+        Ok(command) => explain_fault(alloc, folder, &command, fault, failures, explanation),
         // help that can't be written
-        if explanation.is_wanted() {
+        Err(Usage::Asked(_)) if explanation.is_wanted() => {
             explanation.tell(indented(alloc, of_streams(alloc, failures)));
         }
-        return;
-    };
-    let (is_explained, is_quiet) = flags_of(&command);
-    if !is_quiet && (is_explained || explanation.is_wanted()) {
-        let line = told_line(
-            alloc,
-            folder,
-            &command,
-            fault,
-            failures,
-            explanation.reason(),
-        );
-        explanation.tell(indented(alloc, line));
-        explanation.add(advised(alloc, folder, &command, fault));
+        Err(_) => {}
     }
+}
+
+/// Tells why a command has this fault, and behind it the advice on files that `verify` refuses.
+fn explain_fault<F: Folder>(
+    alloc: Global,
+    folder: &F,
+    command: &Command,
+    fault: &Fault,
+    failures: Failures<'_>,
+    explanation: &mut Explanation,
+)
+    ensures { (explanation.new ≡ explanation.old)
+        ⊎ IsToldOf (F.held folder.now) (F.listed folder.now) command.now fault.now explanation.new }
+{
+    let (is_explained, is_quiet) = flags_of(command);
+    if is_quiet || !(is_explained || explanation.is_wanted()) {
+        return;
+    }
+    let line = told_line(
+        alloc,
+        folder,
+        command,
+        fault,
+        failures,
+        explanation.reason(),
+    );
+    explanation.tell(indented(alloc, line));
+    explanation.add(advised(alloc, folder, command, fault));
 }
 
 /// What is known of a fault of a command.
