@@ -1,0 +1,5 @@
+package java.util;
+
+/** Elements, none of them twice. */
+public interface Set<E> extends Collection<E> {
+}
