@@ -25,4 +25,8 @@ public interface List<E> extends Collection<E> {
     ListIterator<E> listIterator(int index);
 
     List<E> subList(int from, int to);
+
+    boolean equals(Object other);
+
+    int hashCode();
 }
