@@ -28,6 +28,9 @@ class ConditionInterrupted {
             }
         };
         one.start();
+        lock.lock();
+        condition.signal();
+        lock.unlock();
         one.interrupt();
         one.join();
         print(how[0]);

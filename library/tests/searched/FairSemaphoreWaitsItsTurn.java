@@ -1,6 +1,6 @@
 import java.util.concurrent.Semaphore;
 
-/** A fair one doesn't let a small request pass a large one that waits. */
+/** A fair one doesn't let a small request pass a large one that waits, so both may wait for ever. */
 class FairSemaphoreWaitsItsTurn {
     static void print(int number) {
         System.out.println(number);
@@ -24,5 +24,6 @@ class FairSemaphoreWaitsItsTurn {
         print(1);
         permits.release(2);
         one.join();
+        print(permits.availablePermits());
     }
 }

@@ -1,5 +1,5 @@
 /* A broken twin: one that is woken doesn't look again whether there are permits.
- * Test: SemaphoreExcludes
+ * Test: SemaphoreAgain
  */
 package java.util.concurrent;
 
@@ -63,7 +63,6 @@ public class Semaphore implements java.io.Serializable {
     }
 
     private synchronized void take(int count) throws InterruptedException {
-        permits = permits + 0;
         if (permits < count) {
             wait();
         }

@@ -1,4 +1,4 @@
-/* A broken twin: a release wakes nobody where the first one needs more than there was before.
+/* A broken twin: permits are handed on, and not counted.
  * Test: FairSemaphoreWaitsItsTurn
  */
 package java.util.concurrent;
