@@ -54,8 +54,9 @@ class Reader:
 class Needs:
     """A class file: its class, and those that linking looks up for it.
 
-    These are its superclass and its interfaces, the classes in the descriptors of what it declares, the catch types, and
-    what the operands of its instructions name, with their descriptors. What else stands in the pool counts for nothing.
+    These are its superclass and its interfaces, the classes in the descriptors of what it declares, the catch types,
+    and what the operands of its instructions name, with their descriptors. What else stands in the pool counts for
+    nothing.
     """
 
     def __init__(self, data: bytes) -> None:

@@ -1,6 +1,9 @@
 import java.util.Random;
 
-/** The numbers of `new Random(0)`, which are those of `new Random()` here; the .expected is that of `java` with the seed 0. */
+/**
+ * The numbers of `new Random(0)`, which are those of `new Random()` here; the .expected is that of `java` with the
+ * seed 0.
+ */
 class RandomNumbers {
     public static void main(String[] args) {
         Random random = new Random();

@@ -3,8 +3,9 @@ package java.lang;
 /**
  * A char as an object.
  *
- * Boxing gives one object for each of 0 to 127 (JLS 5.1.7), which is made where it is first asked for, under the lock of
- * the class; and a new one for each other char. Letters and digits are those of ASCII alone. Left out: text, code points.
+ * Boxing gives one object for each of 0 to 127 (JLS 5.1.7), which is made where it is first asked for, under the
+ * lock of the class; and a new one for each other char. Letters and digits are those of ASCII alone. Left out:
+ * text, code points.
  */
 public final class Character implements Comparable<Character>, java.io.Serializable {
     public static final char MIN_VALUE = 0;

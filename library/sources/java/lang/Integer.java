@@ -3,8 +3,8 @@ package java.lang;
 /**
  * An int as an object.
  *
- * Boxing gives one object for each of -128 to 127 (JLS 5.1.7), which is made where it is first asked for, under the lock
- * of the class; and a new one for each other int. Left out: all that makes or reads text, and long.
+ * Boxing gives one object for each of -128 to 127 (JLS 5.1.7), which is made where it is first asked for, under
+ * the lock of the class; and a new one for each other int. Left out: all that makes or reads text, and long.
  */
 public final class Integer extends Number implements Comparable<Integer> {
     public static final int MIN_VALUE = 0x80000000;

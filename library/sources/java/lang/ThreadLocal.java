@@ -3,9 +3,9 @@ package java.lang;
 /**
  * A value for each thread.
  *
- * Values stand in a chain, an entry for each thread that has asked. A thread reads the chain without a lock, and puts its
- * entry in front under the lock of this object; what an entry holds is read and written by its thread alone. Left out:
- * `withInitial`.
+ * Values stand in a chain, an entry for each thread that has asked. A thread reads the chain without a lock, and
+ * puts its entry in front under the lock of this object; what an entry holds is read and written by its thread
+ * alone. Left out: `withInitial`.
  */
 public class ThreadLocal<T> {
     static final class Entry {

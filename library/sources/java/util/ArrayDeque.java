@@ -1,6 +1,9 @@
 package java.util;
 
-/** A queue with two ends over a ring of elements, none of them null. Not for several threads at once. Left out: `clone`. */
+/**
+ * A queue with two ends over a ring of elements, none of them null. Not for several threads at once. Left out:
+ * `clone`.
+ */
 public class ArrayDeque<E> extends AbstractCollection<E> implements Deque<E>, java.io.Serializable {
     private Object[] ring;
     private int first;

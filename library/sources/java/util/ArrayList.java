@@ -1,6 +1,9 @@
 package java.util;
 
-/** A list over an array that grows. Not for several threads at once. Left out: `trimToSize`, `clone`, what takes a function. */
+/**
+ * A list over an array that grows. Not for several threads at once. Left out: `trimToSize`, `clone`, what takes a
+ * function.
+ */
 public class ArrayList<E> extends AbstractList<E> implements RandomAccess, java.io.Serializable {
     private Object[] elements;
     private int size;

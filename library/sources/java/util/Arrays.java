@@ -3,8 +3,8 @@ package java.util;
 /**
  * Functions of arrays of ints, chars, booleans and references. Sorting is stable insertion.
  *
- * `asList` is a list over the array itself. Left out: text, streams, long, float, double, byte and short; a copy of an array
- * of references is an array of Object, so `copyOf` of them is left out, too.
+ * `asList` is a list over the array itself. Left out: text, streams, long, float, double, byte and short; a copy
+ * of an array of references is an array of Object, so `copyOf` of them is left out, too.
  */
 public final class Arrays {
     private Arrays() {

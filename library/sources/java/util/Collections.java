@@ -3,8 +3,8 @@ package java.util;
 /**
  * Functions of collections. Sorting is stable.
  *
- * A synchronized one takes its own lock for each operation; whoever iterates has to hold it. `shuffle` is that of a given
- * Random. Left out: streams, checked collections, sorted views, `reverseOrder` of a Comparator's methods.
+ * A synchronized one takes its own lock for each operation; whoever iterates has to hold it. `shuffle` is that of
+ * a given Random. Left out: streams, checked collections, sorted views, `reverseOrder` of a Comparator's methods.
  */
 public class Collections {
     private Collections() {

@@ -3,10 +3,10 @@ package java.util;
 /**
  * Values by keys that are found by their hash. Not for several threads at once.
  *
- * Keys are compared as Objects tells. Those that are Integers, Characters or Booleans come in the order of Java 8: buckets
- * by the hash, doubled where three quarters are used, each a chain in the order of insertion. All others stand in the
- * first bucket, in the order of insertion. Iterators throw ConcurrentModificationException where the map was changed by
- * others since. Left out: load factors (a float), `clone`, what takes a function.
+ * Keys are compared as Objects tells. Those that are Integers, Characters or Booleans come in the order of Java 8:
+ * buckets by the hash, doubled where three quarters are used, each a chain in the order of insertion. All others
+ * stand in the first bucket, in the order of insertion. Iterators throw ConcurrentModificationException where the
+ * map was changed by others since. Left out: load factors (a float), `clone`, what takes a function.
  */
 public class HashMap<K, V> extends AbstractMap<K, V> implements java.io.Serializable {
     static class Node<K, V> extends AbstractMap.SimpleEntry<K, V> {

@@ -1,6 +1,9 @@
 package java.util;
 
-/** A map each of whose operations is done under its lock; neither keys nor values are null. Its order is that of a HashMap (own). */
+/**
+ * A map each of whose operations is done under its lock; neither keys nor values are null. Its order is that of a
+ * HashMap (own).
+ */
 public class Hashtable<K, V> extends HashMap<K, V> {
     public Hashtable() {
     }

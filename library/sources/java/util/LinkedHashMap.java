@@ -1,6 +1,9 @@
 package java.util;
 
-/** A HashMap that goes through its entries in the order in which their keys were first put in. Left out: the order of access. */
+/**
+ * A HashMap that goes through its entries in the order in which their keys were first put in. Left out: the order
+ * of access.
+ */
 public class LinkedHashMap<K, V> extends HashMap<K, V> {
     private HashMap.Node<K, V> first;
     private HashMap.Node<K, V> last;

@@ -1,6 +1,9 @@
 package java.util;
 
-/** A list of nodes that know both neighbours, and a queue with two ends. Not for several threads at once. Left out: `clone`. */
+/**
+ * A list of nodes that know both neighbours, and a queue with two ends. Not for several threads at once. Left out:
+ * `clone`.
+ */
 public class LinkedList<E> extends AbstractList<E> implements Deque<E>, java.io.Serializable {
     static final class Node {
         Object element;

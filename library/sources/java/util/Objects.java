@@ -3,8 +3,8 @@ package java.util;
 /**
  * Functions of objects that may be null.
  *
- * Two objects are equal here, and for all collections, where they are one object, or Integers, Characters or Booleans of
- * one value: `equals` and `hashCode` of other classes can't be called through Object. Left out: text.
+ * Two objects are equal here, and for all collections, where they are one object, or Integers, Characters or
+ * Booleans of one value: `equals` and `hashCode` of other classes can't be called through Object. Left out: text.
  */
 public final class Objects {
     private Objects() {

@@ -3,8 +3,8 @@ package java.util;
 /**
  * The numbers of Java's generator of 48 bits, which begins as `new Random(0)` does, each time.
  *
- * The state is kept in two ints, the upper 32 bits and the lower 16; each number is drawn under the lock of this object.
- * Left out: a seed (a long), `nextLong`, `nextFloat`, `nextDouble`, `nextGaussian`, streams.
+ * The state is kept in two ints, the upper 32 bits and the lower 16; each number is drawn under the lock of this
+ * object. Left out: a seed (a long), `nextLong`, `nextFloat`, `nextDouble`, `nextGaussian`, streams.
  */
 public class Random implements java.io.Serializable {
     /** The bits 47 to 16, and 15 to 0, of the seed 0 as it is scrambled. */

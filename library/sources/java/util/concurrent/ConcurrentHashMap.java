@@ -12,9 +12,9 @@ import java.util.Set;
 /**
  * A map for several threads: each operation is done under its lock. Neither keys nor values are null.
  *
- * Keys are compared, and come, as in a HashMap. Iterators and views go over what was there when they were made, and never
- * throw ConcurrentModificationException; what they remove is removed from the map. Left out: what takes a function, sizes
- * as a long, load factors, `newKeySet`.
+ * Keys are compared, and come, as in a HashMap. Iterators and views go over what was there when they were made,
+ * and never throw ConcurrentModificationException; what they remove is removed from the map. Left out: what takes
+ * a function, sizes as a long, load factors, `newKeySet`.
  */
 public class ConcurrentHashMap<K, V> extends AbstractMap<K, V> implements ConcurrentMap<K, V>, java.io.Serializable {
     private final HashMap<K, V> map;

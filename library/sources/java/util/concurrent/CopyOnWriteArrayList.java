@@ -8,8 +8,8 @@ import java.util.NoSuchElementException;
 import java.util.RandomAccess;
 
 /**
- * A list for several threads over an array that is never changed: whoever changes the list puts a new array in its place,
- * under its lock.
+ * A list for several threads over an array that is never changed: whoever changes the list puts a new array in its
+ * place, under its lock.
  *
  * Reading is one read of a volatile field. Iterators go over the array that was there when they were made, and change
  * nothing. Left out: what takes a function.

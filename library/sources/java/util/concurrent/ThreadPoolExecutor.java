@@ -6,9 +6,10 @@ import java.util.List;
 /**
  * Threads that run tasks, as Executors makes them: the constructors with times are left out.
  *
- * A task gets a thread of its own while there are fewer than the core, and beyond that where none is idle and there may be
- * more; else it waits in a queue, first in, first out. An idle thread waits for a task, and ends when the pool is shut
- * down; which idle one is woken the schedule says. Where a task throws, its thread ends and another one takes its place.
+ * A task gets a thread of its own while there are fewer than the core, and beyond that where none is idle and
+ * there may be more; else it waits in a queue, first in, first out. An idle thread waits for a task, and ends when
+ * the pool is shut down; which idle one is woken the schedule says. Where a task throws, its thread ends and
+ * another one takes its place.
  */
 public class ThreadPoolExecutor extends AbstractExecutorService {
     static final class Task {

@@ -3,8 +3,8 @@ package java.util.concurrent.atomic;
 /**
  * An int that threads change without a lock of their own.
  *
- * Each operation is one step for all others: what changes the value does so under the lock of this object, by one write,
- * and `get` is one read of a volatile field. Left out: what takes a function, and long, float and double.
+ * Each operation is one step for all others: what changes the value does so under the lock of this object, by one
+ * write, and `get` is one read of a volatile field. Left out: what takes a function, and long, float and double.
  */
 public class AtomicInteger extends Number {
     private volatile int value;

@@ -6,8 +6,8 @@ package java.util.concurrent;
 /**
  * A task whose result can be waited for.
  *
- * It runs once; all that wait for its result are woken when it is there. `cancel` before the end wins over the result, and
- * interrupts the thread that runs the task where it may. Left out: times.
+ * It runs once; all that wait for its result are woken when it is there. `cancel` before the end wins over the
+ * result, and interrupts the thread that runs the task where it may. Left out: times.
  */
 public class FutureTask<V> implements RunnableFuture<V> {
     private static final int NEW = 0;

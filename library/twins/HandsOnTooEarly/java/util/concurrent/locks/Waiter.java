@@ -6,8 +6,8 @@ package java.util.concurrent.locks;
 /**
  * A thread that waits for its turn in a queue, of this library's own (the JDK has no such class).
  *
- * The thread waits on the monitor of this object, so that whoever hands it its turn wakes it alone. A turn that was handed
- * out before the thread waits isn't lost.
+ * The thread waits on the monitor of this object, so that whoever hands it its turn wakes it alone. A turn that
+ * was handed out before the thread waits isn't lost.
  */
 public class Waiter {
     public final Thread thread;

@@ -6,10 +6,11 @@ package java.util.concurrent.locks;
 /**
  * A lock that many readers own at once, or one writer alone, who may take it again and read, too.
  *
- * Whoever comes takes it where it is free for him: readers pass a writer that waits, and so may starve it. All that wait
- * are woken where it becomes free for one of them. The argument that asks for fairness changes nothing but what `isFair`
- * answers. A reader that wants to write without giving back its read lock waits for ever, as the API says. The write lock
- * has conditions, the read lock has none. Left out: times, counts of the holds of one reader.
+ * Whoever comes takes it where it is free for him: readers pass a writer that waits, and so may starve it. All
+ * that wait are woken where it becomes free for one of them. The argument that asks for fairness changes nothing
+ * but what `isFair` answers. A reader that wants to write without giving back its read lock waits for ever, as the
+ * API says. The write lock has conditions, the read lock has none. Left out: times, counts of the holds of one
+ * reader.
  */
 public class ReentrantReadWriteLock implements ReadWriteLock, java.io.Serializable {
     private final boolean isFair;

@@ -6,10 +6,10 @@ package java.util.concurrent.locks;
 /**
  * A lock that its owner may take again.
  *
- * Whoever comes when it is free takes it, also before threads that have waited longer; one that waits is woken when it
- * becomes free, which one the schedule says. A fair one is handed on to the thread that has waited longest, and only
- * `tryLock` passes those that wait. Its conditions wake the thread that has waited longest, which then takes the lock as
- * others do. Left out: times, `toString`.
+ * Whoever comes when it is free takes it, also before threads that have waited longer; one that waits is woken
+ * when it becomes free, which one the schedule says. A fair one is handed on to the thread that has waited
+ * longest, and only `tryLock` passes those that wait. Its conditions wake the thread that has waited longest,
+ * which then takes the lock as others do. Left out: times, `toString`.
  */
 public class ReentrantLock implements Lock, java.io.Serializable {
     private final WaiterQueue queue;
