@@ -88,12 +88,12 @@ public class HashMap<K, V> extends AbstractMap<K, V> implements java.io.Serializ
         }
         node = new Node<K, V>(hash, key, value);
         insert(node);
-        linked(node);
         size++;
         modCount++;
         if (size > table.length - (table.length >> 2)) {
             grow();
         }
+        linked(node);
         return null;
     }
 

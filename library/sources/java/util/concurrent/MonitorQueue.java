@@ -101,7 +101,7 @@ abstract class MonitorQueue<E> extends AbstractQueue<E> implements BlockingQueue
     }
 
     public synchronized int remainingCapacity() {
-        return capacity == 0x7fffffff ? capacity : capacity - size;
+        return capacity - size;
     }
 
     private int indexOf(Object element) {

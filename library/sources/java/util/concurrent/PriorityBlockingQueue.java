@@ -35,6 +35,10 @@ public class PriorityBlockingQueue<E> extends MonitorQueue<E> {
         return queue.comparator();
     }
 
+    public int remainingCapacity() {
+        return 0x7fffffff;
+    }
+
     void enter(E element) {
         queue.offer(element);
     }
