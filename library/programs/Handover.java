@@ -17,7 +17,7 @@ class Handover {
         };
         giver.start();
         for (int i = 0; i < 4; i++) {
-            System.out.println(queue.take());
+            System.out.println((int) queue.take());
         }
     }
 }

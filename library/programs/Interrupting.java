@@ -9,7 +9,7 @@ class Interrupting {
             public void run() {
                 try {
                     while (true) {
-                        System.out.println(queue.take());
+                        System.out.println((int) queue.take());
                     }
                 } catch (InterruptedException e) {
                     System.out.println(isInterrupted() ? 1 : 0);

@@ -21,7 +21,7 @@ class InvokeAll {
         }
         for (Future<Integer> future : pool.invokeAll(tasks)) {
             try {
-                System.out.println(future.get());
+                System.out.println((int) future.get());
             } catch (ExecutionException e) {
                 System.out.println(e.getCause() instanceof ArithmeticException ? 100 : 200);
             }

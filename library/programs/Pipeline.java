@@ -37,9 +37,9 @@ class Pipeline {
         new Thread(new Stage(second, third, 100)).start();
         for (int i = 0; i < 4; i++) {
             first.put(i);
-            System.out.println(third.take());
+            System.out.println((int) third.take());
         }
         first.put(-1);
-        System.out.println(third.take());
+        System.out.println((int) third.take());
     }
 }

@@ -29,8 +29,8 @@ class WordCount {
         threads[0].join();
         threads[1].join();
         for (Map.Entry<Integer, Integer> entry : counts.entrySet()) {
-            System.out.println(entry.getKey());
-            System.out.println(entry.getValue());
+            System.out.println((int) entry.getKey());
+            System.out.println((int) entry.getValue());
         }
     }
 }
