@@ -5,7 +5,8 @@ import re
 import struct
 from typing import Dict, Iterable, Iterator, List, Set, Tuple
 
-ROOT = pathlib.Path(__file__).resolve().parent.parent
+from tools.repository import ROOT
+
 CLASSES = ROOT / "library/classes"
 
 # How many bytes of operands stand behind an opcode, where that isn't 0.
