@@ -1,6 +1,6 @@
 #!/bin/sh
-# Times a million objects with a field each and a monitor entered once, with waiters on 65,536 of them, and reads the peak
-# resident memory. Prints one line.
+# Times a million objects with a field each and a monitor entered once, with waiters on 65,536 of them, and reads the
+# peak resident memory. Prints one line.
 set -e
 cd "$(dirname "$0")/../crates/bench"
 rt run -- objects 1000 100 > /dev/null 2>&1

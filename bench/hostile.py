@@ -1,32 +1,37 @@
 #!/usr/bin/env python3
 """Makes a table of how long class files that are hard to link or to verify take, by the program `bench hostile`.
 
-    hostile.py [--program PROGRAM] [NAME..]
-    hostile.py [--program PROGRAM] --largest [NAME..]
-    hostile.py --told FILE
+    bench/hostile.py [--program PROGRAM] [NAME..]
+    bench/hostile.py [--program PROGRAM] --largest [NAME..]
+    bench/hostile.py --told FILE
 
-PROGRAM is the built program `bench` [default: crates/bench/out/bench, which `rt run` leaves]. Each shape of files is run by
-itself, with twice as much of everything in it each time, until a run takes five seconds, the files have half a million
-bytes, or they are refused. All names are those of shapes [default: all]. A line of the table is the last run of a shape:
-what was doubled, the bytes of the files, the seconds of processor time of linking and of verification, to which power of
-the bytes the time grew in the last doubling, and the peak memory of the process.
+PROGRAM is the built program `bench` [default: crates/bench/out/bench, which `rt run` leaves]. Each shape of files is
+run by itself, with twice as much of everything in it each time, until a run takes five seconds, the files have half a
+million bytes, or they are refused. All names are those of shapes [default: all]. A line of the table is the last run
+of a shape: what was doubled, the bytes of the files, the seconds of processor time of linking and of verification, to
+which power of the bytes the time grew in the last doubling, and the peak memory of the process.
 
-With --largest there is as much of everything in the files of each shape as makes a megabyte, or as a method may have: it
-is doubled until there is more, and then sought between the last two, to an eighth. A line is the run with the most: what
-was sought, the bytes of the files, the seconds of processor time of the process, its peak memory, and `TooLarge` where the
-files were refused for their steps.
+With --largest there is as much of everything in the files of each shape as makes a megabyte, or as a method may have:
+it is doubled until there is more, and then sought between the last two, to an eighth. A line is the run with the most:
+what was sought, the bytes of the files, the seconds of processor time of the process, its peak memory, and `TooLarge`
+where the files were refused for their steps.
 
 With --told it makes the table of what such runs printed, for what `rt try` printed, for one.
 """
 
 import argparse
 import dataclasses
-import os
+import pathlib
 import re
 import subprocess
 import sys
+from typing import Dict, Iterable, Iterator, List, Match, Sequence
 
-ROOT = os.path.dirname(os.path.dirname(os.path.abspath(__file__)))
+sys.dont_write_bytecode = True
+sys.path.insert(0, str(pathlib.Path(__file__).resolve().parent.parent))
+
+from bench.measures import measured
+from tools.repository import BENCH, PathLike
 
 LINE = re.compile(
     r"([a-z-]+) (\d+): (\d+) bytes verified, link (\d+) verify (\d+) microseconds"
@@ -41,7 +46,7 @@ MEGABYTE = 1_000_000
 
 @dataclasses.dataclass
 class Ran:
-    """A run of a shape: how much of everything there was, the bytes, what was said of them, the seconds, the peak in bytes."""
+    """A run of a shape: how much of everything there was, the bytes, what was said, the seconds, the peak in bytes."""
 
     number: int
     size: int
@@ -49,25 +54,22 @@ class Ran:
     seconds: float
     peak: int
 
-    def fits(self):
+    def fits(self) -> bool:
         """Whether the files are class files that link, and are no more than a megabyte."""
         return self.size <= MEGABYTE and (self.said == "verified" or "TooLarge" in self.said)
 
 
-def run_of(program, name, number):
-    process = subprocess.Popen([program, "hostile", name, str(number)], stdout=subprocess.PIPE, text=True)
-    said = process.stdout.read()
-    _, status, usage = os.wait4(process.pid, 0)
-    process.returncode = os.waitstatus_to_exitcode(status)
-    found = ONE.match(said.strip())
-    if process.returncode or not found:
-        sys.exit(f"{name} {number}: status {process.returncode}: {said}")
-    return Ran(int(found[1]), int(found[2]), found[3].strip(), usage.ru_utime + usage.ru_stime, 1024 * usage.ru_maxrss)
+def run_of(program: PathLike, name: str, number: int) -> Ran:
+    ran = measured([program, "hostile", name, number])
+    found = ONE.match(ran.written.strip())
+    if ran.status or not found:
+        sys.exit(f"{name} {number}: status {ran.status}: {ran.written}")
+    return Ran(int(found[1]), int(found[2]), found[3].strip(), ran.processor, 1024 * ran.kilobytes)
 
 
-def largest(program, name):
+def largest(program: PathLike, name: str) -> Ran:
     """The run of a shape with the most of everything that fits, to an eighth."""
-    last, number = None, 8
+    last, number = run_of(program, name, 8), 16
     while (ran := run_of(program, name, number)).fits():
         last, number = ran, 2 * number
     low, high = last.number, number
@@ -80,36 +82,38 @@ def largest(program, name):
     return last
 
 
-def print_largest(program, names):
+def print_largest(program: PathLike, names: Sequence[str]) -> None:
     print("| Shape | Of each | Bytes | Seconds | Peak | |")
     print("|---|---|---|---|---|---|")
     for name in names:
         ran = largest(program, name)
         what = "`TooLarge`" if "TooLarge" in ran.said else ""
-        print(f"| `{name}` | {ran.number:,} | {ran.size:,} | {ran.seconds:.1f} | {ran.peak / 2**20:.0f} MB | {what} |", flush=True)
+        cost = f"{ran.seconds:.1f} | {ran.peak / 2**20:.0f} MB"
+        print(f"| `{name}` | {ran.number:,} | {ran.size:,} | {cost} | {what} |", flush=True)
 
 
-def names_of(program):
+def names_of(program: PathLike) -> List[str]:
     return subprocess.run([program, "hostile"], check=True, capture_output=True, text=True).stdout.split()
 
 
-def told_by(program, names):
+def told_by(program: PathLike, names: Sequence[str]) -> Iterator[str]:
     """What the program prints of each shape."""
     for name in names or names_of(program):
         ran = subprocess.run([program, "hostile", name], check=True, capture_output=True, text=True)
         yield from ran.stdout.splitlines()
 
 
-def row(found):
+def row(found: Match[str]) -> str:
     name, number, size, link, verify, exponent, peak = found.groups()
     power = f"{int(exponent) / 100:.1f}" if exponent else ""
     memory = f"{int(peak) / 1024:.0f} MB" if peak else ""
-    return f"| `{name}` | {int(number):,} | {int(size):,} | {int(link) / 1e6:.3f} | {int(verify) / 1e6:.3f} | {power} | {memory} |"
+    seconds = f"{int(link) / 1e6:.3f} | {int(verify) / 1e6:.3f}"
+    return f"| `{name}` | {int(number):,} | {int(size):,} | {seconds} | {power} | {memory} |"
 
 
-def main():
+def main() -> None:
     parser = argparse.ArgumentParser(description=__doc__, formatter_class=argparse.RawDescriptionHelpFormatter)
-    parser.add_argument("--program", default=os.path.join(ROOT, "crates/bench/out/bench"))
+    parser.add_argument("--program", default=BENCH)
     parser.add_argument("--largest", action="store_true")
     parser.add_argument("--told")
     parser.add_argument("names", nargs="*")
@@ -118,11 +122,10 @@ def main():
         print_largest(options.program, options.names or names_of(options.program))
         return
     if options.told:
-        with open(options.told) as file:
-            lines = file.read().splitlines()
+        lines: Iterable[str] = pathlib.Path(options.told).read_text().splitlines()
     else:
         lines = told_by(options.program, options.names)
-    last = {}
+    last: Dict[str, Match[str]] = {}
     for line in lines:
         found = LINE.match(line.strip())
         if found:

@@ -1,8 +1,8 @@
 #!/usr/bin/env python3
 """Measures linking on class files that it makes.
 
-    link.py [--program PROGRAM] [--command COMMAND] [--whole] [--runs N] [--files N] [--chain N] [--depth N]
-            [--rungs N] [NAME..]
+    bench/link.py [--program PROGRAM] [--command COMMAND] [--whole] [--runs N] [--files N] [--chain N]
+                  [--depth N] [--rungs N] [NAME..]
 
 PROGRAM is the built program `bench` [default: crates/bench/out/bench, which `rt run` leaves], run as `bench link`. With
 a COMMAND it is run as `PROGRAM COMMAND FILE..`, as `jvm verify`, which does more than to link. One line is printed for
@@ -19,91 +19,74 @@ ladder        two interfaces a rung, each of which stands on both of the rung be
 
 import argparse
 import os
-import resource
-import subprocess
+import pathlib
 import sys
 import tempfile
-import time
+from typing import Iterable, Iterator, List, Optional, Sequence, Tuple
 
 sys.dont_write_bytecode = True
+sys.path.insert(0, str(pathlib.Path(__file__).resolve().parent.parent))
 
-ROOT = os.path.dirname(os.path.dirname(os.path.abspath(__file__)))
-sys.path.insert(0, os.path.join(ROOT, "tools"))
-
-from class_files import MAGIC_AND_VERSION, pair, u2, u4, utf8
-from replay import peak_kilobytes
+from bench.measures import measured
+from tools.class_files import FIELDREF, INTERFACE_METHODREF, METHODREF, Pool, class_file, code_attribute, member, u2
+from tools.repository import BENCH
 
 PUBLIC, STATIC, INTERFACE, ABSTRACT = 0x0001, 0x0008, 0x0200, 0x0400
 
 RETURN = b"\xb1"
 
+# Seconds and kilobytes.
+Cost = Tuple[float, int]
+
 
 class Maker:
     """A class file whose constant pool has each entry once."""
 
-    def __init__(self, name, superclass="java/lang/Object", interfaces=(), flags=PUBLIC):
-        self.entries, self.indices = [], {}
-        self.fields, self.methods = [], []
-        self.flags, self.this, self.superclass = flags, self.named(name), self.named(superclass)
-        self.interfaces = [self.named(interface) for interface in interfaces]
+    def __init__(
+        self, name: str, superclass: str = "java/lang/Object", interfaces: Sequence[str] = (), flags: int = PUBLIC
+    ) -> None:
+        self.pool, self.flags = Pool(), flags
+        self.fields: List[bytes] = []
+        self.methods: List[bytes] = []
+        self.classes = self.pool.class_of(name), self.pool.class_of(superclass)
+        self.interfaces = [self.pool.class_of(interface) for interface in interfaces]
 
-    def entry(self, data):
-        if data not in self.indices:
-            self.entries.append(data)
-            self.indices[data] = len(self.entries)
-        return self.indices[data]
-
-    def text(self, text):
-        return self.entry(utf8(text))
-
-    def named(self, name):
-        return self.entry(b"\x07" + u2(self.text(name)))
-
-    def member(self, tag, owner, name, descriptor):
-        """The entry of a Fieldref (9), a Methodref (10) or an InterfaceMethodref (11)."""
-        described = self.entry(pair(12, self.text(name), self.text(descriptor)))
-        return self.entry(pair(tag, self.named(owner), described))
-
-    def calls(self, owner, name, descriptor="()V"):
+    def calls(self, owner: str, name: str, descriptor: str = "()V") -> bytes:
         """An invokestatic."""
-        return b"\xb8" + u2(self.member(10, owner, name, descriptor))
+        return b"\xb8" + u2(self.pool.member(METHODREF, owner, name, descriptor))
 
-    def calls_virtual_on_null(self, owner, name):
+    def calls_virtual_on_null(self, owner: str, name: str) -> bytes:
         """An invokevirtual of a method without parameters on null."""
-        return b"\x01\xb6" + u2(self.member(10, owner, name, "()V"))
+        return b"\x01\xb6" + u2(self.pool.member(METHODREF, owner, name, "()V"))
 
-    def calls_on_null(self, owner, name):
+    def calls_on_null(self, owner: str, name: str) -> bytes:
         """An invokeinterface of a method without parameters on null."""
-        return b"\x01\xb9" + u2(self.member(11, owner, name, "()V")) + b"\x01\x00"
+        return b"\x01\xb9" + u2(self.pool.member(INTERFACE_METHODREF, owner, name, "()V")) + b"\x01\x00"
 
-    def increments(self, owner, name):
+    def increments(self, owner: str, name: str) -> bytes:
         """A static int is read and written."""
-        reference = u2(self.member(9, owner, name, "I"))
+        reference = u2(self.pool.member(FIELDREF, owner, name, "I"))
         return b"\xb2" + reference + b"\x04\x60\xb3" + reference
 
-    def field(self, flags, name, descriptor="I"):
-        self.fields.append(u2(flags) + u2(self.text(name)) + u2(self.text(descriptor)) + u2(0))
+    def field(self, flags: int, name: str, descriptor: str = "I") -> None:
+        self.fields.append(member(flags, self.pool.text(name), self.pool.text(descriptor)))
 
-    def method(self, flags, name, descriptor="()V", code=None):
-        attributes = b""
-        if code is not None:
-            body = u2(2) + u2(4) + u4(len(code)) + code + u2(0) + u2(0)
-            attributes = u2(self.text("Code")) + u4(len(body)) + body
-        head = u2(flags) + u2(self.text(name)) + u2(self.text(descriptor))
-        self.methods.append(head + u2(bool(attributes)) + attributes)
+    def method(self, flags: int, name: str, descriptor: str = "()V", code: Optional[bytes] = None) -> None:
+        attributes = [] if code is None else [code_attribute(self.pool.text("Code"), 2, 4, code)]
+        self.methods.append(member(flags, self.pool.text(name), self.pool.text(descriptor), attributes))
 
-    def main(self, code=b""):
+    def main(self, code: bytes = b"") -> None:
         self.method(PUBLIC | STATIC, "main", "([Ljava/lang/String;)V", code + RETURN)
 
-    def data(self):
-        head = MAGIC_AND_VERSION + u2(len(self.entries) + 1) + b"".join(self.entries)
-        head += u2(self.flags) + u2(self.this) + u2(self.superclass)
-        for members in ([u2(index) for index in self.interfaces], self.fields, self.methods):
-            head += u2(len(members)) + b"".join(members)
-        return head + u2(0)
+    def data(self) -> bytes:
+        return class_file(self.pool.entries, self.flags, self.classes, self.fields, self.methods, self.interfaces)
 
 
-def many_files(options):
+# Class files by their names.
+Classes = Iterator[Tuple[str, Maker]]
+
+
+def many_files(options: argparse.Namespace) -> Classes:
     """Of ten files nine are classes of 10 methods, below another class and an interface, and one an interface of 10."""
     interfaces = options.files // 10
     classes = options.files - interfaces
@@ -121,14 +104,14 @@ def many_files(options):
             made.method(PUBLIC | STATIC, f"s{method}", "()V", code + RETURN)
         yield f"C{number}", made
     for number in range(interfaces):
-        above = sorted({f"I{number // 2}", f"I{number // 3}"}) if number else []
-        made = Maker(f"I{number}", "java/lang/Object", above, PUBLIC | INTERFACE | ABSTRACT)
+        upper = sorted({f"I{number // 2}", f"I{number // 3}"}) if number else []
+        made = Maker(f"I{number}", "java/lang/Object", upper, PUBLIC | INTERFACE | ABSTRACT)
         for method in range(10):
             made.method(PUBLIC | ABSTRACT, f"m{number}_{method}")
         yield f"I{number}", made
 
 
-def chain(options):
+def chain(options: argparse.Namespace) -> Classes:
     """Classes, each below the next, with a method each; the first calls and reads what the last declares."""
     for number in range(options.chain):
         is_last = number + 1 == options.chain
@@ -143,7 +126,7 @@ def chain(options):
         yield f"C{number}", made
 
 
-def selections(options):
+def selections(options: argparse.Namespace) -> Classes:
     """Classes, each below the next, with 10 methods each and one that calls these on null."""
     for number in range(options.depth):
         above = "java/lang/Object" if number + 1 == options.depth else f"C{number + 1}"
@@ -157,7 +140,7 @@ def selections(options):
         yield f"C{number}", made
 
 
-def many_methods(_options):
+def many_methods(_options: argparse.Namespace) -> Classes:
     """65,535 methods, of 16,384 names and 4 descriptors, each of which calls another."""
     made = Maker("A")
     made.main()
@@ -167,7 +150,7 @@ def many_methods(_options):
     yield "A", made
 
 
-def many_fields(_options):
+def many_fields(_options: argparse.Namespace) -> Classes:
     """65,535 instance fields, of 16,384 names and 4 types."""
     made = Maker("A")
     made.main()
@@ -176,7 +159,7 @@ def many_fields(_options):
     yield "A", made
 
 
-def ladder(options):
+def ladder(options: argparse.Namespace) -> Classes:
     """Two interfaces a rung, a class below the upmost ones, and a call of what the lowest declares."""
     upmost = [f"{side}{options.rungs - 1}" for side in "LR"]
     made = Maker("A", "java/lang/Object", upmost, PUBLIC | ABSTRACT)
@@ -191,7 +174,7 @@ def ladder(options):
             yield f"{side}{rung}", made
 
 
-def written(folder, classes):
+def written(folder: str, classes: Iterable[Tuple[str, Maker]]) -> Tuple[List[str], int, int]:
     """The names of the files, their methods and their bytes together."""
     names, methods, size = [], 0, 0
     for name, made in classes:
@@ -204,29 +187,22 @@ def written(folder, classes):
     return names, methods, size
 
 
-def measured(command, folder):
+def linked(command: Sequence[object], folder: str) -> Cost:
     """Seconds of the processor and peak kilobytes of one run."""
-    peak = 0
-    before = resource.getrusage(resource.RUSAGE_CHILDREN)
-    with subprocess.Popen(command, cwd=folder, stdout=subprocess.PIPE, stderr=subprocess.STDOUT) as process:
-        while process.poll() is None:
-            peak = max(peak, peak_kilobytes(process))
-            time.sleep(0.001)
-        said = process.stdout.read().decode()
-    after = resource.getrusage(resource.RUSAGE_CHILDREN)
-    if process.returncode != 0 or not said.startswith(("linked", "verified")):
-        sys.exit(f"status {process.returncode}: {said}")
-    return after.ru_utime + after.ru_stime - before.ru_utime - before.ru_stime, peak
+    ran = measured(command, folder)
+    if ran.status != 0 or not (ran.error + ran.written).startswith(("linked", "verified")):
+        sys.exit(f"status {ran.status}: {ran.error}{ran.written}")
+    return ran.processor, ran.kilobytes
 
 
-def least(command, folder, runs):
+def least(command: Sequence[object], folder: str, runs: int) -> List[Cost]:
     """The two forms of a command in turn: the least seconds and the peak kilobytes of each."""
     forms = (command, [*command, "whole"])
-    found = [[measured(form, folder) for form in forms] for _ in range(runs)]
+    found = [[linked(form, folder) for form in forms] for _ in range(runs)]
     return [(min(run[form][0] for run in found), max(run[form][1] for run in found)) for form in range(len(forms))]
 
 
-def told(names, size, seconds, peak):
+def told(names: List[str], size: int, seconds: float, peak: int) -> str:
     """What one run says."""
     return (
         f"{size / 1e6:.1f} MB in {seconds:.3f} s: {len(names) / seconds:.0f} files a second, "
@@ -234,7 +210,7 @@ def told(names, size, seconds, peak):
     )
 
 
-def told_whole(alone, whole):
+def told_whole(alone: Cost, whole: Cost) -> str:
     """What the runs of both forms say."""
     return (
         f"linking {alone[0]:.3f} s, {alone[1] / 1e3:.0f} MB; with the linked program {whole[0]:.3f} s, "
@@ -245,10 +221,9 @@ def told_whole(alone, whole):
 PROGRAMS = (many_files, chain, selections, many_methods, many_fields, ladder)
 
 
-def main():
-    built = os.path.join(ROOT, "crates/bench/out/bench")
+def main() -> None:
     parser = argparse.ArgumentParser(description=__doc__, formatter_class=argparse.RawDescriptionHelpFormatter)
-    parser.add_argument("--program", default=built)
+    parser.add_argument("--program", default=BENCH)
     parser.add_argument("--command")
     parser.add_argument("--whole", action="store_true")
     parser.add_argument("--runs", type=int, default=5)
@@ -270,7 +245,7 @@ def main():
             if options.whole:
                 said = told_whole(*least(command, folder, options.runs))
             else:
-                said = told(names, size, *measured(command, folder))
+                said = told(names, size, *linked(command, folder))
         print(f"{made.__name__}: {len(names)} files, {methods} methods, {said}", flush=True)
 
 

@@ -1,7 +1,7 @@
 #!/usr/bin/env python3
 """Measures the machine next to `java -Xint`, on programs in Java.
 
-    machine.py [--program PROGRAM] [--runs N] [NAME..]
+    bench/machine.py [--program PROGRAM] [--runs N] [NAME..]
 
 PROGRAM is the built program `bench` [default: crates/bench/out/bench, which `rt run` leaves], run as `bench machine`. A
 line is printed for each program [default: all of them]: how many events it has, the nanoseconds of the machine for one
@@ -28,7 +28,7 @@ throws    an exception that a method throws and its caller catches
 turns     two threads that do the same. Under the schedule they change at each event. In java they run side by side,
           each on a processor, and main's time is taken twice
 buffer    two threads that put numbers into a ring of 16 places and two that take them, by wait and notifyAll. Under the
-          schedule, which bench/plain_machine.py makes, each goes on as long as it can. Of java it is the time of the
+          schedule, which oracle/machine.py makes, each goes on as long as it can. Of java it is the time of the
           processor that all threads take together, on average of 20 calls
 """
 
@@ -38,14 +38,15 @@ import pathlib
 import subprocess
 import sys
 import tempfile
+from typing import Dict, List, Sequence, Tuple
 
 sys.dont_write_bytecode = True
+sys.path.insert(0, str(pathlib.Path(__file__).resolve().parent.parent))
 
-ROOT = pathlib.Path(__file__).resolve().parent.parent
-sys.path.insert(0, str(ROOT / "tools"))
-
-from class_files import u2, u4
-from plain_machine import Machine, NotEnabled
+from oracle.machine import Machine
+from oracle.schedules import Entry, file_of_entries
+from oracle.state import NotEnabled
+from tools.repository import BENCH, ROOT, compiled
 
 PROGRAMS = ("count", "sieve", "quicksort", "fields", "fib", "virtual", "locks", "throws", "turns", "buffer")
 
@@ -59,6 +60,9 @@ FIRST = 100
 # of 10 ms.
 CALLS, CALLS_OF_ALL = 5, 20
 
+# A thread, and how many events of it.
+Turn = Tuple[int, int]
+
 NOT_ENABLED, ALL_DONE = "the next is not enabled", "all were done"
 
 
@@ -66,33 +70,31 @@ NOT_ENABLED, ALL_DONE = "the next is not enabled", "all were done"
 class Ran:
     """A run of the machine: what it printed, how many events it did, why no more, and the microseconds."""
 
-    printed: list
+    printed: List[str]
     events: int
     why: str
     microseconds: int
 
 
 @dataclasses.dataclass
-class Bench:
+class Timed:
     """A program to time: the name of its class, its class files, the word that says which events to do, how many these
     are and what they print, and how many times the time of java's main is taken (0: the time of all its threads)."""
 
     name: str
-    files: list
+    files: List[str]
     word: str
     events: int
-    printed: list
+    printed: List[str]
     times: int
 
 
-def compiled(name, folder):
+def classes_of(name: str, folder: str) -> List[str]:
     """The class files of a source, that of its name first."""
-    source = ROOT / "bench/java" / f"{name}.java"
-    command = [ROOT / "tools/java-classes", source, "--into", folder]
-    return subprocess.run(command, check=True, stdout=subprocess.PIPE, text=True).stdout.splitlines()
+    return [str(path) for path in compiled([ROOT / "bench/java" / f"{name}.java"], folder)]
 
 
-def on_machine(program, word, files):
+def on_machine(program: pathlib.Path, word: str, files: List[str]) -> Ran:
     ran = subprocess.run([program, "machine", word, *files], capture_output=True, text=True)
     said = ran.stdout.splitlines()
     told = ran.stderr.split()
@@ -101,7 +103,7 @@ def on_machine(program, word, files):
     return Ran(said[:-2], int(said[-2].split()[1]), said[-1], int(told[0]))
 
 
-def on_java(bench, folder):
+def on_java(bench: Timed, folder: str) -> int:
     """The nanoseconds that count of java."""
     calls, words = (CALLS, []) if bench.times else (CALLS_OF_ALL, ["all"])
     command = ["java", "-Xint", "-cp", folder, "Timed", bench.name, str(calls), *words]
@@ -111,13 +113,14 @@ def on_java(bench, folder):
     return max(bench.times, 1) * int(ran.stderr.split()[0])
 
 
-def write_schedule(path, entries):
+def write_schedule(path: pathlib.Path, entries: Sequence[Turn]) -> None:
     """Writes a schedule file of entries, each a thread and how many events of it."""
-    shown = [u2(thread) + u2(0) + u4(events) for thread, events in entries if events]
-    path.write_bytes(b"JSCH\x01" + u4(len(shown)) + b"".join(shown))
+    path.write_bytes(file_of_entries([Entry(thread, 0, events) for thread, events in entries if events]))
 
 
-def events_after(program, files, path, entries, thread):
+def events_after(
+    program: pathlib.Path, files: List[str], path: pathlib.Path, entries: Sequence[Turn], thread: int
+) -> int:
     """How many events a thread has after these entries, alone."""
     write_schedule(path, [*entries, (thread, ALL)])
     ran = on_machine(program, str(path), files)
@@ -126,7 +129,7 @@ def events_after(program, files, path, entries, thread):
     return ran.events - sum(events for _, events in entries)
 
 
-def write_turns(program, files, path):
+def write_turns(program: pathlib.Path, files: List[str], path: pathlib.Path) -> None:
     """Writes the schedule by which main and the thread that it starts take turns, an event each."""
     ahead = events_after(program, files, path, [], 0)
     other = events_after(program, files, path, [(0, ahead)], 1)
@@ -136,9 +139,11 @@ def write_turns(program, files, path):
     write_schedule(path, [(0, FIRST), *[(1, 1), (0, 1)] * turns, *rest])
 
 
-def write_whole(files, path):
+def write_whole(files: List[str], path: pathlib.Path) -> None:
     """Writes the schedule by which each thread goes on as long as it can, and then the next one that can."""
-    machine, entries, thread, idle = Machine([pathlib.Path(file).read_bytes() for file in files]), [], 0, 0
+    machine = Machine([pathlib.Path(file).read_bytes() for file in files])
+    entries: List[Turn] = []
+    thread = idle = 0
     while idle < len(machine.threads):
         before = machine.done
         try:
@@ -151,9 +156,9 @@ def write_whole(files, path):
     write_schedule(path, entries)
 
 
-def prepared(program, name, folder):
+def prepared(program: pathlib.Path, name: str, folder: str) -> Timed:
     """Compiles a program, and runs it once to learn its events."""
-    files = compiled(name.capitalize(), folder)
+    files = classes_of(name.capitalize(), folder)
     word, wanted = str(ALL), NOT_ENABLED
     if name in ("turns", "buffer"):
         path = pathlib.Path(folder) / f"{name}.schedule"
@@ -166,12 +171,12 @@ def prepared(program, name, folder):
     if ran.why != wanted:
         sys.exit(f"{name}: {ran.events} events, {ran.why}")
     times = {"turns": 2, "buffer": 0}.get(name, 1)
-    return Bench(name.capitalize(), files, word, ran.events, ran.printed, times)
+    return Timed(name.capitalize(), files, word, ran.events, ran.printed, times)
 
 
-def measured(program, folder, benches, runs):
+def measured(program: pathlib.Path, folder: str, benches: Sequence[Timed], runs: int) -> Dict[str, Tuple[float, float]]:
     """The least nanoseconds for an event of the machine and of java, by the names of the classes."""
-    found = {bench.name: ([], []) for bench in benches}
+    found: Dict[str, Tuple[List[float], List[float]]] = {bench.name: ([], []) for bench in benches}
     for _ in range(runs):
         for bench in benches:
             machine, java = found[bench.name]
@@ -180,10 +185,9 @@ def measured(program, folder, benches, runs):
     return {name: (min(machine), min(java)) for name, (machine, java) in found.items()}
 
 
-def main():
-    built = ROOT / "crates/bench/out/bench"
+def main() -> None:
     parser = argparse.ArgumentParser(description=__doc__, formatter_class=argparse.RawDescriptionHelpFormatter)
-    parser.add_argument("--program", type=pathlib.Path, default=built)
+    parser.add_argument("--program", type=pathlib.Path, default=BENCH)
     parser.add_argument("--runs", type=int, default=20)
     parser.add_argument("names", nargs="*", metavar="NAME")
     options = parser.parse_args()
@@ -192,7 +196,7 @@ def main():
             parser.error(f"{name!r} is none of {', '.join(PROGRAMS)}")
     program = options.program.resolve()
     with tempfile.TemporaryDirectory() as folder:
-        compiled("Timed", folder)
+        classes_of("Timed", folder)
         benches = [prepared(program, name, folder) for name in options.names or PROGRAMS]
         found = measured(program, folder, benches, options.runs)
     print("program       events   machine  java -Xint  ratio")

@@ -15,4 +15,5 @@ pairs=$(told %U '100000000 0 2 0')
 crowd=$(milliseconds '0 32000 2 0')
 objects=$(milliseconds '0 0 1000000 65536')
 peak=$(told %M '0 0 1000000 65536')
-echo "enter and exit: $pairs s for 100000000 pairs; 32000 waiters notified: $crowd ms; a million objects, 65536 with a waiter: $objects ms, $peak KB at most"
+echo "enter and exit: $pairs s for 100000000 pairs; 32000 waiters notified: $crowd ms;" \
+    "a million objects, 65536 with a waiter: $objects ms, $peak KB at most"

@@ -1,24 +1,25 @@
 #!/usr/bin/env python3
 """Measures `jvm search` on small programs that race, or that wait for each other.
 
-    races.py [--program PROGRAM] [--states N] [NAME..]
+    bench/races.py [--program PROGRAM] [--states N] [NAME..]
 
 PROGRAM is the built program [default: crates/jvm/out/jvm, which `rt run` leaves]. A line is printed for each NAME
 [default: all of them]: what the search answers, how many outcomes it lists, how many states it met, at most N [default:
-a million], the seconds of the processor, and the peak of its memory. The sources are those of `lessons/`, `programs/` and
-`bench/races/`; they are compiled by `tools/java-classes`, so a JDK that knows `--release 8` has to be there.
+a million], the seconds of the processor, and the peak of its memory. The sources are those of `lessons/`, `programs/`
+and `bench/races/`; they are compiled by `tools/java-classes`, so a JDK that knows `--release 8` has to be there.
 """
 
 import argparse
-import os
 import pathlib
-import subprocess
 import sys
 import tempfile
+from typing import List, Tuple
 
 sys.dont_write_bytecode = True
+sys.path.insert(0, str(pathlib.Path(__file__).resolve().parent.parent))
 
-ROOT = pathlib.Path(__file__).resolve().parent.parent
+from bench.measures import measured
+from tools.repository import JVM, ROOT, PathLike, compiled
 
 RACES = {
     "lost-update": "lessons/lost-update/LostUpdate.java",
@@ -39,24 +40,20 @@ RACES = {
 }
 
 
-def searched(program, states, source, folder):
+def searched(program: PathLike, states: int, source: str, folder: str) -> Tuple[List[str], float, int]:
     """What a search prints, the seconds of the processor and the megabytes that it took."""
-    compiled = subprocess.run([ROOT / "tools/java-classes", ROOT / source, "--into", folder], stdout=subprocess.PIPE, check=True)
-    command = [program, "search", "--states", str(states), *compiled.stdout.decode().split()]
-    process = subprocess.Popen(command, stdout=subprocess.PIPE)
-    printed = process.stdout.read().decode().splitlines()
-    _, _, used = os.wait4(process.pid, 0)
-    return printed, used.ru_utime + used.ru_stime, used.ru_maxrss // 1024
+    ran = measured([program, "search", "--states", states, *compiled([ROOT / source], folder)])
+    return ran.written.splitlines(), ran.processor, ran.kilobytes // 1024
 
 
-def count(printed, word):
+def count(printed: List[str], word: str) -> str:
     """The number of the last line that begins with a word."""
     return next((line.split()[1] for line in reversed(printed) if line.startswith(f"{word} ")), "0")
 
 
-def main():
-    parser = argparse.ArgumentParser()
-    parser.add_argument("--program", type=pathlib.Path, default=ROOT / "crates/jvm/out/jvm")
+def main() -> None:
+    parser = argparse.ArgumentParser(description=__doc__, formatter_class=argparse.RawDescriptionHelpFormatter)
+    parser.add_argument("--program", type=pathlib.Path, default=JVM)
     parser.add_argument("--states", type=int, default=1_000_000)
     parser.add_argument("names", nargs="*", metavar="NAME", choices=[*RACES, []])
     words = parser.parse_args()

@@ -1,7 +1,7 @@
 #!/usr/bin/env python3
 """Measures the programs `jvm replay` and `jvm trace`, process and all.
 
-    replay.py [--program PROGRAM] [NAME..]
+    bench/replay.py [--program PROGRAM] [NAME..]
 
 PROGRAM is the built program [default: crates/jvm/out/jvm, which `rt run` leaves]. A line is printed for each NAME
 [default: all of them]. The class files and the schedules are made anew in a temporary folder. The reports and statuses
@@ -13,8 +13,8 @@ loop      10,000,000 events of one thread in a loop of local instructions: event
 long      the same with 1,000,000,000 events
 switches  10,000,000 events of two threads, another thread at each: the nanoseconds of a switch beyond those of an
           event, by a run of as many events with one switch, and peak resident memory. `javac` has to be there
-trace     the first 1,000,000 events of Fib, Fields, Locks and Throws of bench/java, traced to a file: seconds, the least
-          of three runs, next to those of the replay alone, and the size of the file. `javac` has to be there
+trace     the first 1,000,000 events of Fib, Fields, Locks and Throws of bench/java, traced to a file: seconds, the
+          least of three runs, next to those of the replay alone, and the size of the file. `javac` has to be there
 """
 
 import argparse
@@ -23,16 +23,18 @@ import subprocess
 import sys
 import tempfile
 import time
+from typing import Callable, Dict, Sequence, Tuple
 
 sys.dont_write_bytecode = True
+sys.path.insert(0, str(pathlib.Path(__file__).resolve().parent.parent))
 
-ROOT = pathlib.Path(__file__).resolve().parent.parent
-sys.path.insert(0, str(ROOT / "tools"))
-
-from class_files import u2, u4
+from bench.measures import measured
+from oracle.schedules import Entry, file_of_entries
+from tools.class_files import class_with_main
+from tools.repository import JVM, ROOT, compiled
 
 # 0 iconst_0, 1 istore_1, 2 iinc 1 1, 5 iload_1, 6 pop, 7 goto 2
-LOOP = "03 3c 840101 1b 57 a7fffb"
+LOOP = bytes.fromhex("03 3c 840101 1b 57 a7fffb")
 
 STARTS = 200
 
@@ -47,61 +49,26 @@ FIRST = 20
 USED_UP = 5
 
 
-def peak_kilobytes(process):
-    """The peak resident memory so far, or 0 where the process is gone."""
-    try:
-        with open(f"/proc/{process.pid}/status") as status:
-            for line in status:
-                if line.startswith("VmHWM:"):
-                    return int(line.split()[1])
-    except OSError:
-        pass
-    return 0
-
-
-def made(path, tool, *words):
-    """Writes what a tool of this repository makes to a file."""
-    with open(path, "wb") as file:
-        subprocess.run([ROOT / "tools" / tool, *words], stdout=file, check=True)
-
-
-def write_schedule(path, entries):
-    """Writes a schedule file of entries, each the bytes of one."""
-    path.write_bytes(b"JSCH\x01" + u4(len(entries)) + b"".join(entries))
-
-
-def entry(thread, events):
-    return u2(thread) + u2(0) + u4(events)
-
-
-def replayed(program, folder, file, threads, events):
+def replayed(program: pathlib.Path, folder: pathlib.Path, file: str, threads: int, events: int) -> Tuple[float, int]:
     """Seconds and peak kilobytes of a run of so many events, whose threads all go on."""
-    peak = 0
-    begin = time.monotonic()
-    command = [program, "replay", "--schedule", "schedule", file]
-    with subprocess.Popen(command, cwd=folder, stdout=subprocess.PIPE) as process:
-        while process.poll() is None:
-            peak = max(peak, peak_kilobytes(process))
-            time.sleep(0.002)
-        seconds = time.monotonic() - begin
-        report = process.stdout.read().decode()
+    ran = measured([program, "replay", "--schedule", "schedule", file], folder)
     states = "".join(f"thread {number} runnable\n" for number in range(threads))
-    if process.returncode != USED_UP or report != f"{states}events {events}\nend schedule\n":
-        sys.exit(f"status {process.returncode}, report:\n{report}")
-    return seconds, peak
+    if ran.status != USED_UP or ran.written != f"{states}events {events}\nend schedule\n":
+        sys.exit(f"status {ran.status}, report:\n{ran.written}")
+    return ran.clock, ran.kilobytes
 
 
-def milliseconds(command, folder, wanted):
+def milliseconds(command: Sequence[object], folder: pathlib.Path, wanted: str) -> float:
     """The time of one process."""
     begin = time.monotonic()
-    ran = subprocess.run(command, cwd=folder, stdout=subprocess.PIPE)
+    ran = subprocess.run([str(word) for word in command], cwd=folder, stdout=subprocess.PIPE)
     elapsed = 1_000 * (time.monotonic() - begin)
     if ran.returncode != 0 or ran.stdout.decode() != wanted:
         sys.exit(f"status {ran.returncode}, report:\n{ran.stdout.decode()}")
     return elapsed
 
 
-def start(program, _folder):
+def start(program: pathlib.Path, _folder: pathlib.Path) -> None:
     data = ROOT / "crates/jvm/data"
     command = [program, "replay", "--schedule", "prints-seven.schedule", "A.class"]
     least = nothing = float("inf")
@@ -111,26 +78,25 @@ def start(program, _folder):
     print(f"start: {least:.2f} ms, a program that does nothing {nothing:.2f} ms")
 
 
-def loop(program, folder, events=10_000_000):
-    made(folder / "A.class", "class-file", "--stack", "1", "--locals", "2", LOOP)
+def loop(program: pathlib.Path, folder: pathlib.Path, events: int = 10_000_000) -> None:
+    (folder / "A.class").write_bytes(class_with_main(LOOP, 1, 2))
     (folder / "schedule").write_text(f"0*{events}")
     seconds, peak = replayed(program, folder, "A.class", 1, events)
     print(f"{events} events in {seconds:.3f} s: {events / seconds:.0f} events a second, peak resident memory {peak} kB")
 
 
-def long(program, folder):
+def long(program: pathlib.Path, folder: pathlib.Path) -> None:
     loop(program, folder, 1_000_000_000)
 
 
-def switches(program, folder):
-    source = ROOT / "bench/java/Spins.java"
-    subprocess.run([ROOT / "tools/java-classes", source, "--into", folder], check=True, stdout=subprocess.DEVNULL)
-    half, events = SWITCHES // 2, FIRST + SWITCHES
-    write_schedule(folder / "schedule", [entry(0, FIRST + half), entry(1, half)])
+def switches(program: pathlib.Path, folder: pathlib.Path) -> None:
+    compiled([ROOT / "bench/java/Spins.java"], folder)
+    half, events, schedule = SWITCHES // 2, FIRST + SWITCHES, folder / "schedule"
+    schedule.write_bytes(file_of_entries([Entry(0, 0, FIRST + half), Entry(1, 0, half)]))
     few, _ = replayed(program, folder, "Spins.class", 2, events)
-    write_schedule(folder / "schedule", [entry(0, FIRST), *[entry(1, 1), entry(0, 1)] * half])
+    schedule.write_bytes(file_of_entries([Entry(0, 0, FIRST), *[Entry(1, 0, 1), Entry(0, 0, 1)] * half]))
     many, peak = replayed(program, folder, "Spins.class", 2, events)
-    size = (folder / "schedule").stat().st_size
+    size = schedule.stat().st_size
     nanoseconds = 1e9 * (many - few) / SWITCHES
     print(
         f"{SWITCHES} switches in {many:.3f} s, as many events with one switch in {few:.3f} s: {nanoseconds:.1f} ns a"
@@ -138,25 +104,23 @@ def switches(program, folder):
     )
 
 
-def seconds_of(command, folder, output):
+def seconds_of(command: Sequence[object], folder: pathlib.Path, output: pathlib.Path) -> float:
     """The least time of three processes that write to a file."""
     least = float("inf")
     for _ in range(3):
         with open(output, "wb") as file:
             begin = time.monotonic()
-            ran = subprocess.run(command, cwd=folder, stdout=file)
+            ran = subprocess.run([str(word) for word in command], cwd=folder, stdout=file)
             least = min(least, time.monotonic() - begin)
         if ran.returncode != USED_UP:
             sys.exit(f"status {ran.returncode}")
     return least
 
 
-def trace(program, folder):
+def trace(program: pathlib.Path, folder: pathlib.Path) -> None:
     (folder / "schedule").write_text(f"0*{TRACED}")
     for name in "Fib", "Fields", "Locks", "Throws":
-        source = ROOT / f"bench/java/{name}.java"
-        subprocess.run([ROOT / "tools/java-classes", source, "--into", folder], check=True, stdout=subprocess.DEVNULL)
-        files = [f"{name}.class", *sorted(it.name for it in folder.glob(f"{name}?*.class"))]
+        files = [path.name for path in compiled([ROOT / f"bench/java/{name}.java"], folder)]
         words = ["--schedule", "schedule", *files]
         replay = seconds_of([program, "replay", *words], folder, folder / "report")
         traced = seconds_of([program, "trace", *words], folder, folder / "trace")
@@ -166,15 +130,22 @@ def trace(program, folder):
         if lines != TRACED + report.count(b"\n"):
             sys.exit(f"{name}: {lines} lines")
         size = (folder / "trace").stat().st_size
-        print(f"{name}: {TRACED} events traced in {traced:.2f} s, replayed in {replay:.2f} s, a file of {size // 1_000} kB")
+        seconds = f"{TRACED} events traced in {traced:.2f} s, replayed in {replay:.2f} s"
+        print(f"{name}: {seconds}, a file of {size // 1_000} kB")
 
 
-MEASURES = {"start": start, "loop": loop, "long": long, "switches": switches, "trace": trace}
+MEASURES: Dict[str, Callable[[pathlib.Path, pathlib.Path], None]] = {
+    "start": start,
+    "loop": loop,
+    "long": long,
+    "switches": switches,
+    "trace": trace,
+}
 
 
-def main():
+def main() -> None:
     parser = argparse.ArgumentParser(description=__doc__, formatter_class=argparse.RawDescriptionHelpFormatter)
-    parser.add_argument("--program", type=pathlib.Path, default=ROOT / "crates/jvm/out/jvm")
+    parser.add_argument("--program", type=pathlib.Path, default=JVM)
     parser.add_argument("names", nargs="*", metavar="NAME")
     options = parser.parse_args()
     for name in options.names:

@@ -1,6 +1,7 @@
 """What the lines of a check by rattle say of edits, judged as `rt must-fail` judges them."""
 
 import re
+from typing import Mapping, Set, Tuple
 
 # Of a function, of another item, at a place, and there of a proof and of a source.
 FN_LINE = re.compile(r"fn (\S+): (proved)?")
@@ -13,7 +14,7 @@ UNREAD = re.compile(r"is not in scope|has no field|is no name|operand is missing
 STALE = re.compile(r"module .Rattle-\w+-.*Run the lower steps again")
 
 
-def is_unread(line, texts):
+def is_unread(line: str, texts: Mapping[str, str]) -> bool:
     """Returns whether the prover couldn't read a source or an edited file there, so that no contract was tried."""
     at = OF_A_SOURCE.match(line)
     if not at or at[1] not in texts and not at[1].startswith(("src/", "specs/")):
@@ -21,10 +22,12 @@ def is_unread(line, texts):
     return not at[2] or bool(UNREAD.search(re.sub(r"`[^`]*`", "", at[3])))
 
 
-def those_refused(crate, said):
+def those_refused(crate: str, said: str) -> Set[str]:
     """Returns the functions of which a check says that a goal of their own fails. One of a closure's is said of the
     function and the closure, as `crate::module::fn::name::map`."""
-    found, refused, notes = set(), set(), False
+    found: Set[str] = set()
+    refused: Set[str] = set()
+    notes = False
     for line in said.split("\n"):
         proof, ended = OF_A_PROOF.match(line), FN_LINE.match(line)
         if proof and not BY_NAME.match(line):
@@ -36,13 +39,13 @@ def those_refused(crate, said):
     return refused
 
 
-def is_judged(said, texts):
+def is_judged(said: str, texts: Mapping[str, str]) -> bool:
     """Returns whether a check of some functions, with these texts, came to its end."""
     is_read = not any(is_unread(line, texts) for line in said.split("\n"))
     return is_read and not STALE.search(said) and bool(re.search(r"(?m)^only=\d+ proved=\d+", said))
 
 
-def judged(status, said, texts):
+def judged(status: int, said: str, texts: Mapping[str, str]) -> Tuple[str, str]:
     """Returns what came of the edit that made these texts, `refused`, `by name`, `proves` or `failed`, and why that."""
     lines = said.split("\n")
     unread = next((it for it in lines if is_unread(it, texts)), "")
@@ -57,5 +60,5 @@ def judged(status, said, texts):
     return ("failed", f"it did not reach the prover: {last_lines(said)}") if status else ("proves", "")
 
 
-def last_lines(said, count=4):
+def last_lines(said: str, count: int = 4) -> str:
     return " / ".join(said.strip().split("\n")[-count:])

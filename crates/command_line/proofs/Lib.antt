@@ -1,4 +1,6 @@
+pub mod ClashLemmas
 pub mod CommandLineLemmas
 pub mod GoalLemmas
 pub mod ParserLemmas
 pub mod PathLemmas
+pub mod PolicyLemmas

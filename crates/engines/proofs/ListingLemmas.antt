@@ -1,5 +1,5 @@
 -- Why class files have no listings.
-use Rattle.std.proofs.Common.{◌≡◌, ◌⊎◌, ℕ, suc, ◌<◌, List, [], ◌∷◌, ◌++◌, length, map, Option, inl, inr, refl, ap, subst}
+use Rattle.std.proofs.Common.{◌≡◌, ◌⊎◌, ℕ, suc, ◌<◌, List, [], ◌∷◌, length, map, Option, inl, inr, refl, ap, subst}
 use Rattle.std.specs.List.{flat_map}
 use Rattle.listings.proofs.disasm.Writing.{flat_map_over}
 use Rattle.model.specs.declared.device.DeviceFault.{DeviceFault}

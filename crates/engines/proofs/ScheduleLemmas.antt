@@ -1,5 +1,5 @@
 -- What the writing of a schedule file leaves.
-use Rattle.std.proofs.Common.{◌≡◌, ℕ, List, [], Bool, Option, None, Some, refl, subst, sym, true}
+use Rattle.std.proofs.Common.{◌≡◌, ℕ, List, [], Option, None, Some, refl, subst, sym, true}
 use Rattle.std.specs.Prelude.{IfOk, Result, Ok, Err, string_bytes}
 use Rattle.std.specs.Io.KnownBytes.{Appends}
 use Rattle.std.proofs.lemmas.List.{append-nil}

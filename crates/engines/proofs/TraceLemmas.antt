@@ -1,5 +1,5 @@
 -- Why nothing is traced, and how far a trace is written.
-use Rattle.std.proofs.Common.{◌≡◌, ℕ, List, ◌++◌, Option, inl, inr, refl}
+use Rattle.std.proofs.Common.{ℕ, List, ◌++◌, Option, inl, inr, refl}
 use Rattle.std.specs.Io.KnownBytes.{Appends}
 use Rattle.model.specs.declared.device.DeviceFault.{DeviceFault}
 use Rattle.model.specs.declared.device.DeviceFault.TheVariants as devices
@@ -20,7 +20,6 @@ use Rattle.engines.specs.Statuses.{status_of}
 use Rattle.engines.specs.Traces.{IsTraced, IsUntraced, TracesFront, TracesPart}
 use Rattle.engines.specs.declared.fault.Fault.{Fault}
 use Rattle.engines.specs.declared.fault.Fault.TheVariants as faults
-use Rattle.engines.specs.declared.status.Status.{Status}
 
 -- nothing is written where nothing is run
 pub kept_is_untraced : (fault : Fault) (left : Option (List ℕ)) (lefts : List (Option (List ℕ))) (options : LimitOptions) (window : Window)

@@ -17,6 +17,7 @@ use Rattle.types.specs.method_code.Linked.{IsLinked}
 use Rattle.types.specs.method_code.View.{member_named, shown_in, shown_at}
 use Rattle.types.proofs.method_code.Declared.{declared_at}
 use Rattle.linker.specs.Linking.{MayRefuse}
+use Rattle.linker.specs.Telling.{TellsLineOf}
 use Rattle.verifier.specs.Steps.{most_steps, all_steps}
 use Rattle.verifier.specs.Places.{IsUnverified, IsTooLong, Refuses}
 use Rattle.link_conditions.specs.declared.refusal.why.Refusal.{Refusal}
@@ -85,10 +86,11 @@ untyped files refusal linked of_method typed =
 
 pub linking_refuses : (files : List (List ℕ)) (refusal : Refusal)
     → ((trees : Program) → IsLinkable files trees → refusal.kind ≡ kinds.OutOfMemory)
-    → MayRefuse files refusal.kind refusal.file refusal.offset refusal.cause → IsRefused files refusal
-linking_refuses files refusal only may = record {
+    → MayRefuse files refusal.kind refusal.file refusal.offset refusal.cause → TellsLineOf files refusal.kind refusal
+    → IsRefused files refusal
+linking_refuses files refusal only may line = record {
   accepted = λ trees accepted. inl (only trees accepted.linkable);
-  stands = inl may;
+  stands = inl (may, line);
 }
 
 -- of linked classes: memory is wanted, or a method has no typing, or their verification may take too many steps

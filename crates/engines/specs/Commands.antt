@@ -13,7 +13,6 @@ use Rattle.traces.specs.declared.form.Form.TheVariants as lines
 use Rattle.command_line.specs.CommandLine.{Asks, Fails, Spells}
 use Rattle.command_line.specs.declared.options.Command.{Command}
 use Rattle.command_line.specs.declared.options.Command.TheVariants as commands
-use Rattle.command_line.specs.declared.options.Disasm.{Disasm}
 use Rattle.command_line.specs.declared.options.Replay.{Replay}
 use Rattle.command_line.specs.declared.options.Run.{Run}
 use Rattle.command_line.specs.declared.options.Schedule.{Schedule}
@@ -22,7 +21,6 @@ use Rattle.command_line.specs.declared.options.ThenRun.{ThenRun}
 use Rattle.command_line.specs.declared.options.Trace.{Trace}
 use Rattle.command_line.specs.declared.options.TraceForm.{TraceForm}
 use Rattle.command_line.specs.declared.options.TraceForm.TheVariants as forms
-use Rattle.command_line.specs.declared.options.Verify.{Verify}
 use Rattle.command_line.specs.declared.usage.Usage.{Usage}
 use Rattle.engines.specs.Continuations.{Continues, IsUncontinued}
 use Rattle.engines.specs.Devices.{IsUnable}

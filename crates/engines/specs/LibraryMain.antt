@@ -1,6 +1,6 @@
 -- The class that stands before the files of a library (own): it has a static main, which returns, so that a library can be
 -- linked and verified as a program is.
-use Rattle.std.specs.Prelude.{ℕ, List, [], ◌∷◌, ◌++◌, codes, length, refl, ◌≡◌}
+use Rattle.std.specs.Prelude.{ℕ, List, [], ◌∷◌, ◌++◌, codes, length}
 
 -- a Utf8 of the constant pool (JVMS 4.4.7), shorter than 256 bytes
 abbrev text_entry : List ℕ → List ℕ

@@ -4,6 +4,7 @@ use Rattle.model.specs.Accepted.{IsAccepted}
 use Rattle.model.specs.Classes.{Program}
 use Rattle.model.specs.Linkable.{IsLinkable}
 use Rattle.linker.specs.Linking.{MayRefuse}
+use Rattle.linker.specs.Telling.{TellsLineOf}
 use Rattle.verifier.specs.Steps.{most_steps, all_steps}
 use Rattle.verifier.specs.Places.{IsTooLong, Refuses}
 use Rattle.link_conditions.specs.declared.refusal.why.Refusal.{Refusal}
@@ -14,5 +15,5 @@ use Rattle.link_conditions.specs.declared.refusal.why.RefusalKind.TheVariants as
 pub record IsRefused (files : List (List ℕ)) (refusal : Refusal) : Type 0 where
   pub accepted : (trees : Program) → IsAccepted files trees
       → (refusal.kind ≡ kinds.OutOfMemory) ⊎ IsTooLong trees (all_steps trees) most_steps refusal
-  pub stands : MayRefuse files refusal.kind refusal.file refusal.offset refusal.cause
+  pub stands : (MayRefuse files refusal.kind refusal.file refusal.offset refusal.cause × TellsLineOf files refusal.kind refusal)
       ⊎ ((trees : Program) × IsLinkable files trees × Refuses trees most_steps refusal)

@@ -1,12 +1,16 @@
 //! The line that tells a person why a command was not done. For it the files are read a second time.
 
+ghost use Rattle.std.specs.Prelude.{◌≡◌, ◌⊎◌, map, string_bytes};
+ghost use Rattle.engines.specs.Advised.{IsExplained, IsToldOf, is_quiet};
+
+use crate::advised::{advised, named_files};
 use crate::complaint::Complaint;
 use crate::explanation::Explanation;
 use crate::fault::Fault;
 use crate::folder::Folder;
 use crate::given_paths::given_paths;
-use command_line::{Command, Goal, command};
-use explanations::refusal_explanations::{GivenFile, explain, explain_schedule, explain_text};
+use command_line::{Command, Goal, Usage, command};
+use explanations::refusal_explanations::{explain, explain_schedule, explain_text};
 use std::alloc::{AllocError, Global};
 use std::fmt::Display;
 use std::io;
@@ -26,8 +30,9 @@ pub struct Failures<'a> {
     pub output: Option<&'a io::Error>,
 }
 
-/// Tells why a command was not done, in a line with two spaces before it, where more is known than the complaint says: where the
-/// words ask for it by `--explain`, or it is wanted anyway; and nothing with `--quiet`.
+/// Tells why a command was not done, in a line with two spaces before it, where more is known than the complaint says, and behind it
+/// the advice on files that `verify` refuses: where the words ask for it by `--explain`, or it is wanted anyway; and nothing with
+/// `--quiet`.
 pub fn explain_complaint<F: Folder>(
     alloc: Global,
     folder: &F,
@@ -35,29 +40,49 @@ pub fn explain_complaint<F: Folder>(
     complaint: &Complaint,
     failures: Failures<'_>,
     explanation: &mut Explanation,
-) {
+)
+    ensures { IsExplained (F.held folder.now) (F.listed folder.now) (map string_bytes words.now) complaint.now
+        explanation.old explanation.new }
+{
     let Complaint::Fault(fault) = complaint else {
         return;
     };
-    let Ok(command) = command(alloc, words) else {
+    match command(alloc, words) {
+        Ok(command) => explain_fault(alloc, folder, &command, fault, failures, explanation),
         // help that can't be written
-        if explanation.is_wanted() {
+        Err(Usage::Asked(_)) if explanation.is_wanted() => {
             explanation.tell(indented(alloc, of_streams(alloc, failures)));
         }
-        return;
-    };
-    let (is_explained, is_quiet) = flags_of(&command);
-    if !is_quiet && (is_explained || explanation.is_wanted()) {
-        let line = told_line(
-            alloc,
-            folder,
-            &command,
-            fault,
-            failures,
-            explanation.reason(),
-        );
-        explanation.tell(indented(alloc, line));
+        Err(_) => {}
     }
+}
+
+/// Tells why a command has this fault, and behind it the advice on files that `verify` refuses.
+fn explain_fault<F: Folder>(
+    alloc: Global,
+    folder: &F,
+    command: &Command,
+    fault: &Fault,
+    failures: Failures<'_>,
+    explanation: &mut Explanation,
+)
+    ensures { (explanation.new ≡ explanation.old)
+        ⊎ IsToldOf (F.held folder.now) (F.listed folder.now) command.now fault.now explanation.new }
+{
+    let (is_explained, is_quiet) = flags_of(command);
+    if is_quiet || !(is_explained || explanation.is_wanted()) {
+        return;
+    }
+    let line = told_line(
+        alloc,
+        folder,
+        command,
+        fault,
+        failures,
+        explanation.reason(),
+    );
+    explanation.tell(indented(alloc, line));
+    explanation.add(advised(alloc, folder, command, fault));
 }
 
 /// What is known of a fault of a command.
@@ -76,7 +101,9 @@ fn told_line<F: Folder>(
 }
 
 /// Whether the command has `--explain`, and whether it has `--quiet`.
-fn flags_of(command: &Command) -> (bool, bool) {
+fn flags_of(command: &Command) -> (bool, bool)
+    ensures { result.1 ≡ is_quiet command.now }
+{
     match command {
         Command::Run(options) => (options.explain, options.quiet),
         Command::Replay(options) => (options.explain, options.quiet),
@@ -172,27 +199,12 @@ fn line_of<F: Folder>(alloc: Global, folder: &F, command: &Command, fault: &Faul
         }
         Fault::Refusal(refusal) => {
             let paths = files_of(alloc, folder, command)?;
-            match given(alloc, folder, &paths) {
+            match named_files(alloc, folder, &paths) {
                 Ok(files) => Ok(Some(explain(alloc, refusal, &files)?)),
                 Err(_) => Ok(None),
             }
         }
     }
-}
-
-/// The class files at the paths.
-fn given<'a, F: Folder>(
-    alloc: Global,
-    folder: &F,
-    paths: &'a [String],
-) -> io::Result<Vec<GivenFile<'a>>> {
-    let mut files = Vec::new(alloc);
-    for path in paths {
-        let bytes = folder.read(alloc, path.as_str())?;
-        let name = path.as_str();
-        files.push(GivenFile { name, bytes })?;
-    }
-    Ok(files)
 }
 
 /// What failed, and the system's reason: the file that was to be written, the output, the input, or the first file that

@@ -2,6 +2,7 @@
 //! and schedules as text.
 #![tactic(auto)]
 
+mod advised;
 mod class_files;
 pub mod class_paths;
 mod commands;
@@ -13,6 +14,7 @@ mod explanation;
 mod fault;
 mod folder;
 mod given_paths;
+mod going_on;
 mod library;
 mod listing;
 mod made_file;
@@ -25,6 +27,7 @@ mod recording;
 mod replaying;
 mod running;
 mod searching;
+mod seeds;
 mod status;
 mod system_folder;
 mod telling;
@@ -51,6 +54,7 @@ pub use replaying::replay_engine;
 pub use running::run_engine;
 pub use search::Progress;
 pub use searching::search_engine;
+pub use seeds::Seeds;
 pub use status::Status;
 pub use system_folder::SystemFolder;
 pub use tracing::trace_engine;

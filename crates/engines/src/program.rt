@@ -12,6 +12,7 @@ use crate::complaint::Complaint;
 use crate::explanation::Explanation;
 use crate::fault::Fault;
 use crate::folder::Folder;
+use crate::seeds::Seeds;
 use crate::status::Status;
 use command_line::{Command, Usage, command};
 use model::{DeviceFault, Sink, Source};
@@ -26,9 +27,16 @@ use std::thread::Threads;
 /// The files that they name are those of the folder; the text of a schedule that is to become a file is read from the
 /// input. A report, a listing, the line of a verification, the text of a schedule, or the help or the version that the words
 /// ask for is written to the output, and nothing else but a schedule file, where one is asked for, to the folder. The gate is
-/// told what the workers of a run do, and how far a search has come. The complaint is for the caller to tell, and so is the
-/// explanation, which gets what the threads of a run are about that did not end normally, where it is due.
-pub fn run<R: Threads + Wait + Sync, G: Gate + Progress + Sync, F: Folder, I: Source, W: Sink>(
+/// told what the workers of a run do, and how far a run or a search has come; and it draws the seed of a run for which none is
+/// asked. The complaint is for the caller to tell, and so is the explanation, which gets what the threads of a run are about
+/// that did not end normally, where it is due.
+pub fn run<
+    R: Threads + Wait + Sync,
+    G: Gate + Progress + Seeds + Sync,
+    F: Folder,
+    I: Source,
+    W: Sink,
+>(
     rt: &R,
     alloc: Global,
     gate: &G,
@@ -46,8 +54,10 @@ pub fn run<R: Threads + Wait + Sync, G: Gate + Progress + Sync, F: Folder, I: So
         (map string_bytes words.now) (W.contents output.old) (W.contents output.new))
         (F.held folder.old) (F.held folder.new)) }
     // It is told that a device failed where the input, the output or the folder did, and only there.
-    ensures told { MatchResult result (λ _. I.failures input.new + W.failures output.new ≤ I.failures input.old + W.failures output.old)
-        (λ complaint. TellsComplaint (FolderMayFail F.may_fail) complaint (I.failures input.old + W.failures output.old) (I.failures input.new + W.failures output.new)) }
+    ensures told { MatchResult result
+        (λ _. I.failures input.new + W.failures output.new ≤ I.failures input.old + W.failures output.old)
+        (λ complaint. TellsComplaint (FolderMayFail F.may_fail) complaint
+        (I.failures input.old + W.failures output.old) (I.failures input.new + W.failures output.new)) }
 {
     match command(alloc, words) {
         Ok(command) => {
@@ -95,7 +105,7 @@ fn write_help<W: Sink>(alloc: Global, usage: &Usage, output: &mut W) -> Result<(
 }
 
 /// Does what a command says.
-fn done<R: Threads + Wait + Sync, G: Gate + Progress + Sync, F: Folder, I: Source, W: Sink>(
+fn done<R: Threads + Wait + Sync, G: Gate + Progress + Seeds + Sync, F: Folder, I: Source, W: Sink>(
     rt: &R,
     alloc: Global,
     gate: &G,

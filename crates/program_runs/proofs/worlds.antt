@@ -1,8 +1,9 @@
 mod Finding
+mod FindingDownwards
 mod Repeating
 mod Shared
 mod Copying
 mod Committing
-mod Staying
+pub mod Staying
 pub mod Finishing
 mod Recording

@@ -1,7 +1,8 @@
-//! Runs of a program: by a schedule, by workers, told event by event.
+//! Runs of a program: by a schedule, by workers, by policies, told event by event.
 #![tactic(auto)]
 
 pub mod continued_runs;
+pub mod policies;
 pub mod traced_runs;
 pub mod verified_programs;
 pub mod workers;

@@ -1,6 +1,7 @@
-//! Tests of whole runs: of engines and of workers; and of verification within few steps.
+//! Tests of whole runs: of engines, of workers and by policies; and of verification within few steps.
 #![tactic(auto)]
 
 pub mod engine_tests;
+pub mod policy_tests;
 pub mod verification_tests;
 pub mod worker_tests;

@@ -1,8 +1,8 @@
 -- Each line of a trace is one line.
-use Rattle.std.proofs.Common.{◌≡◌, ◌==◌, ◌+◌, ◌-◌, ◌*◌, ◌/◌, ◌%◌, ℕ, zero, suc, List, [], ◌∷◌, ◌++◌, true, false, Bool, IsTrue, replicate, length, codes, refl, ap, sym, subst, ◌∙◌, append_assoc, not, nat_lt, min, ◌&&◌, arith}
+use Rattle.std.proofs.Common.{◌≡◌, ◌==◌, ◌-◌, ◌*◌, ◌/◌, ◌%◌, ℕ, zero, suc, List, [], ◌∷◌, ◌++◌, true, false, Bool, replicate, length, codes, refl, ap, sym, ◌∙◌, append_assoc, not, nat_lt, min, ◌&&◌, arith}
 use Rattle.std.specs.Prelude.{◌||◌, if◌then◌else◌, nat_le}
-use Rattle.std.specs.Fmt.{decimal, digits, digits_onto, digit_glyph}
-use Rattle.std.specs.List.{flat_map, list_all}
+use Rattle.std.specs.Fmt.{digits, digits_onto, digit_glyph}
+use Rattle.std.specs.List.{flat_map}
 use Rattle.std.proofs.lemmas.Bool.Decides.{nat_tests}
 use Rattle.std.proofs.lemmas.List.Folds.{list_all-append}
 use Rattle.model.specs.Classes.{Program}

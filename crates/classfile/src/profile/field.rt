@@ -37,7 +37,7 @@ fn has_left_out_constant(file: &ClassFile, attributes: &[FieldAttribute]) -> boo
 }
 
 /// Whether a field is outside of the profile: its type, its constant, or its flags.
-fn is_outside(file: &ClassFile, rows: &[Described], field: &Field) -> bool
+pub(crate) fn is_outside(file: &ClassFile, rows: &[Described], field: &Field) -> bool
     requires { rows.now ≡ rows_of file.now.pool }
     ensures { result ≡ field_outside_profile (file_of file.now) (field_of field.now) }
 {

@@ -9,8 +9,10 @@ mod instruction;
 mod jump;
 mod method;
 mod operand;
+mod parts;
 mod place;
 mod walk;
 
 pub use fault::{ExceptionField, Fault, Flaw, Place, Spot};
+pub use parts::OutsideParts;
 pub use walk::first_fault;

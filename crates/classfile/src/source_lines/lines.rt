@@ -6,13 +6,13 @@ use crate::{ClassFile, Code};
 
 /// Where the code of a line begins.
 #[derive(Clone, Copy)]
-struct LineStart {
-    offset: u16,
-    line: u16,
+pub(crate) struct LineStart {
+    pub(crate) offset: u16,
+    pub(crate) line: u16,
 }
 
 /// The entry of a table at a place, counted from 0.
-fn entry_at(table: &[u8], place: u16) -> Option<LineStart> {
+pub(crate) fn entry_at(table: &[u8], place: u16) -> Option<LineStart> {
     let at = 2 + 4 * usize::from(place);
     let offset = u2_at(table, at)?;
     let line = u2_at(table, at + 2)?;

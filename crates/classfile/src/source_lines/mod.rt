@@ -3,6 +3,8 @@
 mod bytes;
 mod lines;
 mod source;
+mod table;
 
 pub use lines::line_at;
 pub use source::source_file;
+pub use table::LineTable;

@@ -74,7 +74,7 @@ fn outcome<R: Threads + Wait + Sync, F: Folder>(
     words: &[String],
 ) -> io::Result<Vec<u8>> {
     let mut shown = Vec::new(alloc);
-    write_outcome(rt, alloc, folder, words, b"", &mut shown)?;
+    write_outcome(rt, alloc, folder, words, b"", false, &mut shown)?;
     Ok(shown)
 }
 

@@ -43,7 +43,8 @@ fn write_command<R: Threads + Wait + Sync, F: Folder, W: Write>(
         Some(name) => folder.read(alloc, name.as_str())?,
         None => Vec::new(alloc),
     };
-    write_outcome(rt, alloc, folder, &line.words, input.as_slice(), to)?;
+    let input = input.as_slice();
+    write_outcome(rt, alloc, folder, &line.words, input, line.told, to)?;
     if let Some(name) = &line.shown {
         write_recorded(folder, name.as_str(), to)?;
     }
@@ -51,18 +52,19 @@ fn write_command<R: Threads + Wait + Sync, F: Folder, W: Write>(
 }
 
 /// Does what the words say over the folder and the standard input, and writes what it writes to its output, what it says
-/// on standard error, and its status.
+/// on standard error, and its status. It may tell a person more than the words ask for.
 pub fn write_outcome<R: Threads + Wait + Sync, F: Folder, W: Write>(
     rt: &R,
     alloc: Global,
     folder: &mut F,
     words: &[String],
     input: &[u8],
+    is_told: bool,
     to: &mut W,
 ) -> io::Result<()> {
     let mut input = Counted::new(alloc, input);
     let mut output = Counted::new(alloc, Vec::new(alloc));
-    let mut explanation = Explanation::new(alloc, false);
+    let mut explanation = Explanation::new(alloc, is_told);
     let outcome = run(
         rt,
         alloc,

@@ -54,15 +54,16 @@ fn limits_of(alloc: Global, random: &mut Random) -> Result<String, AllocError> {
     )
 }
 
-/// The seed, the budget and the quantum of a run, by chance.
+/// How a run goes by chance: by which policy, and up to how many events.
 fn options_of(alloc: Global, random: &mut Random) -> Result<String, AllocError> {
     let seed = random.word();
     let budget = random.below(6000);
-    let quantum = match random.below(4) {
-        0 => 1 + random.below(100),
-        _ => 1 + random.below(3),
-    };
-    format!(in alloc; "--seed {seed} --budget {budget} --quantum {quantum}")
+    let quantum = 1 + random.below(100);
+    match random.below(4) {
+        0 => format!(in alloc; "--budget {budget} --quantum {quantum}"),
+        1 => format!(in alloc; "--budget {budget} --policy random --seed {seed}"),
+        _ => format!(in alloc; "--budget {budget} --seed {seed}"),
+    }
 }
 
 impl SetTrial {

@@ -24,6 +24,8 @@ pub struct CommandLine {
     pub input: Option<String>,
     /// The name of a file that it writes, whose bytes are to be shown.
     pub shown: Option<String>,
+    /// Whether standard error tells a person more where the words don't ask for it, as that of `jvm` does.
+    pub told: bool,
 }
 
 impl CommandLine {
@@ -35,6 +37,7 @@ impl CommandLine {
             words,
             input: None,
             shown: None,
+            told: false,
         })
     }
 }

@@ -219,6 +219,10 @@ impl CaseText {
                 self.last_command()?.input = Some(String::from_str(alloc, name)?);
                 Ok(Section::None)
             }
+            ["told"] => {
+                self.last_command()?.told = true;
+                Ok(Section::None)
+            }
             ["shown", name] => {
                 self.last_command()?.shown = Some(String::from_str(alloc, name)?);
                 Ok(Section::None)

@@ -15,7 +15,7 @@ pub struct TextFault {
 /// What is wrong with a line.
 #[derive(Clone, Copy, Debug, Error)]
 pub enum LineFault {
-    #[error("none of `file NAME`, `file NAME from OTHER`, `text NAME`, `files OTHER`, `case NAME`, `input NAME`, `shown NAME`, `runs`, `recorded NAME`")]
+    #[error("none of `file NAME`, `file NAME from OTHER`, `text NAME`, `files OTHER`, `case NAME`, `input NAME`, `shown NAME`, `told`, `runs`, `recorded NAME`")]
     Section,
     #[error("an indented line of no section")]
     Stray,

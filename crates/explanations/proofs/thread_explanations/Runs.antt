@@ -25,7 +25,6 @@ use Rattle.explanations.specs.thread_explanations.Cycles.{AreCycles}
 use Rattle.explanations.specs.thread_explanations.Deadlocks.{deadlock_words}
 use Rattle.explanations.specs.thread_explanations.Details.{HasWaits, lines_at}
 use Rattle.explanations.specs.thread_explanations.Explained.{Explains, ExplainsRun, IsAfter, told_of_all}
-use Rattle.explanations.specs.thread_explanations.Waits.{waits_of}
 
 -- what is written of threads of which this is known
 abbrev pub written : List EndState → Details → List ℕ

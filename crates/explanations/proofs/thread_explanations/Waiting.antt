@@ -1,10 +1,9 @@
 -- For what the first so many threads wait.
-use Rattle.std.proofs.Common.{◌≡◌, ◌+◌, ℕ, zero, suc, List, [], ◌∷◌, ◌++◌, length, refl, ap, ◌∙◌, arith}
+use Rattle.std.proofs.Common.{◌≡◌, ◌+◌, ℕ, zero, suc, List, [], ◌∷◌, ◌++◌, length, refl, ap, arith}
 use Rattle.std.proofs.lemmas.List.{length-append}
 use Rattle.linked_code.specs.declared.program.LinkedProgram.{LinkedProgram}
 use Rattle.machine_state.specs.declared.state.Shared.{Shared}
 use Rattle.model.specs.declared.report.EndState.{EndState}
-use Rattle.explanations.specs.declared.thread_explanations.waits.Wait.{Wait}
 use Rattle.explanations.specs.thread_explanations.Waits.{first_waits, wait_at}
 
 module _ (p : LinkedProgram) (shared : Shared) (ends : List EndState) where

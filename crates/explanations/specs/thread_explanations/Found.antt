@@ -1,5 +1,5 @@
 -- A cycle that is sought from its least thread on. No public clause cites this module.
-use Rattle.std.specs.Prelude.{◌≡◌, ℕ, List, [], ◌∷◌, Option, Some, None, Vec}
+use Rattle.std.specs.Prelude.{◌≡◌, ℕ, List, ◌∷◌, Option, Some, None, Vec}
 use Rattle.std.specs.Global.{Global}
 use Rattle.explanations.specs.declared.thread_explanations.waits.Wait.{Wait}
 use Rattle.explanations.specs.thread_explanations.Cycles.{IsCycle}

@@ -1,5 +1,5 @@
 -- For what threads wait, and for which thread that is, in what the threads of a machine share (own; JVMS 2.11.10, 5.5; JLS 17.1, 17.2).
-use Rattle.std.specs.Prelude.{◌≡◌, ◌+◌, ◌-◌, ◌==◌, ℕ, zero, suc, List, [], ◌∷◌, ◌++◌, Option, Some, None, length, nat_lt, slice_get, slice_index_or, if◌then◌else◌}
+use Rattle.std.specs.Prelude.{◌+◌, ◌-◌, ◌==◌, ℕ, zero, suc, List, [], ◌∷◌, ◌++◌, Option, Some, None, length, nat_lt, slice_get, slice_index_or, if◌then◌else◌}
 use Rattle.std.specs.Option.{option_and_then, option_map, option_map_or}
 use Rattle.heap.specs.java_threads.Table.{number_of, thread_at}
 use Rattle.linked_code.specs.declared.class.LinkedClass.{LinkedClass}

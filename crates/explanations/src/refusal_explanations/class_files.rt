@@ -1,20 +1,14 @@
 //! Why class files are refused.
 
-use crate::refusal_explanations::line::Line;
 use crate::refusal_explanations::malformed::say_malformed;
 use crate::refusal_explanations::outside::{say_outside, say_place};
 use crate::refusal_explanations::unresolved::say_unresolved;
+use advice::GivenFile;
+use advice::words::Line;
 use classfile::{ClassFile, class_name, decode, superclass_name};
 use hierarchy::ClassSet;
 use link_conditions::refusal::{Refusal, RefusalKind};
 use std::alloc::{AllocError, Global};
-
-/// A class file: its name as it was given, and its bytes.
-#[derive(Drop)]
-pub struct GivenFile<'a> {
-    pub name: &'a str,
-    pub bytes: Vec<u8>,
-}
 
 /// The set of the built-in classes and those of the files, where they are one.
 fn set_of(alloc: Global, files: &[GivenFile<'_>]) -> Result<Option<ClassSet>, AllocError> {

@@ -1,14 +1,12 @@
 //! Why files are refused, told to a person: a line that stands behind the line of a refusal.
 
 mod class_files;
-mod declaration;
-mod instruction;
-mod line;
 mod malformed;
 mod method;
 mod outside;
 mod schedule_file;
 mod unresolved;
 
-pub use class_files::{GivenFile, explain};
+pub use advice::GivenFile;
+pub use class_files::explain;
 pub use schedule_file::{explain_schedule, explain_text};

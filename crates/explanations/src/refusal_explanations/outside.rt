@@ -1,8 +1,7 @@
 //! What of a class file this machine leaves out.
 
-use crate::refusal_explanations::instruction::say_instruction;
-use crate::refusal_explanations::line::Line;
 use crate::refusal_explanations::method::code_called;
+use advice::words::{Line, say_instruction};
 use classfile::profile::{Place, first_fault};
 use classfile::{ClassFile, class_name};
 use std::alloc::{AllocError, Global};

@@ -1,6 +1,6 @@
 //! What is wrong with a file that is no schedule file, and with a text that spells no schedule.
 
-use crate::refusal_explanations::line::Line;
+use advice::words::Line;
 use schedule::ScheduleFault;
 use schedule::schedule_text::TextFault;
 use std::alloc::{AllocError, Global};

@@ -1,12 +1,10 @@
 //! Names that are not found.
 
-use crate::refusal_explanations::declaration::{
-    lacking_above, lacking_in, lacking_in_method, lacking_name,
-};
-use crate::refusal_explanations::instruction::{Named, named_at};
-use crate::refusal_explanations::line::Line;
 use crate::refusal_explanations::method::{code_called, method_called};
 use crate::refusal_explanations::outside::say_place;
+use advice::words::{
+    Line, Named, lacking_above, lacking_in, lacking_in_method, lacking_name, named_at,
+};
 use classfile::{ClassFile, class_name, superclass_name};
 use hierarchy::ClassSet;
 use std::alloc::AllocError;

@@ -54,7 +54,8 @@ impl TextSet {
         self.texts.get_index_of(text)
     }
 
-    fn contains(&self, text: &[u8]) -> bool
+    /// Whether a text is there.
+    pub fn contains(&self, text: &[u8]) -> bool
         ensures { result ≡ list_any (name_eq text.now) self.now }
     {
         self.texts.contains(text)

@@ -17,7 +17,7 @@ use opcodes::starts;
 use std::alloc::{AllocError, Global};
 
 /// Whether the catch type of an exception entry is not found.
-fn is_catch_missing(
+pub(crate) fn is_catch_missing(
     hierarchy: &Hierarchy,
     file: &ClassFile,
     rows: &[Row],

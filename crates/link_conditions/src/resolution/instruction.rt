@@ -54,7 +54,12 @@ fn is_call_unresolved(
 }
 
 /// Whether an instruction doesn't find what it names as it wants it.
-fn is_unresolved(hierarchy: &Hierarchy, file: &ClassFile, rows: &[Row], instr: Instr) -> bool
+pub(crate) fn is_unresolved(
+    hierarchy: &Hierarchy,
+    file: &ClassFile,
+    rows: &[Row],
+    instr: Instr,
+) -> bool
     requires { Tells hierarchy.now (file_of file.now) rows.now }
     ensures { result ≡ unresolved_instruction hierarchy.now (file_of file.now) instr }
 {

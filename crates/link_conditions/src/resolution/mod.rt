@@ -7,11 +7,13 @@ mod descriptor;
 mod found;
 mod instruction;
 mod member;
+mod names;
 mod operand;
 mod place;
 mod table;
 mod walk;
 
 pub use found::{found_field, found_method};
+pub use names::UnresolvedNames;
 pub use place::UnresolvedPlace;
 pub use walk::first_unresolved;

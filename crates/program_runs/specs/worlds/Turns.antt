@@ -1,5 +1,5 @@
 -- Whose turn it is (own): threads are asked in rotation, by their numbers.
-use Rattle.std.specs.Prelude.{◌⊎◌, ◌<◌, ◌≤◌, ℕ, Option, Some, None, Bool, true, false, IsTrue, IsFalse, length}
+use Rattle.std.specs.Prelude.{◌⊎◌, ◌<◌, ◌≤◌, ◌+◌, ℕ, min, Option, Some, None, Bool, true, false, IsTrue, IsFalse, length}
 use Rattle.model.specs.Classes.{Program}
 use Rattle.model.specs.Run.{may_step}
 use Rattle.model.specs.State.{State}
@@ -42,3 +42,18 @@ IsFound m from (Some t) =
     × MayStep m t true
     × (((from ≤ t) × MayNone m from t) ⊎ ((t < from) × MayNone m from (length m.shared.threads.threads) × MayNone m 0 t))
 IsFound m from None = MayNone m 0 (length m.shared.threads.threads)
+
+-- the last thread from a number up to another that has an event which is enabled
+abbrev pub IsLast : MachineOf → (from to : ℕ) → Option ℕ → Type 0
+IsLast m from to (Some t) = (from ≤ t) × (t < to) × MayStep m t true × MayNone m (t + 1) to
+IsLast m from to None = MayNone m from to
+
+-- The first in rotation downwards: there is none above it up to the number at which the rotation begins, or, where it lies above that number,
+-- none from there down and none above it.
+abbrev pub IsFoundDownwards : MachineOf → (from : ℕ) → Option ℕ → Type 0
+IsFoundDownwards m from (Some t) =
+    (t < length m.shared.threads.threads)
+    × MayStep m t true
+    × (((t ≤ from) × MayNone m (t + 1) (min (from + 1) (length m.shared.threads.threads)))
+    ⊎ ((from < t) × MayNone m 0 (from + 1) × MayNone m (t + 1) (length m.shared.threads.threads)))
+IsFoundDownwards m from None = MayNone m 0 (length m.shared.threads.threads)

@@ -1,6 +1,7 @@
 //! Whose turn it is.
 
-ghost use Rattle.program_runs.specs.worlds.Turns.{IsFirst, IsFound, MayStep};
+ghost use Rattle.std.specs.Prelude.{true, IfSome};
+ghost use Rattle.program_runs.specs.worlds.Turns.{IsFirst, IsFound, IsFoundDownwards, IsLast, MayStep};
 
 use machine::Machine;
 use machine::thread_standings::may_step;
@@ -34,4 +35,55 @@ pub(crate) fn first_enabled(machine: &Machine, from: u16) -> Option<u16>
         Some(thread) => Some(thread),
         None => first_between(machine, 0, from.min(count)),
     }
+}
+
+/// The last thread from a number up to another that has an event which is enabled.
+fn last_between(machine: &Machine, from: u16, to: u16) -> Option<u16>
+    ensures { IsLast machine.now from to result }
+{
+    'threads: for thread in (from..to).rev() {
+        if may(machine, thread) {
+            return Some(thread);
+        }
+    }
+    None
+}
+
+/// The first thread that has an event which is enabled, in rotation downwards: from a number down, and then from the last thread.
+pub(crate) fn first_enabled_downwards(machine: &Machine, from: u16) -> Option<u16>
+    ensures { IsFoundDownwards machine.now from result }
+{
+    let count = machine.shared().threads.len() as u16;
+    let behind = from.saturating_add(1).min(count);
+    match last_between(machine, 0, behind) {
+        Some(thread) => Some(thread),
+        None => last_between(machine, behind, count),
+    }
+}
+
+/// How many threads have an event that is enabled.
+pub(crate) fn enabled_count(machine: &Machine) -> u16 {
+    let mut count = 0u16;
+    'threads: for thread in 0..machine.shared().threads.len() as u16 {
+        if may(machine, thread) {
+            count += 1;
+        }
+    }
+    count
+}
+
+/// The thread that has an event which is enabled, behind so many others that have one.
+pub(crate) fn enabled_at(machine: &Machine, place: u16) -> Option<u16>
+    ensures { IfSome result (λ thread. MayStep machine.now thread true) }
+{
+    let mut left = place;
+    'threads: for thread in 0..machine.shared().threads.len() as u16 {
+        if may(machine, thread) {
+            if left == 0 {
+                return Some(thread);
+            }
+            left -= 1;
+        }
+    }
+    None
 }

@@ -4,10 +4,10 @@
 #[cfg(test)]
 mod commits;
 #[cfg(test)]
-mod files;
+pub(crate) mod files;
 #[cfg(test)]
 mod overlap;
 #[cfg(test)]
-mod program;
+pub(crate) mod program;
 #[cfg(test)]
 mod runs;

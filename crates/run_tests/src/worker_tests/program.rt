@@ -14,8 +14,15 @@ pub(crate) fn limits() -> Result<Limits, Fail> {
 
 /// The class of a file, linked and verified.
 pub(crate) fn verified(alloc: Global, file: &[u8]) -> Result<Arc<Verified>, Fail> {
+    all_verified(alloc, &[file])
+}
+
+/// The classes of some files.
+pub(crate) fn all_verified(alloc: Global, of: &[&[u8]]) -> Result<Arc<Verified>, Fail> {
     let mut files = Vec::new(alloc);
-    files.push(Vec::from_slice(alloc, file)?)?;
+    for file in of {
+        files.push(Vec::from_slice(alloc, file)?)?;
+    }
     let Ok(linked) = link(alloc, &files) else {
         return Err("not linked".into());
     };

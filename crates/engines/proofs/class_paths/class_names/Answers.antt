@@ -1,4 +1,4 @@
-use Rattle.std.proofs.Common.{rules, ◌≡◌, ◌∙◌, IsPermutation, subst, filter, string_bytes}
+use Rattle.std.proofs.Common.{rules, ◌≡◌, IsPermutation, subst, filter, string_bytes}
 use Rattle.std.proofs.lemmas.List.Elements.{filter_from_retain}
 use Rattle.engines.specs.class_paths.Paths.{is_class_name}
 use Rattle.engines.proofs.class_paths.class_names.Goals as goal

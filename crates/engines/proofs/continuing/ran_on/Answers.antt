@@ -1,5 +1,4 @@
 use Rattle.std.proofs.Common.{arith, map, refl, subst, vec_items}
-use Rattle.std.specs.Arc.{arc_value}
 use Rattle.std.proofs.lemmas.List.{length-map}
 use Rattle.model.specs.Classes.{Program}
 use Rattle.model.specs.Schedule.{events_of}

@@ -2,7 +2,6 @@ use Rattle.std.proofs.Common.{inr, subst}
 use Rattle.std.proofs.lemmas.Result.{err_from_is_err_and}
 use Rattle.std.specs.Io.KnownBytes.{Appends}
 use Rattle.model.specs.Devices.{AppendsFront}
-use Rattle.engines.proofs.EngineLemmas.{counts_write}
 use Rattle.engines.proofs.OpeningLemmas.{kept_is_faulty, of_no_schedule, part_is_faulty}
 use Rattle.engines.proofs.replaying.replay_engine.Goals as goal
 

@@ -7,7 +7,7 @@ use Rattle.engines.proofs.verification.accepted.Goals as goal
 pub returns-in_err-linked-clause-refused : goal.returns-in_err-linked-clause-refused
 returns-in_err-linked-clause-refused c =
     let p = err_from_is_err_and c.from_residual.result c.from_residual.ensures.1 in
-    rw (p.1, p.2) (linking_refuses (map vec_items c.args.files.now) c.in_err-linked.field-0.0 c.in_err-linked.ensures.only c.in_err-linked.ensures.refused)
+    rw (p.1, p.2) (linking_refuses (map vec_items c.args.files.now) c.in_err-linked.field-0.0 c.in_err-linked.ensures.only c.in_err-linked.ensures.refused c.in_err-linked.ensures.line)
 
 pub returns-in_err-verified-clause-refused : goal.returns-in_err-verified-clause-refused
 returns-in_err-verified-clause-refused c =

@@ -1,4 +1,4 @@
-use Rattle.std.proofs.Common.{◌≡◌, ◌∙◌, ◌++◌, drop, take, vec_len}
+use Rattle.std.proofs.Common.{◌∙◌, ◌++◌, take}
 use Rattle.engines.proofs.DeviceLemmas.{front_on, tail_cut}
 use Rattle.engines.proofs.device.CountedSink.write_all.Goals as goal
 

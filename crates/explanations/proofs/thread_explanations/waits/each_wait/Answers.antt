@@ -1,4 +1,4 @@
-use Rattle.std.proofs.Common.{◌≡◌, ◌≤◌, ◌<◌, ◌+◌, ◌∷◌, [], ◌++◌, List, ℕ, length, sym, ap, ◌∙◌, arith}
+use Rattle.std.proofs.Common.{◌≡◌, ◌∷◌, [], ◌++◌, List, length, sym, ap, ◌∙◌, arith}
 use Rattle.explanations.specs.declared.thread_explanations.waits.Wait.{Wait}
 use Rattle.explanations.specs.thread_explanations.Waits.{first_waits}
 use Rattle.explanations.proofs.thread_explanations.Waiting.{counted, one_more}

@@ -1,0 +1,76 @@
+//! Which policies there are, and a run by one.
+
+ghost use Rattle.std.specs.Prelude.{◌↔◌, IfOk, IsTrue, OnOk};
+ghost use Rattle.std.specs.Arc.{arc_value};
+ghost use Rattle.program_runs.specs.policies.Policies.{HasTurns};
+ghost use Rattle.program_runs.specs.worlds.Records.{IsRecordOf};
+ghost use Rattle.program_runs.specs.worlds.Worlds.{IsOfSame};
+
+use crate::policies::mixed::run_mixed;
+use crate::policies::random::run_random;
+use crate::policies::rotation::run_rotation;
+use crate::workers::Gate;
+use crate::worlds::{Recorded, World};
+use model::Limits;
+use std::alloc::{AllocError, Global};
+use std::sync::Arc;
+use verifier::Verified;
+
+/// By which rule one worker gives turns to the threads of a run. A seed is that of xoshiro256++, and with it the schedule is the same
+/// each time, where memory is there.
+#[derive(Clone, Copy, Debug, PartialEq, Eq)]
+pub enum Policy {
+    /// Turns of a length that is drawn, in rotation. By the seed turns are short or long at first, the rotation goes up or down, and
+    /// main goes on alone until it has to wait, or not.
+    Mixed { seed: u64 },
+    /// Events of threads that are drawn: each thread that has an event which is enabled is as likely to have the next one, and so is
+    /// each waiter that this may wake to be woken.
+    Random { seed: u64 },
+    /// Turns of up to so many events, in the order of the threads' numbers. A `notify` wakes the one that has waited longest.
+    Rotation { quantum: u32 },
+}
+
+impl Policy {
+    /// Whether each turn is of one event at least.
+    pub fn has_turns(self) -> bool
+        ensures { IsTrue result ↔ HasTurns self }
+    {
+        match self {
+            Policy::Mixed { .. } | Policy::Random { .. } => true,
+            Policy::Rotation { quantum } => quantum > 0,
+        }
+    }
+}
+
+/// Gives turns until there is an end.
+fn take_turns<G: Gate>(world: &mut World, policy: Policy, gate: &G) -> Result<(), AllocError>
+    requires { HasTurns policy }
+    ensures { OnOk result (IsOfSame world.old world.new) }
+{
+    match policy {
+        Policy::Mixed { seed } => run_mixed(world, seed, gate),
+        Policy::Random { seed } => run_random(world, seed, gate),
+        Policy::Rotation { quantum } => {
+            run_rotation(world, quantum, gate);
+            Ok(())
+        }
+    }
+}
+
+/// Runs verified class files by a policy until there is an end (JVMS 2.5, 2.6, 5.5, chapter 6; JLS 17), and records the events that
+/// were done. The gate is told how many there are, at the end of each turn. The only error is a want of memory.
+pub fn run_by_policy<G: Gate>(
+    alloc: Global,
+    verified: Arc<Verified>,
+    limits: Limits,
+    budget: u32,
+    policy: Policy,
+    gate: &G,
+) -> Result<Recorded, AllocError>
+    requires { HasTurns policy }
+    ensures { IfOk result (IsRecordOf (arc_value verified) limits budget) }
+{
+    let mut world = World::open(alloc, verified, limits, budget)?;
+    take_turns(&mut world, policy, gate)?;
+    world.into_recorded(alloc)
+}

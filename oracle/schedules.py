@@ -1,0 +1,73 @@
+"""Schedules: the text of one, its file (docs/FORMATS.md), and its entries."""
+
+import re
+import struct
+from typing import Iterable, List, NamedTuple, Sequence, Tuple
+
+# A thread, and which of the waiters its notify picks.
+Event = Tuple[int, int]
+
+MAGIC_AND_VERSION = b"JSCH\x01"
+ENTRY = struct.Struct(">HHI")
+
+
+class Entry(NamedTuple):
+    """So many events of a thread, with the pick of each."""
+
+    thread: int
+    pick: int
+    repeat: int
+
+
+def entries_of_text(text: str) -> List[Entry]:
+    """The entries of a schedule's text."""
+    found: List[Entry] = []
+    for word in re.sub(r"#(?![a-z]).*", "", text).split():
+        part = re.fullmatch(r"(\d+)(?:\*(\d+)|\.(\d+))?", word)
+        if not part:
+            raise ValueError(f"{word!r} is no entry of a schedule")
+        found.append(Entry(int(part[1]), int(part[3] or 0), int(part[2] or 1)))
+    return found
+
+
+def entries_of_events(events: Iterable[Event]) -> List[Entry]:
+    """The entries of events: equal ones without a pick are one entry."""
+    entries: List[Entry] = []
+    for thread, pick in events:
+        if entries and entries[-1][:2] == (thread, 0) and pick == 0:
+            entries[-1] = Entry(thread, 0, entries[-1].repeat + 1)
+        else:
+            entries.append(Entry(thread, pick, 1))
+    return entries
+
+
+def entries_of_file(data: bytes) -> List[Entry]:
+    """The entries of a schedule file."""
+    head = len(MAGIC_AND_VERSION) + 4
+    count = int.from_bytes(data[len(MAGIC_AND_VERSION) : head], "big")
+    if not data.startswith(MAGIC_AND_VERSION) or len(data) != head + ENTRY.size * count:
+        raise ValueError("these bytes are no schedule file")
+    return [Entry(*found) for found in ENTRY.iter_unpack(data[head:])]
+
+
+def file_of_entries(entries: Sequence[Entry]) -> bytes:
+    """A schedule file of entries."""
+    return MAGIC_AND_VERSION + struct.pack(">I", len(entries)) + b"".join(ENTRY.pack(*entry) for entry in entries)
+
+
+def text_of_events(events: Iterable[Event]) -> str:
+    """Events as a schedule's text, in one line."""
+    return " ".join(
+        f"{thread}.{pick}" if pick else f"{thread}*{repeat}" if repeat > 1 else f"{thread}"
+        for thread, pick, repeat in entries_of_events(events)
+    )
+
+
+def front(entries: Sequence[Entry], events: int) -> List[Entry]:
+    """The entries of the first events of a schedule."""
+    found: List[Entry] = []
+    for thread, pick, repeat in entries:
+        repeat = min(repeat, events - sum(entry.repeat for entry in found))
+        if repeat:
+            found.append(Entry(thread, pick, repeat))
+    return found
