@@ -15,4 +15,5 @@ pub use options::{
     TraceForm, Verify,
 };
 pub use parse::command;
+pub use paths::is_same_path;
 pub use usage::Usage;
