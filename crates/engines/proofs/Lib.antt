@@ -1,3 +1,4 @@
+pub mod CommandLemmas
 pub mod DeviceLemmas
 pub mod EngineLemmas
 pub mod FailureLemmas

@@ -4,7 +4,7 @@ ghost use Rattle.std.specs.Prelude.{◌≡◌, ◌≤◌, ◌+◌, IfErr, IfOk, 
 ghost use Rattle.std.specs.Io.KnownBytes.{Appends};
 ghost use Rattle.model.specs.Devices.{AppendsFront, Counts};
 ghost use Rattle.command_line.specs.CommandLine.{Asks};
-ghost use Rattle.engines.specs.Commands.{Does, IsDoneOver, IsUndoneOver, IsUntold, Leaves, LeavesAt, Stops};
+ghost use Rattle.engines.specs.Commands.{Does, IsDone, IsDoneOver, IsUndone, IsUndoneOver, IsUntold, Leaves, LeavesAt, Stops};
 ghost use Rattle.engines.specs.Files.{held_at};
 ghost use Rattle.engines.specs.Failures.{FolderMayFail, TellsComplaint, TellsFailures};
 
@@ -54,21 +54,16 @@ pub fn run<R: Threads + Wait + Sync, G: Gate + Progress + Sync, F: Folder, I: So
         (I.failures input.old + W.failures output.old) (I.failures input.new + W.failures output.new)) }
 {
     match command(alloc, words) {
-        Ok(command) => {
-            let files = command_files(alloc, folder, &command)?;
-            let status = done(
-                rt,
-                alloc,
-                gate,
-                folder,
-                &files,
-                &command,
-                input,
-                output,
-                explanation,
-            )?;
-            Ok(status)
-        }
+        Ok(command) => done(
+            rt,
+            alloc,
+            gate,
+            folder,
+            &command,
+            input,
+            output,
+            explanation,
+        ),
         Err(usage) => told(alloc, usage, output),
     }
 }
@@ -100,8 +95,44 @@ fn write_help<W: Sink>(alloc: Global, usage: &Usage, output: &mut W) -> Result<(
     output.write_all(text.as_bytes())
 }
 
-/// Does what a command says.
+/// Does what a command says, over the files that its words stand for.
 fn done<R: Threads + Wait + Sync, G: Gate + Progress + Sync, F: Folder, I: Source, W: Sink>(
+    rt: &R,
+    alloc: Global,
+    gate: &G,
+    folder: &mut F,
+    command: &Command,
+    input: &mut I,
+    output: &mut W,
+    explanation: &mut Explanation,
+) -> Result<Status, Complaint>
+    ensures done { IfOk result (Leaves
+        (IsDone (F.held folder.old) (F.listed folder.old) (I.remaining input.old) command.now)
+        (W.contents output.old) (W.contents output.new) (F.held folder.old) (F.held folder.new)) }
+    ensures faulty { IfErr result (LeavesAt (IsUndone (F.held folder.old) (F.listed folder.old) (I.remaining input.old)
+        command.now (W.contents output.old) (W.contents output.new)) (F.held folder.old) (F.held folder.new)) }
+    ensures told { MatchResult result
+        (λ _. I.failures input.new + W.failures output.new ≤ I.failures input.old + W.failures output.old)
+        (λ complaint. TellsComplaint (FolderMayFail F.may_fail) complaint
+        (I.failures input.old + W.failures output.old) (I.failures input.new + W.failures output.new)) }
+{
+    let files = command_files(alloc, folder, command)?;
+    let status = done_over(
+        rt,
+        alloc,
+        gate,
+        folder,
+        &files,
+        command,
+        input,
+        output,
+        explanation,
+    )?;
+    Ok(status)
+}
+
+/// Does what a command says, over the files at these paths.
+fn done_over<R: Threads + Wait + Sync, G: Gate + Progress + Sync, F: Folder, I: Source, W: Sink>(
     rt: &R,
     alloc: Global,
     gate: &G,

@@ -1,5 +1,7 @@
 -- Files that are given one after another.
-use Rattle.std.proofs.Common.{◌∙◌, ◌≡◌, ℕ, List, [], ◌∷◌, ◌++◌, ap, append_assoc, refl, sym}
+use Rattle.std.proofs.Common.{arith, ◌∙◌, ◌≡◌, ◌<◌, ℕ, zero, suc, Bool, true, false, List, [], ◌∷◌, ◌++◌, ap, append_assoc, length, map, refl, subst, sym}
+use Rattle.std.specs.Prelude.{◌||◌, slice_index_or}
+use Rattle.std.specs.List.{list_any}
 use Rattle.std.proofs.lemmas.List.{append-nil}
 use Rattle.program_files.specs.Folders.{Found, IsListed, Listed, Path}
 use Rattle.program_files.specs.Given.{AreFronts, AreGivenBehind, IsGiven}
@@ -27,3 +29,17 @@ given_on listed before (first ∷ words) given word found front so_far lists giv
   so_far.3,
   given_on listed (before ++ so_far.1) words given word found front so_far.4 lists gives,
 )
+
+-- ---- tests
+
+or_true : (b : Bool) → (b || true) ≡ true
+or_true true = refl
+or_true false = refl
+
+-- a test that one element passes is passed by some
+pub any_at : {A B : Type 0} (f : A → B) (test : B → Bool) (xs : List A) (i : ℕ) (x : A) → i < length xs → x ≡ slice_index_or xs i x
+    → test (f x) ≡ true → list_any test (map f xs) ≡ true
+any_at f test [] i x within is passes = absurd (omega (arith, within))
+any_at f test (y ∷ xs) zero x within is passes = ap (λ b. b || list_any test (map f xs)) (subst (λ z. test (f z) ≡ true) is passes)
+any_at f test (y ∷ xs) (suc i) x within is passes =
+    ap (λ b. test (f y) || b) (any_at f test xs i x (omega (arith, within)) is passes) ∙ or_true (test (f y))
