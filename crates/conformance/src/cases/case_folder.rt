@@ -52,6 +52,9 @@ impl<F: Folder> Folder for CaseFolder<'_, F> {
 
     /// The first parts of what stands behind the path and a slash in names of files of the text, each once.
     fn names(&self, alloc: Global, path: &str) -> io::Result<Option<Vec<String>>> {
+        if self.given.get(path).is_some() || self.recorded.get(path).is_some() {
+            return Ok(None);
+        }
         let mut names = Vec::new(alloc);
         for (name, _) in self.given {
             if let Some(name) = name_in(name.as_str(), path) {
