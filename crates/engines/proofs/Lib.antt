@@ -2,7 +2,6 @@ pub mod DeviceLemmas
 pub mod EngineLemmas
 pub mod FailureLemmas
 pub mod FileLemmas
-pub mod GivenLemmas
 pub mod LibraryLemmas
 pub mod ListingLemmas
 pub mod OpeningLemmas

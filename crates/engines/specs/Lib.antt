@@ -20,4 +20,3 @@ pub mod Statuses
 pub mod Traces
 pub mod Transcriptions
 pub mod Verifications
-pub mod class_paths

@@ -5,7 +5,7 @@ ghost use Rattle.engines.specs.Files.{failures_of, has_failed, held_at, left_of}
 ghost use Rattle.engines.specs.declared.fault.Fault.TheVariants.{Memory};
 
 use crate::fault::{Fault, device_fault};
-use crate::folder::Folder;
+use program_files::Folder;
 use model::{DeviceFault, Source};
 use std::alloc::Global;
 

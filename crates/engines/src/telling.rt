@@ -2,7 +2,7 @@
 
 use crate::class_files::read_class_files;
 use crate::fault::Fault;
-use crate::folder::Folder;
+use program_files::Folder;
 use crate::named_file::sources;
 use crate::recording::limits_of;
 use crate::verification::accepted;

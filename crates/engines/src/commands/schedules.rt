@@ -9,7 +9,7 @@ ghost use Rattle.engines.specs.Transcriptions.{IsUntranscribed, Transcribes};
 use crate::commands::storing::store;
 use crate::explanation::Explanation;
 use crate::fault::Fault;
-use crate::folder::Folder;
+use program_files::Folder;
 use crate::made_file::MadeFile;
 use crate::named_file::source;
 use crate::status::Status;

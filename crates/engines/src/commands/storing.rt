@@ -9,7 +9,7 @@ ghost use Rattle.engines.specs.Files.{IsWith, written_at};
 
 use crate::explanation::Explanation;
 use crate::fault::{Fault, device_fault};
-use crate::folder::Folder;
+use program_files::Folder;
 use crate::status::Status;
 use model::DeviceFault;
 use std::alloc::Global;
