@@ -1,3 +1,4 @@
+pub mod AdviceLemmas
 pub mod DeviceLemmas
 pub mod EngineLemmas
 pub mod FailureLemmas

@@ -1,3 +1,4 @@
+pub mod Advised
 pub mod Commands
 pub mod Complaints
 pub mod Continuations

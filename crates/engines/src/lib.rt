@@ -2,6 +2,7 @@
 //! and schedules as text.
 #![tactic(auto)]
 
+mod advised;
 mod class_files;
 mod command_files;
 mod commands;
