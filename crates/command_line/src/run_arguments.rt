@@ -26,7 +26,9 @@ pub(crate) fn seed_argument<'a>(alloc: Global) -> Arg<'a>
         .value_name("NUMBER")
         .action(ArgAction::Set)
         .value_parser(ValueParser::unsigned(0, u64::MAX))
-        .help("The seed of the policy, for the same run again [default: one that is drawn and told]")
+        .help(
+            "The seed of the policy, for the same run again [default: one that is drawn and told]",
+        )
 }
 
 /// The option that takes a policy, for the parser, which takes any text for it.

@@ -4,16 +4,15 @@ ghost use Rattle.std.specs.Prelude.{◌≡◌, map, string_bytes};
 ghost use Rattle.engines.specs.Advised.{IsExplained, is_quiet};
 
 use crate::advised::{advised, named_files};
+use crate::command_files::command_files;
 use crate::complaint::Complaint;
 use crate::explanation::Explanation;
 use crate::fault::Fault;
-use program_files::Folder;
-use crate::command_files::command_files;
 use crate::main_hints::add_mains;
 use command_line::{Command, Goal, command};
 use explanations::refusal_explanations::{explain, explain_schedule, explain_text};
 use link_conditions::refusal::RefusalKind;
-use program_files::{first_unlisted, given_paths};
+use program_files::{Folder, first_unlisted, given_paths};
 use std::alloc::{AllocError, Global};
 use std::fmt::Display;
 use std::io;

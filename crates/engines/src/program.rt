@@ -14,10 +14,10 @@ use crate::complaint::Complaint;
 use crate::explanation::Explanation;
 use crate::fault::Fault;
 use crate::seeds::Seeds;
-use program_files::Folder;
 use crate::status::Status;
 use command_line::{Command, Usage, command};
 use model::{DeviceFault, Sink, Source};
+use program_files::Folder;
 use program_runs::workers::Gate;
 use search::Progress;
 use std::alloc::Global;
@@ -109,13 +109,7 @@ fn write_help<W: Sink>(alloc: Global, usage: &Usage, output: &mut W) -> Result<(
 }
 
 /// Does what a command says.
-fn done<
-    R: Threads + Wait + Sync,
-    G: Gate + Progress + Seeds + Sync,
-    F: Folder,
-    I: Source,
-    W: Sink,
->(
+fn done<R: Threads + Wait + Sync, G: Gate + Progress + Seeds + Sync, F: Folder, I: Source, W: Sink>(
     rt: &R,
     alloc: Global,
     gate: &G,
@@ -135,10 +129,27 @@ fn done<
         (I.failures input.old + W.failures output.old) (I.failures input.new + W.failures output.new) }
 {
     match command {
-        Command::Run(options) => run_files(rt, alloc, gate, folder, files, options, output, explanation),
+        Command::Run(options) => run_files(
+            rt,
+            alloc,
+            gate,
+            folder,
+            files,
+            options,
+            output,
+            explanation,
+        ),
         Command::Replay(options) => replay(alloc, folder, files, options, output, explanation),
         Command::Trace(options) => trace(alloc, folder, files, options, output, explanation),
-        Command::Search(options) => search(alloc, gate, folder, files, options, output, explanation),
+        Command::Search(options) => search(
+            alloc,
+            gate,
+            folder,
+            files,
+            options,
+            output,
+            explanation,
+        ),
         Command::Verify(options) => verify(alloc, folder, files, options, output),
         Command::Disasm(options) => disasm(alloc, folder, files, options, output),
         Command::Schedule(options) => schedule(alloc, folder, options, input, output, explanation),

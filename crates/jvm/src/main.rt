@@ -60,11 +60,7 @@ fn is_closed(failure: Option<&io::Error>) -> bool {
 /// how far a run or a search is, if it is a terminal.
 fn done<
     R: Files + Input + Print + Eprint + Clock + RandomSource + AllocGlobal + Threads + Wait + Sync,
->(
-    rt: &R,
-    words: &[String],
-    is_terminal: bool,
-) -> Ending {
+>(rt: &R, words: &[String], is_terminal: bool) -> Ending {
     let progress = Progress::new(rt, is_terminal);
     let mut output = Counted::new(rt.alloc(), Cleared::new(&progress, io::writer(rt)));
     let mut input = Counted::new(rt.alloc(), rt.reader());

@@ -11,15 +11,15 @@ ghost use Rattle.engines.specs.Runs.{IsUnrun, Runs};
 use crate::commands::storing::{recorded, try_record};
 use crate::explanation::Explanation;
 use crate::fault::Fault;
-use program_files::Folder;
-use crate::named_file::sources;
 use crate::going_on::how_to_go_on;
+use crate::named_file::sources;
 use crate::running::run_engine;
 use crate::seeds::Seeds;
 use crate::status::Status;
 use crate::telling::told_record;
 use command_line::Run;
 use model::Sink;
+use program_files::Folder;
 use program_runs::workers::Gate;
 use std::alloc::Global;
 use std::sync::Wait;
@@ -92,5 +92,13 @@ fn ran<R: Threads + Wait + Sync, G: Gate + Seeds + Sync, F: Folder, W: Sink>(
     ensures told { TellsFailures (FolderMayFail F.may_fail) result (W.failures output.old) (W.failures output.new) }
 {
     let mut sources = sources(alloc, folder, files)?;
-    run_engine(rt, alloc, gate, sources.as_mut_slice(), options, output, file)
+    run_engine(
+        rt,
+        alloc,
+        gate,
+        sources.as_mut_slice(),
+        options,
+        output,
+        file,
+    )
 }

@@ -107,11 +107,7 @@ impl Mixed {
 }
 
 /// Does turns until there is an end. The gate is told how many events are done. The only error is a want of memory.
-pub(crate) fn run_mixed<G: Gate>(
-    world: &mut World,
-    seed: u64,
-    gate: &G,
-) -> Result<(), AllocError>
+pub(crate) fn run_mixed<G: Gate>(world: &mut World, seed: u64, gate: &G) -> Result<(), AllocError>
     ensures { OnOk result (IsOfSame world.old world.new) }
 {
     let mut mixed = Mixed::from_seed(seed);

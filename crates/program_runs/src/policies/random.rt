@@ -51,11 +51,7 @@ fn take_turn(world: &mut World, random: &mut Xoshiro256PlusPlus) -> Result<(), A
 }
 
 /// Does events until there is an end. The gate is told how many are done. The only error is a want of memory.
-pub(crate) fn run_random<G: Gate>(
-    world: &mut World,
-    seed: u64,
-    gate: &G,
-) -> Result<(), AllocError>
+pub(crate) fn run_random<G: Gate>(world: &mut World, seed: u64, gate: &G) -> Result<(), AllocError>
     ensures { OnOk result (IsOfSame world.old world.new) }
 {
     let mut random = Xoshiro256PlusPlus::seed_from_u64(seed);
