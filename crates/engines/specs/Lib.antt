@@ -1,3 +1,4 @@
+pub mod Advised
 pub mod Commands
 pub mod Complaints
 pub mod Continuations
@@ -20,4 +21,3 @@ pub mod Statuses
 pub mod Traces
 pub mod Transcriptions
 pub mod Verifications
-pub mod class_paths

@@ -1,12 +1,18 @@
 //! The line that tells a person why a command was not done. For it the files are read a second time.
 
+ghost use Rattle.std.specs.Prelude.{◌≡◌, map, string_bytes};
+ghost use Rattle.engines.specs.Advised.{IsExplained, is_quiet};
+
+use crate::advised::{advised, named_files};
+use crate::command_files::command_files;
 use crate::complaint::Complaint;
 use crate::explanation::Explanation;
 use crate::fault::Fault;
-use crate::folder::Folder;
-use crate::given_paths::given_paths;
+use crate::main_hints::add_mains;
 use command_line::{Command, Goal, command};
-use explanations::refusal_explanations::{GivenFile, explain, explain_schedule, explain_text};
+use explanations::refusal_explanations::{explain, explain_schedule, explain_text};
+use link_conditions::refusal::RefusalKind;
+use program_files::{Folder, first_unlisted, given_paths};
 use std::alloc::{AllocError, Global};
 use std::fmt::Display;
 use std::io;
@@ -26,8 +32,9 @@ pub struct Failures<'a> {
     pub output: Option<&'a io::Error>,
 }
 
-/// Tells why a command was not done, in a line with two spaces before it, where more is known than the complaint says: where the
-/// words ask for it by `--explain`, or it is wanted anyway; and nothing with `--quiet`.
+/// Tells why a command was not done, in a line with two spaces before it, where more is known than the complaint says, and behind it
+/// the advice on files that `verify` refuses: where the words ask for it by `--explain`, or it is wanted anyway; and nothing with
+/// `--quiet`.
 pub fn explain_complaint<F: Folder>(
     alloc: Global,
     folder: &F,
@@ -35,7 +42,10 @@ pub fn explain_complaint<F: Folder>(
     complaint: &Complaint,
     failures: Failures<'_>,
     explanation: &mut Explanation,
-) {
+)
+    ensures { IsExplained (F.held folder.now) (F.listed folder.now) (map string_bytes words.now) complaint.now
+        explanation.old explanation.new }
+{
     let Complaint::Fault(fault) = complaint else {
         return;
     };
@@ -57,6 +67,7 @@ pub fn explain_complaint<F: Folder>(
             explanation.reason(),
         );
         explanation.tell(indented(alloc, line));
+        explanation.add(advised(alloc, folder, &command, fault));
     }
 }
 
@@ -76,7 +87,9 @@ fn told_line<F: Folder>(
 }
 
 /// Whether the command has `--explain`, and whether it has `--quiet`.
-fn flags_of(command: &Command) -> (bool, bool) {
+fn flags_of(command: &Command) -> (bool, bool)
+    ensures { result.1 ≡ is_quiet command.now }
+{
     match command {
         Command::Run(options) => (options.explain, options.quiet),
         Command::Replay(options) => (options.explain, options.quiet),
@@ -128,32 +141,16 @@ fn record_of(command: &Command) -> Option<&str> {
     }
 }
 
-/// The paths of the class files, those of the folders that are given included.
-fn files_of<F: Folder>(
-    alloc: Global,
-    folder: &F,
-    command: &Command,
-) -> Result<Vec<String>, AllocError> {
+/// The words that name class files and folders of them.
+fn words_of(command: &Command) -> &[String] {
     match command {
-        Command::Run(options) => options.files.clone(),
-        Command::Replay(options) => options.files.clone(),
-        Command::Trace(options) => options.files.clone(),
-        Command::Search(options) => options.files.clone(),
-        Command::Verify(options) => given_or_same(alloc, folder, &options.files),
-        Command::Disasm(options) => given_or_same(alloc, folder, &options.files),
-        Command::Schedule(_) => Ok(Vec::new(alloc)),
-    }
-}
-
-/// The paths of the files that are given, and these paths where a folder can't be read.
-fn given_or_same<F: Folder>(
-    alloc: Global,
-    folder: &F,
-    paths: &Vec<String>,
-) -> Result<Vec<String>, AllocError> {
-    match given_paths(alloc, folder, paths) {
-        Ok(given) => Ok(given),
-        Err(_) => paths.clone(),
+        Command::Run(options) => options.files.as_slice(),
+        Command::Replay(options) => options.files.as_slice(),
+        Command::Trace(options) => options.files.as_slice(),
+        Command::Search(options) => options.files.as_slice(),
+        Command::Verify(options) => options.files.as_slice(),
+        Command::Disasm(options) => options.files.as_slice(),
+        Command::Schedule(_) => &[],
     }
 }
 
@@ -171,28 +168,19 @@ fn line_of<F: Folder>(alloc: Global, folder: &F, command: &Command, fault: &Faul
             Ok(Some(explain_text(alloc, name, *fault)?))
         }
         Fault::Refusal(refusal) => {
-            let paths = files_of(alloc, folder, command)?;
-            match given(alloc, folder, &paths) {
-                Ok(files) => Ok(Some(explain(alloc, refusal, &files)?)),
-                Err(_) => Ok(None),
+            let Ok(paths) = command_files(alloc, folder, command) else {
+                return Ok(None);
+            };
+            let Ok(files) = named_files(alloc, folder, &paths) else {
+                return Ok(None);
+            };
+            let mut line = explain(alloc, refusal, &files)?;
+            if refusal.kind == RefusalKind::NoMain {
+                add_mains(alloc, folder, &paths, &mut line)?;
             }
+            Ok(Some(line))
         }
     }
-}
-
-/// The class files at the paths.
-fn given<'a, F: Folder>(
-    alloc: Global,
-    folder: &F,
-    paths: &'a [String],
-) -> io::Result<Vec<GivenFile<'a>>> {
-    let mut files = Vec::new(alloc);
-    for path in paths {
-        let bytes = folder.read(alloc, path.as_str())?;
-        let name = path.as_str();
-        files.push(GivenFile { name, bytes })?;
-    }
-    Ok(files)
 }
 
 /// What failed, and the system's reason: the file that was to be written, the output, the input, or the first file that
@@ -215,7 +203,14 @@ fn of_device<F: Folder>(
             return line_with(alloc, path, &error);
         }
     }
-    unread(alloc, folder, files_of(alloc, folder, command)?.as_slice())
+    let words = words_of(command);
+    if let Some(line) = unlisted(alloc, folder, words)? {
+        return Ok(Some(line));
+    }
+    match given_paths(alloc, folder, words) {
+        Ok(paths) => unread(alloc, folder, &paths),
+        Err(_) => Ok(None),
+    }
 }
 
 /// Which of the output and the input failed, and the system's reason.
@@ -225,6 +220,16 @@ fn of_streams(alloc: Global, failures: Failures<'_>) -> Told {
         (None, Some(error)) => line_with(alloc, STANDARD_INPUT, error),
         (None, None) => Ok(None),
     }
+}
+
+/// The first of the words, or of what lies in their folders, of which it isn't known whether it is a folder, and why.
+fn unlisted<F: Folder>(alloc: Global, folder: &F, words: &[String]) -> Told {
+    for word in words {
+        if let Some((path, error)) = first_unlisted(alloc, folder, word.as_str())? {
+            return line_with(alloc, path.as_str(), &error);
+        }
+    }
+    Ok(None)
 }
 
 /// The first of the files that can't be read, and why.
