@@ -141,6 +141,14 @@ fn record_of(command: &Command) -> Option<&str> {
     }
 }
 
+/// Whether the command may name the class whose main is run.
+fn has_main_option(command: &Command) -> bool {
+    matches!(
+        command,
+        Command::Run(_) | Command::Replay(_) | Command::Trace(_) | Command::Search(_)
+    )
+}
+
 /// The words that name class files and folders of them.
 fn words_of(command: &Command) -> &[String] {
     match command {
@@ -175,7 +183,7 @@ fn line_of<F: Folder>(alloc: Global, folder: &F, command: &Command, fault: &Faul
                 return Ok(None);
             };
             let mut line = explain(alloc, refusal, &files)?;
-            if refusal.kind == RefusalKind::NoMain {
+            if refusal.kind == RefusalKind::NoMain && has_main_option(command) {
                 add_mains(alloc, folder, &paths, &mut line)?;
             }
             Ok(Some(line))
