@@ -26,7 +26,8 @@ Examples:
   jvm schedule a.schedule";
 
 /// What class files are that are run.
-pub(crate) const FILES_HELP: &str = "The class files, and folders of them; a file in front has the main method";
+pub(crate) const FILES_HELP: &str =
+    "The class files, and folders of them; a file in front has the main method";
 
 /// What class files are that are verified.
 pub(crate) const VERIFIED_HELP: &str =
