@@ -1,7 +1,10 @@
 -- Files that are read one after the other.
-use Rattle.std.proofs.Common.{◌≡◌, ℕ, zero, suc, ◌+◌, ◌<◌, List, [], ◌∷◌, ◌++◌, map, length, get_or, refl, sym, ap, subst, ◌∙◌, arith, append_assoc, length-append, Option, Some, None, Vec, Global}
-use Rattle.std.proofs.lemmas.List.{map-append}
+use Rattle.std.proofs.Common.{◌≡◌, ℕ, zero, suc, ◌+◌, ◌<◌, List, [], ◌∷◌, ◌++◌, map, length, take, get_or, refl, sym, ap, subst, ◌∙◌, arith, append_assoc, length-append, Option, Some, None, Vec, Global}
+use Rattle.std.specs.Option.{option_map, option_to_list}
+use Rattle.std.proofs.lemmas.List.{map-append, map_more, length-map, length-take-le, take_all}
 use Rattle.class_tree.specs.declared.tree.ClassFile.{ClassFile}
+use Rattle.advice.specs.declared.given.GivenFile.{GivenFile}
+use Rattle.advice.specs.Reading.{bytes_of}
 use Rattle.classfile.specs.View.{file_of}
 use Rattle.hierarchy.specs.Set.{trees_of}
 use Rattle.model.specs.Tree.{FileTree}
@@ -63,3 +66,66 @@ read_none = record { trees = none; places = λ trees h. refl }
     none : (trees : Program) → AreSpelled [] trees → trees_of [] ≡ trees
     none [] h = refl
     none (t ∷ trees) h = absurd h
+
+-- the class of a file more
+pub read_more : (files : List (List ℕ)) (bytes : List ℕ) (classes : List ClassFile) (places : List (Option ℕ)) (count : ℕ) (class : Option ClassFile)
+    → length files ≡ count → IsRead files classes places count → ((tree : FileTree) → Spells bytes tree → option_map file_of class ≡ Some tree)
+    → IsRead (files ++ bytes ∷ []) (classes ++ option_to_list class) (places ++ option_map (λ _. length classes) class ∷ []) (count + 1)
+read_more files bytes classes places count None same read found = record { trees = λ trees h. absurd (none trees h); places = λ trees h. absurd (none trees h) }
+  where
+    no : (tree : FileTree) → None ≡ Some tree → ⊥
+    no tree e = cc
+
+    none : (trees : Program) → AreSpelled (files ++ bytes ∷ []) trees → ⊥
+    none trees h = let s = split_last files bytes trees h in no s.last (found s.last s.spelled)
+read_more files bytes classes places count (Some c) same read found = record { trees = all; places = each }
+  where
+    of_some : (tree : FileTree) → Some (file_of c) ≡ Some tree → file_of c ≡ tree
+    of_some tree e = cc
+
+    all : (trees : Program) → AreSpelled (files ++ bytes ∷ []) trees → trees_of (classes ++ c ∷ []) ≡ trees
+    all trees h =
+        let s = split_last files bytes trees h in
+        let is : file_of c ≡ s.last = of_some s.last (found s.last s.spelled) in
+        map-append file_of classes (c ∷ [])
+        ∙ ap (λ (l : Program). l ++ file_of c ∷ []) (read.trees s.before s.first)
+        ∙ ap (λ (f : FileTree). s.before ++ f ∷ []) is
+        ∙ sym s.same
+
+    each : (trees : Program) → AreSpelled (files ++ bytes ∷ []) trees → places ++ Some (length classes) ∷ [] ≡ map (λ k. Some k) (count_from 0 (count + 1))
+    each trees h =
+        let s = split_last files bytes trees h in
+        let long : length classes ≡ count = sym (length-map classes file_of) ∙ ap length (read.trees s.before s.first) ∙ sym (spelled_length files s.before s.first) ∙ same in
+        let long : length classes ≡ 0 + count = omega arith in
+        ap (λ (l : List (Option ℕ)). l ++ Some (length classes) ∷ []) (read.places s.before s.first)
+        ∙ ap (λ n. map (λ k. Some k) (count_from 0 count) ++ Some n ∷ []) long
+        ∙ sym (map-append (λ k. Some k) (count_from 0 count) (0 + count ∷ []))
+        ∙ ap (map (λ k. Some k)) (sym (count_more 0 count))
+
+-- ---- from the first file to the last
+
+pub read_init : (classes : List ClassFile) (places : List (Option ℕ)) → classes ≡ [] → places ≡ [] → IsRead [] classes places 0
+read_init classes places none no_place =
+    subst (λ (l : List ClassFile). IsRead [] l places 0) (sym none) (subst (λ (l : List (Option ℕ)). IsRead [] [] l 0) (sym no_place) read_none)
+
+pub read_step : (files : List GivenFile) (i : ℕ) (file : GivenFile) (classes all : List ClassFile) (places each : List (Option ℕ)) (class : Option ClassFile)
+    → i < length files → file ≡ get_or files i file → IsRead (map bytes_of (take i files)) classes places i
+    → ((tree : FileTree) → Spells (bytes_of file) tree → option_map file_of class ≡ Some tree) → all ≡ classes ++ option_to_list class
+    → each ≡ places ++ option_map (λ _. length classes) class ∷ [] → IsRead (map bytes_of (take (i + 1) files)) all each (i + 1)
+read_step files i file classes all places each class lt is before found made put =
+    let long : length (map bytes_of (take i files)) ≡ i = length-map (take i files) bytes_of ∙ length-take-le i files (omega (arith, lt)) in
+    let more = read_more (map bytes_of (take i files)) (bytes_of file) classes places i class long before found in
+    let taken : map bytes_of (take (i + 1) files) ≡ map bytes_of (take i files) ++ bytes_of file ∷ [] =
+    map_more bytes_of files i file lt ∙ ap (λ (f : GivenFile). map bytes_of (take i files) ++ bytes_of f ∷ []) (sym is) in
+    subst (λ (l : List (List ℕ)). IsRead l all each (i + 1)) (sym taken)
+    (subst (λ (l : List ClassFile). IsRead (map bytes_of (take i files) ++ bytes_of file ∷ []) l each (i + 1)) (sym made)
+    (subst (λ (l : List (Option ℕ)). IsRead (map bytes_of (take i files) ++ bytes_of file ∷ []) (classes ++ option_to_list class) l (i + 1)) (sym put) more))
+
+-- all of them
+pub read_all : (files : List GivenFile) (i : ℕ) (classes : List ClassFile) (places : List (Option ℕ)) → i ≡ length files
+    → IsRead (map bytes_of (take i files)) classes places i → (trees : Program) → AreSpelled (map bytes_of files) trees
+    → (trees_of classes ≡ trees) × (places ≡ map (λ k. Some k) (count_from 0 (length files)))
+read_all files i classes places all read trees spelled =
+    let whole : take i files ≡ files = take_all i files (omega (arith, all)) in
+    let same : IsRead (map bytes_of files) classes places i = subst (λ (l : List GivenFile). IsRead (map bytes_of l) classes places i) whole read in
+    (same.trees trees spelled, same.places trees spelled ∙ ap (λ n. map (λ k. Some k) (count_from 0 n)) all)

@@ -1,8 +1,9 @@
 -- What is told, step by step.
 use Rattle.std.proofs.Common.{◌≡◌, ℕ, zero, ◌+◌, ◌<◌, ◌≤◌, List, [], ◌∷◌, ◌++◌, map, length, Bool, true, false, ◌⊎◌, inl, inr, Option, Some, None, refl, sym, ap, subst, ◌∙◌, arith, below_more}
-use Rattle.std.specs.Prelude.{slice_get, ◌||◌}
+use Rattle.std.specs.Prelude.{slice_get, ◌||◌, IfOk, OnOk, Result, Ok, Err}
 use Rattle.std.specs.List.{Contains}
 use Rattle.std.specs.Option.{option_map_or}
+use Rattle.std.proofs.lemmas.Bool.{cases_lt}
 use Rattle.std.proofs.lemmas.List.{map-append}
 use Rattle.std.proofs.lemmas.List.Elements.{Contains-append_left, Contains-push}
 use Rattle.std.proofs.lemmas.Option.{slice_get_past}
@@ -33,6 +34,20 @@ pub told_push : (before after : List Told) (t : Told) → after ≡ before ++ t 
 told_push before after t e = record {
   there = subst (λ (l : List (ℕ × ToldPlace)). Contains l (subject t)) (sym (subjects before after t e)) (Contains-push (map subject before) (subject t));
 }
+
+-- ---- behind a call
+
+pub on_ok : {T E P Q : Type 0} → (r : Result T E) → (P → Q) → OnOk r P → OnOk r Q
+on_ok (Ok x) f h = f h
+on_ok (Err e) f h = h
+
+pub if_ok_each : {T E : Type 0} → (P : T → Type 0) (r : Result T E) → ((x : T) → P x) → IfOk r P
+if_ok_each P (Ok x) f = f x
+if_ok_each P (Err e) f = tt
+
+pub if_ok_then : {T E : Type 0} → (P Q : T → Type 0) (r : Result T E) → ((x : T) → P x → Q x) → IfOk r P → IfOk r Q
+if_ok_then P Q (Ok x) f h = f x h
+if_ok_then P Q (Err e) f h = h
 
 -- ---- of one place
 
@@ -68,14 +83,11 @@ one_more a b c file place is_wrong i here first last same = record {
   told = below_more (λ k. is_wrong k ≡ true → IsTold c file (place k)) i (λ k lt h. last.kept.kept file (place k) (first.told k lt h)) (λ h. last.told (same h));
 }
 
-at_or_past : (k n : ℕ) → (k < n) ⊎ (n ≤ k)
-at_or_past k n = omega arith
-
 pub each_of : (a b : List Told) (file : ℕ) (place : ℕ → ToldPlace) (is_wrong : ℕ → Bool) (n : ℕ) → TellsBelow a b file place is_wrong n
     → ((k : ℕ) → n ≤ k → is_wrong k ≡ true → ⊥) → TellsEach a b file place is_wrong
 each_of a b file place is_wrong n below past = record {
   kept = below.kept;
-  told = λ k h. elim (at_or_past k n) [ inl lt ↦ below.told k lt h | inr le ↦ absurd (past k le h) ];
+  told = λ k h. elim (cases_lt k n) [ inl lt ↦ below.told k lt h | inr le ↦ absurd (past k le h) ];
 }
 
 -- ---- places past the end

@@ -1,13 +1,14 @@
 -- Lines, each once, and their text.
-use Rattle.std.proofs.Common.{◌≡◌, ℕ, zero, suc, ◌+◌, ◌<◌, List, [], ◌∷◌, ◌++◌, map, length, get_or, Bool, true, false, cond, refl, sym, ap, subst, ◌∙◌, arith, append_assoc}
+use Rattle.std.proofs.Common.{◌≡◌, ℕ, zero, suc, ◌+◌, ◌<◌, List, [], ◌∷◌, ◌++◌, map, length, take, get_or, Bool, true, false, cond, refl, sym, ap, subst, ◌∙◌, arith, append_assoc}
 use Rattle.std.specs.Prelude.{codes}
 use Rattle.std.specs.List.{Contains, flat_map, list_any}
-use Rattle.std.proofs.lemmas.List.{append-nil}
+use Rattle.std.proofs.lemmas.List.{append-nil, map_more}
 use Rattle.std.proofs.lemmas.List.Elements.{Contains-append_left, Contains-push}
 use Rattle.std.proofs.lemmas.Grind.{flat_map-append}
 use Rattle.model.specs.Names.{Name, name_eq}
 use Rattle.model.specs.Report.{line}
 use Rattle.hierarchy.proofs.SetLaws.{same_name}
+use Rattle.link_conditions.proofs.limits_of_linking.TextLaws.{with_texts-append}
 use Rattle.link_conditions.specs.limits_of_linking.Texts.{with_text, with_texts}
 use Rattle.listings.specs.printed_names.Printed.{printed}
 use Rattle.advice.specs.declared.told.Told.{Told}
@@ -51,6 +52,12 @@ said_from lines (u ∷ told) t (suc k) lt e = said_from (with_text lines (words_
 
 pub all_said : (told : List Told) → AreSaid told (with_texts [] (map words_of told))
 all_said told t h = said_from [] told t h.0 h.1 h.2
+
+-- the lines of one thing more that is told
+pub lines_more : (told : List Told) (i : ℕ) (d : Told) → i < length told
+    → with_texts [] (map words_of (take (i + 1) told)) ≡ with_text (with_texts [] (map words_of (take i told))) (words_of (get_or told i d))
+lines_more told i d lt =
+    ap (with_texts []) (map_more words_of told i d lt) ∙ with_texts-append [] (map words_of (take i told)) (words_of (get_or told i d) ∷ [])
 
 -- ---- how they are shown
 

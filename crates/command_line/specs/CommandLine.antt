@@ -13,9 +13,9 @@ use Rattle.clap.specs.declared.builder.command.Command as parser
 use Rattle.clap.specs.declared.builder.command.Command.TheViews.{out-Command}
 use Rattle.clap.specs.declared.builder.ArgAction.TheVariants.{Set, SetTrue, Append}
 use Rattle.clap.specs.declared.builder.value_parser.ValueParser.TheVariants.{Unsigned}
-use Rattle.command_line.specs.Choices.{IsAlone}
 use Rattle.command_line.specs.Goals.{IsGoalWord}
 use Rattle.command_line.specs.Paths.{IsApart, IsGoalApart}
+use Rattle.command_line.specs.Policies.{GoTogether, IsPolicy}
 use Rattle.command_line.specs.declared.usage.Usage.{Usage}
 use Rattle.command_line.specs.declared.usage.Usage.TheVariants.{Parser, Number, Asked, OutOfMemory}
 use Rattle.command_line.specs.declared.options.Command.{Command}
@@ -25,7 +25,6 @@ use Rattle.command_line.specs.declared.options.Goal.{Goal}
 use Rattle.command_line.specs.declared.options.LimitOptions.{LimitOptions}
 use Rattle.command_line.specs.declared.options.Replay.{Replay}
 use Rattle.command_line.specs.declared.options.Run.{Run}
-use Rattle.command_line.specs.declared.options.RunOptions.{RunOptions}
 use Rattle.command_line.specs.declared.options.Schedule.{Schedule}
 use Rattle.command_line.specs.declared.options.Search.{Search}
 use Rattle.command_line.specs.declared.options.ThenRun.{ThenRun}
@@ -33,6 +32,7 @@ use Rattle.command_line.specs.declared.options.Trace.{Trace}
 use Rattle.command_line.specs.declared.options.TraceForm.{TraceForm}
 use Rattle.command_line.specs.declared.options.TraceForm.TheVariants as forms
 use Rattle.command_line.specs.declared.options.Verify.{Verify}
+use Rattle.command_line.specs.declared.run_options.RunOptions.{RunOptions}
 
 -- `--NAME NUMBER`, a number from least to most
 abbrev pub number_option : Text → ℕ → ℕ → Rule
@@ -102,13 +102,14 @@ main_option = path_option (codes "main")
 abbrev pub with_program : App → App
 with_program app = with_rule (with_limits app) main_option
 
--- how many workers, how many events in all and in a row, and by which seed
+-- how many workers, how many events in all and in a row, and by which seed and policy
 abbrev pub with_run_options : App → App
-with_run_options app = with_rule (with_rule (with_rule (with_rule app
+with_run_options app = with_rule (with_rule (with_rule (with_rule (with_rule app
     (number_option (codes "workers") 1 64))
     (number_option (codes "budget") 0 4294967295))
     (number_option (codes "quantum") 1 4294967295))
-    (number_option (codes "seed") 0 4294967295)
+    (number_option (codes "seed") 0 18446744073709551615))
+    (path_option (codes "policy"))
 
 -- where a run goes on behind its schedule, up to how many events in all, and where it is recorded
 abbrev pub with_then_run : App → App
@@ -218,13 +219,14 @@ pub record AreLimitNumbers (rows : List Row) (limits : LimitOptions) : Type 0 wh
 abbrev pub is_set : Option Text → Bool
 is_set text = option_map_or (λ text. bytes_eq text (codes "true")) text false
 
--- the numbers that the words give to a run: with a seed it has one worker
+-- who gives the threads turns, and up to how many events, by the words of a run
 pub record AreRunNumbers (rows : List Row) (options : RunOptions) : Type 0 where
   pub workers : IsNumber 1 64 (first_of (codes "workers") rows) options.workers
   pub budget : IsNumber 0 4294967295 (first_of (codes "budget") rows) options.budget
   pub quantum : IsNumber 1 4294967295 (first_of (codes "quantum") rows) options.quantum
-  pub seed : IsNumber 0 4294967295 (first_of (codes "seed") rows) options.seed
-  pub alone : IsAlone options.seed options.workers
+  pub seed : IsNumber 0 18446744073709551615 (first_of (codes "seed") rows) options.seed
+  pub policy : IsPolicy (first_of (codes "policy") rows) options.policy
+  pub together : GoTogether options.workers options.quantum options.seed options.policy
 
 -- the values that the words give to `jvm run`
 pub record AreRunValues (rows : List Row) (run : Run) : Type 0 where

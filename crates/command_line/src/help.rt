@@ -26,7 +26,8 @@ Examples:
   jvm schedule a.schedule";
 
 /// What class files are that are run.
-pub(crate) const FILES_HELP: &str = "The class files, and folders of them; a file in front has the main method";
+pub(crate) const FILES_HELP: &str =
+    "The class files, and folders of them; a file in front has the main method";
 
 /// What class files are that are verified.
 pub(crate) const VERIFIED_HELP: &str =
@@ -42,9 +43,16 @@ What it does:
   a folder stands for those in it and below it. Where a folder comes first, it is
   that of the one class that has a main method, and with --main that of the class
   which is named.
-  Workers take turns at the Java threads; each event that they do is one more of
-  the schedule, which --record keeps for `jvm replay`. The report has the printed
+  The threads take turns by a policy; each event that is done is one more of the
+  schedule, which --record keeps for `jvm replay`. The report has the printed
   numbers, how each thread stands, how many events there were, and why no more.
+    mixed           turns in rotation, whose lengths are drawn by a seed
+    random          each event is of a thread that is drawn by a seed
+    rotation        turns in rotation, of --quantum events
+  A seed that is not given is drawn, and told on standard error: `seed 4711`. With
+  --seed 4711 the run is the same again. Without --policy a --quantum asks for a
+  rotation. --workers has as many workers run the threads side by side; no run of
+  theirs need be the same as another.
 
 Statuses:
   0  all threads have ended

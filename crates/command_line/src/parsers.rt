@@ -10,9 +10,10 @@ use crate::help::{
     SEARCH_PAGE, TRACE_PAGE, VERIFIED_HELP, VERIFY_PAGE, VERSION,
 };
 use crate::numbers::{
-    BUDGET, CELLS, FRAMES, FROM, MEMORY, MONITORS, OBJECTS, ONLY, QUANTUM, SEED, STATES, THREADS,
-    TO, WORKERS,
+    BUDGET, CELLS, FRAMES, FROM, MEMORY, MONITORS, OBJECTS, ONLY, QUANTUM, STATES, THREADS, TO,
+    WHOLE_BUDGET, WORKERS,
 };
+use crate::run_arguments::{policy_argument, seed_argument};
 use clap::{Arg, ArgAction};
 use std::alloc::{AllocError, Global};
 
@@ -72,7 +73,8 @@ fn run_parser<'a>(alloc: Global) -> Result<clap::Command<'a>, AllocError>
     .arg(WORKERS.argument(alloc))?
     .arg(BUDGET.argument(alloc))?
     .arg(QUANTUM.argument(alloc))?
-    .arg(SEED.argument(alloc))?
+    .arg(seed_argument(alloc))?
+    .arg(policy_argument(alloc))?
     .arg(record_argument(alloc))?;
     with_files(
         alloc,
@@ -96,7 +98,7 @@ fn replay_parser<'a>(alloc: Global) -> Result<clap::Command<'a>, AllocError>
         "then-run",
         "Goes on where the schedule ends: the threads take turns",
     ))?
-    .arg(BUDGET.argument(alloc))?
+    .arg(WHOLE_BUDGET.argument(alloc))?
     .arg(record_argument(alloc))?;
     with_files(
         alloc,

@@ -1,3 +1,4 @@
+pub mod AdviceLemmas
 pub mod CommandLemmas
 pub mod DeviceLemmas
 pub mod EngineLemmas

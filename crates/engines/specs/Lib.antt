@@ -1,3 +1,4 @@
+pub mod Advised
 pub mod Commands
 pub mod Complaints
 pub mod Continuations
@@ -10,6 +11,7 @@ pub mod Libraries
 pub mod LibraryMain
 pub mod Listings
 pub mod Opening
+pub mod Policies
 pub mod Recordings
 pub mod Refusals
 pub mod Replays

@@ -1,15 +1,18 @@
 //! The line that tells a person why a command was not done. For it the files are read a second time.
 
+ghost use Rattle.std.specs.Prelude.{◌≡◌, map, string_bytes};
+ghost use Rattle.engines.specs.Advised.{IsExplained, is_quiet};
+
+use crate::advised::{advised, named_files};
+use crate::command_files::command_files;
 use crate::complaint::Complaint;
 use crate::explanation::Explanation;
 use crate::fault::Fault;
-use program_files::Folder;
-use crate::command_files::command_files;
 use crate::main_hints::add_mains;
 use command_line::{Command, Goal, command};
-use explanations::refusal_explanations::{GivenFile, explain, explain_schedule, explain_text};
+use explanations::refusal_explanations::{explain, explain_schedule, explain_text};
 use link_conditions::refusal::RefusalKind;
-use program_files::{first_unlisted, given_paths};
+use program_files::{Folder, first_unlisted, given_paths};
 use std::alloc::{AllocError, Global};
 use std::fmt::Display;
 use std::io;
@@ -29,8 +32,9 @@ pub struct Failures<'a> {
     pub output: Option<&'a io::Error>,
 }
 
-/// Tells why a command was not done, in a line with two spaces before it, where more is known than the complaint says: where the
-/// words ask for it by `--explain`, or it is wanted anyway; and nothing with `--quiet`.
+/// Tells why a command was not done, in a line with two spaces before it, where more is known than the complaint says, and behind it
+/// the advice on files that `verify` refuses: where the words ask for it by `--explain`, or it is wanted anyway; and nothing with
+/// `--quiet`.
 pub fn explain_complaint<F: Folder>(
     alloc: Global,
     folder: &F,
@@ -38,7 +42,10 @@ pub fn explain_complaint<F: Folder>(
     complaint: &Complaint,
     failures: Failures<'_>,
     explanation: &mut Explanation,
-) {
+)
+    ensures { IsExplained (F.held folder.now) (F.listed folder.now) (map string_bytes words.now) complaint.now
+        explanation.old explanation.new }
+{
     let Complaint::Fault(fault) = complaint else {
         return;
     };
@@ -60,6 +67,7 @@ pub fn explain_complaint<F: Folder>(
             explanation.reason(),
         );
         explanation.tell(indented(alloc, line));
+        explanation.add(advised(alloc, folder, &command, fault));
     }
 }
 
@@ -79,7 +87,9 @@ fn told_line<F: Folder>(
 }
 
 /// Whether the command has `--explain`, and whether it has `--quiet`.
-fn flags_of(command: &Command) -> (bool, bool) {
+fn flags_of(command: &Command) -> (bool, bool)
+    ensures { result.1 ≡ is_quiet command.now }
+{
     match command {
         Command::Run(options) => (options.explain, options.quiet),
         Command::Replay(options) => (options.explain, options.quiet),
@@ -169,7 +179,7 @@ fn line_of<F: Folder>(alloc: Global, folder: &F, command: &Command, fault: &Faul
             let Ok(paths) = command_files(alloc, folder, command) else {
                 return Ok(None);
             };
-            let Ok(files) = given(alloc, folder, &paths) else {
+            let Ok(files) = named_files(alloc, folder, &paths) else {
                 return Ok(None);
             };
             let mut line = explain(alloc, refusal, &files)?;
@@ -179,21 +189,6 @@ fn line_of<F: Folder>(alloc: Global, folder: &F, command: &Command, fault: &Faul
             Ok(Some(line))
         }
     }
-}
-
-/// The class files at the paths.
-fn given<'a, F: Folder>(
-    alloc: Global,
-    folder: &F,
-    paths: &'a [String],
-) -> io::Result<Vec<GivenFile<'a>>> {
-    let mut files = Vec::new(alloc);
-    for path in paths {
-        let bytes = folder.read(alloc, path.as_str())?;
-        let name = path.as_str();
-        files.push(GivenFile { name, bytes })?;
-    }
-    Ok(files)
 }
 
 /// What failed, and the system's reason: the file that was to be written, the output, the input, or the first file that

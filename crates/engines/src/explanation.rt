@@ -1,8 +1,11 @@
 //! What is told to a person behind a report or a complaint.
 
+ghost use Rattle.std.specs.Prelude.{◌≡◌, ◌⊎◌, [], ◌++◌};
+
 use crate::status::Status;
-use std::alloc::Global;
+use std::alloc::{AllocError, Global};
 use std::io;
+use std::marker::Model;
 
 /// How many events are done again, at the most, for what the words don't ask for.
 const MOST_EVENTS: u64 = 100_000_000;
@@ -10,13 +13,22 @@ const MOST_EVENTS: u64 = 100_000_000;
 /// How many times they are done where an exception ended a thread, at the most.
 const MOST_TIMES: u64 = 3;
 
-/// What is told to a person: as lines, each ended. It is wanted where the words ask for it, and it may be wanted anyway.
+/// What is told to a person: as lines, each ended. It is wanted where the words ask for it, and it may be wanted anyway. Contracts see
+/// the lines.
 #[derive(Drop)]
 pub struct Explanation {
     is_wanted: bool,
     text: Vec<u8>,
     /// The system's reason why a file couldn't be written.
     reason: Option<String>,
+}
+
+impl Model for Explanation {
+    ghost use Rattle.std.specs.Prelude.{ℕ, List};
+
+    ghost Value = { List ℕ };
+
+    ghost view = { λ e. e.text.items };
 }
 
 impl Explanation {
@@ -76,5 +88,19 @@ impl Explanation {
         if let Some(lines) = lines {
             self.text = lines;
         }
+    }
+
+    /// This line is told, too, if there is one, and memory for it.
+    pub(crate) fn tell_more(&mut self, line: Result<String, AllocError>) {
+        if let Ok(line) = line {
+            let _ = self.text.extend_from_slice(line.as_bytes());
+        }
+    }
+
+    /// These lines are told, too, behind those that are; or not, where there is no memory for them.
+    pub(crate) fn add(&mut self, lines: Vec<u8>)
+        ensures { (self.new ≡ self.old) ⊎ (self.new ≡ self.old ++ lines.items) }
+    {
+        let _ = self.text.extend_from_slice(&lines);
     }
 }

@@ -2,6 +2,7 @@
 //! and schedules as text.
 #![tactic(auto)]
 
+mod advised;
 mod class_files;
 mod command_files;
 mod commands;
@@ -11,6 +12,7 @@ mod device;
 mod explaining;
 mod explanation;
 mod fault;
+mod going_on;
 mod library;
 mod listing;
 mod made_file;
@@ -24,6 +26,7 @@ mod recording;
 mod replaying;
 mod running;
 mod searching;
+mod seeds;
 mod status;
 mod system_folder;
 mod telling;
@@ -50,6 +53,7 @@ pub use replaying::replay_engine;
 pub use running::run_engine;
 pub use search::Progress;
 pub use searching::search_engine;
+pub use seeds::Seeds;
 pub use status::Status;
 pub use system_folder::SystemFolder;
 pub use tracing::trace_engine;

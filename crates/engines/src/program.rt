@@ -13,10 +13,11 @@ use crate::commands::{disasm, replay, run_files, schedule, search, trace, verify
 use crate::complaint::Complaint;
 use crate::explanation::Explanation;
 use crate::fault::Fault;
-use program_files::Folder;
+use crate::seeds::Seeds;
 use crate::status::Status;
 use command_line::{Command, Usage, command};
 use model::{DeviceFault, Sink, Source};
+use program_files::Folder;
 use program_runs::workers::Gate;
 use search::Progress;
 use std::alloc::Global;
@@ -28,9 +29,16 @@ use std::thread::Threads;
 /// The files that they name are those of the folder; the text of a schedule that is to become a file is read from the
 /// input. A report, a listing, the line of a verification, the text of a schedule, or the help or the version that the words
 /// ask for is written to the output, and nothing else but a schedule file, where one is asked for, to the folder. The gate is
-/// told what the workers of a run do, and how far a search has come. The complaint is for the caller to tell, and so is the
-/// explanation, which gets what the threads of a run are about that did not end normally, where it is due.
-pub fn run<R: Threads + Wait + Sync, G: Gate + Progress + Sync, F: Folder, I: Source, W: Sink>(
+/// told what the workers of a run do, and how far a run or a search has come; and it draws the seed of a run for which none is
+/// asked. The complaint is for the caller to tell, and so is the explanation, which gets what the threads of a run are about
+/// that did not end normally, where it is due.
+pub fn run<
+    R: Threads + Wait + Sync,
+    G: Gate + Progress + Seeds + Sync,
+    F: Folder,
+    I: Source,
+    W: Sink,
+>(
     rt: &R,
     alloc: Global,
     gate: &G,
@@ -96,7 +104,7 @@ fn write_help<W: Sink>(alloc: Global, usage: &Usage, output: &mut W) -> Result<(
 }
 
 /// Does what a command says, over the files that its words stand for.
-fn done<R: Threads + Wait + Sync, G: Gate + Progress + Sync, F: Folder, I: Source, W: Sink>(
+fn done<R: Threads + Wait + Sync, G: Gate + Progress + Seeds + Sync, F: Folder, I: Source, W: Sink>(
     rt: &R,
     alloc: Global,
     gate: &G,
@@ -132,7 +140,7 @@ fn done<R: Threads + Wait + Sync, G: Gate + Progress + Sync, F: Folder, I: Sourc
 }
 
 /// Does what a command says, over the files at these paths.
-fn done_over<R: Threads + Wait + Sync, G: Gate + Progress + Sync, F: Folder, I: Source, W: Sink>(
+fn done_over<R: Threads + Wait + Sync, G: Gate + Progress + Seeds + Sync, F: Folder, I: Source, W: Sink>(
     rt: &R,
     alloc: Global,
     gate: &G,
@@ -152,10 +160,27 @@ fn done_over<R: Threads + Wait + Sync, G: Gate + Progress + Sync, F: Folder, I: 
         (I.failures input.old + W.failures output.old) (I.failures input.new + W.failures output.new) }
 {
     match command {
-        Command::Run(options) => run_files(rt, alloc, gate, folder, files, options, output, explanation),
+        Command::Run(options) => run_files(
+            rt,
+            alloc,
+            gate,
+            folder,
+            files,
+            options,
+            output,
+            explanation,
+        ),
         Command::Replay(options) => replay(alloc, folder, files, options, output, explanation),
         Command::Trace(options) => trace(alloc, folder, files, options, output, explanation),
-        Command::Search(options) => search(alloc, gate, folder, files, options, output, explanation),
+        Command::Search(options) => search(
+            alloc,
+            gate,
+            folder,
+            files,
+            options,
+            output,
+            explanation,
+        ),
         Command::Verify(options) => verify(alloc, folder, files, options, output),
         Command::Disasm(options) => disasm(alloc, folder, files, options, output),
         Command::Schedule(options) => schedule(alloc, folder, options, input, output, explanation),

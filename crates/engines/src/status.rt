@@ -7,8 +7,8 @@ ghost use Rattle.engines.specs.Statuses.{has_ended, has_returned, code_of, compl
 use crate::complaint::Complaint;
 use crate::fault::Fault;
 use command_line::Usage;
-use program_files::FilesFault;
 use model::{End, EndState, Report};
+use program_files::FilesFault;
 use search::search_reports::Answer;
 
 #[derive(Clone, Copy)]

@@ -36,7 +36,10 @@ impl FilesFault {
         match self {
             FilesFault::Device => return to.write_all(b"device\n"),
             FilesFault::Memory => return to.write_all(b"run refused Memory\n"),
-            FilesFault::Empty(path) => write!(to, "error: no class file lies in the folder '{path}'")?,
+            FilesFault::Empty(path) => write!(
+                to,
+                "error: no class file lies in the folder '{path}'"
+            )?,
             FilesFault::TooDeep(path) => write!(
                 to,
                 "error: the folder '{path}' lies in too many others: links may go round"
@@ -57,7 +60,9 @@ impl FilesFault {
 
 /// Writes which classes declare a main.
 fn write_mains<W: Write>(to: &mut W, names: &[Vec<u8>]) -> io::Result<()> {
-    to.write_all(b"error: more than one class has a main method; '--main <NAME>' says whose is run\n  [possible values: ")?;
+    to.write_all(
+        b"error: more than one class has a main method; '--main <NAME>' says whose is run\n  [possible values: ",
+    )?;
     for (number, name) in names.iter().enumerate() {
         if number > 0 {
             to.write_all(b", ")?;

@@ -4,7 +4,6 @@ ghost use Rattle.std.specs.Prelude.{Bool, List, None, Option, Some, ℕ, IfErr, 
 ghost use Rattle.std.specs.Option.{option_map};
 ghost use Rattle.std.specs.declared.string.String.{String as Text};
 ghost use Rattle.std.specs.Global.{Global as System};
-
 ghost use Rattle.program_files.specs.Folders.{IsFailure, IsListed, IsWith, Reads};
 
 use std::alloc::Global;

@@ -6,12 +6,11 @@ mod file_order;
 mod files_fault;
 mod folder;
 mod given_words;
-
 mod held_class;
 
 pub use class_paths::first_unlisted;
+pub use file_order::handed_on;
 pub use files_fault::FilesFault;
 pub use folder::Folder;
 pub use given_words::{given_paths, is_folder};
-pub use file_order::handed_on;
 pub use held_class::{HeldClass, held_classes};

@@ -1,6 +1,6 @@
 //! The code of a method.
 
-ghost use Rattle.std.specs.Prelude.{◌≡◌, IfOk, OnOk, not, true};
+ghost use Rattle.std.specs.Prelude.{◌≡◌, ◌&&◌, IfOk, OnOk, not, true};
 ghost use Rattle.std.specs.Option.{option_map_or};
 ghost use Rattle.model.specs.Instruction.{instr_at};
 ghost use Rattle.model.specs.CodeParts.{begins_none};
@@ -210,24 +210,51 @@ impl CodeSite<'_> {
         Ok(true)
     }
 
-    /// Tells what stands behind the first instruction that this machine has not, as far as the code can be read.
+    /// Tells what is wrong at an offset, if it is an instruction boundary, and answers whether decoding goes on behind it.
+    fn push_boundary(
+        &self,
+        pc: usize,
+        is_start: bool,
+        told: &mut Vec<Told>,
+    ) -> Result<bool, AllocError>
+        ensures told { OnOk result (Tells told.old.items told.new.items self.now.site.now.number (places.Instruction self.now.number pc)
+            (is_start && option_map_or (is_instruction_wrong self.now.site.now.facts.0 self.now.site.now.facts.1)
+            (instr_at (code_of self.now.code.now).code pc) true)) }
+        ensures goes_on { IfOk result (λ goes_on. goes_on ≡ not (is_start && begins_none (code_of self.now.code.now).code pc)) }
+    {
+        if is_start {
+            self.push_offset(pc, told)
+        } else {
+            Ok(true)
+        }
+    }
+
+    /// Tells what stands at an offset that code is read on at, and answers where it goes on behind that, if it does.
+    fn push_behind(&self, pc: usize, told: &mut Vec<Told>) -> Result<Option<usize>, AllocError>
+        ensures { OnOk result (Keeps told.old.items told.new.items) }
+    {
+        if let Some((instr, length)) = sized_at(&self.code.code, pc) {
+            self.push_instruction(pc, instr, told)?;
+            return Ok(Some(pc.saturating_add(length)));
+        }
+        let Some(beyond) = beyond_at(self.site.facts.file(), &self.code.code, pc) else {
+            return Ok(None);
+        };
+        let words = self.beyond_words(pc, told)?;
+        push_told(told, self.site.number, self.place(pc), words)?;
+        Ok(Some(pc.saturating_add(beyond.length)))
+    }
+
+    /// Tells what stands from the first instruction on that this machine has not, as far as the code can be read.
     fn push_beyond(&self, first: usize, told: &mut Vec<Told>) -> Result<(), AllocError>
         ensures { OnOk result (Keeps told.old.items told.new.items) }
     {
-        let file = self.site.facts.file();
-        let code = self.code.code.as_slice();
         let mut pc = first;
-        for _ in 0..code.len() {
-            if let Some((instr, length)) = sized_at(code, pc) {
-                self.push_instruction(pc, instr, told)?;
-                pc = pc.saturating_add(length);
-            } else if let Some(beyond) = beyond_at(file, code, pc) {
-                let words = self.beyond_words(pc, told)?;
-                push_told(told, self.site.number, self.place(pc), words)?;
-                pc = pc.saturating_add(beyond.length);
-            } else {
+        for _ in 0..self.code.code.len() {
+            let Some(next) = self.push_behind(pc, told)? else {
                 return Ok(());
-            }
+            };
+            pc = next;
         }
         Ok(())
     }
@@ -240,7 +267,7 @@ impl CodeSite<'_> {
     {
         let marks = starts(self.site.alloc, &self.code.code)?;
         for (pc, is_start) in marks.iter().enumerate() {
-            if *is_start && !self.push_offset(pc, told)? {
+            if !self.push_boundary(pc, *is_start, told)? {
                 return self.push_beyond(pc, told);
             }
         }

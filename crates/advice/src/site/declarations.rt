@@ -94,17 +94,23 @@ impl Site<'_> {
         Ok(line.into_bytes())
     }
 
+    /// Tells the class at a place above the class, where it is not found.
+    fn push_lacking(&self, place: usize, told: &mut Vec<Told>) -> Result<(), AllocError>
+        ensures { OnOk result (Keeps told.old.items told.new.items) }
+    {
+        if self.lacking_above(place).is_none() {
+            return Ok(());
+        }
+        let words = self.above_words(place)?;
+        push_told(told, self.number, ToldPlace::Class, words)
+    }
+
     /// Tells the classes above the class that are not found, behind the place of one.
     fn push_above(&self, first: usize, told: &mut Vec<Told>) -> Result<(), AllocError>
         ensures { OnOk result (Keeps told.old.items told.new.items) }
     {
-        let count = self.facts.file().interfaces.len();
-        for place in first..count {
-            let place = place.saturating_add(1);
-            if self.lacking_above(place).is_some() {
-                let words = self.above_words(place)?;
-                push_told(told, self.number, ToldPlace::Class, words)?;
-            }
+        for place in first..self.facts.file().interfaces.len() {
+            self.push_lacking(place.saturating_add(1), told)?;
         }
         Ok(())
     }

@@ -8,13 +8,13 @@ ghost use Rattle.engines.specs.Failures.{FolderMayFail, TellsFailures};
 
 use crate::explanation::Explanation;
 use crate::fault::Fault;
-use program_files::Folder;
 use crate::named_file::{source, sources};
 use crate::status::Status;
 use crate::telling::told_schedule;
 use crate::tracing::trace_engine;
 use command_line::{Trace, TraceForm};
 use model::Sink;
+use program_files::Folder;
 use program_runs::traced_runs::{Form, Window};
 use std::alloc::Global;
 

@@ -9,7 +9,6 @@ ghost use Rattle.engines.specs.Engines.{CountsFailure};
 ghost use Rattle.engines.specs.Failures.{FolderMayFail, TellsFailures};
 
 use crate::fault::Fault;
-use program_files::Folder;
 use crate::library::verify_library_engine;
 use crate::listing::disasm_engine;
 use crate::named_file::sources;
@@ -18,6 +17,7 @@ use crate::status::Status;
 use crate::verification::verify_engine;
 use command_line::{Disasm, Verify};
 use model::{Sink, Source};
+use program_files::Folder;
 use std::alloc::Global;
 
 /// `verify`.

@@ -13,13 +13,13 @@ use crate::commands::storing::{recorded, try_record};
 use crate::continuing::continue_engine;
 use crate::explanation::Explanation;
 use crate::fault::Fault;
-use program_files::Folder;
 use crate::named_file::{source, sources};
 use crate::replaying::replay_engine;
 use crate::status::Status;
 use crate::telling::{told_record, told_schedule};
 use command_line::{Replay, ThenRun};
 use model::Sink;
+use program_files::Folder;
 use std::alloc::Global;
 
 /// `replay`.

@@ -11,20 +11,22 @@ ghost use Rattle.engines.specs.Runs.{IsUnrun, Runs};
 use crate::commands::storing::{recorded, try_record};
 use crate::explanation::Explanation;
 use crate::fault::Fault;
-use program_files::Folder;
+use crate::going_on::how_to_go_on;
 use crate::named_file::sources;
 use crate::running::run_engine;
+use crate::seeds::Seeds;
 use crate::status::Status;
 use crate::telling::told_record;
 use command_line::Run;
 use model::Sink;
+use program_files::Folder;
 use program_runs::workers::Gate;
 use std::alloc::Global;
 use std::sync::Wait;
 use std::thread::Threads;
 
 /// `run`.
-pub(crate) fn run_files<R: Threads + Wait + Sync, G: Gate + Sync, F: Folder, W: Sink>(
+pub(crate) fn run_files<R: Threads + Wait + Sync, G: Gate + Seeds + Sync, F: Folder, W: Sink>(
     rt: &R,
     alloc: Global,
     gate: &G,
@@ -44,15 +46,32 @@ pub(crate) fn run_files<R: Threads + Wait + Sync, G: Gate + Sync, F: Folder, W: 
     let mut file = None;
     let outcome = ran(rt, alloc, gate, folder, files, options, output, &mut file);
     let status = recorded(alloc, folder, &options.record, &file, outcome, explanation)?;
-    if let Some(most) = explanation.most_events(status, options.explain, options.quiet) {
-        let lines = told_record(alloc, folder, &file, files, &options.limits, most);
-        explanation.tell(lines);
-    }
+    tell(alloc, folder, files, options, status, &file, explanation);
     Ok(status)
 }
 
+/// Tells what the threads are about, where a run did not end normally, and how it may go on behind its budget.
+fn tell<F: Folder>(
+    alloc: Global,
+    folder: &F,
+    files: &[String],
+    options: &Run,
+    status: Status,
+    file: &Option<Vec<u8>>,
+    explanation: &mut Explanation,
+) {
+    let Some(most) = explanation.most_events(status, options.explain, options.quiet) else {
+        return;
+    };
+    let lines = told_record(alloc, folder, file, files, &options.limits, most);
+    explanation.tell(lines);
+    if status == Status::UsedUp {
+        explanation.tell_more(how_to_go_on(alloc, options));
+    }
+}
+
 /// Runs the class files of a folder, writes the report, and makes the schedule file.
-fn ran<R: Threads + Wait + Sync, G: Gate + Sync, F: Folder, W: Sink>(
+fn ran<R: Threads + Wait + Sync, G: Gate + Seeds + Sync, F: Folder, W: Sink>(
     rt: &R,
     alloc: Global,
     gate: &G,
@@ -73,5 +92,13 @@ fn ran<R: Threads + Wait + Sync, G: Gate + Sync, F: Folder, W: Sink>(
     ensures told { TellsFailures (FolderMayFail F.may_fail) result (W.failures output.old) (W.failures output.new) }
 {
     let mut sources = sources(alloc, folder, files)?;
-    run_engine(rt, alloc, gate, sources.as_mut_slice(), options, output, file)
+    run_engine(
+        rt,
+        alloc,
+        gate,
+        sources.as_mut_slice(),
+        options,
+        output,
+        file,
+    )
 }

@@ -1,0 +1,44 @@
+-- What is told behind a complaint, on standard error (own).
+use Rattle.std.specs.Prelude.{◌≡◌, ◌⊎◌, ℕ, List, [], ◌++◌, Option, Bool, false}
+use Rattle.advice.specs.Advice.{IsAdvice}
+use Rattle.command_line.specs.CommandLine.{Spells}
+use Rattle.command_line.specs.declared.options.Command.{Command}
+use Rattle.command_line.specs.declared.options.Command.TheVariants as commands
+use Rattle.engines.specs.Commands.{OfFiles}
+use Rattle.program_files.specs.Folders.{Held, Listed}
+use Rattle.engines.specs.Engines.{ReadsEach}
+use Rattle.engines.specs.declared.complaint.Complaint.{Complaint}
+use Rattle.engines.specs.declared.complaint.Complaint.TheVariants as complaints
+use Rattle.engines.specs.declared.fault.Fault.{Fault}
+use Rattle.engines.specs.declared.fault.Fault.TheVariants as faults
+
+-- advice on the bytes of files
+abbrev pub IsAdviceOn : (text : List ℕ) → List (Option (List ℕ)) → Type 0
+IsAdviceOn text lefts = (files : List (List ℕ)) × ReadsEach lefts files × IsAdvice files text
+
+-- advice on the files that a command refuses: `verify` alone has it
+abbrev pub IsAdvised : Held → Listed → Command → Fault → (text : List ℕ) → Type 0
+IsAdvised held listed (commands.Verify verify) (faults.Refusal refusal) text = OfFiles held listed (commands.Verify verify) (IsAdviceOn text)
+IsAdvised held listed command fault text = ⊥
+
+-- whether standard error is to tell no more than the complaint
+abbrev pub is_quiet : Command → Bool
+is_quiet (commands.Run run) = run.quiet
+is_quiet (commands.Replay replay) = replay.quiet
+is_quiet (commands.Trace trace) = trace.quiet
+is_quiet (commands.Search search) = search.quiet
+is_quiet (commands.Verify verify) = verify.quiet
+is_quiet (commands.Disasm disasm) = disasm.quiet
+is_quiet (commands.Schedule schedule) = schedule.quiet
+
+-- advice on the files that the command of the words refuses, which isn't to be quiet
+abbrev pub IsAdvisedBy : Held → Listed → (words : List (List ℕ)) → Complaint → (text : List ℕ) → Type 0
+IsAdvisedBy held listed words (complaints.Usage usage) text = ⊥
+IsAdvisedBy held listed words (complaints.Files fault) text = ⊥
+IsAdvisedBy held listed words (complaints.Fault fault) text =
+    (command : Command) × Spells words command × (is_quiet command ≡ false) × IsAdvised held listed command fault text
+
+-- The text that was told stands; or another one is told, of which nothing is said, with no more behind it than advice.
+abbrev pub IsExplained : Held → Listed → (words : List (List ℕ)) → Complaint → (old new : List ℕ) → Type 0
+IsExplained held listed words complaint old new = (new ≡ old)
+    ⊎ ((front text : List ℕ) × (new ≡ front ++ text) × ((text ≡ []) ⊎ IsAdvisedBy held listed words complaint text))
