@@ -1,10 +1,12 @@
 -- Files that are given one after another.
-use Rattle.std.proofs.Common.{arith, ◌∙◌, ◌≡◌, ◌<◌, ℕ, zero, suc, Bool, true, false, List, [], ◌∷◌, ◌++◌, ap, append_assoc, length, map, refl, subst, sym}
-use Rattle.std.specs.Prelude.{◌||◌, slice_index_or}
+use Rattle.std.proofs.Common.{arith, ◌∙◌, ◌≡◌, ◌<◌, ℕ, zero, suc, ◌-◌, Bool, true, false, List, [], ◌∷◌, ◌++◌, ap, append_assoc, length, map, refl, subst, sym}
+use Rattle.std.specs.Prelude.{◌||◌, Some, slice_index_or, string_bytes}
+use Rattle.std.specs.declared.string.String.{String}
+use Rattle.std.specs.Global.{Global}
 use Rattle.std.specs.List.{list_any}
 use Rattle.std.proofs.lemmas.List.{append-nil}
 use Rattle.program_files.specs.Folders.{Found, IsListed, Listed, Path}
-use Rattle.program_files.specs.Given.{AreFronts, AreGivenBehind, IsGiven}
+use Rattle.program_files.specs.Given.{AreAt, AreBelow, AreFronts, AreGivenBehind, IsGiven, IsTooDeep, IsTooDeepIn}
 
 -- one more gives a front
 pub fronts_on : {A : Type 0} (Gives : A → List Path → Type 0) (ones : List A) (one : A) (files front : List Path) → AreFronts Gives ones files
@@ -43,3 +45,25 @@ any_at f test [] i x within is passes = absurd (omega (arith, within))
 any_at f test (y ∷ xs) zero x within is passes = ap (λ b. b || list_any test (map f xs)) (subst (λ z. test (f z) ≡ true) is passes)
 any_at f test (y ∷ xs) (suc i) x within is passes =
     ap (λ b. test (f y) || b) (any_at f test xs i x (omega (arith, within)) is passes) ∙ or_true (test (f y))
+
+-- ---- folders in a folder
+
+-- one folder more lies above these
+pub below_more : (listed : Listed) (depth : ℕ) (path : Path) (names : List (String Global)) (files : List Path) → 0 < depth
+    → AreFronts (AreAt listed (depth - 1) path) names files → AreBelow listed depth path (Some names) files
+below_more listed zero path names files more fronts = absurd (omega (arith, more))
+below_more listed (suc depth) path names files more fronts =
+    let one : suc depth - 1 ≡ depth = omega arith in
+    subst (λ (n : ℕ). AreFronts (AreAt listed n path) names files) one fronts
+
+pub deep_more : (listed : Listed) (depth : ℕ) (path : Path) (names : List (String Global)) (deep : Path) → 0 < depth
+    → IsTooDeepIn listed (depth - 1) path names deep → IsTooDeep listed depth path (Some names) deep
+deep_more listed zero path names deep more is = absurd (omega (arith, more))
+deep_more listed (suc depth) path names deep more is =
+    let one : suc depth - 1 ≡ depth = omega arith in
+    subst (λ (n : ℕ). IsTooDeepIn listed n path names deep) one is
+
+-- no folder may lie in this one
+pub deep_none : (listed : Listed) (depth : ℕ) (path : Path) (names : List (String Global)) → depth ≡ 0 → IsTooDeep listed depth path (Some names) path
+deep_none listed zero path names none = refl
+deep_none listed (suc depth) path names none = absurd (omega (arith, none))

@@ -38,6 +38,11 @@ AreBelow listed zero path (Some names) files = ⊥
 AreBelow listed (suc depth) path (Some names) files = AreFronts (λ name front. (found : Found)
     × IsListed (listed (in_folder path (string_bytes name))) found × AreBelow listed depth (in_folder path (string_bytes name)) found front) names files
 
+-- so it is at a name in a folder
+abbrev pub AreAt : Listed → (depth : ℕ) → (folder : Path) → String Global → List Path → Type 0
+AreAt listed depth folder name files = (found : Found) × IsListed (listed (in_folder folder (string_bytes name))) found
+    × AreBelow listed depth (in_folder folder (string_bytes name)) found files
+
 -- The class files of a folder in which these names lie, sorted by their paths, byte by byte.
 pub record AreFilesOf (listed : Listed) (folder : Path) (names : List (String Global)) (files : List Path) : Type 0 where
   pub met : List Path
@@ -99,8 +104,16 @@ IsOfError error (faults.NoMain name) = ⊥
 pub IsTooDeep : Listed → (depth : ℕ) → Path → Found → (deep : Path) → Type 0
 IsTooDeep listed depth path None deep = ⊥
 IsTooDeep listed zero path (Some names) deep = deep ≡ path
-IsTooDeep listed (suc depth) path (Some names) deep = (name : String Global) × (found : Found) × Contains names name
-    × IsListed (listed (in_folder path (string_bytes name))) found × IsTooDeep listed depth (in_folder path (string_bytes name)) found deep
+IsTooDeep listed (suc depth) path (Some names) deep = (name : String Global) × Contains names name × ((found : Found)
+    × IsListed (listed (in_folder path (string_bytes name))) found × IsTooDeep listed depth (in_folder path (string_bytes name)) found deep)
+
+-- so it is at a name in a folder, or at one of several
+abbrev pub IsTooDeepAt : Listed → (depth : ℕ) → (folder : Path) → String Global → (deep : Path) → Type 0
+IsTooDeepAt listed depth folder name deep = (found : Found) × IsListed (listed (in_folder folder (string_bytes name))) found
+    × IsTooDeep listed depth (in_folder folder (string_bytes name)) found deep
+
+abbrev pub IsTooDeepIn : Listed → (depth : ℕ) → (folder : Path) → List (String Global) → (deep : Path) → Type 0
+IsTooDeepIn listed depth folder names deep = (name : String Global) × Contains names name × IsTooDeepAt listed depth folder name deep
 
 -- a word at which this is found stands for no file: its folder has no class file, or folders lie too deep in it
 abbrev pub IsNoFile : Listed → (word : Path) → Found → FilesFault → Type 0

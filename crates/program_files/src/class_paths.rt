@@ -2,8 +2,8 @@
 
 ghost use Rattle.std.specs.Prelude.{◌≡◌, ◌⊎◌, ◌∷◌, [], IfErr, IfOk, Some, filter, map, string_bytes, vec_items};
 ghost use Rattle.std.specs.Option.{option_map};
-ghost use Rattle.program_files.specs.Folders.{FolderMayFail};
-ghost use Rattle.program_files.specs.Given.{AreBelow, AreFilesOf, IsTooDeep, IsUnable, in_folder, is_class_path, most_deep};
+ghost use Rattle.program_files.specs.Folders.{FolderMayFail, IsListed};
+ghost use Rattle.program_files.specs.Given.{AreAt, AreBelow, AreFilesOf, AreFronts, IsTooDeep, IsTooDeepAt, IsTooDeepIn, IsUnable, in_folder, is_class_path, most_deep};
 ghost use Rattle.program_files.specs.declared.files_fault.FilesFault.TheVariants.{Device, TooDeep};
 
 use crate::files_fault::FilesFault;
@@ -70,6 +70,7 @@ fn unlisted_below<F: Folder>(
 }
 
 /// The class files at a path, where these names lie, or no folder is: so many folders may lie in one another.
+#[cycle(below)]
 fn below<F: Folder>(
     alloc: Global,
     folder: &F,
@@ -82,20 +83,65 @@ fn below<F: Folder>(
         ⊎ ((deep : _) × (fault ≡ TooDeep deep) × IsTooDeep (F.listed folder.now) depth path.now (option_map vec_items found) (string_bytes deep))) }
     ensures failed { IfErr result (λ fault. fault ≡ Device → FolderMayFail F.may_fail) }
 {
-    let Some(names) = found else {
-        return Ok(class_file(alloc, path)?);
-    };
-    if depth == 0 {
-        return Err(FilesFault::TooDeep(String::from_str(alloc, path)?));
+    match found {
+        None => Ok(class_file(alloc, path)?),
+        Some(_) if depth == 0 => Err(FilesFault::TooDeep(String::from_str(alloc, path)?)),
+        Some(names) => below_each(alloc, folder, depth - 1, path, names.as_slice()),
     }
+}
+
+/// The class files at these names in a folder, where so many folders may lie in one another.
+#[cycle(below)]
+fn below_each<F: Folder>(
+    alloc: Global,
+    folder: &F,
+    depth: u32,
+    path: &str,
+    names: &[String],
+) -> Result<Vec<String>, FilesFault>
+    ensures files { IfOk result (λ paths. AreFronts (AreAt (F.listed folder.now) depth path.now) names.now (map string_bytes paths.items)) }
+    ensures faulty { IfErr result (λ fault. IsUnable fault
+        ⊎ ((deep : _) × (fault ≡ TooDeep deep) × IsTooDeepIn (F.listed folder.now) depth path.now names.now (string_bytes deep))) }
+    ensures failed { IfErr result (λ fault. fault ≡ Device → FolderMayFail F.may_fail) }
+{
     let mut paths = Vec::new(alloc);
-    for name in &names {
-        let path = path_of(alloc, path, name.as_str())?;
-        let found = folder.names(alloc, path.as_str())?;
-        let mut front = below(alloc, folder, depth - 1, path.as_str(), found)?;
+    for name in names {
+        let mut front = at_name(alloc, folder, depth, path, name)?;
         paths.append(&mut front)?;
     }
     Ok(paths)
+}
+
+/// The class files at a name in a folder, where so many folders may lie in one another.
+#[cycle(below)]
+fn at_name<F: Folder>(
+    alloc: Global,
+    folder: &F,
+    depth: u32,
+    path: &str,
+    name: &String,
+) -> Result<Vec<String>, FilesFault>
+    ensures files { IfOk result (λ paths. AreAt (F.listed folder.now) depth path.now name.now (map string_bytes paths.items)) }
+    ensures faulty { IfErr result (λ fault. IsUnable fault
+        ⊎ ((deep : _) × (fault ≡ TooDeep deep) × IsTooDeepAt (F.listed folder.now) depth path.now name.now (string_bytes deep))) }
+    ensures failed { IfErr result (λ fault. fault ≡ Device → FolderMayFail F.may_fail) }
+{
+    let path = path_of(alloc, path, name.as_str())?;
+    let found = names_at(alloc, folder, path.as_str())?;
+    below(alloc, folder, depth, path.as_str(), found)
+}
+
+/// The names of what lies in the folder at a path, if there is one.
+pub(crate) fn names_at<F: Folder>(
+    alloc: Global,
+    folder: &F,
+    path: &str,
+) -> Result<Option<Vec<String>>, FilesFault>
+    ensures listed { IfOk result (λ names. IsListed (F.listed folder.now path.now) (option_map vec_items names)) }
+    ensures unable { IfErr result IsUnable }
+    ensures failed { IfErr result (λ fault. fault ≡ Device → FolderMayFail F.may_fail) }
+{
+    Ok(folder.names(alloc, path)?)
 }
 
 /// The path of a file, if it ends as those of class files do.

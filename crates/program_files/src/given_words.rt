@@ -6,7 +6,7 @@ ghost use Rattle.program_files.specs.Folders.{FolderMayFail, IsListed};
 ghost use Rattle.program_files.specs.Given.{AreGiven, IsGiven, IsNoFile, IsUnable, IsUngiven, IsUnslashed, is_given};
 ghost use Rattle.program_files.specs.declared.files_fault.FilesFault.TheVariants.{Device};
 
-use crate::class_paths::class_paths;
+use crate::class_paths::{class_paths, names_at};
 use crate::files_fault::FilesFault;
 use crate::folder::Folder;
 use command_line::is_same_path;
@@ -25,7 +25,7 @@ pub fn given_paths<F: Folder>(
 {
     let mut given = Vec::new(alloc);
     for word in words {
-        let names = folder.names(alloc, word.as_str())?;
+        let names = names_at(alloc, folder, word.as_str())?;
         let mut files = files_of(alloc, folder, &given, word.as_str(), names)?;
         given.append(&mut files)?;
     }
@@ -112,5 +112,5 @@ pub fn is_folder<F: Folder>(alloc: Global, folder: &F, path: &str) -> Result<boo
     ensures unable { IfErr result IsUnable }
     ensures failed { IfErr result (λ fault. fault ≡ Device → FolderMayFail F.may_fail) }
 {
-    Ok(folder.names(alloc, path)?.is_some())
+    Ok(names_at(alloc, folder, path)?.is_some())
 }

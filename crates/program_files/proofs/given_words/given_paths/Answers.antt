@@ -18,7 +18,7 @@ loop-word-preserved g c =
     let before = map string_bytes c.loop-word.given.items in
     let lists = subst (λ word. IsListed (listed word) found) c.as_str.ensures.value c.in_ok-names.ensures.listed in
     let gives = subst (λ (these : _). IsGiven listed (map string_bytes these) (string_bytes item) found front) c.deref.ensures.value
-        (subst (λ word. IsGiven listed _ word found front) c.as_str-in-loop-word.ensures.value c.in_ok-files.ensures.given) in
+    (subst (λ word. IsGiven listed _ word found front) c.as_str-in-loop-word.ensures.value c.in_ok-files.ensures.given) in
     let taken : map string_bytes (take (i + 1) words) ≡ map string_bytes (take i words) ++ string_bytes item ∷ [] =
     ap (map string_bytes) (take_more words i item within) ∙ map-append string_bytes (take i words) _ ∙ ap (λ word. map string_bytes (take i words) ++ string_bytes word ∷ []) (sym c.word-item.is) in
     let given : map string_bytes c.append.new.self.items ≡ before ++ front =
