@@ -5,7 +5,7 @@ ghost use Rattle.std.specs.List.{list_any, position};
 ghost use Rattle.std.specs.Option.{option_map};
 ghost use Rattle.program_files.specs.Folders.{FolderMayFail};
 ghost use Rattle.program_files.specs.Given.{IsUnable};
-ghost use Rattle.program_files.specs.Handed.{AreHandedOn, BeginsWithFolder, HasOneMain, IsMainFirst, IsNamedFirst, IsPutFirst, IsUnhanded, IsWithoutMain, IsWithoutNamed, has_main, is_named, is_other_main, main_names, slashed};
+ghost use Rattle.program_files.specs.Handed.{AreHandedOn, BeginsWithFolder, IsMainFirst, IsNamedFirst, IsPutFirst, IsUnhanded, IsWithoutMain, IsWithoutNamed, has_main, is_named, is_other_main, main_names, slashed};
 ghost use Rattle.program_files.specs.declared.files_fault.FilesFault.TheVariants.{Device};
 
 use crate::files_fault::FilesFault;

@@ -51,7 +51,7 @@ fn files_of<F: Folder>(
             if files.is_empty() {
                 return Err(FilesFault::Empty(String::from_str(alloc, word)?));
             }
-            Ok(new_files(alloc, before, files)?)
+            Ok(new_files(alloc, before, &files)?)
         }
         None => Ok(itself(alloc, word)?),
     }
@@ -70,13 +70,13 @@ fn itself(alloc: Global, word: &str) -> Result<Vec<String>, AllocError>
 fn new_files(
     alloc: Global,
     before: &[String],
-    files: Vec<String>,
+    files: &[String],
 ) -> Result<Vec<String>, AllocError>
     ensures { IfOk result (λ kept. map string_bytes kept.items
-        ≡ filter (λ file. not (is_given (map string_bytes before.now) file)) (map string_bytes files.items)) }
+        ≡ filter (λ file. not (is_given (map string_bytes before.now) file)) (map string_bytes files.now)) }
 {
     let mut kept = Vec::new(alloc);
-    for file in &files {
+    for file in files {
         if !is_given(alloc, before, file.as_str())? {
             kept.push(file.clone()?)?;
         }
