@@ -29,7 +29,8 @@ pub(crate) fn class_paths<F: Folder>(
 ) -> Result<Vec<String>, FilesFault>
     ensures files { IfOk result (λ paths. AreFilesOf (F.listed folder.now) path.now names.items (map string_bytes paths.items)) }
     ensures faulty { IfErr result (λ fault. IsUnable fault
-        ⊎ ((deep : _) × (fault ≡ TooDeep deep) × IsTooDeep (F.listed folder.now) most_deep path.now (Some names.items) (string_bytes deep))) }
+        ⊎ ((deep : _) × (fault ≡ TooDeep deep)
+        × IsTooDeep (F.listed folder.now) most_deep path.now (Some names.items) (string_bytes deep))) }
     ensures failed { IfErr result (λ fault. fault ≡ Device → FolderMayFail F.may_fail) }
 {
     let mut paths = below(alloc, folder, MOST_DEEP, path, Some(names))?;
@@ -80,7 +81,8 @@ fn below<F: Folder>(
 ) -> Result<Vec<String>, FilesFault>
     ensures files { IfOk result (λ paths. AreBelow (F.listed folder.now) depth path.now (option_map vec_items found) (map string_bytes paths.items)) }
     ensures faulty { IfErr result (λ fault. IsUnable fault
-        ⊎ ((deep : _) × (fault ≡ TooDeep deep) × IsTooDeep (F.listed folder.now) depth path.now (option_map vec_items found) (string_bytes deep))) }
+        ⊎ ((deep : _) × (fault ≡ TooDeep deep)
+        × IsTooDeep (F.listed folder.now) depth path.now (option_map vec_items found) (string_bytes deep))) }
     ensures failed { IfErr result (λ fault. fault ≡ Device → FolderMayFail F.may_fail) }
 {
     match found {
@@ -101,7 +103,8 @@ fn below_each<F: Folder>(
 ) -> Result<Vec<String>, FilesFault>
     ensures files { IfOk result (λ paths. AreFronts (AreAt (F.listed folder.now) depth path.now) names.now (map string_bytes paths.items)) }
     ensures faulty { IfErr result (λ fault. IsUnable fault
-        ⊎ ((deep : _) × (fault ≡ TooDeep deep) × IsTooDeepIn (F.listed folder.now) depth path.now names.now (string_bytes deep))) }
+        ⊎ ((deep : _) × (fault ≡ TooDeep deep)
+        × IsTooDeepIn (F.listed folder.now) depth path.now names.now (string_bytes deep))) }
     ensures failed { IfErr result (λ fault. fault ≡ Device → FolderMayFail F.may_fail) }
 {
     let mut paths = Vec::new(alloc);
@@ -123,7 +126,8 @@ fn at_name<F: Folder>(
 ) -> Result<Vec<String>, FilesFault>
     ensures files { IfOk result (λ paths. AreAt (F.listed folder.now) depth path.now name.now (map string_bytes paths.items)) }
     ensures faulty { IfErr result (λ fault. IsUnable fault
-        ⊎ ((deep : _) × (fault ≡ TooDeep deep) × IsTooDeepAt (F.listed folder.now) depth path.now name.now (string_bytes deep))) }
+        ⊎ ((deep : _) × (fault ≡ TooDeep deep)
+        × IsTooDeepAt (F.listed folder.now) depth path.now name.now (string_bytes deep))) }
     ensures failed { IfErr result (λ fault. fault ≡ Device → FolderMayFail F.may_fail) }
 {
     let path = path_of(alloc, path, name.as_str())?;

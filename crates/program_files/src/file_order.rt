@@ -100,7 +100,7 @@ fn main_first<F: Folder>(
 
 /// A name with slashes for its dots (JVMS 4.2.1).
 fn slashed(alloc: Global, name: &str) -> Result<Vec<u8>, AllocError>
-    ensures { IfOk result (λ slashed. slashed.items ≡ slashed name.now) }
+    ensures { IfOk result (λ bytes. bytes.items ≡ slashed name.now) }
 {
     let mut bytes = Vec::new(alloc);
     for byte in name.as_bytes() {
