@@ -1,12 +1,14 @@
 -- Files that are given one after another.
-use Rattle.std.proofs.Common.{arith, ◌∙◌, ◌≡◌, ◌<◌, ℕ, zero, suc, ◌-◌, Bool, true, false, List, [], ◌∷◌, ◌++◌, ap, append_assoc, length, map, refl, subst, sym}
+use Rattle.std.proofs.Common.{arith, ◌⊎◌, inl, inr, ◌∙◌, ◌≡◌, ◌<◌, ℕ, zero, suc, ◌-◌, Bool, true, false, List, [], ◌∷◌, ◌++◌, ap, append_assoc, length, map, refl, subst, sym}
 use Rattle.std.specs.Prelude.{◌||◌, Some, slice_index_or, string_bytes}
 use Rattle.std.specs.declared.string.String.{String}
 use Rattle.std.specs.Global.{Global}
 use Rattle.std.specs.List.{list_any}
 use Rattle.std.proofs.lemmas.List.{append-nil}
 use Rattle.program_files.specs.Folders.{Found, IsListed, Listed, Path}
-use Rattle.program_files.specs.Given.{AreAt, AreBelow, AreFronts, AreGivenBehind, IsGiven, IsTooDeep, IsTooDeepIn}
+use Rattle.program_files.specs.Given.{AreAt, AreBelow, AreFronts, AreGivenBehind, IsGiven, IsTooDeep, IsTooDeepAt, IsTooDeepIn, IsUnable, in_folder}
+use Rattle.program_files.specs.declared.files_fault.FilesFault.{FilesFault}
+use Rattle.program_files.specs.declared.files_fault.FilesFault.TheVariants.{TooDeep}
 
 -- one more gives a front
 pub fronts_on : {A : Type 0} (Gives : A → List Path → Type 0) (ones : List A) (one : A) (files front : List Path) → AreFronts Gives ones files
@@ -67,3 +69,12 @@ deep_more listed (suc depth) path names deep more is =
 pub deep_none : (listed : Listed) (depth : ℕ) (path : Path) (names : List (String Global)) → depth ≡ 0 → IsTooDeep listed depth path (Some names) path
 deep_none listed zero path names none = refl
 deep_none listed (suc depth) path names none = absurd (omega (arith, none))
+
+-- what lies too deep below a path lies so at a name in a folder
+pub deep_at : (listed : Listed) (depth : ℕ) (folder path : Path) (name : String Global) (found : Found) (fault : FilesFault)
+    → path ≡ in_folder folder (string_bytes name) → IsListed (listed path) found
+    → IsUnable fault ⊎ ((deep : String Global) × (fault ≡ TooDeep deep) × IsTooDeep listed depth path found (string_bytes deep))
+    → IsUnable fault ⊎ ((deep : String Global) × (fault ≡ TooDeep deep) × IsTooDeepAt listed depth folder name (string_bytes deep))
+deep_at listed depth folder path name found fault at lists (inl unable) = inl unable
+deep_at listed depth folder path name found fault at lists (inr (deep, is, too)) = inr (deep, is, (found,
+    subst (λ path. IsListed (listed path) found) at lists, subst (λ path. IsTooDeep listed depth path found (string_bytes deep)) at too))

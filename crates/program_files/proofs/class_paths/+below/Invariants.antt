@@ -12,5 +12,5 @@ abbrev pub decreases-at_name : goal.decreases-at_name
 decreases-at_name g l = 3 * l.depth + 1
 
 -- the names so far have their files
-abbrev pub invariant-loop-name : goal.invariant-loop-name
-invariant-loop-name g l = AreFronts (AreAt (g.F.Folder.listed l.folder) l.depth l.path) (take l.name-index l.names) (map string_bytes l.paths.items)
+abbrev pub invariant-below_each-loop-name : goal.invariant-below_each-loop-name
+invariant-below_each-loop-name g l = AreFronts (AreAt (g.F.Folder.listed l.folder) l.depth l.path) (take l.name-index l.names) (map string_bytes l.paths.items)
