@@ -12,7 +12,7 @@ use Rattle.link_conditions.proofs.limits_of_linking.TextLaws.{with_texts-append}
 use Rattle.link_conditions.specs.limits_of_linking.Texts.{with_text, with_texts}
 use Rattle.listings.specs.printed_names.Printed.{printed}
 use Rattle.advice.specs.declared.told.Told.{Told}
-use Rattle.advice.specs.Advice.{AreSaid, Shows, indented, words_of}
+use Rattle.advice.specs.Advice.{AreSaid, Shows, head, indented, text_of, words_of}
 
 -- ---- which lines there are
 
@@ -78,3 +78,8 @@ pub shown_before : (text : List ℕ) (lines : List Name) (words : Name) → list
     → Shows text lines text (with_text lines words)
 shown_before text lines words there front shows =
     shows ∙ ap (λ b. front ++ indented (codes "    ") (cond b lines (lines ++ words ∷ []))) (sym there)
+
+pub text_whole : (told : List Told) (text start : List ℕ) (lines : List Name) → (told ≡ [] → ⊥) → start ≡ line (codes "  " ++ printed head)
+    → text ≡ start ++ indented (codes "    ") lines → text ≡ text_of told lines
+text_whole [] text start lines some begin whole = absurd (some refl)
+text_whole (t ∷ told) text start lines some begin whole = whole ∙ ap (λ (l : List ℕ). l ++ indented (codes "    ") lines) begin
