@@ -197,17 +197,17 @@ pub methods_more : (files : Program) (tree : FileTree) (a b c : List Told) (file
 methods_more files tree a b c file i m first second is = record {
   kept = keeps_both a b c first.kept second.kept;
   declarations =
-    below_more (λ j. is_wrong_at files tree (places.Method j) ≡ true → IsTold c file (places.Method j)) i
-    (λ j lt h. second.kept.kept file (places.Method j) (first.declarations j lt h))
-    (λ h. second.declaration (of_method (is_declaration_wrong files tree) tree i m is h));
+      below_more (λ j. is_wrong_at files tree (places.Method j) ≡ true → IsTold c file (places.Method j)) i
+      (λ j lt h. second.kept.kept file (places.Method j) (first.declarations j lt h))
+      (λ h. second.declaration (of_method (is_declaration_wrong files tree) tree i m is h));
   offsets = λ j pc lt.
-    below_more (λ j. is_wrong_at files tree (places.Instruction j pc) ≡ true → IsTold c file (places.Instruction j pc)) i
-    (λ j lt h. second.kept.kept file (places.Instruction j pc) (first.offsets j pc lt h))
-    (λ h. second.offsets pc (of_method (in_code (is_offset_wrong files tree) pc) tree i m is h)) j lt;
+      below_more (λ j. is_wrong_at files tree (places.Instruction j pc) ≡ true → IsTold c file (places.Instruction j pc)) i
+      (λ j lt h. second.kept.kept file (places.Instruction j pc) (first.offsets j pc lt h))
+      (λ h. second.offsets pc (of_method (in_code (is_offset_wrong files tree) pc) tree i m is h)) j lt;
   entries = λ j k lt.
-    below_more (λ j. is_wrong_at files tree (places.Exception j k) ≡ true → IsTold c file (places.Exception j k)) i
-    (λ j lt h. second.kept.kept file (places.Exception j k) (first.entries j k lt h))
-    (λ h. second.entries k (of_method (in_code (is_entry_wrong files tree) k) tree i m is h)) j lt;
+      below_more (λ j. is_wrong_at files tree (places.Exception j k) ≡ true → IsTold c file (places.Exception j k)) i
+      (λ j lt h. second.kept.kept file (places.Exception j k) (first.entries j k lt h))
+      (λ h. second.entries k (of_method (in_code (is_entry_wrong files tree) k) tree i m is h)) j lt;
 }
 
 -- ---- class files

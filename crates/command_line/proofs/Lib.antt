@@ -2,3 +2,4 @@ pub mod CommandLineLemmas
 pub mod GoalLemmas
 pub mod ParserLemmas
 pub mod PathLemmas
+pub mod PolicyLemmas

@@ -1,4 +1,4 @@
--- The limits of a run, and its workers, by the options of the command line (own).
+-- The limits of a run, by the options of the command line (own).
 use Rattle.std.specs.Prelude.{◌≡◌, ℕ, Option, IfSome, unwrap_or}
 use Rattle.model.specs.declared.limits.Limits.{Limits}
 use Rattle.command_line.specs.declared.options.LimitOptions.{LimitOptions}
@@ -14,10 +14,6 @@ pub record AreChosen (options : LimitOptions) (limits : Limits) : Type 0 where
 -- this is the number that was asked for, if one was
 abbrev pub IsAsked : Option ℕ → ℕ → Type 0
 IsAsked option limit = IfSome option (λ number. number ≡ limit)
-
--- beside a seed one worker is asked for, or no number of them
-abbrev pub IsAlone : (seed workers : Option ℕ) → Type 0
-IsAlone seed workers = IfSome seed (λ _. IsAsked workers 1)
 
 -- no limit was asked for that is another one
 pub record AreAsked (options : LimitOptions) (limits : Limits) : Type 0 where

@@ -13,9 +13,9 @@ use Rattle.clap.specs.declared.builder.command.Command as parser
 use Rattle.clap.specs.declared.builder.command.Command.TheViews.{out-Command}
 use Rattle.clap.specs.declared.builder.ArgAction.TheVariants.{Set, SetTrue, Append}
 use Rattle.clap.specs.declared.builder.value_parser.ValueParser.TheVariants.{Unsigned}
-use Rattle.command_line.specs.Choices.{IsAlone}
 use Rattle.command_line.specs.Goals.{IsGoalWord}
 use Rattle.command_line.specs.Paths.{IsApart, IsGoalApart}
+use Rattle.command_line.specs.Policies.{GoTogether, IsPolicy}
 use Rattle.command_line.specs.declared.usage.Usage.{Usage}
 use Rattle.command_line.specs.declared.usage.Usage.TheVariants.{Parser, Number, Asked, OutOfMemory}
 use Rattle.command_line.specs.declared.options.Command.{Command}
@@ -25,7 +25,6 @@ use Rattle.command_line.specs.declared.options.Goal.{Goal}
 use Rattle.command_line.specs.declared.options.LimitOptions.{LimitOptions}
 use Rattle.command_line.specs.declared.options.Replay.{Replay}
 use Rattle.command_line.specs.declared.options.Run.{Run}
-use Rattle.command_line.specs.declared.options.RunOptions.{RunOptions}
 use Rattle.command_line.specs.declared.options.Schedule.{Schedule}
 use Rattle.command_line.specs.declared.options.Search.{Search}
 use Rattle.command_line.specs.declared.options.ThenRun.{ThenRun}
@@ -33,6 +32,7 @@ use Rattle.command_line.specs.declared.options.Trace.{Trace}
 use Rattle.command_line.specs.declared.options.TraceForm.{TraceForm}
 use Rattle.command_line.specs.declared.options.TraceForm.TheVariants as forms
 use Rattle.command_line.specs.declared.options.Verify.{Verify}
+use Rattle.command_line.specs.declared.run_options.RunOptions.{RunOptions}
 
 -- `--NAME NUMBER`, a number from least to most
 abbrev pub number_option : Text → ℕ → ℕ → Rule
@@ -94,13 +94,22 @@ with_limits app = with_rule (with_rule (with_rule (with_rule (with_rule app
     (number_option (codes "threads") 1 32767))
     (number_option (codes "frames") 1 65535)
 
--- how many workers, how many events in all and in a row, and by which seed
+-- `--main NAME`, the class whose main is run
+abbrev pub main_option : Rule
+main_option = path_option (codes "main")
+
+-- within which limits a program is run, and from which class on
+abbrev pub with_program : App → App
+with_program app = with_rule (with_limits app) main_option
+
+-- how many workers, how many events in all and in a row, and by which seed and policy
 abbrev pub with_run_options : App → App
-with_run_options app = with_rule (with_rule (with_rule (with_rule app
+with_run_options app = with_rule (with_rule (with_rule (with_rule (with_rule app
     (number_option (codes "workers") 1 64))
     (number_option (codes "budget") 0 4294967295))
     (number_option (codes "quantum") 1 4294967295))
-    (number_option (codes "seed") 0 4294967295)
+    (number_option (codes "seed") 0 18446744073709551615))
+    (path_option (codes "policy"))
 
 -- where a run goes on behind its schedule, up to how many events in all, and where it is recorded
 abbrev pub with_then_run : App → App
@@ -114,10 +123,10 @@ abbrev pub with_files : App → Rule → App
 with_files app files = with_rule (with_rule (with_rule app (flag (codes "explain"))) (flag (codes "quiet"))) files
 
 abbrev pub jvm_run : App
-jvm_run = with_files (with_limits (with_rule (with_run_options (new_app (codes "run"))) record_option)) class_files
+jvm_run = with_files (with_program (with_rule (with_run_options (new_app (codes "run"))) record_option)) class_files
 
 abbrev pub jvm_replay : App
-jvm_replay = with_files (with_limits (with_then_run (with_rule (new_app (codes "replay")) schedule_option))) class_files
+jvm_replay = with_files (with_program (with_then_run (with_rule (new_app (codes "replay")) schedule_option))) class_files
 
 -- which events are told: from one number up to another, of some threads
 abbrev pub with_window : App → App
@@ -131,7 +140,7 @@ abbrev pub with_form : App → App
 with_form app = with_rule (with_rule (with_rule app (flag (codes "columns"))) (flag (codes "json"))) (flag (codes "summary"))
 
 abbrev pub jvm_trace : App
-jvm_trace = with_files (with_limits (with_form (with_window (with_rule (new_app (codes "trace")) schedule_option)))) class_files
+jvm_trace = with_files (with_program (with_form (with_window (with_rule (new_app (codes "trace")) schedule_option)))) class_files
 
 -- which outcome is to be found, among how many states, in how much memory, and where its schedule is recorded
 abbrev pub with_search_options : App → App
@@ -142,7 +151,7 @@ with_search_options app = with_rule (with_rule (with_rule (with_rule app
     record_option
 
 abbrev pub jvm_search : App
-jvm_search = with_files (with_limits (with_search_options (new_app (codes "search")))) class_files
+jvm_search = with_files (with_program (with_search_options (new_app (codes "search")))) class_files
 
 abbrev pub jvm_verify : App
 jvm_verify = with_files (with_rule (new_app (codes "verify")) (flag (codes "library"))) class_files
@@ -210,19 +219,21 @@ pub record AreLimitNumbers (rows : List Row) (limits : LimitOptions) : Type 0 wh
 abbrev pub is_set : Option Text → Bool
 is_set text = option_map_or (λ text. bytes_eq text (codes "true")) text false
 
--- the numbers that the words give to a run: with a seed it has one worker
+-- who gives the threads turns, and up to how many events, by the words of a run
 pub record AreRunNumbers (rows : List Row) (options : RunOptions) : Type 0 where
   pub workers : IsNumber 1 64 (first_of (codes "workers") rows) options.workers
   pub budget : IsNumber 0 4294967295 (first_of (codes "budget") rows) options.budget
   pub quantum : IsNumber 1 4294967295 (first_of (codes "quantum") rows) options.quantum
-  pub seed : IsNumber 0 4294967295 (first_of (codes "seed") rows) options.seed
-  pub alone : IsAlone options.seed options.workers
+  pub seed : IsNumber 0 18446744073709551615 (first_of (codes "seed") rows) options.seed
+  pub policy : IsPolicy (first_of (codes "policy") rows) options.policy
+  pub together : GoTogether options.workers options.quantum options.seed options.policy
 
 -- the values that the words give to `jvm run`
 pub record AreRunValues (rows : List Row) (run : Run) : Type 0 where
   pub options : AreRunNumbers rows run.options
   pub recording : first_of (codes "record") rows ≡ option_map string_bytes run.record
   pub limits : AreLimitNumbers rows run.limits
+  pub main : first_of (codes "main") rows ≡ option_map string_bytes run.main
   pub files : all_of (codes "files") rows ≡ Some (map string_bytes run.files.items)
   pub other_files : All (IsApart (first_of (codes "record") rows)) (map string_bytes run.files.items)
   pub explain : run.explain ≡ is_set (first_of (codes "explain") rows)
@@ -244,6 +255,7 @@ pub record AreValues (rows : List Row) (replay : Replay) : Type 0 where
   pub schedule : first_of (codes "schedule") rows ≡ Some (string_bytes replay.schedule)
   pub then_run : IsThenRun rows replay.then_run
   pub limits : AreLimitNumbers rows replay.limits
+  pub main : first_of (codes "main") rows ≡ option_map string_bytes replay.main
   pub files : all_of (codes "files") rows ≡ Some (map string_bytes replay.files.items)
   pub other_schedule : IsApart (first_of (codes "record") rows) (string_bytes replay.schedule)
   pub other_files : All (IsApart (first_of (codes "record") rows)) (map string_bytes replay.files.items)
@@ -265,6 +277,7 @@ pub record AreTraceValues (rows : List Row) (trace : Trace) : Type 0 where
   pub form : IsTraceForm rows trace.form
   pub summary : trace.summary ≡ is_set (first_of (codes "summary") rows)
   pub limits : AreLimitNumbers rows trace.limits
+  pub main : first_of (codes "main") rows ≡ option_map string_bytes trace.main
   pub files : all_of (codes "files") rows ≡ Some (map string_bytes trace.files.items)
   pub explain : trace.explain ≡ is_set (first_of (codes "explain") rows)
   pub quiet : trace.quiet ≡ is_set (first_of (codes "quiet") rows)
@@ -283,6 +296,7 @@ pub record AreSearchValues (rows : List Row) (search : Search) : Type 0 where
   pub memory : IsNumber 0 4294967295 (first_of (codes "memory") rows) search.memory
   pub recording : first_of (codes "record") rows ≡ option_map string_bytes search.record
   pub limits : AreLimitNumbers rows search.limits
+  pub main : first_of (codes "main") rows ≡ option_map string_bytes search.main
   pub files : all_of (codes "files") rows ≡ Some (map string_bytes search.files.items)
   pub other_text : IsGoalApart (first_of (codes "record") rows) search.goal
   pub other_files : All (IsApart (first_of (codes "record") rows)) (map string_bytes search.files.items)

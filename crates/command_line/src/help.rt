@@ -26,7 +26,8 @@ Examples:
   jvm schedule a.schedule";
 
 /// What class files are that are run.
-pub(crate) const FILES_HELP: &str = "The class files; the main method is that of the first";
+pub(crate) const FILES_HELP: &str =
+    "The class files, and folders of them; a file in front has the main method";
 
 /// What class files are that are verified.
 pub(crate) const VERIFIED_HELP: &str =
@@ -38,10 +39,20 @@ pub(crate) const LISTED_HELP: &str = "The class files, and folders of them";
 /// What stands below the options of `run`.
 pub(crate) const RUN_PAGE: &str = "\
 What it does:
-  Links and verifies the class files, and runs the main method of the first one.
-  Workers take turns at the Java threads; each event that they do is one more of
-  the schedule, which --record keeps for `jvm replay`. The report has the printed
+  Links and verifies the class files, and runs the main method of the first one;
+  a folder stands for those in it and below it. Where a folder comes first, it is
+  that of the one class that has a main method, and with --main that of the class
+  which is named.
+  The threads take turns by a policy; each event that is done is one more of the
+  schedule, which --record keeps for `jvm replay`. The report has the printed
   numbers, how each thread stands, how many events there were, and why no more.
+    mixed           turns in rotation, whose lengths are drawn by a seed
+    random          each event is of a thread that is drawn by a seed
+    rotation        turns in rotation, of --quantum events
+  A seed that is not given is drawn, and told on standard error: `seed 4711`. With
+  --seed 4711 the run is the same again. Without --policy a --quantum asks for a
+  rotation. --workers has as many workers run the threads side by side; no run of
+  theirs need be the same as another.
 
 Statuses:
   0  all threads have ended
@@ -124,9 +135,9 @@ Example:
 pub(crate) const VERIFY_PAGE: &str = "\
 What it does:
   Links the class files and verifies the code of their methods; nothing is run.
-  A folder stands for the class files in it, sorted by their names. Each class
-  that they need has to be among them, or to be a built-in one. It prints how
-  many classes there are, or tells why they are refused.
+  A folder stands for the class files in it and below it, sorted by their paths.
+  Each class that they need has to be among them, or to be a built-in one. It
+  prints how many classes there are, or tells why they are refused.
 
 Statuses:
   0  the class files are verified
@@ -142,8 +153,8 @@ pub(crate) const DISASM_PAGE: &str = "\
 What it does:
   Lists each class file: its class, fields and methods, and the instructions by
   their offsets, bytes, mnemonics and operands. A folder stands for the class
-  files in it, sorted by their names. A class file that is listed need not be one
-  that can be run.
+  files in it and below it, sorted by their paths. A class file that is listed
+  need not be one that can be run.
 
 Statuses:
   0  the class files are listed

@@ -8,11 +8,15 @@ mod options;
 mod parse;
 mod parsers;
 mod paths;
+mod run_arguments;
+mod run_options;
 mod usage;
 
 pub use options::{
-    Command, Disasm, Goal, LimitOptions, Replay, Run, RunOptions, Schedule, Search, ThenRun, Trace,
-    TraceForm, Verify,
+    Command, Disasm, Goal, LimitOptions, Replay, Run, Schedule, Search, ThenRun, Trace, TraceForm,
+    Verify,
 };
 pub use parse::command;
+pub use paths::is_same_path;
+pub use run_options::{PolicyName, RunOptions};
 pub use usage::Usage;

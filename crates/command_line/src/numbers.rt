@@ -6,6 +6,7 @@ ghost use Rattle.std.specs.Str.Parse.{digits_value};
 ghost use Rattle.clap.specs.Words.{first_of, found_of, rows_of, rule_of};
 ghost use Rattle.command_line.specs.CommandLine.{AreNumbers, AreNumerals, Asks, IsNumber, IsNumeralWithin, Refuses, number_option, parts_of, path_option};
 
+use crate::run_arguments::SEED;
 use crate::usage::Usage;
 use clap::builder::ValueParser;
 use clap::{Arg, ArgAction, ArgMatches};
@@ -24,28 +25,28 @@ pub(crate) const WORKERS: NumberOption = NumberOption {
     name: "workers",
     least: 1,
     most: 64,
-    help: "How many workers run the threads [default: 4]",
+    help: "How many workers run the threads side by side, by no policy",
 };
 
 pub(crate) const BUDGET: NumberOption = NumberOption {
     name: "budget",
     least: 0,
     most: u32::MAX,
-    help: "How many events there may be [default: 10000000]",
+    help: "How many events there may be [default: 4294967295]",
+};
+
+pub(crate) const WHOLE_BUDGET: NumberOption = NumberOption {
+    name: "budget",
+    least: 0,
+    most: u32::MAX,
+    help: "How many events there may be, those of the schedule included [default: 10000000]",
 };
 
 pub(crate) const QUANTUM: NumberOption = NumberOption {
     name: "quantum",
     least: 1,
     most: u32::MAX,
-    help: "How many events of a thread a worker may do in a row while it holds the lock [default: 1]",
-};
-
-pub(crate) const SEED: NumberOption = NumberOption {
-    name: "seed",
-    least: 0,
-    most: u32::MAX,
-    help: "Has one worker, which picks by this number whose turn it is",
+    help: "How many events a turn of a rotation has [default: 1000], or of a worker [default: 1]",
 };
 
 pub(crate) const FROM: NumberOption = NumberOption {
@@ -214,30 +215,30 @@ impl NumberOption {
     }
 
     /// That a text is no number of the option's.
-    pub(crate) fn refusal(self, alloc: Global, text: &str) -> Usage
+    fn refusal(self, alloc: Global, text: &str) -> Usage
         ensures { Asks result → ⊥ }
     {
         Usage::no_number(alloc, self.name, text)
     }
 }
 
-/// The options of `replay`, `run`, `search` and `trace` that take a number.
-const OF_ALL: [NumberOption; 5] = [OBJECTS, CELLS, MONITORS, THREADS, FRAMES];
+/// The names of the options of `replay`, `run`, `search` and `trace` that take a number.
+const OF_ALL: [&str; 5] = ["objects", "cells", "monitors", "threads", "frames"];
 
 /// Those of `run`.
-const OF_RUN: [NumberOption; 4] = [WORKERS, BUDGET, QUANTUM, SEED];
+const OF_RUN: [&str; 4] = ["workers", "budget", "quantum", SEED];
 
 /// Those of `replay`.
-const OF_REPLAY: [NumberOption; 1] = [BUDGET];
+const OF_REPLAY: [&str; 1] = ["budget"];
 
 /// Those of `trace`.
-const OF_TRACE: [NumberOption; 3] = [FROM, TO, ONLY];
+const OF_TRACE: [&str; 3] = ["from", "to", "only"];
 
 /// Those of `search`.
-const OF_SEARCH: [NumberOption; 2] = [STATES, MEMORY];
+const OF_SEARCH: [&str; 2] = ["states", "memory"];
 
-/// The option with this name behind two hyphens, of the subcommand that is so called.
-fn number_option(subcommand: &str, word: &str) -> Option<NumberOption> {
+/// The name behind two hyphens, where it is that of an option of the subcommand which takes a number.
+fn number_option(subcommand: &str, word: &str) -> Option<&'static str> {
     let name = word.strip_prefix("--")?;
     match subcommand {
         "replay" => named(&OF_ALL, name).or(named(&OF_REPLAY, name)),
@@ -248,10 +249,10 @@ fn number_option(subcommand: &str, word: &str) -> Option<NumberOption> {
     }
 }
 
-/// The option with this name.
-fn named(options: &[NumberOption], name: &str) -> Option<NumberOption> {
+/// This name, where it is one of these.
+fn named(options: &[&'static str], name: &str) -> Option<&'static str> {
     for option in options {
-        if option.name == name {
+        if *option == name {
             return Some(*option);
         }
     }
@@ -263,14 +264,14 @@ fn is_negative(word: &str) -> bool {
     matches!(word.as_bytes(), [b'-', b'0'..=b'9', ..])
 }
 
-/// The first word that is a negative number behind an option that takes a number.
-pub(crate) fn negative_number(words: &[String]) -> Option<(NumberOption, &str)> {
+/// The first word that is a negative number behind an option that takes a number, and the name of the option.
+pub(crate) fn negative_number(words: &[String]) -> Option<(&'static str, &str)> {
     let subcommand = words.get(1)?.as_str();
     let mut before = "";
     for word in words {
-        if let Some(option) = number_option(subcommand, before) {
+        if let Some(name) = number_option(subcommand, before) {
             if is_negative(word.as_str()) {
-                return Some((option, word.as_str()));
+                return Some((name, word.as_str()));
             }
         }
         before = word.as_str();

@@ -2,6 +2,7 @@
 
 ghost use Rattle.std.specs.Prelude.{◌≡◌, ◌≤◌, ◌↔◌, IsTrue, unwrap_or};
 
+use crate::run_options::RunOptions;
 use model::Limits;
 
 /// A subcommand with the values of its options.
@@ -16,7 +17,7 @@ pub enum Command {
     Schedule(Schedule),
 }
 
-/// The usual budget of a run, in events.
+/// The usual budget of a run that goes on behind a schedule, in events.
 const USUAL_BUDGET: u32 = 10_000_000;
 
 /// How many states a search may meet, unless another number is asked for.
@@ -25,71 +26,21 @@ const USUAL_STATES: u32 = 10_000_000;
 /// How many bytes the states that a search has met may take, unless another number is asked for.
 const USUAL_MEMORY: u32 = 1_000_000_000;
 
-/// `jvm run`: class files are run by workers, and what comes of it is reported.
+/// `jvm run`: class files are run, by one worker or by several, and what comes of it is reported.
 #[derive(Drop)]
 pub struct Run {
     pub options: RunOptions,
     /// The path of the file that the schedule of the run is written to, if any.
     pub record: Option<String>,
     pub limits: LimitOptions,
-    /// The paths of the class files. The first holds the class whose `main` is run.
+    /// The name of the class whose `main` is run, with dots or slashes, if it is given.
+    pub main: Option<String>,
+    /// The paths of the class files, and of folders of them.
     pub files: Vec<String>,
     /// Whether a refusal is explained, and what threads are about, whatever that costs.
     pub explain: bool,
     /// Whether standard error tells no more than why there is no report.
     pub quiet: bool,
-}
-
-/// How class files are run: the numbers that are asked for, each in its range, and `None` for the usual one.
-#[derive(Clone, Copy)]
-pub struct RunOptions {
-    /// How many workers there are.
-    pub workers: Option<u32>,
-    /// How many events there may be.
-    pub budget: Option<u32>,
-    /// How many events of a thread a worker may do in a row while it holds the lock.
-    pub quantum: Option<u32>,
-    /// The seed of a run by one worker, which picks by it whose turn it is.
-    pub seed: Option<u32>,
-    pub ghost workers_fit: { (1 ≤ unwrap_or workers 4) × (unwrap_or workers 4 ≤ 64) },
-    pub ghost quantum_fits: { 1 ≤ unwrap_or quantum 1 },
-}
-
-impl RunOptions {
-    ghost use Rattle.command_line.specs.Choices.{IsAlone};
-
-    /// The number of workers of a run without a seed, from 1 to 64.
-    pub fn workers(&self) -> u32
-        ensures value { result ≡ unwrap_or self.now.workers 4 }
-        ensures fits { (1 ≤ result) × (result ≤ 64) }
-    {
-        self.workers.unwrap_or(4)
-    }
-
-    /// The budget, in events.
-    pub fn budget(&self) -> u32
-        ensures { result ≡ unwrap_or self.now.budget 10000000 }
-    {
-        self.budget.unwrap_or(USUAL_BUDGET)
-    }
-
-    /// The quantum, which is at least 1, in events.
-    pub fn quantum(&self) -> u32
-        ensures value { result ≡ unwrap_or self.now.quantum 1 }
-        ensures fits { 1 ≤ result }
-    {
-        self.quantum.unwrap_or(1)
-    }
-
-    /// Whether beside a seed no other number of workers is asked for than one.
-    pub(crate) fn is_alone(&self) -> bool
-        ensures { IsTrue result ↔ IsAlone self.now.seed self.now.workers }
-    {
-        match self.seed {
-            Some(_) => LimitOptions::is_asked(self.workers, 1),
-            None => true,
-        }
-    }
 }
 
 /// `jvm replay`: class files are run under a schedule, and what comes of it is reported.
@@ -100,7 +51,9 @@ pub struct Replay {
     /// How the run goes on where the schedule ends, if it does.
     pub then_run: Option<ThenRun>,
     pub limits: LimitOptions,
-    /// The paths of the class files. The first holds the class whose `main` is run.
+    /// The name of the class whose `main` is run, with dots or slashes, if it is given.
+    pub main: Option<String>,
+    /// The paths of the class files, and of folders of them.
     pub files: Vec<String>,
     /// Whether a refusal is explained, and what threads are about, whatever that costs.
     pub explain: bool,
@@ -123,7 +76,9 @@ pub struct Trace {
     /// Whether a run of local instructions is told in one line.
     pub summary: bool,
     pub limits: LimitOptions,
-    /// The paths of the class files. The first holds the class whose `main` is run.
+    /// The name of the class whose `main` is run, with dots or slashes, if it is given.
+    pub main: Option<String>,
+    /// The paths of the class files, and of folders of them.
     pub files: Vec<String>,
     /// Whether a refusal is explained, and what threads are about, whatever that costs.
     pub explain: bool,
@@ -154,7 +109,9 @@ pub struct Search {
     /// The path of the file that the schedule that is found is written to, if any.
     pub record: Option<String>,
     pub limits: LimitOptions,
-    /// The paths of the class files. The first holds the class whose `main` is run.
+    /// The name of the class whose `main` is run, with dots or slashes, if it is given.
+    pub main: Option<String>,
+    /// The paths of the class files, and of folders of them.
     pub files: Vec<String>,
     /// Whether a refusal is explained.
     pub explain: bool,

@@ -8,16 +8,17 @@ ghost use Rattle.command_line.specs.CommandLine.{AreDisasmValues, AreLimitNumber
 
 use crate::goal::goal_by;
 use crate::numbers::{
-    BUDGET, CELLS, FRAMES, FROM, MEMORY, MONITORS, OBJECTS, ONLY, QUANTUM, SEED, STATES, THREADS,
-    TO, WORKERS, negative_number,
+    BUDGET, CELLS, FRAMES, FROM, MEMORY, MONITORS, OBJECTS, ONLY, QUANTUM, STATES, THREADS, TO,
+    WHOLE_BUDGET, WORKERS, negative_number,
 };
 use crate::options;
 use crate::options::{
-    Disasm, Goal, LimitOptions, Replay, Run, RunOptions, Schedule, Search, ThenRun, Trace,
-    TraceForm, Verify,
+    Disasm, Goal, LimitOptions, Replay, Run, Schedule, Search, ThenRun, Trace, TraceForm, Verify,
 };
 use crate::parsers::program;
 use crate::paths::{check_file, check_files, check_goal};
+use crate::run_arguments::{policy_of, seed_of};
+use crate::run_options::RunOptions;
 use crate::usage::Usage;
 use clap::ArgMatches;
 use clap::error::ErrorKind;
@@ -77,8 +78,8 @@ fn parser_usage(alloc: Global, words: &[String], error: clap::Error) -> Usage
     ensures { (result ≡ usage_of error) ⊎ ((kind_of error ≡ unknown_argument) × (Asks result → ⊥)) }
 {
     if error.kind() == ErrorKind::UnknownArgument {
-        if let Some((option, text)) = negative_number(words) {
-            return option.refusal(alloc, text);
+        if let Some((name, text)) = negative_number(words) {
+            return Usage::no_number(alloc, name, text);
         }
     }
     Usage::from(error)
@@ -117,12 +118,14 @@ fn run_of(alloc: Global, matches: &ArgMatches<'_>) -> Result<Run, Usage>
     let options = run_options_of(alloc, matches)?;
     let record = path_of(alloc, matches, "record")?;
     let limits = limits_of(alloc, matches)?;
+    let main = path_of(alloc, matches, "main")?;
     let files = files_of(alloc, matches)?;
     check_files(alloc, matches, &files)?;
     Ok(Run {
         options,
         record,
         limits,
+        main,
         files,
         explain: is_set(matches, "explain"),
         quiet: is_set(matches, "quiet"),
@@ -137,6 +140,7 @@ fn replay_of(alloc: Global, matches: &ArgMatches<'_>) -> Result<Replay, Usage>
     let schedule = required_path_of(alloc, matches, "schedule")?;
     let then_run = then_run_of(alloc, matches)?;
     let limits = limits_of(alloc, matches)?;
+    let main = path_of(alloc, matches, "main")?;
     let files = files_of(alloc, matches)?;
     check_file(alloc, matches, schedule.as_str())?;
     check_files(alloc, matches, &files)?;
@@ -144,6 +148,7 @@ fn replay_of(alloc: Global, matches: &ArgMatches<'_>) -> Result<Replay, Usage>
         schedule,
         then_run,
         limits,
+        main,
         files,
         explain: is_set(matches, "explain"),
         quiet: is_set(matches, "quiet"),
@@ -161,6 +166,7 @@ fn trace_of(alloc: Global, matches: &ArgMatches<'_>) -> Result<Trace, Usage>
     let only = ONLY.numbers(alloc, matches)?;
     let form = form_of(alloc, matches)?;
     let limits = limits_of(alloc, matches)?;
+    let main = path_of(alloc, matches, "main")?;
     let files = files_of(alloc, matches)?;
     Ok(Trace {
         schedule,
@@ -170,6 +176,7 @@ fn trace_of(alloc: Global, matches: &ArgMatches<'_>) -> Result<Trace, Usage>
         form,
         summary: is_set(matches, "summary"),
         limits,
+        main,
         files,
         explain: is_set(matches, "explain"),
         quiet: is_set(matches, "quiet"),
@@ -186,6 +193,7 @@ fn search_of(alloc: Global, matches: &ArgMatches<'_>) -> Result<Search, Usage>
     let memory = MEMORY.number(alloc, matches)?;
     let record = path_of(alloc, matches, "record")?;
     let limits = limits_of(alloc, matches)?;
+    let main = path_of(alloc, matches, "main")?;
     let files = files_of(alloc, matches)?;
     check_goal(alloc, matches, &goal)?;
     check_files(alloc, matches, &files)?;
@@ -195,6 +203,7 @@ fn search_of(alloc: Global, matches: &ArgMatches<'_>) -> Result<Search, Usage>
         memory,
         record,
         limits,
+        main,
         files,
         explain: is_set(matches, "explain"),
         quiet: is_set(matches, "quiet"),
@@ -264,7 +273,7 @@ fn form_of(alloc: Global, matches: &ArgMatches<'_>) -> Result<TraceForm, Usage>
     let columns = is_set(matches, "columns");
     let json = is_set(matches, "json");
     if columns && json {
-        Err(Usage::two_forms(alloc))
+        Err(Usage::not_together(alloc, "--columns", "--json"))
     } else if columns {
         Ok(TraceForm::Columns)
     } else if json {
@@ -280,7 +289,7 @@ fn then_run_of(alloc: Global, matches: &ArgMatches<'_>) -> Result<Option<ThenRun
     ensures none { IfErr result (λ usage. Refuses usage ((then_run : _)
         → IsThenRun (rows_of (found_of matches.now)) then_run → ⊥)) }
 {
-    let budget = BUDGET.number(alloc, matches)?;
+    let budget = WHOLE_BUDGET.number(alloc, matches)?;
     let record = path_of(alloc, matches, "record")?;
     if is_set(matches, "then-run") {
         Ok(Some(ThenRun { budget, record }))
@@ -300,12 +309,12 @@ fn run_options_of(alloc: Global, matches: &ArgMatches<'_>) -> Result<RunOptions,
         workers: WORKERS.number(alloc, matches)?,
         budget: BUDGET.number(alloc, matches)?,
         quantum: QUANTUM.number(alloc, matches)?,
-        seed: SEED.number(alloc, matches)?,
+        seed: seed_of(alloc, matches)?,
+        policy: policy_of(alloc, matches)?,
     };
-    if options.is_alone() {
-        Ok(options)
-    } else {
-        Err(Usage::not_alone(alloc))
+    match options.clash() {
+        None => Ok(options),
+        Some((one, other)) => Err(Usage::not_together(alloc, one, other)),
     }
 }
 
@@ -339,7 +348,7 @@ fn required_path_of(
     }
 }
 
-/// The path that an option has, where it is there.
+/// The text that an option has, as a path or a name, where it is there.
 fn path_of(
     alloc: Global,
     matches: &ArgMatches<'_>,

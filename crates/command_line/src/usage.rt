@@ -54,12 +54,21 @@ impl Usage {
         ))
     }
 
-    /// That more workers are asked for beside a seed than one.
-    pub(crate) fn not_alone(alloc: Global) -> Usage
+    /// That an option doesn't go with another one, in the parser's words.
+    pub(crate) fn not_together(alloc: Global, one: &str, other: &str) -> Usage
         ensures { Asks result → ⊥ }
     {
         Usage::told(format!(in alloc;
-            "error: the argument '--workers <NUMBER>' can only be 1 with '--seed <NUMBER>'\n\n{MORE}\n"
+            "error: the argument '{one}' cannot be used with '{other}'\n\n{MORE}\n"
+        ))
+    }
+
+    /// That there is no such policy, in the parser's words for a value that isn't one of a few.
+    pub(crate) fn no_policy(alloc: Global, text: &str) -> Usage
+        ensures { Asks result → ⊥ }
+    {
+        Usage::told(format!(in alloc;
+            "error: invalid value '{text}' for '--policy <POLICY>'\n  [possible values: mixed, random, rotation]\n\n{MORE}\n"
         ))
     }
 
@@ -96,15 +105,6 @@ impl Usage {
     {
         Usage::told(format!(in alloc;
             "error: the following required arguments were not provided:\n  --then-run\n\n{MORE}\n"
-        ))
-    }
-
-    /// That a trace is asked for in two forms, in the parser's words for what doesn't go together.
-    pub(crate) fn two_forms(alloc: Global) -> Usage
-        ensures { Asks result → ⊥ }
-    {
-        Usage::told(format!(in alloc;
-            "error: the argument '--columns' cannot be used with '--json'\n\n{MORE}\n"
         ))
     }
 

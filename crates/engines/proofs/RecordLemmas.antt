@@ -7,9 +7,9 @@ use Rattle.model.specs.Devices.{AppendsFront}
 use Rattle.command_line.specs.declared.options.LimitOptions.{LimitOptions}
 use Rattle.command_line.specs.declared.options.Replay.{Replay}
 use Rattle.command_line.specs.declared.options.Run.{Run}
-use Rattle.command_line.specs.declared.options.RunOptions.{RunOptions}
 use Rattle.command_line.specs.declared.options.Search.{Search}
 use Rattle.command_line.specs.declared.options.ThenRun.{ThenRun}
+use Rattle.command_line.specs.declared.run_options.RunOptions.{RunOptions}
 use Rattle.search.specs.declared.run_outcomes.wanted.Wanted.{Wanted}
 use Rattle.engines.specs.Commands.{Held, IsContinuationUndone, IsRunUndone, IsSearchUndone, IsUnrecorded, LeavesAt, files_at}
 use Rattle.engines.specs.Continuations.{Continues, IsUncontinued}

@@ -8,7 +8,7 @@ use Rattle.model.specs.Accepted.{IsAccepted}
 use Rattle.model.specs.Classes.{Program}
 use Rattle.run_laws.proofs.laws.Unrefused.{unrefused_of}
 use Rattle.command_line.specs.declared.options.LimitOptions.{LimitOptions}
-use Rattle.command_line.specs.declared.options.RunOptions.{RunOptions}
+use Rattle.command_line.specs.declared.run_options.RunOptions.{RunOptions}
 use Rattle.engines.specs.Devices.{fault_of}
 use Rattle.engines.specs.Engines.{IsOfFile}
 use Rattle.engines.specs.Runs.{IsUnrun, RunsPart}

@@ -4,7 +4,8 @@ use Rattle.advice.specs.Advice.{IsAdvice}
 use Rattle.command_line.specs.CommandLine.{Spells}
 use Rattle.command_line.specs.declared.options.Command.{Command}
 use Rattle.command_line.specs.declared.options.Command.TheVariants as commands
-use Rattle.engines.specs.Commands.{Held, Listed, OfGiven}
+use Rattle.engines.specs.Commands.{OfFiles}
+use Rattle.program_files.specs.Folders.{Held, Listed}
 use Rattle.engines.specs.Engines.{ReadsEach}
 use Rattle.engines.specs.declared.complaint.Complaint.{Complaint}
 use Rattle.engines.specs.declared.complaint.Complaint.TheVariants as complaints
@@ -17,7 +18,7 @@ IsAdviceOn text lefts = (files : List (List ℕ)) × ReadsEach lefts files × Is
 
 -- advice on the files that a command refuses: `verify` alone has it
 abbrev pub IsAdvised : Held → Listed → Command → Fault → (text : List ℕ) → Type 0
-IsAdvised held listed (commands.Verify verify) (faults.Refusal refusal) text = OfGiven held listed verify.files.items (IsAdviceOn text)
+IsAdvised held listed (commands.Verify verify) (faults.Refusal refusal) text = OfFiles held listed (commands.Verify verify) (IsAdviceOn text)
 IsAdvised held listed command fault text = ⊥
 
 -- whether standard error is to tell no more than the complaint
@@ -33,6 +34,7 @@ is_quiet (commands.Schedule schedule) = schedule.quiet
 -- advice on the files that the command of the words refuses, which isn't to be quiet
 abbrev pub IsAdvisedBy : Held → Listed → (words : List (List ℕ)) → Complaint → (text : List ℕ) → Type 0
 IsAdvisedBy held listed words (complaints.Usage usage) text = ⊥
+IsAdvisedBy held listed words (complaints.Files fault) text = ⊥
 IsAdvisedBy held listed words (complaints.Fault fault) text =
     (command : Command) × Spells words command × (is_quiet command ≡ false) × IsAdvised held listed command fault text
 

@@ -11,6 +11,7 @@ pub mod Libraries
 pub mod LibraryMain
 pub mod Listings
 pub mod Opening
+pub mod Policies
 pub mod Recordings
 pub mod Refusals
 pub mod Replays
@@ -20,4 +21,3 @@ pub mod Statuses
 pub mod Traces
 pub mod Transcriptions
 pub mod Verifications
-pub mod class_paths

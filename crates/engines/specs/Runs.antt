@@ -13,7 +13,7 @@ use Rattle.machine.specs.machine_replay.Replays.{text_of}
 use Rattle.program_runs.specs.worlds.Records.{IsRecorded}
 use Rattle.command_line.specs.Choices.{AreChosen}
 use Rattle.command_line.specs.declared.options.LimitOptions.{LimitOptions}
-use Rattle.command_line.specs.declared.options.RunOptions.{RunOptions}
+use Rattle.command_line.specs.declared.run_options.RunOptions.{RunOptions}
 use Rattle.engines.specs.Engines.{ReadsEach}
 use Rattle.engines.specs.Refusals.{IsRefused}
 use Rattle.engines.specs.Statuses.{status_of}
@@ -28,7 +28,7 @@ use Rattle.engines.specs.declared.status.Status.{Status}
 abbrev pub recording_of : Limits → List (List ℕ) → Recording
 recording_of limits files = record { limits = limits; lengths = map length files }
 
--- The class files are accepted. Workers, or one, have run their program within the limits and the budget, and this is the text of
+-- The class files are accepted. Workers, or one by its policy, have run their program within the limits and the budget, and this is the text of
 -- their report, and its status. The bytes of a file spell the events that were done, the limits, and the lengths of the class files.
 pub record IsRun (files : List (List ℕ)) (asked : LimitOptions) (options : RunOptions) (text : List ℕ) (file : Option (List ℕ))
     (status : Status) : Type 0 where
@@ -39,7 +39,7 @@ pub record IsRun (files : List (List ℕ)) (asked : LimitOptions) (options : Run
   pub events : List Event
   pub report : Report
   pub end : End
-  pub recorded : IsRecorded trees limits (unwrap_or options.budget 10000000) events report end
+  pub recorded : IsRecorded trees limits (unwrap_or options.budget 4294967295) events report end
   pub told : text ≡ text_of report end
   pub ended : status ≡ status_of report.threads.items end
   pub spelled : IfSome file (λ bytes. ScheduleFile bytes (Some (recording_of limits files)) events)

@@ -3,7 +3,7 @@
 ghost use Rattle.std.specs.Prelude.{◌≡◌, ◌⊎◌, [], ◌++◌};
 
 use crate::status::Status;
-use std::alloc::Global;
+use std::alloc::{AllocError, Global};
 use std::io;
 use std::marker::Model;
 
@@ -87,6 +87,13 @@ impl Explanation {
     pub(crate) fn tell(&mut self, lines: Option<Vec<u8>>) {
         if let Some(lines) = lines {
             self.text = lines;
+        }
+    }
+
+    /// This line is told, too, if there is one, and memory for it.
+    pub(crate) fn tell_more(&mut self, line: Result<String, AllocError>) {
+        if let Ok(line) = line {
+            let _ = self.text.extend_from_slice(line.as_bytes());
         }
     }
 

@@ -1,9 +1,10 @@
 //! Where nothing is told of a run or a search while it goes on.
 
+use crate::seeds::Seeds;
 use program_runs::workers::Gate;
 use search::Progress;
 
-/// A gate and a progress that do nothing.
+/// A gate and a progress that do nothing, and the seed of each run for which none is asked.
 #[derive(Drop)]
 pub struct Open;
 
@@ -17,4 +18,13 @@ impl Gate for Open {
 
 impl Progress for Open {
     fn states_met(&self, _states: u32) {}
+}
+
+/// The seed is 1, and nobody is told.
+impl Seeds for Open {
+    fn draw(&self) -> u32 {
+        1
+    }
+
+    fn tell(&self, _seed: u32) {}
 }

@@ -4,17 +4,20 @@ ghost use Rattle.std.specs.Prelude.{◌≡◌, ◌≤◌, ◌+◌, IfErr, IfOk, 
 ghost use Rattle.std.specs.Io.KnownBytes.{Appends};
 ghost use Rattle.model.specs.Devices.{AppendsFront, Counts};
 ghost use Rattle.command_line.specs.CommandLine.{Asks};
-ghost use Rattle.engines.specs.Commands.{Does, IsDone, IsUndone, IsUntold, Leaves, LeavesAt, Stops};
+ghost use Rattle.engines.specs.Commands.{Does, IsDoneOver, IsUndoneOver, IsUntold, Leaves, LeavesAt, Stops};
+ghost use Rattle.engines.specs.Files.{held_at};
 ghost use Rattle.engines.specs.Failures.{FolderMayFail, TellsComplaint, TellsFailures};
 
+use crate::command_files::command_files;
 use crate::commands::{disasm, replay, run_files, schedule, search, trace, verify};
 use crate::complaint::Complaint;
 use crate::explanation::Explanation;
 use crate::fault::Fault;
-use crate::folder::Folder;
+use crate::seeds::Seeds;
 use crate::status::Status;
 use command_line::{Command, Usage, command};
 use model::{DeviceFault, Sink, Source};
+use program_files::Folder;
 use program_runs::workers::Gate;
 use search::Progress;
 use std::alloc::Global;
@@ -26,9 +29,16 @@ use std::thread::Threads;
 /// The files that they name are those of the folder; the text of a schedule that is to become a file is read from the
 /// input. A report, a listing, the line of a verification, the text of a schedule, or the help or the version that the words
 /// ask for is written to the output, and nothing else but a schedule file, where one is asked for, to the folder. The gate is
-/// told what the workers of a run do, and how far a search has come. The complaint is for the caller to tell, and so is the
-/// explanation, which gets what the threads of a run are about that did not end normally, where it is due.
-pub fn run<R: Threads + Wait + Sync, G: Gate + Progress + Sync, F: Folder, I: Source, W: Sink>(
+/// told what the workers of a run do, and how far a run or a search has come; and it draws the seed of a run for which none is
+/// asked. The complaint is for the caller to tell, and so is the explanation, which gets what the threads of a run are about
+/// that did not end normally, where it is due.
+pub fn run<
+    R: Threads + Wait + Sync,
+    G: Gate + Progress + Seeds + Sync,
+    F: Folder,
+    I: Source,
+    W: Sink,
+>(
     rt: &R,
     alloc: Global,
     gate: &G,
@@ -53,11 +63,13 @@ pub fn run<R: Threads + Wait + Sync, G: Gate + Progress + Sync, F: Folder, I: So
 {
     match command(alloc, words) {
         Ok(command) => {
+            let files = command_files(alloc, folder, &command)?;
             let status = done(
                 rt,
                 alloc,
                 gate,
                 folder,
+                &files,
                 &command,
                 input,
                 output,
@@ -97,31 +109,49 @@ fn write_help<W: Sink>(alloc: Global, usage: &Usage, output: &mut W) -> Result<(
 }
 
 /// Does what a command says.
-fn done<R: Threads + Wait + Sync, G: Gate + Progress + Sync, F: Folder, I: Source, W: Sink>(
+fn done<R: Threads + Wait + Sync, G: Gate + Progress + Seeds + Sync, F: Folder, I: Source, W: Sink>(
     rt: &R,
     alloc: Global,
     gate: &G,
     folder: &mut F,
+    files: &[String],
     command: &Command,
     input: &mut I,
     output: &mut W,
     explanation: &mut Explanation,
 ) -> Result<Status, Fault>
     ensures done { IfOk result (Leaves
-        (IsDone (F.held folder.old) (F.listed folder.old) (I.remaining input.old) command.now)
+        (IsDoneOver (F.held folder.old) (held_at (F.held folder.old) (map string_bytes files.now)) (I.remaining input.old) command.now)
         (W.contents output.old) (W.contents output.new) (F.held folder.old) (F.held folder.new)) }
-    ensures faulty { IfErr result (LeavesAt (IsUndone (F.held folder.old) (F.listed folder.old) (I.remaining input.old)
+    ensures faulty { IfErr result (LeavesAt (IsUndoneOver (F.held folder.old) (held_at (F.held folder.old) (map string_bytes files.now)) (I.remaining input.old)
         command.now (W.contents output.old) (W.contents output.new)) (F.held folder.old) (F.held folder.new)) }
     ensures told { TellsFailures (FolderMayFail F.may_fail) result
         (I.failures input.old + W.failures output.old) (I.failures input.new + W.failures output.new) }
 {
     match command {
-        Command::Run(options) => run_files(rt, alloc, gate, folder, options, output, explanation),
-        Command::Replay(options) => replay(alloc, folder, options, output, explanation),
-        Command::Trace(options) => trace(alloc, folder, options, output, explanation),
-        Command::Search(options) => search(alloc, gate, folder, options, output, explanation),
-        Command::Verify(options) => verify(alloc, folder, options, output),
-        Command::Disasm(options) => disasm(alloc, folder, options, output),
+        Command::Run(options) => run_files(
+            rt,
+            alloc,
+            gate,
+            folder,
+            files,
+            options,
+            output,
+            explanation,
+        ),
+        Command::Replay(options) => replay(alloc, folder, files, options, output, explanation),
+        Command::Trace(options) => trace(alloc, folder, files, options, output, explanation),
+        Command::Search(options) => search(
+            alloc,
+            gate,
+            folder,
+            files,
+            options,
+            output,
+            explanation,
+        ),
+        Command::Verify(options) => verify(alloc, folder, files, options, output),
+        Command::Disasm(options) => disasm(alloc, folder, files, options, output),
         Command::Schedule(options) => schedule(alloc, folder, options, input, output, explanation),
     }
 }

@@ -1,4 +1,4 @@
-//! A run by workers, over any readers and writers.
+//! A run, over any readers and writers.
 
 ghost use Rattle.std.specs.Prelude.{◌≡◌, ◌+◌, ◌<◌, ◌^◌, Some, IfOk, IfErr, IfSome, IsTrue, length, map, is_some, sum_by, unwrap_or, vec_items};
 ghost use Rattle.std.specs.Option.{option_map};
@@ -13,12 +13,13 @@ ghost use Rattle.engines.specs.Runs.{IsRun, IsUnrun, Runs, recording_of};
 
 use crate::class_files::read_class_files;
 use crate::fault::Fault;
+use crate::seeds::{Seeds, policy_for};
 use crate::status::Status;
 use crate::verification::accepted;
-use command_line::{Run, RunOptions};
+use command_line::Run;
 use model::{End, Limits, Report, Sink, Source};
+use program_runs::policies::run_by_policy;
 use program_runs::workers::{Gate, Recorded, run_workers};
-use program_runs::worlds::run_seeded;
 use schedule::report::text;
 use schedule::{Recording, Schedule, write_schedule};
 use std::alloc::{AllocError, Global};
@@ -26,12 +27,13 @@ use std::sync::{Arc, Wait};
 use std::thread::Threads;
 use verifier::Verified;
 
-/// Runs the class files, by workers or, with a seed, by one; makes the schedule file where it is asked for, and where the run
-/// does not end normally; writes the report, and answers its status. The gate is told what the workers do.
+/// Runs the class files, by workers or, by a policy, by one; makes the schedule file where it is asked for, and where the run
+/// does not end normally; writes the report, and answers its status. The gate is told what the workers do, and where a policy
+/// wants a seed for which the options don't ask, it draws one, and is told so unless the options have it quiet.
 ///
 /// A fault of the class files is answered before anything runs, and nothing is written or made then; nor is anything after
 /// a want of memory in the run. The file is there before the report is written.
-pub fn run_engine<R: Threads + Wait + Sync, G: Gate + Sync, S: Source, W: Sink>(
+pub fn run_engine<R: Threads + Wait + Sync, G: Gate + Seeds + Sync, S: Source, W: Sink>(
     rt: &R,
     alloc: Global,
     gate: &G,
@@ -69,7 +71,7 @@ pub(crate) struct Outcome {
 }
 
 /// Runs accepted class files, and makes what is to be written.
-fn ran<R: Threads + Wait + Sync, G: Gate + Sync>(
+fn ran<R: Threads + Wait + Sync, G: Gate + Seeds + Sync>(
     rt: &R,
     alloc: Global,
     gate: &G,
@@ -83,7 +85,7 @@ fn ran<R: Threads + Wait + Sync, G: Gate + Sync>(
     ensures asked { IfOk result (λ ran. IsTrue (is_some options.now.record) → IsTrue (is_some ran.file)) }
 {
     let limits = options.limits.limits();
-    let recorded = recorded_run(rt, alloc, gate, verified, limits, &options.options)?;
+    let recorded = recorded_run(rt, alloc, gate, verified, limits, options)?;
     outcome_of(
         alloc,
         files,
@@ -137,31 +139,34 @@ fn told_file(
 }
 
 /// The record of a run of accepted class files.
-fn recorded_run<R: Threads + Wait + Sync, G: Gate + Sync>(
+fn recorded_run<R: Threads + Wait + Sync, G: Gate + Seeds + Sync>(
     rt: &R,
     alloc: Global,
     gate: &G,
     verified: Verified,
     limits: Limits,
-    options: &RunOptions,
+    options: &Run,
 ) -> Result<Recorded, AllocError>
-    ensures { IfOk result (IsRecordOf verified limits (unwrap_or options.now.budget 10000000)) }
+    ensures { IfOk result (IsRecordOf verified limits (unwrap_or options.now.options.budget 4294967295)) }
 {
     let verified = Arc::new(alloc, verified)?;
-    let budget = options.budget();
-    let quantum = options.quantum();
-    match options.seed {
-        Some(seed) => run_seeded(alloc, verified, limits, budget, quantum, u64::from(seed)),
-        None => run_workers(
+    let asked = &options.options;
+    let budget = asked.budget();
+    match asked.workers() {
+        Some(workers) => run_workers(
             rt,
             alloc,
             verified,
             limits,
             budget,
-            options.workers() as usize,
-            quantum,
+            workers as usize,
+            asked.workers_quantum(),
             gate,
         ),
+        None => {
+            let policy = policy_for(gate, asked, options.quiet);
+            run_by_policy(alloc, verified, limits, budget, policy, gate)
+        }
     }
 }
 

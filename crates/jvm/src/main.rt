@@ -12,6 +12,7 @@ use engines::{
 use progress::{Cleared, Progress};
 use std::io::{ErrorKind, IsTerminal, Write};
 use std::process::ExitCode;
+use std::random::RandomSource;
 use std::rt::{Clock, Files};
 use std::sync::Wait;
 use std::thread::Threads;
@@ -57,11 +58,9 @@ fn is_closed(failure: Option<&io::Error>) -> bool {
 
 /// Does what the words say over the files of the system, the standard input and the standard output. The standard error shows
 /// how far a run or a search is, if it is a terminal.
-fn done<R: Files + Input + Print + Eprint + Clock + AllocGlobal + Threads + Wait + Sync>(
-    rt: &R,
-    words: &[String],
-    is_terminal: bool,
-) -> Ending {
+fn done<
+    R: Files + Input + Print + Eprint + Clock + RandomSource + AllocGlobal + Threads + Wait + Sync,
+>(rt: &R, words: &[String], is_terminal: bool) -> Ending {
     let progress = Progress::new(rt, is_terminal);
     let mut output = Counted::new(rt.alloc(), Cleared::new(&progress, io::writer(rt)));
     let mut input = Counted::new(rt.alloc(), rt.reader());

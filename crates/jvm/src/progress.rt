@@ -1,8 +1,9 @@
 //! What a terminal shows of a run or a search that takes more than a second.
 
-use engines::Gate;
+use engines::{Gate, Seeds};
 use std::io;
 use std::io::Write;
+use std::random::RandomSource;
 use std::rt::Clock;
 use std::sync::atomic::{AtomicU64, Ordering};
 use std::time::Instant;
@@ -79,6 +80,22 @@ impl<R: Clock + Eprint> Gate for Progress<'_, R> {
 impl<R: Clock + Eprint> engines::Progress for Progress<'_, R> {
     fn states_met(&self, states: u32) {
         self.look(states, "states");
+    }
+}
+
+/// The seed is of the system's chance, and the standard error is told it, in a line.
+impl<R: Clock + Eprint + RandomSource> Seeds for Progress<'_, R> {
+    /// Where the system has none, it is 0.
+    fn draw(&self) -> u32 {
+        let mut bytes = [0; 4];
+        match self.rt.fill_bytes(&mut bytes) {
+            Ok(()) => u32::from_le_bytes(bytes),
+            Err(_) => 0,
+        }
+    }
+
+    fn tell(&self, seed: u32) {
+        let _ = eprintln!(self.rt; "seed {seed}");
     }
 }
 

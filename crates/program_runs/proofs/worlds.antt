@@ -4,6 +4,6 @@ mod Repeating
 mod Shared
 mod Copying
 mod Committing
-mod Staying
+pub mod Staying
 pub mod Finishing
 mod Recording

@@ -6,6 +6,7 @@ ghost use Rattle.program_runs.specs.worlds.Worlds.{IsOfSame};
 use crate::policies::draws::below;
 use crate::policies::turn_lengths::{Turn, TurnLengths};
 use crate::policies::waiters::waiting;
+use crate::workers::Gate;
 use crate::worlds::{World, first_enabled, first_enabled_downwards};
 use machine::Machine;
 use model::Event;
@@ -105,8 +106,8 @@ impl Mixed {
     }
 }
 
-/// Does turns until there is an end. The only error is a want of memory.
-pub(crate) fn run_mixed(world: &mut World, seed: u64) -> Result<(), AllocError>
+/// Does turns until there is an end. The gate is told how many events are done. The only error is a want of memory.
+pub(crate) fn run_mixed<G: Gate>(world: &mut World, seed: u64, gate: &G) -> Result<(), AllocError>
     ensures { OnOk result (IsOfSame world.old world.new) }
 {
     let mut mixed = Mixed::from_seed(seed);
@@ -115,6 +116,7 @@ pub(crate) fn run_mixed(world: &mut World, seed: u64) -> Result<(), AllocError>
             break;
         }
         mixed.take_turn(world)?;
+        gate.turn_ends(world.count());
     }
     Ok(())
 }

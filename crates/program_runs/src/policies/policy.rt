@@ -9,6 +9,7 @@ ghost use Rattle.program_runs.specs.worlds.Worlds.{IsOfSame};
 use crate::policies::mixed::run_mixed;
 use crate::policies::random::run_random;
 use crate::policies::rotation::run_rotation;
+use crate::workers::Gate;
 use crate::worlds::{Recorded, World};
 use model::Limits;
 use std::alloc::{AllocError, Global};
@@ -42,33 +43,34 @@ impl Policy {
 }
 
 /// Gives turns until there is an end.
-fn take_turns(world: &mut World, policy: Policy) -> Result<(), AllocError>
+fn take_turns<G: Gate>(world: &mut World, policy: Policy, gate: &G) -> Result<(), AllocError>
     requires { HasTurns policy }
     ensures { OnOk result (IsOfSame world.old world.new) }
 {
     match policy {
-        Policy::Mixed { seed } => run_mixed(world, seed),
-        Policy::Random { seed } => run_random(world, seed),
+        Policy::Mixed { seed } => run_mixed(world, seed, gate),
+        Policy::Random { seed } => run_random(world, seed, gate),
         Policy::Rotation { quantum } => {
-            run_rotation(world, quantum);
+            run_rotation(world, quantum, gate);
             Ok(())
         }
     }
 }
 
 /// Runs verified class files by a policy until there is an end (JVMS 2.5, 2.6, 5.5, chapter 6; JLS 17), and records the events that
-/// were done. The only error is a want of memory.
-pub fn run_by_policy(
+/// were done. The gate is told how many there are, at the end of each turn. The only error is a want of memory.
+pub fn run_by_policy<G: Gate>(
     alloc: Global,
     verified: Arc<Verified>,
     limits: Limits,
     budget: u32,
     policy: Policy,
+    gate: &G,
 ) -> Result<Recorded, AllocError>
     requires { HasTurns policy }
     ensures { IfOk result (IsRecordOf (arc_value verified) limits budget) }
 {
     let mut world = World::open(alloc, verified, limits, budget)?;
-    take_turns(&mut world, policy)?;
+    take_turns(&mut world, policy, gate)?;
     world.into_recorded(alloc)
 }

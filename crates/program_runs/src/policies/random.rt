@@ -5,6 +5,7 @@ ghost use Rattle.program_runs.specs.worlds.Worlds.{IsOfSame};
 
 use crate::policies::draws::below;
 use crate::policies::waiters::waiters_to_pick;
+use crate::workers::Gate;
 use crate::worlds::{World, enabled_at, enabled_count};
 use machine::Machine;
 use model::Event;
@@ -49,8 +50,8 @@ fn take_turn(world: &mut World, random: &mut Xoshiro256PlusPlus) -> Result<(), A
     Ok(())
 }
 
-/// Does events until there is an end. The only error is a want of memory.
-pub(crate) fn run_random(world: &mut World, seed: u64) -> Result<(), AllocError>
+/// Does events until there is an end. The gate is told how many are done. The only error is a want of memory.
+pub(crate) fn run_random<G: Gate>(world: &mut World, seed: u64, gate: &G) -> Result<(), AllocError>
     ensures { OnOk result (IsOfSame world.old world.new) }
 {
     let mut random = Xoshiro256PlusPlus::seed_from_u64(seed);
@@ -59,6 +60,7 @@ pub(crate) fn run_random(world: &mut World, seed: u64) -> Result<(), AllocError>
             break;
         }
         take_turn(world, &mut random)?;
+        gate.turn_ends(world.count());
     }
     Ok(())
 }

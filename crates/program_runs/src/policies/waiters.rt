@@ -12,8 +12,8 @@ use machine_state::method_selection::{class_of_kind, method_at, select_interface
 /// How many threads are in a wait set.
 pub(crate) fn waiting(threads: &Threads) -> u16 {
     let mut count = 0u16;
-    'threads: for thread in 0..threads.len() {
-        if matches!(threads.status(thread as u16), ThreadStatus::Waiting { .. }) {
+    'threads: for thread in 0..threads.len() as u16 {
+        if matches!(threads.status(thread), ThreadStatus::Waiting { .. }) {
             count += 1;
         }
     }

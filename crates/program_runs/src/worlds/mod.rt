@@ -2,13 +2,11 @@
 
 mod commits;
 mod records;
-mod seeded;
 mod sharing;
 mod turns;
 mod world;
 
 pub use commits::{Commit, ThreadBurst};
 pub use records::Recorded;
-pub use seeded::run_seeded;
 pub(crate) use turns::{enabled_at, enabled_count, first_enabled, first_enabled_downwards};
 pub use world::World;

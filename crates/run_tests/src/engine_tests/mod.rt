@@ -1,6 +1,9 @@
-//! Tests of the engines over devices that fail: no clause says that a device fails, nor which of its calls does.
+//! Tests of the engines: over devices that fail, of which no clause says that they do, nor at which of their calls; and of seeds that
+//! are drawn.
 
 #[cfg(test)]
 mod devices;
 #[cfg(test)]
 mod failures;
+#[cfg(test)]
+mod seeds;

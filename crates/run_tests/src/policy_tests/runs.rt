@@ -3,6 +3,7 @@
 use crate::policy_tests::further_vectors::{LONG_TURNS, RANDOM, ROTATION};
 use crate::policy_tests::mixed_vectors::MIXED;
 use crate::worker_tests::program::{all_verified, limits};
+use engines::Open;
 use model::{EndState, Report};
 use program_runs::policies::{Policy, run_by_policy};
 use program_runs::worlds::Recorded;
@@ -76,7 +77,7 @@ fn told(
         return Err("no turns".into());
     }
     let of = Arc::try_clone(verified)?;
-    let recorded = run_by_policy(alloc, of, limits()?, budget, policy)?;
+    let recorded = run_by_policy(alloc, of, limits()?, budget, policy, &Open)?;
     let schedule = schedule_line(alloc, &recorded)?;
     let outcome = outcome(alloc, &recorded.report)?;
     Ok(format!(in alloc; "{schedule}| {outcome}")?)

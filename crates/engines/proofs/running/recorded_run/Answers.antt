@@ -7,11 +7,11 @@ use Rattle.engines.proofs.running.recorded_run.Goals as goal
 pub returns-in-Some : goal.returns-in-Some
 returns-in-Some g c =
     let limits = c.args.limits in
-    let of_budget = subst (λ budget. IfOk c.run_seeded.result (IsRecordOf (arc_value c.in_ok-verified.verified) limits budget)) c.budget-budget.ensures c.run_seeded.ensures in
-    subst (λ trees. IfOk c.run_seeded.result (IsRecordOf trees limits (unwrap_or c.args.options.now.budget 10000000))) c.in_ok-verified.ensures.ok of_budget
+    let of_budget = subst (λ budget. IfOk c.run_workers.result (IsRecordOf (arc_value c.in_ok-verified.verified) limits budget)) c.budget-budget.ensures c.run_workers.ensures in
+    subst (λ trees. IfOk c.run_workers.result (IsRecordOf trees limits (unwrap_or c.args.options.now.options.budget 4294967295))) c.in_ok-verified.ensures.ok of_budget
 
 pub returns-in-None : goal.returns-in-None
 returns-in-None g c =
     let limits = c.args.limits in
-    let of_budget = subst (λ budget. IfOk c.run_workers.result (IsRecordOf (arc_value c.in_ok-verified.verified) limits budget)) c.budget-budget.ensures c.run_workers.ensures in
-    subst (λ trees. IfOk c.run_workers.result (IsRecordOf trees limits (unwrap_or c.args.options.now.budget 10000000))) c.in_ok-verified.ensures.ok of_budget
+    let of_budget = subst (λ budget. IfOk c.run_by_policy.result (IsRecordOf (arc_value c.in_ok-verified.verified) limits budget)) c.budget-budget.ensures c.run_by_policy.ensures in
+    subst (λ trees. IfOk c.run_by_policy.result (IsRecordOf trees limits (unwrap_or c.args.options.now.options.budget 4294967295))) c.in_ok-verified.ensures.ok of_budget

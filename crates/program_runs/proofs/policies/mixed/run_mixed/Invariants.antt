@@ -3,4 +3,4 @@ use Rattle.program_runs.proofs.policies.mixed.run_mixed.Given as goal
 
 -- files, limits and budget stay
 abbrev pub invariant-turns : goal.invariant-turns
-invariant-turns l = IsOfSame l.fn.world l.world
+invariant-turns g l = IsOfSame l.fn.world l.world

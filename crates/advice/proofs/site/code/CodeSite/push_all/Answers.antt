@@ -13,6 +13,6 @@ returns c =
     let number = c.args.self.now.number in
     let after = c.push_entries.new.told.items in
     let all : TellsEach c.push_offsets.new.told.items after site.number (λ k. places.Exception number k) (is_entry_wrong site.facts.0 site.facts.1 code)
-        → TellsCode site.facts.0 site.facts.1 c.args.told.now.items after site.number number code =
+    → TellsCode site.facts.0 site.facts.1 c.args.told.now.items after site.number number code =
     λ h. code_told _ _ _ _ _ _ _ _ c.in_ok-push_offsets.ensures h in
     on_ok c.push_entries.result all c.push_entries.ensures

@@ -12,6 +12,6 @@ returns-in_ok-lines-in-Some c =
     let code = code_of c.in-Some.code.now in
     let after = c.push_all.new.told.items in
     let all : TellsCode site.facts.0 site.facts.1 c.push_declaration.new.told.items after site.number c.args.number code
-        → TellsMethod site.facts.0 site.facts.1 c.args.told.now.items after site.number c.args.number method =
+    → TellsMethod site.facts.0 site.facts.1 c.args.told.now.items after site.number c.args.number method =
     λ h. method_told _ _ _ _ _ _ _ method code c.in_ok-push_declaration.ensures h (sym c.in-Some.ensures) in
     on_ok c.push_all.result all c.push_all.ensures
