@@ -102,7 +102,7 @@ read_more files bytes classes places count (Some c) same read found = record { t
         let long : length classes ≡ 0 + count = omega arith in
         ap (λ (l : List (Option ℕ)). l ++ Some (length classes) ∷ []) (read.their_places s.before s.first)
         ∙ ap (λ n. map (λ k. Some k) (count_from 0 count) ++ Some n ∷ []) long
-        ∙ sym (map-append (λ k. Some k) (count_from 0 count) (0 + count ∷ []))
+        ∙ sym (map-append (λ k. Some k) (count_from 0 count) ((0 + count) ∷ []))
         ∙ ap (map (λ k. Some k)) (sym (count_more 0 count))
 
 -- ---- from the first file to the last

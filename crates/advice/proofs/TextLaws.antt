@@ -18,11 +18,13 @@ use Rattle.advice.specs.Advice.{AreSaid, Shows, head, indented, text_of, words_o
 
 any_contains : (t : Name) (lines : List Name) → list_any (name_eq t) lines ≡ true → Contains lines t
 any_contains t [] h = absurd cc
-any_contains t (x ∷ lines) h = by (name_eq t x) refl
+any_contains t (x ∷ lines) h = by (λ g. any_contains t lines g) (name_eq t x) refl
   where
-    by : (b : Bool) → name_eq t x ≡ b → Contains (x ∷ lines) t
-    by true e = (0, omega arith, sym (same_name t x e))
-    by false e = let rest = any_contains t lines (sym (ap (λ b. cond b true (list_any (name_eq t) lines)) e) ∙ h) in (suc rest.0, omega (arith, rest.1), rest.2)
+    by : (list_any (name_eq t) lines ≡ true → Contains lines t) → (b : Bool) → name_eq t x ≡ b → Contains (x ∷ lines) t
+    by rest true e = (0, omega arith, sym (same_name t x e))
+    by rest false e =
+        let found = rest (sym (ap (λ b. cond b true (list_any (name_eq t) lines)) e) ∙ h) in
+        (suc found.0, omega (arith, found.1), found.2)
 
 added : (lines : List Name) (t : Name) → Contains (with_text lines t) t
 added lines t = by (list_any (name_eq t) lines) refl
