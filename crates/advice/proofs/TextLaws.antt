@@ -1,6 +1,6 @@
 -- Lines, each once, and their text.
 use Rattle.std.proofs.Common.{◌≡◌, ℕ, zero, suc, ◌+◌, ◌<◌, List, [], ◌∷◌, ◌++◌, map, length, take, get_or, Bool, true, false, cond, refl, sym, ap, subst, ◌∙◌, arith, append_assoc}
-use Rattle.std.specs.Prelude.{codes}
+use Rattle.std.specs.Prelude.{◌||◌, codes}
 use Rattle.std.specs.List.{Contains, flat_map, list_any}
 use Rattle.std.proofs.lemmas.List.{append-nil, map_more}
 use Rattle.std.proofs.lemmas.List.Elements.{Contains-append_left, Contains-push}
@@ -23,7 +23,7 @@ any_contains t (x ∷ lines) h = by (λ g. any_contains t lines g) (name_eq t x)
     by : (list_any (name_eq t) lines ≡ true → Contains lines t) → (b : Bool) → name_eq t x ≡ b → Contains (x ∷ lines) t
     by rest true e = (0, omega arith, sym (same_name t x e))
     by rest false e =
-        let found = rest (sym (ap (λ b. cond b true (list_any (name_eq t) lines)) e) ∙ h) in
+        let found = rest (sym (ap (λ b. b || list_any (name_eq t) lines) e) ∙ h) in
         (suc found.0, omega (arith, found.1), found.2)
 
 added : (lines : List Name) (t : Name) → Contains (with_text lines t) t

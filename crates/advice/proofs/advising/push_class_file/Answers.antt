@@ -21,5 +21,5 @@ returns c =
     let kept = keeps_both _ _ _ c.in_ok-push_rule.ensures c.in_ok-push_malformed_code.ensures in
     let all : TellsFile facts.0 facts.1 between after number → TellsFile classes tree before after number =
     λ h. subst (λ (p : Program). TellsFile p tree before after number) whole
-        (subst (λ (t : FileTree). TellsFile facts.0 t before after number) its (file_then facts.0 facts.1 before between after number kept h)) in
+    (subst (λ (t : FileTree). TellsFile facts.0 t before after number) its (file_then facts.0 facts.1 before between after number kept h)) in
     on_ok c.push_all.result all c.push_all.ensures

@@ -45,11 +45,11 @@ returns-then-not-branch c =
     let same : items ≡ starts code.code = c.deref-is_start-items.ensures.value ∙ c.in_ok-marks.ensures.marks ∙ ap starts c.deref.ensures.value in
     let mark : get_or items pc false ≡ is_start code.code pc = mark_is code.code items pc false same (omega (arith, c.loop-pc-test.true)) in
     let here = one_more _ _ _ _ (λ pc. places.Instruction number pc) wrong pc _ c.loop-pc.invariant.tells c.in_ok-push_boundary.ensures.told
-        (λ h. wrong_at_mark code.code pc _ _ mark h) in
+    (λ h. wrong_at_mark code.code pc _ _ mark h) in
     let ends = end_here code.code pc _ _ mark c.in_ok-push_boundary.ensures.goes_on c.if-not-branch.true in
     let between = c.push_boundary.new.told.items in
     let after = c.push_beyond.new.told.items in
     let all : Keeps between after → TellsEach c.args.told.now.items after site.number (λ pc. places.Instruction number pc) wrong =
     λ kept. each_of _ _ _ (λ pc. places.Instruction number pc) wrong (pc + 1) (below_then _ between _ _ (λ pc. places.Instruction number pc) wrong (pc + 1) here kept)
-        (λ k le h. past_end code.code pc k ends.0 ends.1 (omega (arith, le)) (and_parts (is_reached code.code k) _ h).0) in
+    (λ k le h. past_end code.code pc k ends.0 ends.1 (omega (arith, le)) (and_parts (is_reached code.code k) _ h).0) in
     on_ok c.push_beyond.result all c.push_beyond.ensures
