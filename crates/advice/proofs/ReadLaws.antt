@@ -57,12 +57,15 @@ split_last (f ∷ files) bytes (t ∷ trees) h =
 
 -- what is read of some files: their classes, each at its place
 pub record IsRead (files : List (List ℕ)) (classes : List ClassFile) (places : List (Option ℕ)) (count : ℕ) : Type 0 where
-  pub trees : (trees : Program) → AreSpelled files trees → trees_of classes ≡ trees
-  pub places : (trees : Program) → AreSpelled files trees → places ≡ map (λ k. Some k) (count_from 0 count)
+  pub their_trees : (trees : Program) → AreSpelled files trees → trees_of classes ≡ trees
+  pub their_places : (trees : Program) → AreSpelled files trees → places ≡ map (λ k. Some k) (count_from 0 count)
 
 pub read_none : IsRead [] [] [] 0
-read_none = record { trees = none; places = λ trees h. refl }
+read_none = record { their_trees = none; their_places = at_none }
   where
+    at_none : (trees : Program) → AreSpelled [] trees → [] ≡ map (λ k. Some k) (count_from 0 0)
+    at_none trees h = refl
+
     none : (trees : Program) → AreSpelled [] trees → trees_of [] ≡ trees
     none [] h = refl
     none (t ∷ trees) h = absurd h
@@ -71,14 +74,14 @@ read_none = record { trees = none; places = λ trees h. refl }
 pub read_more : (files : List (List ℕ)) (bytes : List ℕ) (classes : List ClassFile) (places : List (Option ℕ)) (count : ℕ) (class : Option ClassFile)
     → length files ≡ count → IsRead files classes places count → ((tree : FileTree) → Spells bytes tree → option_map file_of class ≡ Some tree)
     → IsRead (files ++ bytes ∷ []) (classes ++ option_to_list class) (places ++ option_map (λ _. length classes) class ∷ []) (count + 1)
-read_more files bytes classes places count None same read found = record { trees = λ trees h. absurd (none trees h); places = λ trees h. absurd (none trees h) }
+read_more files bytes classes places count None same read found = record { their_trees = λ trees h. absurd (none trees h); their_places = λ trees h. absurd (none trees h) }
   where
     no : (tree : FileTree) → None ≡ Some tree → ⊥
     no tree e = cc
 
     none : (trees : Program) → AreSpelled (files ++ bytes ∷ []) trees → ⊥
     none trees h = let s = split_last files bytes trees h in no s.last (found s.last s.spelled)
-read_more files bytes classes places count (Some c) same read found = record { trees = all; places = each }
+read_more files bytes classes places count (Some c) same read found = record { their_trees = all; their_places = each }
   where
     of_some : (tree : FileTree) → Some (file_of c) ≡ Some tree → file_of c ≡ tree
     of_some tree e = cc
@@ -88,18 +91,18 @@ read_more files bytes classes places count (Some c) same read found = record { t
         let s = split_last files bytes trees h in
         let is : file_of c ≡ s.last = of_some s.last (found s.last s.spelled) in
         map-append file_of classes (c ∷ [])
-        ∙ ap (λ (l : Program). l ++ file_of c ∷ []) (read.trees s.before s.first)
+        ∙ ap (λ (l : Program). l ++ file_of c ∷ []) (read.their_trees s.before s.first)
         ∙ ap (λ (f : FileTree). s.before ++ f ∷ []) is
         ∙ sym s.same
 
     each : (trees : Program) → AreSpelled (files ++ bytes ∷ []) trees → places ++ Some (length classes) ∷ [] ≡ map (λ k. Some k) (count_from 0 (count + 1))
     each trees h =
         let s = split_last files bytes trees h in
-        let long : length classes ≡ count = sym (length-map classes file_of) ∙ ap length (read.trees s.before s.first) ∙ sym (spelled_length files s.before s.first) ∙ same in
+        let long : length classes ≡ count = sym (length-map classes file_of) ∙ ap length (read.their_trees s.before s.first) ∙ sym (spelled_length files s.before s.first) ∙ same in
         let long : length classes ≡ 0 + count = omega arith in
-        ap (λ (l : List (Option ℕ)). l ++ Some (length classes) ∷ []) (read.places s.before s.first)
+        ap (λ (l : List (Option ℕ)). l ++ Some (length classes) ∷ []) (read.their_places s.before s.first)
         ∙ ap (λ n. map (λ k. Some k) (count_from 0 count) ++ Some n ∷ []) long
-        ∙ sym (map-append (λ k. Some k) (count_from 0 count) (0 + count ∷ []))
+        ∙ sym (map-append (λ k. Some k) (count_from 0 count) ((0 + count) ∷ []))
         ∙ ap (map (λ k. Some k)) (sym (count_more 0 count))
 
 -- ---- from the first file to the last
@@ -128,4 +131,4 @@ pub read_all : (files : List GivenFile) (i : ℕ) (classes : List ClassFile) (pl
 read_all files i classes places all read trees spelled =
     let whole : take i files ≡ files = take_all i files (omega (arith, all)) in
     let same : IsRead (map bytes_of files) classes places i = subst (λ (l : List GivenFile). IsRead (map bytes_of l) classes places i) whole read in
-    (same.trees trees spelled, same.places trees spelled ∙ ap (λ n. map (λ k. Some k) (count_from 0 n)) all)
+    (same.their_trees trees spelled, same.their_places trees spelled ∙ ap (λ n. map (λ k. Some k) (count_from 0 n)) all)

@@ -1,6 +1,6 @@
 -- Lines, each once, and their text.
 use Rattle.std.proofs.Common.{◌≡◌, ℕ, zero, suc, ◌+◌, ◌<◌, List, [], ◌∷◌, ◌++◌, map, length, take, get_or, Bool, true, false, cond, refl, sym, ap, subst, ◌∙◌, arith, append_assoc}
-use Rattle.std.specs.Prelude.{codes}
+use Rattle.std.specs.Prelude.{◌||◌, codes}
 use Rattle.std.specs.List.{Contains, flat_map, list_any}
 use Rattle.std.proofs.lemmas.List.{append-nil, map_more}
 use Rattle.std.proofs.lemmas.List.Elements.{Contains-append_left, Contains-push}
@@ -12,17 +12,19 @@ use Rattle.link_conditions.proofs.limits_of_linking.TextLaws.{with_texts-append}
 use Rattle.link_conditions.specs.limits_of_linking.Texts.{with_text, with_texts}
 use Rattle.listings.specs.printed_names.Printed.{printed}
 use Rattle.advice.specs.declared.told.Told.{Told}
-use Rattle.advice.specs.Advice.{AreSaid, Shows, indented, words_of}
+use Rattle.advice.specs.Advice.{AreSaid, Shows, head, indented, text_of, words_of}
 
 -- ---- which lines there are
 
 any_contains : (t : Name) (lines : List Name) → list_any (name_eq t) lines ≡ true → Contains lines t
 any_contains t [] h = absurd cc
-any_contains t (x ∷ lines) h = by (name_eq t x) refl
+any_contains t (x ∷ lines) h = by (λ g. any_contains t lines g) (name_eq t x) refl
   where
-    by : (b : Bool) → name_eq t x ≡ b → Contains (x ∷ lines) t
-    by true e = (0, omega arith, sym (same_name t x e))
-    by false e = let rest = any_contains t lines (sym (ap (λ b. cond b true (list_any (name_eq t) lines)) e) ∙ h) in (suc rest.0, omega (arith, rest.1), rest.2)
+    by : (list_any (name_eq t) lines ≡ true → Contains lines t) → (b : Bool) → name_eq t x ≡ b → Contains (x ∷ lines) t
+    by rest true e = (0, omega arith, sym (same_name t x e))
+    by rest false e =
+        let found = rest (sym (ap (λ b. b || list_any (name_eq t) lines) e) ∙ h) in
+        (suc found.0, omega (arith, found.1), found.2)
 
 added : (lines : List Name) (t : Name) → Contains (with_text lines t) t
 added lines t = by (list_any (name_eq t) lines) refl
@@ -78,3 +80,8 @@ pub shown_before : (text : List ℕ) (lines : List Name) (words : Name) → list
     → Shows text lines text (with_text lines words)
 shown_before text lines words there front shows =
     shows ∙ ap (λ b. front ++ indented (codes "    ") (cond b lines (lines ++ words ∷ []))) (sym there)
+
+pub text_whole : (told : List Told) (text start : List ℕ) (lines : List Name) → (told ≡ [] → ⊥) → start ≡ line (codes "  " ++ printed head)
+    → text ≡ start ++ indented (codes "    ") lines → text ≡ text_of told lines
+text_whole [] text start lines some begin whole = absurd (some refl)
+text_whole (t ∷ told) text start lines some begin whole = whole ∙ ap (λ (l : List ℕ). l ++ indented (codes "    ") lines) begin

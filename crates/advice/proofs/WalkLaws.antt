@@ -80,8 +80,8 @@ pub no_end_more : (code : List ℕ) (pc : ℕ) → list_any (is_end code) (count
 no_end_more code pc before here =
     let zero_pc : 0 + pc ≡ pc = omega arith in
     ap (list_any (is_end code)) (count_more 0 pc)
-    ∙ list_any-append (is_end code) (count_from 0 pc) (0 + pc ∷ [])
-    ∙ ap (λ b. b || list_any (is_end code) (0 + pc ∷ [])) before
+    ∙ list_any-append (is_end code) (count_from 0 pc) ((0 + pc) ∷ [])
+    ∙ ap (λ b. b || list_any (is_end code) ((0 + pc) ∷ [])) before
     ∙ ap (λ q. is_end code q || false) zero_pc
     ∙ ap (λ b. b || false) here
 
@@ -113,7 +113,7 @@ wrong_at_mark code pc mark wrong is h =
 -- decoding goes on, or it ends here
 pub no_end_here : (code : List ℕ) (pc : ℕ) (mark goes_on : Bool) → mark ≡ is_start code pc → goes_on ≡ not (mark && begins_none code pc)
     → goes_on ≡ true → is_end code pc ≡ false
-no_end_here code pc mark goes_on is on yes = yes_then (is_end code pc) (ap (λ b. not (b && begins_none code pc)) (sym is) ∙ sym on ∙ yes)
+no_end_here code pc mark goes_on is on goes = yes_then (is_end code pc) (ap (λ b. not (b && begins_none code pc)) (sym is) ∙ sym on ∙ goes)
   where
     yes_then : (b : Bool) → not b ≡ true → b ≡ false
     yes_then true e = sym e
@@ -121,8 +121,8 @@ no_end_here code pc mark goes_on is on yes = yes_then (is_end code pc) (ap (λ b
 
 pub end_here : (code : List ℕ) (pc : ℕ) (mark goes_on : Bool) → mark ≡ is_start code pc → goes_on ≡ not (mark && begins_none code pc)
     → goes_on ≡ false → (is_start code pc ≡ true) × (begins_none code pc ≡ true)
-end_here code pc mark goes_on is on no =
-    and_parts (is_start code pc) (begins_none code pc) (no_then (is_end code pc) (ap (λ b. not (b && begins_none code pc)) (sym is) ∙ sym on ∙ no))
+end_here code pc mark goes_on is on stops =
+    and_parts (is_start code pc) (begins_none code pc) (no_then (is_end code pc) (ap (λ b. not (b && begins_none code pc)) (sym is) ∙ sym on ∙ stops))
   where
     no_then : (b : Bool) → not b ≡ false → b ≡ true
     no_then true e = refl

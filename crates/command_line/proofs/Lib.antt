@@ -1,3 +1,4 @@
+pub mod ClashLemmas
 pub mod CommandLineLemmas
 pub mod GoalLemmas
 pub mod ParserLemmas

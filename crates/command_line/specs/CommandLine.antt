@@ -1,6 +1,6 @@
 -- The command line (own), in the words of the crate `clap`: which options there are, and which command the words
 -- spell.
-use Rattle.std.specs.Prelude.{◌≡◌, ◌≤◌, ◌⊎◌, ℕ, ◌-◌, ◌^◌, ◌==◌, Bool, List, ◌∷◌, ◌++◌, map, true, false, codes, Option, Some, None, string_bytes, vec_items}
+use Rattle.std.specs.Prelude.{◌≡◌, ◌≤◌, ◌⊎◌, ℕ, ◌-◌, ◌^◌, ◌==◌, Bool, List, map, true, false, codes, Option, Some, None, string_bytes, vec_items}
 use Rattle.std.specs.List.{All, slice_split}
 use Rattle.std.specs.Option.{option_map, option_map_or}
 use Rattle.std.specs.Str.{bytes_eq}

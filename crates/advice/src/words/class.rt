@@ -33,14 +33,13 @@ fn say_lacking(line: &mut Line, set: &ClassSet, descriptor: &[u8]) -> Result<(),
 
 /// What stands behind the first place of a name in a descriptor.
 fn behind<'a>(descriptor: &'a [u8], name: &[u8]) -> &'a [u8] {
-    let mut rest = descriptor;
-    while let [_, after @ ..] = rest {
-        if rest.starts_with(name) {
-            return rest.get(name.len()..).unwrap_or(&[]);
+    for begin in 0..descriptor.len() {
+        let rest = descriptor.get(begin..).unwrap_or(&[]);
+        if let Some(after) = rest.strip_prefix(name) {
+            return after;
         }
-        rest = after;
     }
-    rest
+    &[]
 }
 
 /// Adds a field that is left out, or whose class is not there.

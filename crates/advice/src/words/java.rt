@@ -73,12 +73,11 @@ fn say_parameters(line: &mut Line, descriptor: &[u8]) -> Result<(), AllocError> 
 /// The last name of a class's name, as `Entry` of `java/util/Map$Entry`, or `Map$Entry` where no dollar parts it.
 fn last_name(class: &[u8]) -> &[u8] {
     let mut last = class;
-    let mut rest = class;
-    while let [byte, after @ ..] = rest {
-        if (*byte == b'/' || *byte == b'$') && !after.is_empty() {
-            last = after;
+    for (at, byte) in class.iter().enumerate() {
+        if *byte == b'/' || *byte == b'$' {
+            let after = class.get(at.saturating_add(1)..).unwrap_or(&[]);
+            last = if after.is_empty() { last } else { after };
         }
-        rest = after;
     }
     last
 }

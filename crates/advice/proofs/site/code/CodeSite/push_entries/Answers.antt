@@ -1,4 +1,4 @@
-use Rattle.std.proofs.Common.{◌≡◌, ap, arith}
+use Rattle.std.proofs.Common.{◌≡◌, length, ap, arith}
 use Rattle.classfile.specs.View.{code_of}
 use Rattle.link_conditions.specs.resolution.Unresolved.{exception_stands}
 use Rattle.advice.specs.Wrong.{is_entry_wrong}
