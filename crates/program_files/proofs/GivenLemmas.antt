@@ -1,12 +1,12 @@
 -- Files that are given one after another.
 use Rattle.std.proofs.Common.{arith, ◌⊎◌, inl, inr, ◌∙◌, ◌≡◌, ◌<◌, ℕ, zero, suc, ◌-◌, Bool, true, false, List, [], ◌∷◌, ◌++◌, ap, append_assoc, length, map, refl, subst, sym}
-use Rattle.std.specs.Prelude.{◌||◌, Some, slice_index_or, string_bytes}
+use Rattle.std.specs.Prelude.{◌||◌, Contains, None, Some, filter, slice_index_or, string_bytes}
 use Rattle.std.specs.declared.string.String.{String}
 use Rattle.std.specs.Global.{Global}
 use Rattle.std.specs.List.{list_any}
 use Rattle.std.proofs.lemmas.List.{append-nil}
 use Rattle.program_files.specs.Folders.{Found, IsListed, Listed, Path}
-use Rattle.program_files.specs.Given.{AreAt, AreBelow, AreFronts, AreGivenBehind, IsGiven, IsTooDeep, IsTooDeepAt, IsTooDeepIn, IsUnable, in_folder}
+use Rattle.program_files.specs.Given.{AreAt, AreBelow, AreFronts, AreGivenBehind, IsGiven, IsTooDeep, IsTooDeepAt, IsTooDeepIn, IsUnable, in_folder, is_class_path}
 use Rattle.program_files.specs.declared.files_fault.FilesFault.{FilesFault}
 use Rattle.program_files.specs.declared.files_fault.FilesFault.TheVariants.{TooDeep}
 
@@ -25,7 +25,13 @@ fronts_on Gives (first ∷ ones) one files front so_far gives = (
 -- one more word is given
 pub given_on : (listed : Listed) (before words given : List Path) (word : Path) (found : Found) (front : List Path) → AreGivenBehind listed before words given
     → IsListed (listed word) found → IsGiven listed given word found front → AreGivenBehind listed before (words ++ word ∷ []) (given ++ front)
-given_on listed before [] given word found front so_far lists gives = rw so_far (found, front, rw (sym so_far) lists, rw (sym so_far) gives, refl)
+given_on listed before [] given word found front so_far lists gives = (
+  found,
+  front,
+  lists,
+  subst (λ these. IsGiven listed these word found front) so_far gives,
+  ap (λ these. these ++ front) so_far,
+)
 given_on listed before (first ∷ words) given word found front so_far lists gives = (
   so_far.0,
   so_far.1,
@@ -50,9 +56,17 @@ any_at f test (y ∷ xs) (suc i) x within is passes =
 
 -- ---- folders in a folder
 
+-- where no folder is, the file alone
+pub below_none : (listed : Listed) (depth : ℕ) (path : Path) (files : List Path) → files ≡ filter is_class_path (path ∷ [])
+    → AreBelow listed depth path None files
+unfolding AreBelow
+below_none listed zero path files are = are
+below_none listed (suc depth) path files are = are
+
 -- one folder more lies above these
 pub below_more : (listed : Listed) (depth : ℕ) (path : Path) (names : List (String Global)) (files : List Path) → 0 < depth
     → AreFronts (AreAt listed (depth - 1) path) names files → AreBelow listed depth path (Some names) files
+unfolding AreBelow
 below_more listed zero path names files more fronts = absurd (omega (arith, more))
 below_more listed (suc depth) path names files more fronts =
     let one : suc depth - 1 ≡ depth = omega arith in
@@ -60,6 +74,7 @@ below_more listed (suc depth) path names files more fronts =
 
 pub deep_more : (listed : Listed) (depth : ℕ) (path : Path) (names : List (String Global)) (deep : Path) → 0 < depth
     → IsTooDeepIn listed (depth - 1) path names deep → IsTooDeep listed depth path (Some names) deep
+unfolding IsTooDeep
 deep_more listed zero path names deep more is = absurd (omega (arith, more))
 deep_more listed (suc depth) path names deep more is =
     let one : suc depth - 1 ≡ depth = omega arith in
@@ -67,6 +82,7 @@ deep_more listed (suc depth) path names deep more is =
 
 -- no folder may lie in this one
 pub deep_none : (listed : Listed) (depth : ℕ) (path : Path) (names : List (String Global)) → depth ≡ 0 → IsTooDeep listed depth path (Some names) path
+unfolding IsTooDeep
 deep_none listed zero path names none = refl
 deep_none listed (suc depth) path names none = absurd (omega (arith, none))
 
@@ -75,6 +91,22 @@ pub deep_at : (listed : Listed) (depth : ℕ) (folder path : Path) (name : Strin
     → path ≡ in_folder folder (string_bytes name) → IsListed (listed path) found
     → IsUnable fault ⊎ ((deep : String Global) × (fault ≡ TooDeep deep) × IsTooDeep listed depth path found (string_bytes deep))
     → IsUnable fault ⊎ ((deep : String Global) × (fault ≡ TooDeep deep) × IsTooDeepAt listed depth folder name (string_bytes deep))
-deep_at listed depth folder path name found fault at lists (inl unable) = inl unable
-deep_at listed depth folder path name found fault at lists (inr (deep, is, too)) = inr (deep, is, (found,
-    subst (λ path. IsListed (listed path) found) at lists, subst (λ path. IsTooDeep listed depth path found (string_bytes deep)) at too))
+deep_at listed depth folder path name found fault leads lists (inl unable) = inl unable
+deep_at listed depth folder path name found fault leads lists (inr is) = inr (is.0, is.1, (found,
+    subst (λ path. IsListed (listed path) found) leads lists,
+    subst (λ path. IsTooDeep listed depth path found (string_bytes is.0)) leads is.2))
+
+-- and so at one of several
+pub deep_in : (listed : Listed) (depth : ℕ) (folder : Path) (names : List (String Global)) (name : String Global) (fault : FilesFault)
+    → Contains names name
+    → IsUnable fault ⊎ ((deep : String Global) × (fault ≡ TooDeep deep) × IsTooDeepAt listed depth folder name (string_bytes deep))
+    → IsUnable fault ⊎ ((deep : String Global) × (fault ≡ TooDeep deep) × IsTooDeepIn listed depth folder names (string_bytes deep))
+deep_in listed depth folder names name fault one (inl unable) = inl unable
+deep_in listed depth folder names name fault one (inr is) = inr (is.0, is.1, (name, one, is.2))
+
+-- and below the folder itself
+pub deep_below : (listed : Listed) (depth : ℕ) (folder : Path) (names : List (String Global)) (fault : FilesFault) → 0 < depth
+    → IsUnable fault ⊎ ((deep : String Global) × (fault ≡ TooDeep deep) × IsTooDeepIn listed (depth - 1) folder names (string_bytes deep))
+    → IsUnable fault ⊎ ((deep : String Global) × (fault ≡ TooDeep deep) × IsTooDeep listed depth folder (Some names) (string_bytes deep))
+deep_below listed depth folder names fault more (inl unable) = inl unable
+deep_below listed depth folder names fault more (inr is) = inr (is.0, is.1, deep_more listed depth folder names (string_bytes is.0) more is.2)

@@ -26,13 +26,13 @@ abbrev pub in_folder : Path → List ℕ → Path
 in_folder folder name = folder ++ (codes "/" ++ name)
 
 -- each of these gives a front of what is left, in their order
-pub AreFronts : {A : Type 0} → (A → List Path → Type 0) → List A → List Path → Type 0
+abbrev pub AreFronts : {A : Type 0} → (A → List Path → Type 0) → List A → List Path → Type 0
 AreFronts Gives [] files = files ≡ []
 AreFronts Gives (one ∷ others) files = (front rest : List Path) × Gives one front × AreFronts Gives others rest × (files ≡ front ++ rest)
 
 -- The class files at a path, where this is found there: of a folder those of what lies in it, and else the file itself, where it is one.
 -- So many folders may lie in one another.
-pub AreBelow : Listed → (depth : ℕ) → Path → Found → List Path → Type 0
+unfoldable pub AreBelow : Listed → (depth : ℕ) → Path → Found → List Path → Type 0
 AreBelow listed depth path None files = files ≡ filter is_class_path (path ∷ [])
 AreBelow listed zero path (Some names) files = ⊥
 AreBelow listed (suc depth) path (Some names) files = AreFronts (λ name front. (found : Found)
@@ -69,7 +69,7 @@ IsGiven listed before word (Some names) given = (folder : Path) × (files : List
     × AreFilesOf listed folder names files × (files ≡ [] → ⊥) × (given ≡ filter (λ file. not (is_given before file)) files)
 
 -- so it is of each of the words, in their order, behind the files that were given before
-pub AreGivenBehind : Listed → (before words given : List Path) → Type 0
+abbrev pub AreGivenBehind : Listed → (before words given : List Path) → Type 0
 AreGivenBehind listed before [] given = given ≡ before
 AreGivenBehind listed before (word ∷ words) given = (found : Found) × (files : List Path)
     × IsListed (listed word) found × IsGiven listed before word found files × AreGivenBehind listed (before ++ files) words given
@@ -101,7 +101,7 @@ IsOfError error (faults.NoClass name) = ⊥
 IsOfError error (faults.NoMain name) = ⊥
 
 -- a folder lies below a path, in more folders than there may be
-pub IsTooDeep : Listed → (depth : ℕ) → Path → Found → (deep : Path) → Type 0
+unfoldable pub IsTooDeep : Listed → (depth : ℕ) → Path → Found → (deep : Path) → Type 0
 IsTooDeep listed depth path None deep = ⊥
 IsTooDeep listed zero path (Some names) deep = deep ≡ path
 IsTooDeep listed (suc depth) path (Some names) deep = (name : String Global) × Contains names name × ((found : Found)

@@ -33,7 +33,7 @@ IsHeld bytes None = (file : FileTree) → Spells bytes file → ⊥
 IsHeld bytes (Some class) = (file : FileTree) × Spells bytes file × IsClassOf file class
 
 -- the files at these paths hold these classes, in their order
-pub AreClasses : Held → List Path → List (Option HeldClass) → Type 0
+abbrev pub AreClasses : Held → List Path → List (Option HeldClass) → Type 0
 AreClasses held [] classes = classes ≡ []
 AreClasses held (path ∷ paths) [] = ⊥
 AreClasses held (path ∷ paths) (class ∷ classes) = ((bytes : List ℕ) × Reads (held path) bytes × IsHeld bytes class) × AreClasses held paths classes
