@@ -1,12 +1,15 @@
 -- The classes of files, one after another, and the file that is put first.
-use Rattle.std.proofs.Common.{arith, ◌≡◌, ◌∙◌, ◌<◌, ◌≤◌, ◌+◌, ℕ, zero, suc, Bool, true, false, List, [], ◌∷◌, ◌++◌, Option, ap, ap₂, cond, drop, length, map, refl, subst, sym, take}
-use Rattle.std.specs.Prelude.{Some, None, filter, find, remove, slice_index_or, string_bytes}
+use Rattle.std.proofs.Common.{arith, ◌⊎◌, inl, inr, ◌≡◌, ◌∙◌, ◌<◌, ◌≤◌, ◌+◌, ℕ, zero, suc, Bool, true, false, List, [], ◌∷◌, ◌++◌, Option, ap, ap₂, cond, drop, length, map, refl, subst, sym, take}
+use Rattle.std.specs.Prelude.{Some, None, filter, find, is_some, remove, slice_get, slice_index_or, string_bytes}
+use Rattle.std.specs.Global.{Global}
 use Rattle.std.specs.Option.{option_map_or}
 use Rattle.std.specs.declared.string.String.{String}
 use Rattle.std.proofs.lemmas.List.{get_or-map, length-map, map-append, take_more}
 use Rattle.std.proofs.lemmas.List.Elements.{filter-append}
-use Rattle.program_files.specs.Folders.{Held, Path, Reads}
-use Rattle.program_files.specs.Handed.{AreClasses, IsHeld, IsPutFirst, has_main, main_names}
+use Rattle.program_files.specs.Folders.{Found, Held, IsListed, Listed, Path, Reads}
+use Rattle.program_files.specs.Given.{AreGiven, IsUngiven}
+use Rattle.program_files.specs.declared.files_fault.FilesFault.{FilesFault}
+use Rattle.program_files.specs.Handed.{AreClasses, AreHandedOn, BeginsWithFolder, IsHeld, IsMainFirst, IsNamedFirst, IsPutFirst, IsUnhanded, IsWithoutMain, IsWithoutNamed, has_main, main_names}
 use Rattle.program_files.specs.declared.held_class.HeldClass.{HeldClass}
 
 abbrev name_of_held : Option HeldClass → List ℕ
@@ -94,3 +97,53 @@ put_first given place first ordered within is are = record {
   first = ap (map string_bytes) are ∙ ap₂ (λ one rest. one ∷ rest)
     (ap string_bytes is ∙ sym (get_or-map string_bytes given place first [] within)) (map_remove string_bytes given place);
 }
+
+-- ---- the first word
+
+pub begins_with : (listed : Listed) (words : List (String Global)) (word : String Global) (path : Path) (is : Bool) → slice_get words 0 ≡ Some word
+    → path ≡ string_bytes word → (found : Found) × IsListed (listed path) found × (is ≡ is_some found) → BeginsWithFolder listed (map string_bytes words) is
+begins_with listed [] word path is first same folder = absurd (cc)
+begins_with listed (other ∷ words) word path is first same folder =
+    let one : word ≡ other = cc in
+    (folder.0, subst (λ path. IsListed (listed path) folder.0) (same ∙ ap string_bytes one) folder.1, folder.2)
+
+pub begins_with_none : (listed : Listed) (words : List (String Global)) (is : Bool) → slice_get words 0 ≡ None → is ≡ false
+    → BeginsWithFolder listed (map string_bytes words) is
+begins_with_none listed [] is none so = so
+begins_with_none listed (word ∷ words) is none so = absurd (cc)
+
+-- ---- the order
+
+pub handed_named : (held : Held) (listed : Listed) (main : Option (List ℕ)) (name : List ℕ) (words given files : List Path) → main ≡ Some name
+    → AreGiven listed words given → IsNamedFirst held name given files → AreHandedOn held listed main words files
+handed_named held listed main name words given files is are first =
+    subst (λ main. AreHandedOn held listed main words files) (sym is) (given, are, first)
+
+pub handed_main : (held : Held) (listed : Listed) (main : Option (List ℕ)) (words given files : List Path) (behind : Bool) → main ≡ None
+    → AreGiven listed words given → BeginsWithFolder listed words behind → behind ≡ true → IsMainFirst held given files
+    → AreHandedOn held listed main words files
+handed_main held listed main words given files behind is are begins so first =
+    subst (λ main. AreHandedOn held listed main words files) (sym is) (given, are, (true, subst (BeginsWithFolder listed words) so begins, first))
+
+pub handed_so : (held : Held) (listed : Listed) (main : Option (List ℕ)) (words given : List Path) (behind : Bool) → main ≡ None
+    → AreGiven listed words given → BeginsWithFolder listed words behind → behind ≡ false → AreHandedOn held listed main words given
+handed_so held listed main words given behind is are begins so =
+    subst (λ main. AreHandedOn held listed main words given) (sym is) (given, are, (false, subst (BeginsWithFolder listed words) so begins, refl))
+
+-- ---- why there is none
+
+pub ungiven_unhanded : (held : Held) (listed : Listed) (main : Option (List ℕ)) (words : List Path) (fault : FilesFault) → IsUngiven listed words fault
+    → IsUnhanded held listed main words fault
+ungiven_unhanded held listed None words fault ungiven = inl ungiven
+ungiven_unhanded held listed (Some name) words fault ungiven = inl ungiven
+
+pub unhanded_named : (held : Held) (listed : Listed) (main : Option (List ℕ)) (name : List ℕ) (words given : List Path) (fault : FilesFault)
+    → main ≡ Some name → AreGiven listed words given → IsWithoutNamed held name given fault → IsUnhanded held listed main words fault
+unhanded_named held listed main name words given fault is are without =
+    subst (λ main. IsUnhanded held listed main words fault) (sym is) (inr (given, are, without))
+
+pub unhanded_main : (held : Held) (listed : Listed) (main : Option (List ℕ)) (words given : List Path) (fault : FilesFault) (behind : Bool)
+    → main ≡ None → AreGiven listed words given → BeginsWithFolder listed words behind → behind ≡ true → IsWithoutMain held given fault
+    → IsUnhanded held listed main words fault
+unhanded_main held listed main words given fault behind is are begins so without =
+    subst (λ main. IsUnhanded held listed main words fault) (sym is) (inr (given, are, (true, subst (BeginsWithFolder listed words) so begins, without)))

@@ -40,9 +40,13 @@ AreClasses held (path ∷ paths) (class ∷ classes) = ((bytes : List ℕ) × Re
 
 -- ---- which comes first
 
+-- a slash for a dot, and each other byte for itself
+abbrev pub slash_for : ℕ → ℕ
+slash_for byte = if byte == 0x2e then 0x2f else byte
+
 -- a name with slashes for its dots (JVMS 4.2.1)
 abbrev pub slashed : List ℕ → List ℕ
-slashed name = map (λ byte. if byte == 0x2e then 0x2f else byte) name
+slashed name = map slash_for name
 
 -- a file holds a class of this name
 abbrev pub is_named : List ℕ → Option HeldClass → Bool

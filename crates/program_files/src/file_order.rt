@@ -1,11 +1,11 @@
 //! The order in which the files of a program are handed on: the class whose main is run comes first.
 
-ghost use Rattle.std.specs.Prelude.{◌≡◌, ◌<◌, IfErr, IfOk, Some, filter, is_some, length, map, string_bytes, vec_items};
+ghost use Rattle.std.specs.Prelude.{◌≡◌, ◌<◌, ◌++◌, ◌∷◌, [], IfErr, IfOk, OnOk, Some, filter, is_some, length, map, string_bytes, vec_items};
 ghost use Rattle.std.specs.List.{list_any, position};
 ghost use Rattle.std.specs.Option.{option_map};
 ghost use Rattle.program_files.specs.Folders.{FolderMayFail};
 ghost use Rattle.program_files.specs.Given.{IsUnable};
-ghost use Rattle.program_files.specs.Handed.{AreHandedOn, BeginsWithFolder, IsMainFirst, IsNamedFirst, IsPutFirst, IsUnhanded, IsWithoutMain, IsWithoutNamed, has_main, is_named, is_other_main, main_names, slashed};
+ghost use Rattle.program_files.specs.Handed.{AreHandedOn, BeginsWithFolder, IsMainFirst, IsNamedFirst, IsPutFirst, IsUnhanded, IsWithoutMain, IsWithoutNamed, has_main, is_named, is_other_main, main_names, slash_for, slashed};
 ghost use Rattle.program_files.specs.declared.files_fault.FilesFault.TheVariants.{Device};
 
 use crate::files_fault::FilesFault;
@@ -104,9 +104,16 @@ fn slashed(alloc: Global, name: &str) -> Result<Vec<u8>, AllocError>
 {
     let mut bytes = Vec::new(alloc);
     for byte in name.as_bytes() {
-        bytes.push(if *byte == b'.' { b'/' } else { *byte })?;
+        bytes.push(slash_for(*byte))?;
     }
     Ok(bytes)
+}
+
+/// A slash for a dot, and each other byte for itself.
+fn slash_for(byte: u8) -> u8
+    ensures { result ≡ slash_for byte }
+{
+    if byte == b'.' { b'/' } else { byte }
 }
 
 /// Which file holds the first class of this name.
@@ -166,13 +173,23 @@ fn main_names(alloc: Global, classes: &[Option<HeldClass>]) -> Result<Vec<Vec<u8
 {
     let mut names = Vec::new(alloc);
     for class in classes {
-        if let Some(class) = class {
-            if class.has_main {
-                names.push(class.name.clone()?)?;
-            }
-        }
+        add_main(&mut names, class)?;
     }
     Ok(names)
+}
+
+/// Adds the name of the class that a file holds, if it declares a main.
+fn add_main(names: &mut Vec<Vec<u8>>, class: &Option<HeldClass>) -> Result<(), AllocError>
+    ensures { OnOk result (map vec_items names.new.items ≡ map vec_items names.old.items ++ main_names (class.now ∷ [])) }
+{
+    let Some(class) = class else {
+        return Ok(());
+    };
+    if !class.has_main {
+        return Ok(());
+    }
+    names.push(class.name.clone()?)?;
+    Ok(())
 }
 
 /// The files with that at a place first, and the others behind it, in their order.

@@ -49,8 +49,10 @@ fn held_class(alloc: Global, bytes: &[u8]) -> Result<Option<HeldClass>, AllocErr
 {
     match decode(alloc, bytes) {
         Ok(file) => Ok(Some(class_of(alloc, &file)?)),
-        Err(malformed) if malformed.cause == Cause::OutOfMemory => Err(AllocError),
-        Err(_) => Ok(None),
+        Err(malformed) => match malformed.cause {
+            Cause::OutOfMemory => Err(AllocError),
+            _ => Ok(None),
+        },
     }
 }
 

@@ -8,6 +8,6 @@ returns-clause-files g c = record {
   below = c.in_ok-paths.ensures.files;
   sorted = c.sort.new.self.items;
   same = IsPermutation-map string_bytes _ _ c.sort.ensures.permutation;
-  in_order = c.sort.ensures.sorted;
+  in_order = c.in_ok-sort.ensures.sorted;
   are = refl;
 }
