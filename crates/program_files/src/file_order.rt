@@ -173,13 +173,17 @@ fn main_names(alloc: Global, classes: &[Option<HeldClass>]) -> Result<Vec<Vec<u8
 {
     let mut names = Vec::new(alloc);
     for class in classes {
-        add_main(&mut names, class)?;
+        add_main(alloc, &mut names, class)?;
     }
     Ok(names)
 }
 
 /// Adds the name of the class that a file holds, if it declares a main.
-fn add_main(names: &mut Vec<Vec<u8>>, class: &Option<HeldClass>) -> Result<(), AllocError>
+fn add_main(
+    alloc: Global,
+    names: &mut Vec<Vec<u8>>,
+    class: &Option<HeldClass>,
+) -> Result<(), AllocError>
     ensures { OnOk result (map vec_items names.new.items ≡ map vec_items names.old.items ++ main_names (class.now ∷ [])) }
 {
     let Some(class) = class else {
@@ -188,7 +192,8 @@ fn add_main(names: &mut Vec<Vec<u8>>, class: &Option<HeldClass>) -> Result<(), A
     if !class.has_main {
         return Ok(());
     }
-    names.push(class.name.clone()?)?;
+    let name = Vec::from_slice(alloc, class.name.as_slice())?;
+    names.push(name)?;
     Ok(())
 }
 
