@@ -1,16 +1,14 @@
 -- Files that are given one after another.
-use Rattle.std.proofs.Common.{arith, ◌⊎◌, inl, inr, ◌∙◌, ◌≡◌, ◌<◌, ℕ, zero, suc, ◌-◌, ◌+◌, Bool, true, false, List, [], ◌∷◌, ◌++◌, ap, append_assoc, cond, length, map, refl, subst, subst₂, sym, take}
+use Rattle.std.proofs.Common.{arith, ◌⊎◌, inl, inr, ◌∙◌, ◌≡◌, ◌<◌, ℕ, zero, suc, ◌-◌, ◌+◌, Bool, true, false, List, [], ◌∷◌, ◌++◌, ap, append_assoc, length, map, refl, subst, subst₂, sym, take}
 use Rattle.std.specs.Prelude.{◌||◌, Contains, None, Some, filter, slice_index_or, string_bytes}
 use Rattle.std.specs.declared.string.String.{String}
 use Rattle.std.specs.Global.{Global}
 use Rattle.std.specs.List.{list_any}
 use Rattle.std.proofs.lemmas.List.{append-nil, get_or-map, length-map, map-append, take_more}
-use Rattle.std.proofs.lemmas.List.Elements.{filter-append}
 use Rattle.program_files.specs.Folders.{Found, IsListed, Listed, Path}
-use Rattle.program_files.specs.Given.{AreAt, AreBelow, AreFronts, AreGivenBehind, IsGiven, IsNoFile, IsTooDeep, IsTooDeepAt, IsTooDeepIn, IsUnable, IsUnslashed, in_folder, is_class_path, most_deep}
+use Rattle.program_files.specs.Given.{AreAt, AreBelow, AreFronts, AreGivenBehind, IsGiven, IsTooDeep, IsTooDeepAt, IsTooDeepIn, IsUnable, in_folder, is_class_path}
 use Rattle.program_files.specs.declared.files_fault.FilesFault.{FilesFault}
 use Rattle.program_files.specs.declared.files_fault.FilesFault.TheVariants.{TooDeep}
-use Rattle.program_files.specs.declared.files_fault.FilesFault.TheVariants as faults
 
 -- one more gives a front
 pub fronts_on : {A : Type 0} (Gives : A → List Path → Type 0) (ones : List A) (one : A) (files front : List Path) → AreFronts Gives ones files
@@ -49,14 +47,6 @@ pub map_more : {A B : Type 0} (f : A → B) (xs : List A) (i : ℕ) (x : A) → 
     → map f (take (i + 1) xs) ≡ map f (take i xs) ++ f x ∷ []
 map_more f xs i x within is =
     ap (map f) (take_more xs i x within) ∙ map-append f (take i xs) _ ∙ ap (λ y. map f (take i xs) ++ f y ∷ []) (sym is)
-
--- one more passes a test
-pub filter_kept : {A : Type 0} (p : A → Bool) (xs : List A) (x : A) → p x ≡ true → filter p (xs ++ x ∷ []) ≡ filter p xs ++ x ∷ []
-filter_kept p xs x passes = filter-append p xs (x ∷ []) ∙ ap (λ b. filter p xs ++ cond b (x ∷ []) []) passes
-
--- one more fails it
-pub filter_left : {A : Type 0} (p : A → Bool) (xs : List A) (x : A) → p x ≡ false → filter p (xs ++ x ∷ []) ≡ filter p xs
-filter_left p xs x fails = filter-append p xs (x ∷ []) ∙ ap (λ b. filter p xs ++ cond b (x ∷ []) []) fails ∙ append-nil (filter p xs)
 
 -- ---- tests
 
@@ -145,22 +135,8 @@ deep_below listed depth folder found told names fault found_is same more (inr is
     (deep_more listed depth folder names (string_bytes is.0) more
     (subst (λ names. IsTooDeepIn listed (depth - 1) folder names (string_bytes is.0)) same is.2)))
 
--- ---- the fault of a word
+-- ---- the word of a fault
 
 -- an element is one of those that are made of others
 pub one_of : {A B : Type 0} (f : A → B) (xs : List A) (i : ℕ) (x : A) → i < length xs → x ≡ slice_index_or xs i x → Contains (map f xs) (f x)
 one_of f xs i x within is = (i, rw (length-map xs f) within, get_or-map f xs i x (f x) within ∙ ap f (sym is))
-
--- a folder's fault is that of its word
-pub no_file : (listed : Listed) (word folder : Path) (names : List (String Global)) (fault : FilesFault) → IsUnslashed word folder
-    → IsUnable fault ⊎ ((deep : String Global) × (fault ≡ TooDeep deep) × IsTooDeep listed most_deep folder (Some names) (string_bytes deep))
-    → IsNoFile listed word (Some names) fault
-no_file listed word folder names faults.Device unslashed (inl unable) = tt
-no_file listed word folder names faults.Memory unslashed (inl unable) = tt
-no_file listed word folder names (faults.Empty path) unslashed (inl unable) = absurd unable
-no_file listed word folder names (faults.TooDeep path) unslashed (inl unable) = absurd unable
-no_file listed word folder names (faults.Mains mains) unslashed (inl unable) = absurd unable
-no_file listed word folder names (faults.NoClass name) unslashed (inl unable) = absurd unable
-no_file listed word folder names (faults.NoMain name) unslashed (inl unable) = absurd unable
-no_file listed word folder names fault unslashed (inr is) =
-    subst (λ fault. IsNoFile listed word (Some names) fault) (sym is.1) (folder, unslashed, is.2)
