@@ -112,9 +112,15 @@ pub deep_at : (listed : Listed) (depth : ℕ) (folder path : Path) (name : Strin
     → IsUnable fault ⊎ ((deep : String Global) × (fault ≡ TooDeep deep) × IsTooDeep listed depth path found (string_bytes deep))
     → IsUnable fault ⊎ ((deep : String Global) × (fault ≡ TooDeep deep) × IsTooDeepAt listed depth folder name (string_bytes deep))
 deep_at listed depth folder path name found fault leads lists (inl unable) = inl unable
-deep_at listed depth folder path name found fault leads lists (inr is) = inr (is.0, is.1, (found,
+deep_at listed depth folder path name found fault leads lists (inr is) = inr (
+  is.0,
+  is.1,
+  (
+    found,
     subst (λ path. IsListed (listed path) found) leads lists,
-    subst (λ path. IsTooDeep listed depth path found (string_bytes is.0)) leads is.2))
+    subst (λ path. IsTooDeep listed depth path found (string_bytes is.0)) leads is.2,
+  ),
+)
 
 -- and so at one of several
 pub deep_in : (listed : Listed) (depth : ℕ) (folder : Path) (names : List (String Global)) (name : String Global) (fault : FilesFault)
@@ -130,10 +136,13 @@ pub deep_below : (listed : Listed) (depth : ℕ) (folder : Path) (found : Found)
     → IsUnable fault ⊎ ((deep : String Global) × (fault ≡ TooDeep deep) × IsTooDeepIn listed (depth - 1) folder told (string_bytes deep))
     → IsUnable fault ⊎ ((deep : String Global) × (fault ≡ TooDeep deep) × IsTooDeep listed depth folder found (string_bytes deep))
 deep_below listed depth folder found told names fault found_is same more (inl unable) = inl unable
-deep_below listed depth folder found told names fault found_is same more (inr is) = inr (is.0, is.1,
-    subst (λ found. IsTooDeep listed depth folder found (string_bytes is.0)) (sym found_is)
-    (deep_more listed depth folder names (string_bytes is.0) more
-    (subst (λ names. IsTooDeepIn listed (depth - 1) folder names (string_bytes is.0)) same is.2)))
+deep_below listed depth folder found told names fault found_is same more (inr is) = inr (
+  is.0,
+  is.1,
+  subst (λ found. IsTooDeep listed depth folder found (string_bytes is.0)) (sym found_is)
+      (deep_more listed depth folder names (string_bytes is.0) more
+      (subst (λ names. IsTooDeepIn listed (depth - 1) folder names (string_bytes is.0)) same is.2)),
+)
 
 -- ---- the word of a fault
 

@@ -58,5 +58,5 @@ pub put_first : {Z : Type 0} (given : List (String Z)) (place : ℕ) (first : St
 put_first given place first ordered within is are = record {
   there = rw (length-map given string_bytes) within;
   first = ap (map string_bytes) are ∙ ap₂ (λ one rest. one ∷ rest)
-    (ap string_bytes is ∙ sym (get_or-map string_bytes given place first [] within)) (map_remove string_bytes given place);
+      (ap string_bytes is ∙ sym (get_or-map string_bytes given place first [] within)) (map_remove string_bytes given place);
 }

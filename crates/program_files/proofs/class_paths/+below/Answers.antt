@@ -18,7 +18,7 @@ below-returns-in_ok-from_str-in-Some-clause-faulty g t c = inr (
   c.in_ok-from_str-in-Some.field-0,
   refl,
   deep_none (g.F.Folder.listed c.args.folder.now) c.args.depth c.args.path.now _ _ c.in-Some.field-0.items (ap (option_map vec_items) c.in-Some.is)
-  c.in_ok-from_str-in-Some.ensures.ok (omega arith),
+      c.in_ok-from_str-in-Some.ensures.ok (omega arith),
 )
 
 pub below-returns-in-Some-2-clause-files : goal.below-returns-in-Some-2-clause-files
