@@ -3,7 +3,7 @@
 ghost use Rattle.std.specs.Prelude.{◌≡◌, false, IfOk, IfErr};
 ghost use Rattle.clap.specs.Words.{App, app_of, kind_of, new_app, rule_of, with_subcommand};
 ghost use Rattle.clap.specs.declared.error.kind.ErrorKind.TheVariants.{OutOfMemory as no_memory};
-ghost use Rattle.command_line.specs.CommandLine.{IsLocal, class_files, flag, goal_option, jvm, jvm_disasm, jvm_replay, jvm_run, jvm_schedule, jvm_search, jvm_trace, jvm_verify, one_file, path_option, record_option, schedule_option, with_files as over_files, with_limits as limited};
+ghost use Rattle.command_line.specs.CommandLine.{IsLocal, class_files, flag, goal_option, jvm, jvm_disasm, jvm_replay, jvm_run, jvm_schedule, jvm_search, jvm_trace, jvm_verify, main_option, one_file, path_option, record_option, schedule_option, with_files as over_files, with_limits as limited, with_program as programmed};
 
 use crate::help::{
     ABOUT, AFTER, DISASM_PAGE, FILES_HELP, LISTED_HELP, REPLAY_PAGE, RUN_PAGE, SCHEDULE_PAGE,
@@ -78,7 +78,7 @@ fn run_parser<'a>(alloc: Global) -> Result<clap::Command<'a>, AllocError>
     .arg(record_argument(alloc))?;
     with_files(
         alloc,
-        with_limits(alloc, run)?,
+        with_program(alloc, run)?,
         files_argument(alloc, FILES_HELP),
     )
 }
@@ -102,7 +102,7 @@ fn replay_parser<'a>(alloc: Global) -> Result<clap::Command<'a>, AllocError>
     .arg(record_argument(alloc))?;
     with_files(
         alloc,
-        with_limits(alloc, replay)?,
+        with_program(alloc, replay)?,
         files_argument(alloc, FILES_HELP),
     )
 }
@@ -129,7 +129,7 @@ fn trace_parser<'a>(alloc: Global) -> Result<clap::Command<'a>, AllocError>
     ))?;
     with_files(
         alloc,
-        with_limits(alloc, trace)?,
+        with_program(alloc, trace)?,
         files_argument(alloc, FILES_HELP),
     )
 }
@@ -149,7 +149,7 @@ fn search_parser<'a>(alloc: Global) -> Result<clap::Command<'a>, AllocError>
     .arg(record_argument(alloc))?;
     with_files(
         alloc,
-        with_limits(alloc, search)?,
+        with_program(alloc, search)?,
         files_argument(alloc, FILES_HELP),
     )
 }
@@ -216,6 +216,18 @@ fn record_argument<'a>(alloc: Global) -> Arg<'a>
         "record",
         "The file that the schedule of the run is written to",
     )
+}
+
+/// The class whose main is run.
+fn main_argument<'a>(alloc: Global) -> Arg<'a>
+    ensures rule { rule_of result ≡ main_option }
+    ensures local { result.global ≡ false }
+{
+    Arg::new(alloc, "main")
+        .long("main")
+        .value_name("NAME")
+        .action(ArgAction::Set)
+        .help("The class whose main method is run, as bank.Main or bank/Main")
 }
 
 /// The outcome that a search is to find.
@@ -292,6 +304,17 @@ fn with_limits<'a>(
         .arg(MONITORS.argument(alloc))?
         .arg(THREADS.argument(alloc))?
         .arg(FRAMES.argument(alloc))
+}
+
+/// The command with the options of the limits, and with the one that names the class whose main is run.
+fn with_program<'a>(
+    alloc: Global,
+    command: clap::Command<'a>,
+) -> Result<clap::Command<'a>, AllocError>
+    ensures app { IfOk result (λ program. app_of program ≡ programmed (app_of command.entry)) }
+    ensures local { IsLocal command.entry → IfOk result IsLocal }
+{
+    with_limits(alloc, command)?.arg(main_argument(alloc))
 }
 
 /// The command with the flags that say how much standard error tells, and with files behind all options.

@@ -2,7 +2,7 @@
 
 ghost use Rattle.std.specs.Prelude.{None};
 
-use crate::folder::Folder;
+use program_files::Folder;
 use std::alloc::Global;
 use std::fs::{OpenFile, OpenOptions, Permissions};
 use std::io::{ErrorKind, Read, Write};
@@ -39,7 +39,9 @@ impl<R: Files> Folder for SystemFolder<'_, R> {
     fn names(&self, alloc: Global, path: &str) -> io::Result<Option<Vec<String>>> {
         match fs::metadata(self.files, path) {
             Ok(found) if found.is_dir() => Ok(Some(names_in(alloc, self.files, path)?)),
-            _ => Ok(None),
+            Ok(_) => Ok(None),
+            Err(error) if error.kind() == ErrorKind::NotFound => Ok(None),
+            Err(error) => Err(error),
         }
     }
 

@@ -2,13 +2,13 @@
 
 use crate::class_files::read_class_files;
 use crate::fault::Fault;
-use crate::folder::Folder;
 use crate::named_file::sources;
 use crate::recording::limits_of;
 use crate::verification::accepted;
 use command_line::LimitOptions;
 use explanations::thread_explanations::explain_threads;
 use model::Limits;
+use program_files::Folder;
 use program_runs::verified_programs::verified_program;
 use schedule::Schedule;
 use schedule::schedule_text::read_either;

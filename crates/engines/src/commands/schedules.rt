@@ -9,13 +9,13 @@ ghost use Rattle.engines.specs.Transcriptions.{IsUntranscribed, Transcribes};
 use crate::commands::storing::store;
 use crate::explanation::Explanation;
 use crate::fault::Fault;
-use crate::folder::Folder;
 use crate::made_file::MadeFile;
 use crate::named_file::source;
 use crate::status::Status;
 use crate::transcribing::{schedule_engine, write_schedule_engine};
 use command_line::Schedule;
 use model::{Sink, Source};
+use program_files::Folder;
 use std::alloc::Global;
 
 /// `schedule`.
