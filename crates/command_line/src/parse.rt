@@ -338,7 +338,8 @@ fn required_path_of(
     matches: &ArgMatches<'_>,
     argument: &str,
 ) -> Result<String, Usage>
-    ensures path { IfOk result (λ path. first_of argument.now (rows_of (found_of matches.now)) ≡ Some (string_bytes path)) }
+    ensures path { IfOk result (λ path.
+        first_of argument.now (rows_of (found_of matches.now)) ≡ Some (string_bytes path)) }
     ensures none { IfErr result (λ usage. Refuses usage ((path : _)
         → first_of argument.now (rows_of (found_of matches.now)) ≡ Some path → ⊥)) }
 {
@@ -354,7 +355,8 @@ fn path_of(
     matches: &ArgMatches<'_>,
     option: &str,
 ) -> Result<Option<String>, AllocError>
-    ensures { IfOk result (λ path. first_of option.now (rows_of (found_of matches.now)) ≡ option_map string_bytes path) }
+    ensures { IfOk result (λ path.
+        first_of option.now (rows_of (found_of matches.now)) ≡ option_map string_bytes path) }
 {
     match matches.get_str(option) {
         Some(path) => Ok(Some(String::from_str(alloc, path)?)),

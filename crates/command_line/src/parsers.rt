@@ -324,7 +324,8 @@ fn with_files<'a>(
     files: Arg<'a>,
 ) -> Result<clap::Command<'a>, AllocError>
     ensures { IsLocal command.entry → files.entry.global ≡ false
-        → IfOk result (λ whole. (app_of whole ≡ over_files (app_of command.entry) (rule_of files.entry)) × IsLocal whole) }
+        → IfOk result (λ whole. (app_of whole ≡ over_files (app_of command.entry) (rule_of files.entry))
+        × IsLocal whole) }
 {
     let explain = flag_argument(
         alloc,

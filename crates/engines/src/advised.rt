@@ -21,7 +21,8 @@ pub(crate) fn named_files<'a, F: Folder>(
     folder: &F,
     paths: &'a [String],
 ) -> io::Result<Vec<GivenFile<'a>>>
-    ensures { IfOk result (λ files. ReadsEach (held_at (F.held folder.now) (map string_bytes paths.now)) (map bytes_of files.items)) }
+    ensures { IfOk result (λ files.
+        ReadsEach (held_at (F.held folder.now) (map string_bytes paths.now)) (map bytes_of files.items)) }
 {
     let mut files = Vec::new(alloc);
     for path in paths {
@@ -34,21 +35,24 @@ pub(crate) fn named_files<'a, F: Folder>(
 
 /// What is wrong with the files for which the paths of a command line stand, in lines.
 fn advice_on<F: Folder>(alloc: Global, folder: &F, paths: &[String]) -> io::Result<Vec<u8>>
-    ensures { IfOk result (λ text. OfGiven (F.held folder.now) (F.listed folder.now) paths.now (IsAdviceOn text.items)) }
+    ensures { IfOk result (λ text.
+        OfGiven (F.held folder.now) (F.listed folder.now) paths.now (IsAdviceOn text.items)) }
 {
     let paths = given_paths(alloc, folder, paths)?;
     let files = named_files(alloc, folder, &paths)?;
     Ok(advice(alloc, &files)?)
 }
 
-/// What is wrong with the files that `verify` refuses, in lines; nothing where it isn't `verify`, or they can't be read again.
+/// What is wrong with the files that `verify` refuses, in lines; nothing where it isn't `verify`, or they can't be
+/// read again.
 pub(crate) fn advised<F: Folder>(
     alloc: Global,
     folder: &F,
     command: &Command,
     fault: &Fault,
 ) -> Vec<u8>
-    ensures { (result.items ≡ []) ⊎ IsAdvised (F.held folder.now) (F.listed folder.now) command.now fault.now result.items }
+    ensures { (result.items ≡ [])
+        ⊎ IsAdvised (F.held folder.now) (F.listed folder.now) command.now fault.now result.items }
 {
     match (command, fault) {
         (Command::Verify(options), Fault::Refusal(_)) => {

@@ -15,7 +15,8 @@ pub(crate) fn command_files<F: Folder>(
     folder: &F,
     command: &Command,
 ) -> Result<Vec<String>, FilesFault>
-    ensures files { IfOk result (λ files. AreFiles (F.held folder.now) (F.listed folder.now) command.now (map string_bytes files.items)) }
+    ensures files { IfOk result (λ files.
+        AreFiles (F.held folder.now) (F.listed folder.now) command.now (map string_bytes files.items)) }
     ensures faulty { IfErr result (HasNoFiles (F.held folder.now) (F.listed folder.now) command.now) }
     ensures failed { IfErr result (λ fault. fault ≡ Device → FolderMayFail F.may_fail) }
 {

@@ -30,9 +30,9 @@ pub struct Failures<'a> {
     pub output: Option<&'a io::Error>,
 }
 
-/// Tells why a command was not done, in a line with two spaces before it, where more is known than the complaint says, and behind it
-/// the advice on files that `verify` refuses: where the words ask for it by `--explain`, or it is wanted anyway; and nothing with
-/// `--quiet`.
+/// Tells why a command was not done, in a line with two spaces before it, where more is known than the complaint
+/// says, and behind it the advice on files that `verify` refuses: where the words ask for it by `--explain`, or it is
+/// wanted anyway; and nothing with `--quiet`.
 pub fn explain_complaint<F: Folder>(
     alloc: Global,
     folder: &F,

@@ -1,5 +1,5 @@
-//! What the words of a command line ask for, done over any files and any output: runs, replays, searches, verifications, listings,
-//! and schedules as text.
+//! What the words of a command line ask for, done over any files and any output: runs, replays, searches,
+//! verifications, listings, and schedules as text.
 #![tactic(auto)]
 
 mod advised;

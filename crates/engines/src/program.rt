@@ -27,11 +27,11 @@ use std::thread::Threads;
 /// Does what the words say, the program's name first, and answers the status or why there is none.
 ///
 /// The files that they name are those of the folder; the text of a schedule that is to become a file is read from the
-/// input. A report, a listing, the line of a verification, the text of a schedule, or the help or the version that the words
-/// ask for is written to the output, and nothing else but a schedule file, where one is asked for, to the folder. The gate is
-/// told what the workers of a run do, and how far a run or a search has come; and it draws the seed of a run for which none is
-/// asked. The complaint is for the caller to tell, and so is the explanation, which gets what the threads of a run are about
-/// that did not end normally, where it is due.
+/// input. A report, a listing, the line of a verification, the text of a schedule, or the help or the version that
+/// the words ask for is written to the output, and nothing else but a schedule file, where one is asked for, to the
+/// folder. The gate is told what the workers of a run do, and how far a run or a search has come; and it draws the
+/// seed of a run for which none is asked. The complaint is for the caller to tell, and so is the explanation, which
+/// gets what the threads of a run are about that did not end normally, where it is due.
 pub fn run<
     R: Threads + Wait + Sync,
     G: Gate + Progress + Seeds + Sync,
@@ -158,9 +158,12 @@ fn done_over<
     explanation: &mut Explanation,
 ) -> Result<Status, Fault>
     ensures done { IfOk result (Leaves
-        (IsDoneOver (F.held folder.old) (held_at (F.held folder.old) (map string_bytes files.now)) (I.remaining input.old) command.now)
+        (IsDoneOver (F.held folder.old) (held_at (F.held folder.old) (map string_bytes files.now))
+        (I.remaining input.old) command.now)
         (W.contents output.old) (W.contents output.new) (F.held folder.old) (F.held folder.new)) }
-    ensures faulty { IfErr result (LeavesAt (IsUndoneOver (F.held folder.old) (held_at (F.held folder.old) (map string_bytes files.now)) (I.remaining input.old)
+    ensures faulty { IfErr result
+        (LeavesAt (IsUndoneOver (F.held folder.old) (held_at (F.held folder.old) (map string_bytes files.now))
+        (I.remaining input.old)
         command.now (W.contents output.old) (W.contents output.new)) (F.held folder.old) (F.held folder.new)) }
     ensures told { TellsFailures (FolderMayFail F.may_fail) result
         (I.failures input.old + W.failures output.old) (I.failures input.new + W.failures output.new) }

@@ -15,7 +15,8 @@ use search::search_reports::Answer;
 pub enum Status {
     /// No thread can go on, and all have ended, none with an exception. Of what runs nothing: it is done.
     Returned,
-    /// No thread can go on, and all have ended, some with an exception. Of a search: it found a run whose outcome is wanted.
+    /// No thread can go on, and all have ended, some with an exception. Of a search: it found a run whose outcome is
+    /// wanted.
     Threw,
     /// A class file or the schedule is refused.
     Refused,

@@ -45,8 +45,8 @@ impl<R: Files> Folder for SystemFolder<'_, R> {
         }
     }
 
-    /// A file that is there is opened, and one is made for a moment beside a name that is free. A device or a named pipe is
-    /// not tried, since who reads it would take notice.
+    /// A file that is there is opened, and one is made for a moment beside a name that is free. A device or a named
+    /// pipe is not tried, since who reads it would take notice.
     fn try_write(&self, alloc: Global, path: &str) -> io::Result<()> {
         match fs::metadata(self.files, path) {
             Ok(found) if found.is_file() || found.is_dir() => open_there(self.files, path),
@@ -57,8 +57,8 @@ impl<R: Files> Folder for SystemFolder<'_, R> {
         }
     }
 
-    /// A regular file is made beside the one that is there, and then takes its place, so that a full disk leaves that as it
-    /// was. What is no regular file, as `/dev/null`, is written to.
+    /// A regular file is made beside the one that is there, and then takes its place, so that a full disk leaves that
+    /// as it was. What is no regular file, as `/dev/null`, is written to.
     fn write(&mut self, alloc: Global, path: &str, bytes: &[u8]) -> io::Result<()> {
         match fs::metadata(self.files, path) {
             Ok(found) if found.is_file() => replace(alloc, self.files, path, bytes),

@@ -15,7 +15,8 @@ use schedule::schedule_text::read_either;
 use std::alloc::{AllocError, Global};
 use verifier::Verified;
 
-/// What the threads are about that did not end normally, after the events of the schedule at a path, if they are not too many.
+/// What the threads are about that did not end normally, after the events of the schedule at a path, if they are not
+/// too many.
 pub(crate) fn told_schedule<F: Folder>(
     alloc: Global,
     folder: &F,

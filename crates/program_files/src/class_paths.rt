@@ -17,8 +17,8 @@ const ENDING: &[u8] = b".class";
 /// How many folders may lie in one another.
 const MOST_DEEP: u32 = 32;
 
-/// The paths of the class files in a folder, and in those that lie in it, sorted byte by byte. The names are those of all
-/// that lies in the folder.
+/// The paths of the class files in a folder, and in those that lie in it, sorted byte by byte. The names are those of
+/// all that lies in the folder.
 ///
 /// `TooDeep` where folders lie in one another too deep, as they do where links go round.
 pub(crate) fn class_paths<F: Folder>(
@@ -27,7 +27,8 @@ pub(crate) fn class_paths<F: Folder>(
     path: &str,
     names: Vec<String>,
 ) -> Result<Vec<String>, FilesFault>
-    ensures files { IfOk result (λ paths. AreFilesOf (F.listed folder.now) path.now names.items (map string_bytes paths.items)) }
+    ensures files { IfOk result (λ paths.
+        AreFilesOf (F.listed folder.now) path.now names.items (map string_bytes paths.items)) }
     ensures faulty { IfErr result (λ fault. IsUnable fault
         ⊎ ((deep : _) × (fault ≡ TooDeep deep)
         × IsTooDeep (F.listed folder.now) most_deep path.now (Some names.items) (string_bytes deep))) }
@@ -38,8 +39,8 @@ pub(crate) fn class_paths<F: Folder>(
     Ok(paths)
 }
 
-/// The first path of which it can't be told whether a folder is there, or what lies in it: this one, or one below it; and
-/// the system's reason.
+/// The first path of which it can't be told whether a folder is there, or what lies in it: this one, or one below it;
+/// and the system's reason.
 pub fn first_unlisted<F: Folder>(
     alloc: Global,
     folder: &F,
@@ -79,7 +80,8 @@ fn below<F: Folder>(
     path: &str,
     found: Option<Vec<String>>,
 ) -> Result<Vec<String>, FilesFault>
-    ensures files { IfOk result (λ paths. AreBelow (F.listed folder.now) depth path.now (option_map vec_items found) (map string_bytes paths.items)) }
+    ensures files { IfOk result (λ paths.
+        AreBelow (F.listed folder.now) depth path.now (option_map vec_items found) (map string_bytes paths.items)) }
     ensures faulty { IfErr result (λ fault. IsUnable fault
         ⊎ ((deep : _) × (fault ≡ TooDeep deep)
         × IsTooDeep (F.listed folder.now) depth path.now (option_map vec_items found) (string_bytes deep))) }
@@ -101,7 +103,8 @@ fn below_each<F: Folder>(
     path: &str,
     names: &[String],
 ) -> Result<Vec<String>, FilesFault>
-    ensures files { IfOk result (λ paths. AreFronts (AreAt (F.listed folder.now) depth path.now) names.now (map string_bytes paths.items)) }
+    ensures files { IfOk result (λ paths.
+        AreFronts (AreAt (F.listed folder.now) depth path.now) names.now (map string_bytes paths.items)) }
     ensures faulty { IfErr result (λ fault. IsUnable fault
         ⊎ ((deep : _) × (fault ≡ TooDeep deep)
         × IsTooDeepIn (F.listed folder.now) depth path.now names.now (string_bytes deep))) }
@@ -124,7 +127,8 @@ fn at_name<F: Folder>(
     path: &str,
     name: &String,
 ) -> Result<Vec<String>, FilesFault>
-    ensures files { IfOk result (λ paths. AreAt (F.listed folder.now) depth path.now name.now (map string_bytes paths.items)) }
+    ensures files { IfOk result (λ paths.
+        AreAt (F.listed folder.now) depth path.now name.now (map string_bytes paths.items)) }
     ensures faulty { IfErr result (λ fault. IsUnable fault
         ⊎ ((deep : _) × (fault ≡ TooDeep deep)
         × IsTooDeepAt (F.listed folder.now) depth path.now name.now (string_bytes deep))) }

@@ -14,8 +14,9 @@ use crate::given_words::{given_paths, is_folder};
 use crate::held_class::{HeldClass, held_classes};
 use std::alloc::{AllocError, Global};
 
-/// The files that words stand for, in the order in which they are handed on. That of the class which is named comes first;
-/// where none is named and a folder is the first word, that of the one class which declares a main, if there is one.
+/// The files that words stand for, in the order in which they are handed on. That of the class which is named comes
+/// first; where none is named and a folder is the first word, that of the one class which declares a main, if there
+/// is one.
 ///
 /// `NoClass` or `NoMain` where no class of the name is there, or the first one declares no main; `Mains` where several
 /// classes declare one, and none is named.
@@ -25,9 +26,11 @@ pub fn handed_on<F: Folder>(
     words: &[String],
     main: &Option<String>,
 ) -> Result<Vec<String>, FilesFault>
-    ensures order { IfOk result (λ files. AreHandedOn (F.held folder.now) (F.listed folder.now) (option_map string_bytes main.now)
+    ensures order { IfOk result (λ files.
+        AreHandedOn (F.held folder.now) (F.listed folder.now) (option_map string_bytes main.now)
         (map string_bytes words.now) (map string_bytes files.items)) }
-    ensures faulty { IfErr result (IsUnhanded (F.held folder.now) (F.listed folder.now) (option_map string_bytes main.now)
+    ensures faulty { IfErr result
+        (IsUnhanded (F.held folder.now) (F.listed folder.now) (option_map string_bytes main.now)
         (map string_bytes words.now)) }
     ensures failed { IfErr result (λ fault. fault ≡ Device → FolderMayFail F.may_fail) }
 {
@@ -84,7 +87,8 @@ fn main_first<F: Folder>(
     folder: &F,
     given: Vec<String>,
 ) -> Result<Vec<String>, FilesFault>
-    ensures order { IfOk result (λ files. IsMainFirst (F.held folder.now) (map string_bytes given.items) (map string_bytes files.items)) }
+    ensures order { IfOk result (λ files.
+        IsMainFirst (F.held folder.now) (map string_bytes given.items) (map string_bytes files.items)) }
     ensures faulty { IfErr result (IsWithoutMain (F.held folder.now) (map string_bytes given.items)) }
     ensures failed { IfErr result (λ fault. fault ≡ Device → FolderMayFail F.may_fail) }
 {
@@ -184,7 +188,8 @@ fn add_main(
     names: &mut Vec<Vec<u8>>,
     class: &Option<HeldClass>,
 ) -> Result<(), AllocError>
-    ensures { OnOk result (map vec_items names.new.items ≡ map vec_items names.old.items ++ main_names (class.now ∷ [])) }
+    ensures { OnOk result (map vec_items names.new.items
+        ≡ map vec_items names.old.items ++ main_names (class.now ∷ [])) }
 {
     let Some(class) = class else {
         return Ok(());
@@ -200,7 +205,8 @@ fn add_main(
 /// The files with that at a place first, and the others behind it, in their order.
 fn put_first(files: Vec<String>, place: usize) -> Result<Vec<String>, AllocError>
     requires { place < length files.items }
-    ensures { IfOk result (λ ordered. IsPutFirst place (map string_bytes files.items) (map string_bytes ordered.items)) }
+    ensures { IfOk result (λ ordered.
+        IsPutFirst place (map string_bytes files.items) (map string_bytes ordered.items)) }
 {
     let mut files = files;
     let first = files.remove(place);

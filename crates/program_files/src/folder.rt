@@ -14,7 +14,8 @@ pub trait Folder {
     /// What the file at a path holds, where that is known. Of a file of the system it isn't.
     ghost held: { Self → List ℕ → Option (List ℕ) };
 
-    /// The names of what lies in the folder at a path, in any order, where that is known; none where there is no folder.
+    /// The names of what lies in the folder at a path, in any order, where that is known; none where there is no
+    /// folder.
     ghost listed: { Self → List ℕ → Option (Option (List (Text System))) };
 
     /// Whether it may fail to read, to list or to write what is at a path. Of what is in the system it may.
@@ -37,8 +38,8 @@ pub trait Folder {
         Ok(())
     }
 
-    /// Makes a file of these bytes at a path, in place of one that is there. Every other file stays as it is, and after an
-    /// error this one does, too.
+    /// Makes a file of these bytes at a path, in place of one that is there. Every other file stays as it is, and
+    /// after an error this one does, too.
     fn write(&mut self, alloc: Global, path: &str, bytes: &[u8]) -> io::Result<()>
         ensures written { OnOk result (IsWith (held self.old) (held self.new) (Some (path.now, bytes.now))) }
         ensures same { OnErr result (IsWith (held self.old) (held self.new) None) }

@@ -12,14 +12,15 @@ use crate::folder::Folder;
 use command_line::is_same_path;
 use std::alloc::{AllocError, Global};
 
-/// The paths of the files that words stand for. In the place of a folder stand the class files in it and in those below,
-/// sorted by their paths, without those that were given before.
+/// The paths of the files that words stand for. In the place of a folder stand the class files in it and in those
+/// below, sorted by their paths, without those that were given before.
 pub fn given_paths<F: Folder>(
     alloc: Global,
     folder: &F,
     words: &[String],
 ) -> Result<Vec<String>, FilesFault>
-    ensures given { IfOk result (λ given. AreGiven (F.listed folder.now) (map string_bytes words.now) (map string_bytes given.items)) }
+    ensures given { IfOk result (λ given.
+        AreGiven (F.listed folder.now) (map string_bytes words.now) (map string_bytes given.items)) }
     ensures faulty { IfErr result (IsUngiven (F.listed folder.now) (map string_bytes words.now)) }
     ensures failed { IfErr result (λ fault. fault ≡ Device → FolderMayFail F.may_fail) }
 {
@@ -104,7 +105,8 @@ fn without_slash(path: &str) -> &str
 
 /// Whether there is a folder at a path.
 pub fn is_folder<F: Folder>(alloc: Global, folder: &F, path: &str) -> Result<bool, FilesFault>
-    ensures folder { IfOk result (λ is. (found : _) × IsListed (F.listed folder.now path.now) found × (is ≡ is_some found)) }
+    ensures folder { IfOk result (λ is. (found : _) × IsListed (F.listed folder.now path.now) found
+        × (is ≡ is_some found)) }
     ensures unable { IfErr result IsUnable }
     ensures failed { IfErr result (λ fault. fault ≡ Device → FolderMayFail F.may_fail) }
 {

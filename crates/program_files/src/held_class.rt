@@ -31,7 +31,8 @@ pub fn held_classes<F: Folder>(
     folder: &F,
     paths: &[String],
 ) -> Result<Vec<Option<HeldClass>>, FilesFault>
-    ensures classes { IfOk result (λ classes. AreClasses (F.held folder.now) (map string_bytes paths.now) classes.items) }
+    ensures classes { IfOk result (λ classes.
+        AreClasses (F.held folder.now) (map string_bytes paths.now) classes.items) }
     ensures unable { IfErr result IsUnable }
     ensures failed { IfErr result (λ fault. fault ≡ Device → FolderMayFail F.may_fail) }
 {

@@ -27,9 +27,12 @@ pub(crate) fn trace<F: Folder, W: Sink>(
     output: &mut W,
     explanation: &mut Explanation,
 ) -> Result<Status, Fault>
-    ensures traced { IfOk result (λ status. (text : _) × IsTraceDone (F.held folder.now) (held_at (F.held folder.now) (map string_bytes files.now)) options.now text None status
+    ensures traced { IfOk result (λ status. (text : _)
+        × IsTraceDone (F.held folder.now)
+        (held_at (F.held folder.now) (map string_bytes files.now)) options.now text None status
         × Appends (W.contents output.old) (W.contents output.new) text) }
-    ensures faulty { IfErr result (λ fault. IsTraceUndone (F.held folder.now) (held_at (F.held folder.now) (map string_bytes files.now)) options.now
+    ensures faulty { IfErr result (λ fault.
+        IsTraceUndone (F.held folder.now) (held_at (F.held folder.now) (map string_bytes files.now)) options.now
         (W.contents output.old) (W.contents output.new) fault None) }
     ensures told { TellsFailures (FolderMayFail F.may_fail) result (W.failures output.old) (W.failures output.new) }
 {
@@ -56,9 +59,12 @@ fn traced<F: Folder, W: Sink>(
     options: &Trace,
     output: &mut W,
 ) -> Result<Status, Fault>
-    ensures traced { IfOk result (λ status. (text : _) × IsTraceDone (F.held folder.now) (held_at (F.held folder.now) (map string_bytes files.now)) options.now text None status
+    ensures traced { IfOk result (λ status. (text : _)
+        × IsTraceDone (F.held folder.now)
+        (held_at (F.held folder.now) (map string_bytes files.now)) options.now text None status
         × Appends (W.contents output.old) (W.contents output.new) text) }
-    ensures faulty { IfErr result (λ fault. IsTraceUndone (F.held folder.now) (held_at (F.held folder.now) (map string_bytes files.now)) options.now
+    ensures faulty { IfErr result (λ fault.
+        IsTraceUndone (F.held folder.now) (held_at (F.held folder.now) (map string_bytes files.now)) options.now
         (W.contents output.old) (W.contents output.new) fault None) }
     ensures told { TellsFailures (FolderMayFail F.may_fail) result (W.failures output.old) (W.failures output.new) }
 {
@@ -76,7 +82,8 @@ fn traced<F: Folder, W: Sink>(
     )
 }
 
-/// Which events are told, and in which form: from the first one on, to the last one, and of all threads, where the words don't say.
+/// Which events are told, and in which form: from the first one on, to the last one, and of all threads, where the
+/// words don't say.
 fn window_of(options: &Trace) -> Window<'_>
     ensures { IsWindow options.now result }
 {

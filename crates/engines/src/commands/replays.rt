@@ -31,9 +31,13 @@ pub(crate) fn replay<F: Folder, W: Sink>(
     output: &mut W,
     explanation: &mut Explanation,
 ) -> Result<Status, Fault>
-    ensures done { IfOk result (Leaves (IsReplayDone (F.held folder.old) (held_at (F.held folder.old) (map string_bytes files.now)) options.now options.now.then_run)
+    ensures done { IfOk result
+        (Leaves (IsReplayDone (F.held folder.old)
+        (held_at (F.held folder.old) (map string_bytes files.now)) options.now options.now.then_run)
         (W.contents output.old) (W.contents output.new) (F.held folder.old) (F.held folder.new)) }
-    ensures faulty { IfErr result (LeavesAt (IsReplayUndone (F.held folder.old) (held_at (F.held folder.old) (map string_bytes files.now)) options.now options.now.then_run
+    ensures faulty { IfErr result
+        (LeavesAt (IsReplayUndone (F.held folder.old)
+        (held_at (F.held folder.old) (map string_bytes files.now)) options.now options.now.then_run
         (W.contents output.old) (W.contents output.new)) (F.held folder.old) (F.held folder.new)) }
     ensures told { TellsFailures (FolderMayFail F.may_fail) result (W.failures output.old) (W.failures output.new) }
 {
@@ -64,11 +68,13 @@ fn replayed<F: Folder, W: Sink>(
     output: &mut W,
 ) -> Result<Status, Fault>
     ensures replayed { IfOk result (λ status. (text : _)
-        × Replays (F.held folder.now (string_bytes options.now.schedule)) (held_at (F.held folder.now) (map string_bytes files.now))
+        × Replays (F.held folder.now (string_bytes options.now.schedule))
+        (held_at (F.held folder.now) (map string_bytes files.now))
         options.now.limits text status
         × Appends (W.contents output.old) (W.contents output.new) text) }
     ensures faulty { IfErr result (IsFaulty (F.held folder.now (string_bytes options.now.schedule))
-        (held_at (F.held folder.now) (map string_bytes files.now)) options.now.limits (W.contents output.old) (W.contents output.new)) }
+        (held_at (F.held folder.now) (map string_bytes files.now)) options.now.limits (W.contents output.old)
+        (W.contents output.new)) }
     ensures told { TellsFailures (FolderMayFail F.may_fail) result (W.failures output.old) (W.failures output.new) }
 {
     let mut schedule = source(folder, options.schedule.as_str());
@@ -92,9 +98,13 @@ fn replay_on<F: Folder, W: Sink>(
     output: &mut W,
     explanation: &mut Explanation,
 ) -> Result<Status, Fault>
-    ensures done { IfOk result (Leaves (IsContinuationDone (F.held folder.old) (held_at (F.held folder.old) (map string_bytes files.now)) options.now then_run.now)
+    ensures done { IfOk result
+        (Leaves (IsContinuationDone (F.held folder.old)
+        (held_at (F.held folder.old) (map string_bytes files.now)) options.now then_run.now)
         (W.contents output.old) (W.contents output.new) (F.held folder.old) (F.held folder.new)) }
-    ensures faulty { IfErr result (LeavesAt (IsContinuationUndone (F.held folder.old) (held_at (F.held folder.old) (map string_bytes files.now)) options.now then_run.now
+    ensures faulty { IfErr result
+        (LeavesAt (IsContinuationUndone (F.held folder.old)
+        (held_at (F.held folder.old) (map string_bytes files.now)) options.now then_run.now
         (W.contents output.old) (W.contents output.new)) (F.held folder.old) (F.held folder.new)) }
     ensures told { TellsFailures (FolderMayFail F.may_fail) result (W.failures output.old) (W.failures output.new) }
 {
@@ -120,13 +130,16 @@ fn continued<F: Folder, W: Sink>(
     file: &mut Option<Vec<u8>>,
 ) -> Result<Status, Fault>
     ensures continued { IfOk result (λ status. (text : _)
-        × Continues (F.held folder.now (string_bytes options.now.schedule)) (held_at (F.held folder.now) (map string_bytes files.now))
+        × Continues (F.held folder.now (string_bytes options.now.schedule))
+        (held_at (F.held folder.now) (map string_bytes files.now))
         options.now.limits (unwrap_or then_run.now.budget 10000000) text (option_map vec_items file.new) status
         × Appends (W.contents output.old) (W.contents output.new) text) }
     ensures asked { IfOk result (λ _. IsTrue (is_some then_run.now.record) → IsTrue (is_some file.new)) }
     ensures faulty { IfErr result (IsUncontinued (F.held folder.now (string_bytes options.now.schedule))
-        (held_at (F.held folder.now) (map string_bytes files.now)) options.now.limits (unwrap_or then_run.now.budget 10000000)
-        (W.contents output.old) (W.contents output.new) (option_map vec_items file.old) (option_map vec_items file.new)) }
+        (held_at (F.held folder.now) (map string_bytes files.now)) options.now.limits
+        (unwrap_or then_run.now.budget 10000000)
+        (W.contents output.old) (W.contents output.new) (option_map vec_items file.old)
+        (option_map vec_items file.new)) }
     ensures told { TellsFailures (FolderMayFail F.may_fail) result (W.failures output.old) (W.failures output.new) }
 {
     let mut schedule = source(folder, options.schedule.as_str());

@@ -36,9 +36,11 @@ pub(crate) fn run_files<R: Threads + Wait + Sync, G: Gate + Seeds + Sync, F: Fol
     output: &mut W,
     explanation: &mut Explanation,
 ) -> Result<Status, Fault>
-    ensures done { IfOk result (Leaves (IsRunDone (held_at (F.held folder.old) (map string_bytes files.now)) options.now)
+    ensures done { IfOk result
+        (Leaves (IsRunDone (held_at (F.held folder.old) (map string_bytes files.now)) options.now)
         (W.contents output.old) (W.contents output.new) (F.held folder.old) (F.held folder.new)) }
-    ensures faulty { IfErr result (LeavesAt (IsRunUndone (held_at (F.held folder.old) (map string_bytes files.now)) options.now
+    ensures faulty { IfErr result
+        (LeavesAt (IsRunUndone (held_at (F.held folder.old) (map string_bytes files.now)) options.now
         (W.contents output.old) (W.contents output.new)) (F.held folder.old) (F.held folder.new)) }
     ensures told { TellsFailures (FolderMayFail F.may_fail) result (W.failures output.old) (W.failures output.new) }
 {

@@ -35,11 +35,14 @@ pub(crate) fn search<P: Progress, F: Folder, W: Sink>(
     output: &mut W,
     explanation: &mut Explanation,
 ) -> Result<Status, Fault>
-    ensures done { IfOk result (Leaves (IsSearchDone (F.held folder.old) (held_at (F.held folder.old) (map string_bytes files.now)) options.now)
+    ensures done { IfOk result
+        (Leaves (IsSearchDone (F.held folder.old)
+        (held_at (F.held folder.old) (map string_bytes files.now)) options.now)
         (W.contents output.old) (W.contents output.new) (F.held folder.old) (F.held folder.new)) }
     ensures faulty { IfErr result (LeavesAt (λ fault written.
         (IsUnable fault × (W.contents output.new ≡ W.contents output.old) × (written ≡ None))
-        ⊎ IsSearchUndone (F.held folder.old) (held_at (F.held folder.old) (map string_bytes files.now)) options.now (W.contents output.old) (W.contents output.new) fault written)
+        ⊎ IsSearchUndone (F.held folder.old) (held_at (F.held folder.old) (map string_bytes files.now)) options.now
+        (W.contents output.old) (W.contents output.new) fault written)
         (F.held folder.old) (F.held folder.new)) }
     ensures told { TellsFailures (FolderMayFail F.may_fail) result (W.failures output.old) (W.failures output.new) }
 {
@@ -69,10 +72,12 @@ fn search_for<P: Progress, F: Folder, W: Sink>(
     explanation: &mut Explanation,
 ) -> Result<Status, Fault>
     ensures done { IsAskedFor (F.held folder.old) options.now.goal wanted.now
-        → IfOk result (Leaves (IsSearchDone (F.held folder.old) (held_at (F.held folder.old) (map string_bytes files.now)) options.now)
+        → IfOk result (Leaves
+        (IsSearchDone (F.held folder.old) (held_at (F.held folder.old) (map string_bytes files.now)) options.now)
         (W.contents output.old) (W.contents output.new) (F.held folder.old) (F.held folder.new)) }
     ensures faulty { IsAskedFor (F.held folder.old) options.now.goal wanted.now
-        → IfErr result (LeavesAt (IsSearchUndone (F.held folder.old) (held_at (F.held folder.old) (map string_bytes files.now)) options.now
+        → IfErr result (LeavesAt
+        (IsSearchUndone (F.held folder.old) (held_at (F.held folder.old) (map string_bytes files.now)) options.now
         (W.contents output.old) (W.contents output.new)) (F.held folder.old) (F.held folder.new)) }
     ensures told { TellsFailures (FolderMayFail F.may_fail) result (W.failures output.old) (W.failures output.new) }
 {
@@ -95,11 +100,13 @@ fn searched<P: Progress, F: Folder, W: Sink>(
     file: &mut Option<Vec<u8>>,
 ) -> Result<Status, Fault>
     ensures searched { IfOk result (λ status. (text : _)
-        × Searches (held_at (F.held folder.now) (map string_bytes files.now)) options.now.limits wanted.now (most_states options.now)
+        × Searches (held_at (F.held folder.now) (map string_bytes files.now)) options.now.limits wanted.now
+        (most_states options.now)
         (is_some options.now.record) text (option_map vec_items file.new) status
         × Appends (W.contents output.old) (W.contents output.new) text) }
     ensures faulty { IfErr result (IsUnsearched (held_at (F.held folder.now) (map string_bytes files.now))
-        options.now.limits wanted.now (most_states options.now) (is_some options.now.record) (W.contents output.old) (W.contents output.new)
+        options.now.limits wanted.now (most_states options.now) (is_some options.now.record) (W.contents output.old)
+        (W.contents output.new)
         (option_map vec_items file.old) (option_map vec_items file.new)) }
     ensures told { TellsFailures (FolderMayFail F.may_fail) result (W.failures output.old) (W.failures output.new) }
 {
