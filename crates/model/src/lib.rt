@@ -3,6 +3,7 @@
 //! the Java Language Specification (JLS), both of Java SE 8.
 #![tactic(auto)]
 
+pub mod built_in;
 mod class_file;
 mod device;
 mod end;
@@ -14,7 +15,8 @@ mod primitive;
 mod report;
 mod value;
 
-pub use class_file::{BUILT_IN_CLASSES, ExceptionEntry};
+pub use built_in::BUILT_IN_CLASSES;
+pub use class_file::ExceptionEntry;
 pub use device::{DeviceFault, Sink, Source};
 pub use end::{End, RunCause};
 pub use event::{Event, ScheduleEntry};

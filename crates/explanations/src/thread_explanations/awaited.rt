@@ -15,10 +15,8 @@ use linked_code::{LinkedInstruction, LinkedProgram, MethodBody};
 use machine_state::method_selection::method_at;
 use machine_state::{ClassStatus, Shared};
 use model::EndState;
+use model::built_in::MAIN_THREAD;
 use traces::class_object_of;
-
-/// The thread that runs `main`.
-const MAIN_THREAD: u16 = 0;
 
 /// For what a thread waits. Objects and classes are given by their numbers.
 #[derive(Clone, Copy)]

@@ -1,6 +1,7 @@
 //! Wait sets (JLS 17.2).
 
 ghost use Rattle.std.specs.Prelude.{◌≡◌, ◌<◌, length};
+ghost use Rattle.model.specs.BuiltInNumbers.{most_threads};
 ghost use Rattle.model.specs.BuiltInMethods.{notified};
 ghost use Rattle.heap.specs.monitor.Locks.{IsAllowed};
 ghost use Rattle.heap.specs.monitor_events.Events.{SaysOwner, OwnerMakes, WaitsBy, Relocks};
@@ -24,7 +25,7 @@ pub fn wait(
     thread: u16,
 ) -> Result<bool, MonitorRefusal>
     requires there { object < length heap.old.locks.monitors }
-    requires numbered { thread < 32767 }
+    requires numbered { thread < most_threads }
     ensures { WaitsBy result object thread heap.old heap.new threads.old threads.new }
 {
     if !is_owner(heap, object, thread) {

@@ -4,4 +4,4 @@ mod count;
 mod places;
 
 pub use count::part_count;
-pub use places::{NO_OFFSET, Places};
+pub use places::Places;
