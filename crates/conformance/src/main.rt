@@ -9,6 +9,11 @@
 //!
 //! Of trials it prints how many forms or sets were tried, and where something is wrong, what. Then its status is 1.
 //! With `--counts` before their word, it prints also what came of them, each with how often.
+//!
+//! # Not proved
+//!
+//! It is proved safe. Its stored run, `data/stored-run`, has a line for each thing that the gate tries: trials, and
+//! then the cases of each text.
 #![tactic(auto)]
 
 mod cases;
