@@ -3,7 +3,8 @@
 //!
 //! # Not proved
 //!
-//! It is proved safe, and nothing is promised of what it does (docs/MEASURES.md). Its stored run is one of each word.
+//! The program is proved safe, and nothing is promised of what it does (docs/MEASURES.md). Its stored run is one of
+//! each word.
 //!
 //! The stored run of `bench link` links 43 class files of javac (17, `--release 8`, version set to 49.0) in 30 sets:
 //! interfaces, inner classes, abstract classes, access methods, narrow arrays, threads; and sets that reach outside

@@ -93,7 +93,7 @@ pub enum TraceForm {
     Plain,
     /// In words, with a column for each thread.
     Columns,
-    /// As an object of JSON.
+    /// An object of JSON.
     Json,
 }
 

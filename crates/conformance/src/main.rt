@@ -2,8 +2,8 @@
 //! that it may not be ready for. The first word says what is done:
 //!
 //! - `cases TEXT..` runs the cases of texts, and prints what each writes, says and ends with;
-//! - `fronts`, `bytes EVERY` and `events`, with the words of a replay behind them, `--schedule FILE [LIMITS] FILE..`, try other forms of
-//!   its files, or other events;
+//! - `fronts`, `bytes EVERY` and `events`, with the words of a replay behind them, `--schedule FILE [LIMITS] FILE..`,
+//!   try other forms of its files, or other events;
 //! - `sets SEED COUNT` tries sets of class files that are made by chance;
 //! - `each FILE` does what each line of the file says.
 //!
@@ -12,8 +12,8 @@
 //!
 //! # Not proved
 //!
-//! It is proved safe. Its stored run, `data/stored-run`, has a line for each thing that the gate tries: trials, and
-//! then the cases of each text.
+//! The program is proved safe. Its stored run, `data/stored-run`, has a line for each thing that the gate tries:
+//! trials, and then the cases of each text.
 #![tactic(auto)]
 
 mod cases;

@@ -5,22 +5,24 @@
 //!
 //! - `run`, for any folder, input and output: with a status, the words ask for help or the version, or they spell a
 //!   command (`Spells`), and it is done (`done`, `Does`, `IsDone`). What is appended to the output, what is written,
-//!   and the status are those of the command's engine, below, over the bytes of the files that the words name, in their
-//!   order:
+//!   and the status are those of the command's engine, below, over the bytes of the files that the words stand for:
+//!   - these are in the order in which they are handed on (`AreFiles`): by `AreGiven` for `disasm` and of a library,
+//!     and else by `AreHandedOn`; none of them is the one that is written (`IsUnread`);
 //!   - `run`, `replay` and `search` hand on all their options; `trace` its window and its form (`IsWindow`); `search`
 //!     its goal (`IsAskedFor`), with the text of the file of `differs`; `verify` whether it is of a library; `disasm`
 //!     whether names are asked for; `schedule` whether a file is made;
-//!   - for `verify` and `disasm` the class files of a folder stand in its place, sorted (`AreGiven`, `AreClassPaths`);
 //!   - the file that is asked for holds the bytes of the schedule, and each other file what it held (`IsWith`).
-//! - `run` with a complaint: usage only where the words spell no command, and nothing is written then; a fault only
-//!   where the engine may answer it, or where help can't be written, memory is wanted for paths, or a folder or the
-//!   file of `differs` can't be read (`faulty`, `Stops`, `IsUndone`). A file is written whole or not at all: after a
-//!   fault it is made only where a beginning of the report was written.
-//! - `explain_complaint` (`IsExplained`): it tells nothing behind words that are refused, nor of a command with
-//!   `--quiet`; where help can't be written it may tell any text. Of another command's fault it may tell a text of
-//!   which nothing is said. The advice behind that text is nothing, or what `advice` answers, on the bytes of the files
-//!   that `verify` was given, in their order (`IsAdvised`, proved of `advised`); that the text before it holds no
-//!   advice is not proved. Shown by cases: where it stands, and what it tells of files of each kind.
+//! - `run` with a complaint: usage only where the words spell no command, or one that would write a file that it reads
+//!   (`IsReadToo`), and nothing is written then. A fault of files only where the words of the command stand for none,
+//!   or these have no order; nothing is written then, either (`HasNoFiles`). Another fault only where the engine may
+//!   answer it, or where help can't be written, memory is wanted for paths, or a folder, or a file that is read for its
+//!   class or for `differs`, can't be read (`faulty`, `Stops`, `IsUndone`). A file is written whole or not at all:
+//!   after a fault it is made only where a beginning of the report was written.
+//! - `explain_complaint` (`IsExplained`): it tells nothing behind words that are refused or stand for no files, nor of
+//!   a command with `--quiet`; where help can't be written it may tell any text. Of another command's fault it may tell
+//!   a text of which nothing is said. The advice behind that text is nothing, or what `advice` answers, on the bytes of
+//!   the files that `verify` was given, in their order (`IsAdvised`, proved of `advised`); that the text before it
+//!   holds no advice is not proved. Shown by cases: where it stands, and what it tells of files of each kind.
 //! - `run`: `device` is answered only where one more failure of the input or the output is counted, or a folder of this
 //!   kind may fail at a path; and no failure is counted with any other answer (`told`, `TellsComplaint`).
 //! - Of a folder `run` knows what `Folder` says: `held`, what a file holds where that is known; `listed`, the names in
@@ -97,7 +99,7 @@
 //!   - `Device` exactly with one more failure of a device (`counted`).
 //! - `names_engine`: the same as of `disasm_engine`, but that nothing is said of the text (`listed`, `faulty`,
 //!   `counted`).
-//! - The status of each outcome (`Status::of`, `of_complaint`, `of_fault`, `of_usage`, `code`); and that the line of a
+//! - The status of each outcome (`Status::of`, `of_complaint`, `of_files`, `of_fault`, `of_usage`, `code`); and that the line of a
 //!   fault (`fault_line`) is written where no write fails, with its end and nothing else (`Fault::write_line`,
 //!   `Complaint::write_text`).
 //! - No clause refuses a body that always answers a want of memory, or does so in the place of a refusal that stands in

@@ -21,7 +21,7 @@
 
 ghost use Rattle.machine_state.specs.shown_stacks.Shown.{AreCounted, IsBeginShown, IsCallShown, IsCallOverShown, IsCallInTwoSteps, IsMoveShown, IsReturnShown, IsCatchShown, IsInitialisationShown, IsPhaseShown};
 
-/// As many frames are counted.
+/// A stack that shows one of the model has as many frames.
 pub fn frames_are_counted()
     ensures holds { AreCounted }
 {}

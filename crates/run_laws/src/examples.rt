@@ -89,7 +89,7 @@ pub fn prints_seven()
     ensures holds { PrintsSeven }
 {}
 
-/// The same run, event by event.
+/// The run of `prints_seven`, event by event.
 pub fn event_by_event()
     ensures holds { EventByEvent }
 {}

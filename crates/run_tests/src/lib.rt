@@ -2,7 +2,7 @@
 //!
 //! # Not proved
 //!
-//! They stand in a crate of their own, so that no crate with bodies is proved twice.
+//! The tests stand in a crate of their own, so that no crate with bodies is proved twice.
 #![tactic(auto)]
 
 pub mod engine_tests;
