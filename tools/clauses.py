@@ -30,8 +30,8 @@ BEGINNING = """\
 `tools/proved` makes this page of the heads of the sources. [THEOREM.md](THEOREM.md) has what is proved of the whole,
 and [ARCHITECTURE.md](ARCHITECTURE.md) the map of the crates.
 
-`rt check` accepts a function only where its body meets its contract for all arguments that its `requires` allows, and
-is safe: no index out of range, no sum that wraps, no use after free. And it returns: each function does but
+`rt check` accepts a function only where its body meets its contract for all arguments that its `requires` allows. It is
+safe then: no index out of range, no sum that wraps, no use after free. And it returns: each function does but
 `run_workers`, and so `run` and `run_engine` of `engines`, whatever bytes, schedules and limits it is given. That stands
 in no clause. How long calls take is only measured.
 
@@ -57,10 +57,10 @@ PLANTS = """\
 ## What planted wrong bodies get through
 
 `rt plant` writes wrong bodies by rule under the contracts of public functions. Some give up: a failure, none, 0, an
-argument, nothing done. Others call the real function, of which only its contract is seen, and spoil the call: another
-argument or answer, twice, none for what is empty or 0, a field set to 0. It lists those that Rattle's tactics prove. Of
-the rest they are no judge: they may miss a proof, and where they meet a limit a body isn't judged. So the table shows
-where a contract is loose, and not that the others are tight.
+argument, nothing done. Others call the real function, of which only its contract is seen, and spoil the call. They
+call it with another argument, twice, or not where something is empty or 0; change the answer; or set a field to 0.
+`rt plant` lists those that Rattle's tactics prove. Of the rest they are no judge: they may miss a proof, and where they
+meet a limit a body isn't judged. So the table shows where a contract is loose, and not that the others are tight.
 
 *Untried* are functions of which no body that gives up was judged, as where none can be written. A body that proves and
 does what the real one does is counted, too. All runs but those of crates were made of an earlier tree, in which each of

@@ -6,8 +6,8 @@
 //!
 //! # Proved
 //!
-//! What is shown is a list of objects: what each is (an instance of a class, or an array of a kind, by numbers of the
-//! caller) and the list of its words; beside it the plain monitors, and which locks are fat.
+//! What is shown is a list of objects, the plain monitors, and which locks are fat. An object is an instance of a
+//! class, or an array of a kind, by numbers of the caller, and the list of its words.
 //!
 //! - `alloc_object`, `alloc_ints`, `alloc_refs` and `alloc_narrow`, by cases on the answer (`Allocates`):
 //!   - done: the new object stands last, its words are 0, its monitor has no owner; the reference r is its place in the

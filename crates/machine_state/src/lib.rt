@@ -3,13 +3,12 @@
 //!
 //! # Proved
 //!
-//! What a machine of many threads keeps (`Shared`), what instructions and events answer (`Effect`, `Answer`,
-//! `EventRefusal`, `MachineException`), and definitions of what both are of the model's: when the words of a machine
-//! show a world (`Represents`) and a state whose thread has its own stack lent out (`IsLent`); when an answer is what
-//! becomes of an event (`Becomes`: done, with no limit standing and the locks fat that the event makes fat; not
-//! enabled, or refused at a limit that stands or for want of memory, and nothing has changed); what an instruction's
-//! effect tells of its event (`Does`).
-//!
+//! - Defined: `Represents`, when the words of a machine (`Shared`) show a world, and `IsLent`, when they show a state
+//!   whose thread has its own stack lent out.
+//! - Defined: `Becomes`, when an answer (`Answer`, `EventRefusal`) is what becomes of an event. It is done, with no
+//!   limit standing and the locks fat that the event makes fat; or it is not enabled; or it is refused at a limit that
+//!   stands or for want of memory. In the latter two nothing has changed.
+//! - Defined: `Does`, what an instruction's effect (`Effect`, `MachineException`) tells of its event.
 //! - Refusals of `heap`, `monitor` and `java_threads` become those of the machine by their causes, and `cause` is the
 //!   one that a report names; the event of a thread that runs is what its instruction does, where the class that it
 //!   needs is ready (`instructions_are_done`).

@@ -5,9 +5,9 @@
 //! # Proved
 //!
 //! Of all files and states, typed or not, over values and over words. Counts are right (`AreMonitorsCounted`), with
-//! some locks fat, where each monitor without an owner has no entries and each with one has at least one, and each
-//! member of a wait set, and each thread that is in one or is to enter a monitor again, is to enter it at least once,
-//! and the lock of that object is fat (JLS 17.1, 17.2.1):
+//! some locks fat, where each monitor without an owner has no entries and each with one has at least one. Each member
+//! of a wait set, and each thread that is in one or is to enter a monitor again, is to enter it at least once. The lock
+//! of that object is fat then (JLS 17.1, 17.2.1).
 //!
 //! - In the opening state counts are right, whichever locks are fat (`openings_are_counted`). Each event keeps them
 //!   right, with those locks fat that were and, by what the event takes, the one of an entry 257 or of a wait that

@@ -2,10 +2,10 @@
 //!
 //! # Proved
 //!
-//! Each contract is an equation of the definitions' own words (`with_entry`, `waiting`, `notified`, `all_woken`,
-//! `with_end` and the like) on a world with the monitors of `heap` and the threads of `java_threads` (`shared`),
-//! whatever else the world has; objects, their words, the limits and, but for `enter` and `wait`, which locks are fat
-//! stay (`MonitorsBecome`, `ThreadsBecome`, `BothBecome`).
+//! Each contract is an equation of the definitions' own words: `with_entry`, `waiting`, `notified`, `all_woken`,
+//! `with_end` and the like. It is about a world with the monitors of `heap` and the threads of `java_threads`
+//! (`shared`), whatever else the world has. Objects, their words and the limits stay; so do, but for `enter` and
+//! `wait`, the locks that are fat (`MonitorsBecome`, `ThreadsBecome`, `BothBecome`).
 //!
 //! - Of monitors: `may_enter` and `is_owner` tell what the definitions do; `enter` enters exactly where the thread may,
 //!   or is refused as the call of `heap` is, and then nothing has changed; `exit` leaves once, and says whether the
