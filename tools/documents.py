@@ -20,7 +20,7 @@ PARTS_OF_A_CRATE = ("src", "specs", "proofs", "data", "must-fail", "wrong-bodies
 FOREIGN = {"conflicts_with", "open_file", "open_read"}
 
 # What a path may go without in a document.
-ENDINGS = ("", ".rt", ".antt", ".md")
+ENDINGS = ("", ".rt", ".antt", ".md", ".edit")
 
 FENCE = re.compile(r"^ *```(\w*)")
 LINK = re.compile(r"\[[^\]]*\]\(([^)\s]+)\)")
@@ -245,7 +245,8 @@ def sentences(document: Document) -> Iterator[str]:
     """The sentences of a document, without code and tables."""
     text = "\n".join("" if line.text.lstrip().startswith(("|", "#")) else line.text for line in document.prose())
     for paragraph in re.split(r"\n\s*\n|\n(?=\s*(?:[-*]|\d+\.) )", text):
-        plain = re.sub(r"`[^`]*`", "x", " ".join(paragraph.split()))
+        plain = re.sub(r"`[^`]*`", "x", " ".join(re.sub(r"^> ?", "", paragraph, flags=re.M).split()))
+        plain = re.sub(r"\[([^\]]*)\]\([^)]*\)", r"\1", plain).replace("**", "").replace("*", "")
         yield from re.split(r"(?<=[.!?:;]) +(?=[A-Z(x])", plain)
 
 

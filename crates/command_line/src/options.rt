@@ -94,7 +94,7 @@ pub enum TraceForm {
     Plain,
     /// In words, with a column for each thread.
     Columns,
-    /// As an object of JSON.
+    /// An object of JSON.
     Json,
 }
 

@@ -1,4 +1,4 @@
-//! The search.
+//! The search over all schedules.
 
 ghost use Rattle.std.specs.Prelude.{◌<◌, ◌≤◌, [], length, IfOk};
 ghost use Rattle.std.specs.Arc.{arc_value};
@@ -69,7 +69,7 @@ fn is_found(
     Ok(false)
 }
 
-/// The same of the outcome of the state in which a machine is.
+/// Whether an outcome is wanted, of the state in which a machine is.
 fn is_found_at(
     alloc: Global,
     classes: &ClassSet,

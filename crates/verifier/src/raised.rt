@@ -17,7 +17,7 @@ pub(crate) enum Raised {
     Not,
     /// Their join.
     To(PackedFrame),
-    /// They have no join.
+    /// The two have no join.
     Clash,
 }
 

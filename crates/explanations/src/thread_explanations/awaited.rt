@@ -22,9 +22,9 @@ use traces::class_object_of;
 #[derive(Clone, Copy)]
 pub enum Awaited {
     Nothing,
-    /// That no other thread owns the monitor of an object.
+    /// The time when no other thread owns the monitor of an object.
     Monitor(u32),
-    /// The same, to go on from a wait.
+    /// The time when no other thread owns it, to go on from a wait.
     MonitorAgain(u32),
     /// A notification, in the wait set of an object.
     Notification(u32),

@@ -68,7 +68,7 @@ pub fn invoke_static(
 ///
 /// # Errors
 ///
-/// As for `invoke_static`.
+/// The errors of `invoke_static`.
 pub fn invoke_special(
     shared: &mut Shared,
     stack: &mut ThreadStack,

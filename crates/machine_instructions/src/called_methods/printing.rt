@@ -1,4 +1,4 @@
-//! `PrintStream.println(int)`.
+//! Calls of `PrintStream.println(int)`.
 
 ghost use Rattle.std.specs.Prelude.{◌<◌, ℕ};
 ghost use Rattle.model.specs.BuiltInNumbers.{most_threads};

@@ -1,4 +1,4 @@
-//! New frames.
+//! New frames: of a call, and of the first method of a thread.
 
 ghost use Rattle.std.specs.Prelude.{◌<◌};
 ghost use Rattle.model.specs.BuiltInNumbers.{most_threads};
