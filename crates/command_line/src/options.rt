@@ -126,7 +126,7 @@ pub enum Goal {
     Deadlock,
     /// An exception that nothing caught ended a thread.
     Uncaught,
-    /// These numbers were printed, in this order, and no others.
+    /// The run printed these numbers, in this order, and no others.
     Output(Vec<i32>),
     /// Something else was printed than the file with this path has.
     Differs(String),
