@@ -141,9 +141,11 @@ def module_lines(module: Module) -> Iterator[str]:
     """What the page says of a module."""
     found = heads.sections(module.source())
     link = module.path.relative_to(ROOT).as_posix()
-    yield f"{'###' if module.is_crate() else '####'} {module.name}"
-    yield ""
-    if PROVED not in found and NOT_PROVED not in found:
+    is_told = PROVED in found or NOT_PROVED in found
+    if is_told or module.is_crate():
+        yield f"{'###' if module.is_crate() else '####'} {module.name}"
+        yield ""
+    if not is_told:
         return
     declared = declared_in(module)
     table: List[Row] = []
@@ -169,7 +171,7 @@ def paragraph(text: str) -> List[str]:
 
 
 def all_modules() -> List[Module]:
-    return [module for _, crates in heads.groups() for crate in crates for module in heads.modules(crate)]
+    return [module for _, crates in heads.groups() for crate in crates for module in heads.modules(crate, True)]
 
 
 def wrong_bodies(module: Module) -> List[Item]:
@@ -209,7 +211,7 @@ def document() -> str:
     for group, crates in heads.groups():
         lines += [f"## {group}", ""]
         for crate in crates:
-            for module in heads.modules(crate):
+            for module in heads.modules(crate, of_programs=True):
                 lines += module_lines(module)
     lines += tables_of_wrong_bodies()
     return "\n".join(lines).rstrip("\n") + "\n"
