@@ -20,7 +20,7 @@ GROUP = re.compile(r"\(([^()]*`[^()]*)\)")
 DECLARED = re.compile(r"\bfn (\w+)")
 WRONG_BODY = re.compile(r"(`[\w-]+`(?:, `[\w-]+`)*): (.*); refused by (.*)\.")
 PLANTED = re.compile(
-    r"Planted by `rt plant`: (\d+) functions, (\d+) untried; (\d+) bodies judged, (\d+) not judged, (\d+) not run; "
+    r"Planted by `rt plant`(?: in (what stands in no module))?: (\d+) functions, (\d+) untried; (\d+) bodies judged, (\d+) not judged, (\d+) not run; "
     r"(.*)\."
 )
 
@@ -197,8 +197,8 @@ def tables_of_wrong_bodies() -> Iterator[str]:
                 edits = ", ".join(f"`{module.crate}/{path.parent.name}/{path.stem}`" for path in paths)
                 refused.append(f"| {of_edit[2]} | {edits} | {of_edit[3]} |")
             elif of_plant:
-                what = f"`{module.name}`, the crate" if module.is_crate() else f"`{module.name}`"
-                cells = f"{of_plant[1]}, {of_plant[2]} | {of_plant[3]} | {of_plant[4]}, {of_plant[5]} | {of_plant[6]}"
+                what = f"`{module.name}`, {of_plant[1] or 'the crate'}" if module.is_crate() else f"`{module.name}`"
+                cells = f"{of_plant[2]}, {of_plant[3]} | {of_plant[4]} | {of_plant[5]}, {of_plant[6]} | {of_plant[7]}"
                 planted.append(f"| {what} | {cells} |")
     yield from [WRONG, "| Body | Edit | Refused by |", "|---|---|---|", *refused, ""]
     yield from [PLANTS, "| Module | Functions, of these untried | Bodies judged | Not judged, not run | What proves |"]
