@@ -4,13 +4,15 @@ ghost use Rattle.std.specs.Prelude.{◌≡◌, ◌⊎◌, map, string_bytes};
 ghost use Rattle.engines.specs.Advised.{IsExplained, IsToldOf, is_quiet};
 
 use crate::advised::{advised, named_files};
+use crate::command_files::command_files;
 use crate::complaint::Complaint;
 use crate::explanation::Explanation;
 use crate::fault::Fault;
-use crate::folder::Folder;
-use crate::given_paths::given_paths;
+use crate::main_hints::add_mains;
 use command_line::{Command, Goal, Usage, command};
 use explanations::refusal_explanations::{explain, explain_schedule, explain_text};
+use link_conditions::refusal::RefusalKind;
+use program_files::{Folder, first_unlisted, given_paths};
 use std::alloc::{AllocError, Global};
 use std::fmt::Display;
 use std::io;
@@ -155,32 +157,24 @@ fn record_of(command: &Command) -> Option<&str> {
     }
 }
 
-/// The paths of the class files, those of the folders that are given included.
-fn files_of<F: Folder>(
-    alloc: Global,
-    folder: &F,
-    command: &Command,
-) -> Result<Vec<String>, AllocError> {
-    match command {
-        Command::Run(options) => options.files.clone(),
-        Command::Replay(options) => options.files.clone(),
-        Command::Trace(options) => options.files.clone(),
-        Command::Search(options) => options.files.clone(),
-        Command::Verify(options) => given_or_same(alloc, folder, &options.files),
-        Command::Disasm(options) => given_or_same(alloc, folder, &options.files),
-        Command::Schedule(_) => Ok(Vec::new(alloc)),
-    }
+/// Whether the command may name the class whose main is run.
+fn has_main_option(command: &Command) -> bool {
+    matches!(
+        command,
+        Command::Run(_) | Command::Replay(_) | Command::Trace(_) | Command::Search(_)
+    )
 }
 
-/// The paths of the files that are given, and these paths where a folder can't be read.
-fn given_or_same<F: Folder>(
-    alloc: Global,
-    folder: &F,
-    paths: &Vec<String>,
-) -> Result<Vec<String>, AllocError> {
-    match given_paths(alloc, folder, paths) {
-        Ok(given) => Ok(given),
-        Err(_) => paths.clone(),
+/// The words that name class files and folders of them.
+fn words_of(command: &Command) -> &[String] {
+    match command {
+        Command::Run(options) => options.files.as_slice(),
+        Command::Replay(options) => options.files.as_slice(),
+        Command::Trace(options) => options.files.as_slice(),
+        Command::Search(options) => options.files.as_slice(),
+        Command::Verify(options) => options.files.as_slice(),
+        Command::Disasm(options) => options.files.as_slice(),
+        Command::Schedule(_) => &[],
     }
 }
 
@@ -198,11 +192,17 @@ fn line_of<F: Folder>(alloc: Global, folder: &F, command: &Command, fault: &Faul
             Ok(Some(explain_text(alloc, name, *fault)?))
         }
         Fault::Refusal(refusal) => {
-            let paths = files_of(alloc, folder, command)?;
-            match named_files(alloc, folder, &paths) {
-                Ok(files) => Ok(Some(explain(alloc, refusal, &files)?)),
-                Err(_) => Ok(None),
+            let Ok(paths) = command_files(alloc, folder, command) else {
+                return Ok(None);
+            };
+            let Ok(files) = named_files(alloc, folder, &paths) else {
+                return Ok(None);
+            };
+            let mut line = explain(alloc, refusal, &files)?;
+            if refusal.kind == RefusalKind::NoMain && has_main_option(command) {
+                add_mains(alloc, folder, &paths, &mut line)?;
             }
+            Ok(Some(line))
         }
     }
 }
@@ -227,7 +227,14 @@ fn of_device<F: Folder>(
             return line_with(alloc, path, &error);
         }
     }
-    unread(alloc, folder, files_of(alloc, folder, command)?.as_slice())
+    let words = words_of(command);
+    if let Some(line) = unlisted(alloc, folder, words)? {
+        return Ok(Some(line));
+    }
+    match given_paths(alloc, folder, words) {
+        Ok(paths) => unread(alloc, folder, &paths),
+        Err(_) => Ok(None),
+    }
 }
 
 /// Which of the output and the input failed, and the system's reason.
@@ -237,6 +244,16 @@ fn of_streams(alloc: Global, failures: Failures<'_>) -> Told {
         (None, Some(error)) => line_with(alloc, STANDARD_INPUT, error),
         (None, None) => Ok(None),
     }
+}
+
+/// The first of the words, or of what lies in their folders, of which it isn't known whether it is a folder, and why.
+fn unlisted<F: Folder>(alloc: Global, folder: &F, words: &[String]) -> Told {
+    for word in words {
+        if let Some((path, error)) = first_unlisted(alloc, folder, word.as_str())? {
+            return line_with(alloc, path.as_str(), &error);
+        }
+    }
+    Ok(None)
 }
 
 /// The first of the files that can't be read, and why.
