@@ -4,7 +4,7 @@ ghost use Rattle.std.specs.Prelude.{◌≡◌, ◌⊎◌, map, string_bytes};
 ghost use Rattle.engines.specs.Advised.{IsExplained, IsToldOf, is_quiet};
 
 use crate::advised::{advised, named_files};
-use crate::command_files::command_files;
+use crate::command_files::{command_files, record_path};
 use crate::complaint::Complaint;
 use crate::explanation::Explanation;
 use crate::fault::Fault;
@@ -147,22 +147,11 @@ fn first_of(command: &Command) -> Option<&str> {
 }
 
 /// The path of the schedule file that is to be written.
-fn record_of(command: &Command) -> Option<&str> {
+fn written_path(command: &Command) -> Option<&str> {
     match command {
-        Command::Run(options) => options.record.as_deref(),
-        Command::Search(options) => options.record.as_deref(),
-        Command::Replay(options) => options.then_run.as_ref()?.record.as_deref(),
         Command::Schedule(options) if options.write => Some(options.file.as_str()),
-        _ => None,
+        _ => record_path(command),
     }
-}
-
-/// Whether the command may name the class whose main is run.
-fn has_main_option(command: &Command) -> bool {
-    matches!(
-        command,
-        Command::Run(_) | Command::Replay(_) | Command::Trace(_) | Command::Search(_)
-    )
 }
 
 /// The words that name class files and folders of them.
@@ -199,7 +188,7 @@ fn line_of<F: Folder>(alloc: Global, folder: &F, command: &Command, fault: &Faul
                 return Ok(None);
             };
             let mut line = explain(alloc, refusal, &files)?;
-            if refusal.kind == RefusalKind::NoMain && has_main_option(command) {
+            if refusal.kind == RefusalKind::NoMain {
                 add_mains(alloc, folder, &paths, &mut line)?;
             }
             Ok(Some(line))
@@ -216,7 +205,7 @@ fn of_device<F: Folder>(
     failures: Failures<'_>,
     recording: Option<&str>,
 ) -> Told {
-    if let (Some(path), Some(reason)) = (record_of(command), recording) {
+    if let (Some(path), Some(reason)) = (written_path(command), recording) {
         return line_with(alloc, path, &reason);
     }
     if let Some(line) = of_streams(alloc, failures)? {
