@@ -74,7 +74,10 @@ pub(crate) fn record_path(command: &Command) -> Option<&str>
 {
     match command {
         Command::Run(options) => options.record.as_deref(),
-        Command::Replay(options) => options.then_run.as_ref()?.record.as_deref(),
+        Command::Replay(options) => match &options.then_run {
+            Some(then_run) => then_run.record.as_deref(),
+            None => None,
+        },
         Command::Search(options) => options.record.as_deref(),
         Command::Trace(_) | Command::Verify(_) | Command::Disasm(_) | Command::Schedule(_) => None,
     }
