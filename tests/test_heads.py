@@ -88,7 +88,7 @@ class Clauses(unittest.TestCase):
         self.assertEqual(found and found.groups(), ("`a-b`, `c`", "all is refused", "`x` of `y`: z"))
         text = "Planted by `rt plant`: 5 functions, 1 untried; 11 bodies judged, 1 not judged, 0 not run; none proves."
         planted = clauses.PLANTED.fullmatch(text)
-        self.assertEqual(planted and planted.groups(), ("5", "1", "11", "1", "0", "none proves"))
+        self.assertEqual(planted and planted.groups(), (None, "5", "1", "11", "1", "0", "none proves"))
 
     def test_edits(self) -> None:
         self.assertTrue(clauses.edit_of("heap", "monitor-wakes-another").is_file())

@@ -20,7 +20,7 @@ GROUP = re.compile(r"\(([^()]*`[^()]*)\)")
 DECLARED = re.compile(r"\bfn (\w+)")
 WRONG_BODY = re.compile(r"(`[\w-]+`(?:, `[\w-]+`)*): (.*); refused by (.*)\.")
 PLANTED = re.compile(
-    r"Planted by `rt plant`: (\d+) functions, (\d+) untried; (\d+) bodies judged, (\d+) not judged, (\d+) not run; "
+    r"Planted by `rt plant`(?: in (what stands in no module))?: (\d+) functions, (\d+) untried; (\d+) bodies judged, (\d+) not judged, (\d+) not run; "
     r"(.*)\."
 )
 
@@ -141,9 +141,11 @@ def module_lines(module: Module) -> Iterator[str]:
     """What the page says of a module."""
     found = heads.sections(module.source())
     link = module.path.relative_to(ROOT).as_posix()
-    yield f"{'###' if module.is_crate() else '####'} {module.name}"
-    yield ""
-    if PROVED not in found and NOT_PROVED not in found:
+    is_told = PROVED in found or NOT_PROVED in found
+    if is_told or module.is_crate():
+        yield f"{'###' if module.is_crate() else '####'} {module.name}"
+        yield ""
+    if not is_told:
         return
     declared = declared_in(module)
     table: List[Row] = []
@@ -169,7 +171,7 @@ def paragraph(text: str) -> List[str]:
 
 
 def all_modules() -> List[Module]:
-    return [module for _, crates in heads.groups() for crate in crates for module in heads.modules(crate)]
+    return [module for _, crates in heads.groups() for crate in crates for module in heads.modules(crate, True)]
 
 
 def wrong_bodies(module: Module) -> List[Item]:
@@ -195,8 +197,8 @@ def tables_of_wrong_bodies() -> Iterator[str]:
                 edits = ", ".join(f"`{module.crate}/{path.parent.name}/{path.stem}`" for path in paths)
                 refused.append(f"| {of_edit[2]} | {edits} | {of_edit[3]} |")
             elif of_plant:
-                what = f"`{module.name}`, the crate" if module.is_crate() else f"`{module.name}`"
-                cells = f"{of_plant[1]}, {of_plant[2]} | {of_plant[3]} | {of_plant[4]}, {of_plant[5]} | {of_plant[6]}"
+                what = f"`{module.name}`, {of_plant[1] or 'the crate'}" if module.is_crate() else f"`{module.name}`"
+                cells = f"{of_plant[2]}, {of_plant[3]} | {of_plant[4]} | {of_plant[5]}, {of_plant[6]} | {of_plant[7]}"
                 planted.append(f"| {what} | {cells} |")
     yield from [WRONG, "| Body | Edit | Refused by |", "|---|---|---|", *refused, ""]
     yield from [PLANTS, "| Module | Functions, of these untried | Bodies judged | Not judged, not run | What proves |"]
@@ -209,7 +211,7 @@ def document() -> str:
     for group, crates in heads.groups():
         lines += [f"## {group}", ""]
         for crate in crates:
-            for module in heads.modules(crate):
+            for module in heads.modules(crate, of_programs=True):
                 lines += module_lines(module)
     lines += tables_of_wrong_bodies()
     return "\n".join(lines).rstrip("\n") + "\n"

@@ -11,6 +11,7 @@ from typing import Dict, Iterator, List, NamedTuple, Tuple
 from tools.repository import ROOT
 
 MODULE = re.compile(r"^pub mod (\w+);", re.M)
+ANY_MODULE = re.compile(r"^(?:pub )?mod (\w+);", re.M)
 ITEM = re.compile(r"( *)- (.*)")
 
 
@@ -61,12 +62,13 @@ def groups() -> Iterator[Tuple[str, List[str]]]:
     yield group, crates
 
 
-def modules(crate: str) -> Iterator[Module]:
-    """A crate, and then the modules that its `src/lib.rt` has as `pub mod`."""
+def modules(crate: str, of_programs: bool = False) -> Iterator[Module]:
+    """A crate, and then the modules that its `src/lib.rt` has as `pub mod`; of programs, too, all that `main.rt` has."""
     folder = ROOT / "crates" / crate / "src"
     top = folder / "lib.rt" if (folder / "lib.rt").is_file() else folder / "main.rt"
     yield Module(crate, crate, top)
-    for name in MODULE.findall(top.read_text(encoding="utf-8")):
+    pattern = ANY_MODULE if of_programs and top.name == "main.rt" else MODULE
+    for name in pattern.findall(top.read_text(encoding="utf-8")):
         path = folder / f"{name}.rt"
         yield Module(name, crate, path if path.is_file() else folder / name / "mod.rt")
 

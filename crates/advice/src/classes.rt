@@ -52,7 +52,7 @@ impl Classes {
         })
     }
 
-    /// Their set.
+    /// The set of the classes.
     pub(crate) fn set(&self) -> &ClassSet
         ensures { result.now ≡ self.now }
     {

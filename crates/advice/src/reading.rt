@@ -68,7 +68,7 @@ pub(crate) fn class_of(alloc: Global, bytes: &[u8]) -> Result<Option<ClassFile>,
 pub(crate) enum FileFault {
     /// The bytes are no class file that this machine takes.
     Malformed(Cause),
-    /// Its class is declared by an earlier file, of this number, or is built in.
+    /// The class is declared by an earlier file, of this number, or is built in.
     Again { first: Option<usize> },
 }
 

@@ -32,7 +32,8 @@
 //!
 //! # Wrong bodies
 //!
-//! - Planted by `rt plant`: 37 functions, 3 untried; 113 bodies judged, 7 not judged, 2 not run; none proves.
+//! - Planted by `rt plant` in what stands in no module: 37 functions, 3 untried; 113 bodies judged, 7 not judged, 2 not
+//!   run; none proves.
 #![tactic(auto)]
 
 mod heap;

@@ -29,7 +29,7 @@ pub enum Effect {
     Throws(u32),
     /// The instruction throws an InterruptedException, and clears the interrupt status (JLS 17.2.1, 17.2.3).
     Interrupts,
-    /// Its event is not enabled now.
+    /// The event of the instruction is not enabled now.
     NotEnabled,
 }
 

@@ -16,12 +16,12 @@ pub fn monitors_are_shown()
     ensures holds { AreMonitorsShown }
 {}
 
-/// So is an event of threads.
+/// An event of threads, done to the table of threads, is done to those of the world.
 pub fn threads_are_shown()
     ensures holds { AreThreadsShown }
 {}
 
-/// So is one of both.
+/// An event of monitors and threads, done to both, is done to those of the world.
 pub fn both_are_shown()
     ensures holds { AreBothShown }
 {}
@@ -32,7 +32,8 @@ pub fn entries_are_shown()
     ensures holds { AreEntered }
 {}
 
-/// So is a wait.
+/// A wait is that of the world, where no limit stands; one that is refused is at a limit that stands, or for want of
+/// memory.
 pub fn waits_are_shown()
     ensures holds { AreWaiting }
 {}

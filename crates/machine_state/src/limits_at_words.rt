@@ -38,7 +38,7 @@ pub fn limits_are_carried()
     ensures holds { AreLimitsCarried }
 {}
 
-/// So is, after the events of a run, the limit that stands.
+/// After the events of a run the limit that stands at such words is the one that stands at the state.
 pub fn limits_stand_at_words()
     ensures holds { AreLimitsStanding }
 {}

@@ -66,7 +66,7 @@ pub fn initialisations_are_shown()
     ensures holds { IsInitialisationShown }
 {}
 
-/// So is one that goes on to another phase.
+/// A class that goes on to another phase of its initialisation is the model's.
 pub fn phases_are_shown()
     ensures holds { IsPhaseShown }
 {}

@@ -7,13 +7,13 @@ pub enum EndState {
     Ended,
     /// The thread ended with an exception of the class with this name, in the form of a class file (`java/lang/Error`).
     Threw(Vec<u8>),
-    /// Its next step needs a monitor that another thread owns.
+    /// The thread needs, for its next step, a monitor that another thread owns.
     Blocked,
     /// The thread is in a wait set.
     Waiting,
     /// The thread is in a call of `Thread.join`.
     Joining,
-    /// Its next step needs a class that another thread initialises.
+    /// The thread needs, for its next step, a class that another thread initialises.
     Initialising,
     /// The thread has a step that it can do.
     Runnable,

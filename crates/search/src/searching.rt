@@ -43,9 +43,10 @@ pub struct Searched {
 /// What a search comes to at a state.
 #[derive(Drop)]
 pub(crate) enum Visit {
-    /// Its outcome is listed, if no thread may step there, and the states to which events lead from it are met.
+    /// The outcome of the state is listed, if no thread may step there, and the states to which events lead from it are
+    /// met.
     Visited,
-    /// Its outcome is wanted.
+    /// The outcome of the state is wanted.
     Found(Schedule),
     GaveUp,
 }

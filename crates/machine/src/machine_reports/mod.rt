@@ -4,7 +4,8 @@
 //! # Proved
 //!
 //! - `thread_ends`, memory aside: each thread of the state that is shown, in order, as the definitions tell it
-//!   (`TellEnds`); of `is_quiet`: whether no thread has an event that is enabled.
+//!   (`TellEnds`); `is_quiet`: whether no thread has an event that is enabled.
+//! - `report_of` (`Reports`), memory aside: the report of the state that is shown, after so many events.
 
 mod ends;
 mod reports;

@@ -4,7 +4,7 @@
 //! # Proved
 //!
 //! - `standing_of`: in whatever state of linked files is shown, it is how the thread stands by the definitions of a
-//!   report over words, an exception by the number of its class (`StandsSo`); of `may_step`: whether the thread has an
+//!   report over words, an exception by the number of its class (`StandsSo`); `may_step`: whether the thread has an
 //!   event that is enabled (`MaySo`).
 
 mod begins;

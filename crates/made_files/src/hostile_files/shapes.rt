@@ -17,7 +17,7 @@ use crate::hostile_files::members::{
 use crate::hostile_files::variables::{deep_stack, slow_loop};
 use std::alloc::{AllocError, Global};
 
-/// Their names, in the order of the alphabet.
+/// The names of the shapes, in the order of the alphabet.
 pub const SHAPES: [&str; 24] = [
     "alternating-handlers",
     "calls-up-a-chain",

@@ -19,7 +19,7 @@ pub enum Rule {
     Pending {
         exception: u32,
     },
-    /// Its stack is empty: it begins.
+    /// The stack of the thread is empty: it begins.
     Begin,
     /// The thread initialises a class, by its number.
     Initialisation {
