@@ -1,15 +1,21 @@
 -- What a command does over the files that its words stand for.
-use Rattle.std.proofs.Common.{arith, ◌≡◌, ◌≤◌, ℕ, List, Option, inl, inr, refl, subst, sym, tt}
+use Rattle.std.proofs.Common.{arith, ◌≡◌, ℕ, List, Option, inl, inr, map, refl, string_bytes, subst, sym}
 use Rattle.std.specs.Prelude.{None}
-use Rattle.command_line.specs.CommandLine.{Fails, Spells}
+use Rattle.std.specs.declared.string.String.{String}
+use Rattle.std.specs.Global.{Global}
+use Rattle.command_line.specs.CommandLine.{Refuses, Spells}
+use Rattle.command_line.proofs.CommandLineLemmas.{refuses_more}
 use Rattle.command_line.specs.declared.options.Command.{Command}
 use Rattle.command_line.specs.declared.usage.Usage.{Usage}
 use Rattle.program_files.specs.Folders.{Held, Listed, Written}
 use Rattle.program_files.specs.declared.files_fault.FilesFault.{FilesFault}
 use Rattle.program_files.specs.declared.files_fault.FilesFault.TheVariants as files
-use Rattle.engines.specs.Commands.{HasNoFiles, IsUndone, IsUntold, Stops}
+use Rattle.engines.specs.Commands.{AreFiles, HasNoFiles, IsDone, IsDoneOver, IsReadToo, IsUndone, IsUndoneOver, IsUnread, Stops, record_path}
 use Rattle.engines.specs.Complaints.{complaint_of}
 use Rattle.engines.specs.Failures.{TellsComplaint}
+use Rattle.engines.specs.Files.{held_at}
+use Rattle.engines.specs.declared.fault.Fault.{Fault}
+use Rattle.engines.specs.declared.status.Status.{Status}
 use Rattle.engines.specs.declared.complaint.Complaint.{Complaint}
 use Rattle.engines.specs.declared.complaint.Complaint.TheVariants as complaints
 
@@ -25,21 +31,31 @@ module _ (held : Held) (listed : Listed) (input : Option (List ℕ)) (command : 
   no_files (files.NoClass name) none same = (none, same, refl)
   no_files (files.NoMain name) none same = (none, same, refl)
 
+  -- the files that are checked are those that its words stand for
+  module _ (items paths : List (String Global)) (same : paths ≡ items) (are : AreFiles held listed command (map string_bytes items)) where
+    are_paths : AreFiles held listed command (map string_bytes paths)
+    are_paths = subst (λ files. AreFiles held listed command (map string_bytes files)) (sym same) are
+
+    pub read_too : (usage : Usage) → Refuses usage (IsReadToo (record_path command) (map string_bytes paths)) → new ≡ old
+        → IsUndone held listed input command old new (complaints.Usage usage) None
+    read_too usage read kept = (refuses_more usage _ _ (λ too. (map string_bytes paths, are_paths, too)) read, kept, refl)
+
+    pub undone_over : (fault : Fault) (written : Written) → IsUnread (record_path command) (map string_bytes paths)
+        → IsUndoneOver held (held_at held (map string_bytes paths)) input command old new fault written
+        → IsUndone held listed input command old new (complaints.Fault fault) written
+    undone_over fault written unread undone = inr (map string_bytes paths, are_paths, unread, undone)
+
+    pub done_over : (text : List ℕ) (written : Written) (status : Status) → IsUnread (record_path command) (map string_bytes paths)
+        → IsDoneOver held (held_at held (map string_bytes paths)) input command text written status
+        → IsDone held listed input command text written status
+    done_over text written status unread done = (map string_bytes paths, are_paths, unread, done)
+
   -- what a command does not do, the words do not
   pub undone_stops : (words : List (List ℕ)) (complaint : Complaint) (written : Written) → Spells words command
       → IsUndone held listed input command old new complaint written → Stops held listed input words old new complaint written
   undone_stops words (complaints.Usage usage) written spells undone = inr (command, spells, undone)
   undone_stops words (complaints.Files fault) written spells undone = (command, spells, undone)
   undone_stops words (complaints.Fault fault) written spells undone = inr (command, spells, undone)
-
--- what keeps words that are no command from their help keeps them from all
-pub untold_stops : (held : Held) (listed : Listed) (input : Option (List ℕ)) (words : List (List ℕ)) (old new : Option (List ℕ)) (usage : Usage)
-    (complaint : Complaint) → Fails words usage → IsUntold usage old new complaint → Stops held listed input words old new complaint None
-untold_stops held listed input words old new usage (complaints.Usage told) fails untold =
-    subst (λ u. Stops held listed input words old new (complaints.Usage u) None) (sym untold.0) (inl (fails, untold.1, untold.2, refl))
-untold_stops held listed input words old new usage (complaints.Files fault) fails untold = absurd untold
-untold_stops held listed input words old new usage (complaints.Fault fault) fails untold =
-    inl ((usage, fails, untold.0), untold.1, untold.2, refl)
 
 -- what keeps files from being handed on is told as it is
 pub told_files : (elsewhere : Type 0) (fault : FilesFault) (n : ℕ) → (fault ≡ files.Device → elsewhere) → TellsComplaint elsewhere (complaint_of fault) n n
